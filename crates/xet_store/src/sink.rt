@@ -1,0 +1,43 @@
+//! Where bytes go.
+ghost use Rattle.xet_store.specs.Told.{FlushCall, SinkTold, WriteCall, through};
+
+use thiserror::Error;
+
+/// Why a sink took no more.
+#[derive(Clone, Copy, PartialEq, Eq, Debug, Drop, Error)]
+pub enum SinkError {
+    /// An allocation was refused, and nothing was taken.
+    #[error("OutOfMemory")]
+    OutOfMemory,
+    /// The sink failed, and its count of faults rose. It may have taken a prefix of the piece.
+    #[error("Failed")]
+    Failed,
+}
+
+/// An output of bytes. A sink that grows keeps its own allocator.
+pub trait Sink {
+    /// The bytes that were taken and how many of them are flushed, where that is told, the count of faults, and what
+    /// it writes through.
+    ghost told: { Self → SinkTold };
+
+    /// Takes a prefix of the piece, and answers its length: at least one byte of a nonempty piece. `Failed` comes only
+    /// where the count of faults rose, and then an unknown prefix was taken.
+    fn write(&mut self, piece: &[u8]) -> Result<usize, SinkError>
+        ensures { WriteCall (told self.old) (told self.new) piece.now result };
+
+    /// Flushes all that was taken. `Failed` comes only where the count of faults rose.
+    fn flush(&mut self) -> Result<(), SinkError>
+        ensures { FlushCall (told self.old) (told self.new) result };
+}
+
+impl<S: Sink> Sink for &mut S {
+    ghost told = { λ s. record (S.told s.now) { link = through s.ghost_name (S.told s.now).link } };
+
+    fn write(&mut self, piece: &[u8]) -> Result<usize, SinkError> {
+        (**self).write(piece)
+    }
+
+    fn flush(&mut self) -> Result<(), SinkError> {
+        (**self).flush()
+    }
+}
