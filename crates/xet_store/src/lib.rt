@@ -8,6 +8,7 @@ pub mod block;
 pub mod cancel;
 pub mod chunk_cache;
 pub mod client;
+pub mod laws;
 pub mod plan;
 pub mod said;
 pub mod sink;

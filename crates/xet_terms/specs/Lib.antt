@@ -1,0 +1,12 @@
+pub mod BlockCalls
+pub mod Blocks
+pub mod BlockTests
+pub mod Chain
+pub mod Errors
+pub mod Extracts
+pub mod Laws
+pub mod TermBlockCalls
+pub mod TermBlocks
+pub mod Terms
+pub mod Tests
+pub mod Worked

@@ -1,13 +1,13 @@
-// A library with one function.
+//! Plans as terms and blocks: what a range query's answer is made into, and its tests.
 #![tactic(auto)]
 
-ghost use Rattle.std.specs.Prelude.{◌≡◌};
-ghost use Rattle.xet_terms.specs.Echo.{echo_of};
+pub mod error;
+pub mod fetch_policy;
+pub mod laws;
+pub mod reconstruction_terms;
 
-// The `ensures` clause is the contract: what `echo` returns is `echo_of` of its argument, a definition
-// in `specs/Echo.antt`, which a caller's clause can cite too.
-pub fn echo(x: usize) -> usize
-    ensures { result ≡ echo_of x }
-{
-    x
-}
+pub use error::{Corruption, FileReconstructionError, Result, Setting, WriterFault};
+pub use fetch_policy::{FetchPolicy, PrefetchView, Steady};
+pub use reconstruction_terms::file_term::{FileTerm, TermBlock, retrieve_file_term_block};
+pub use reconstruction_terms::retrieval_urls::{RetrievalUrl, TermBlockRetrievalURLs};
+pub use reconstruction_terms::xorb_block::{XorbBlock, XorbBlockData, XorbReference};

@@ -1,0 +1,5 @@
+pub mod Accepted
+pub mod Chains
+pub mod Pieces
+pub mod PlanBlocks
+pub mod Slices

@@ -1,0 +1,73 @@
+//! Laws of plans and their terms, and the definitions at work on worked plans.
+ghost use Rattle.std.specs.Prelude.{◌≡◌, [], ◌∷◌, false, map, None, Some, true};
+ghost use Rattle.xet_base.specs.Worked.{cut, file_of_repeats, file_of_two_ends, worked};
+ghost use Rattle.xet_store.specs.Plan.{plan_of};
+ghost use Rattle.xet_store.specs.Worked.{chunk_range};
+ghost use Rattle.xet_terms.specs.declared.error.Corruption.TheVariants.{Offset, Trim};
+ghost use Rattle.xet_terms.specs.Blocks.{block_ranges, blocks_of, transfer_sum};
+ghost use Rattle.xet_terms.specs.Chain.{chain_sum};
+ghost use Rattle.xet_terms.specs.Laws.{ChainsSum, HonestAccepted, PiecesJoin};
+ghost use Rattle.xet_terms.specs.TermBlocks.{xorb_blocks};
+ghost use Rattle.xet_terms.specs.Terms.{terms_of};
+ghost use Rattle.xet_terms.specs.Tests.{failed_test};
+ghost use Rattle.xet_terms.specs.Worked.{blocks_of_nine_bytes, file_term, plan_of_lengths, reference, two_entries_of_one_xorb};
+
+/// Nine bytes over three terms of one xorb, which share two blocks.
+pub fn nine_bytes()
+    ensures terms { terms_of (plan_of worked file_of_repeats (cut 4 13)) (cut 4 13) false
+        ≡ file_term 4 6 2 4 0 4 0 ∷ file_term 6 11 0 1 0 0 1 ∷ file_term 11 13 0 1 0 0 1 ∷ [] }
+    ensures blocks { xorb_blocks (plan_of worked file_of_repeats (cut 4 13)) false ≡ blocks_of_nine_bytes }
+    ensures transfer { transfer_sum (blocks_of (plan_of worked file_of_repeats (cut 4 13)) false) ≡ 11 }
+    ensures accepted { failed_test (plan_of worked file_of_repeats (cut 4 13)) (cut 4 13) false ≡ None }
+{}
+
+/// Two terms of one xorb in the first entry that has each: the second starts at index 1 of block 1.
+pub fn two_entries()
+    ensures terms { terms_of two_entries_of_one_xorb (cut 0 1000) false
+        ≡ file_term 0 300 0 3 0 0 0 ∷ file_term 300 700 1 5 1 0 1 ∷ [] }
+    ensures blocks { map block_ranges (blocks_of two_entries_of_one_xorb false)
+        ≡ (chunk_range 0 3 ∷ []) ∷ (chunk_range 0 5 ∷ []) ∷ [] }
+{}
+
+/// Both ends of a xorb, as one block of two ranges.
+pub fn two_ends()
+    ensures { map block_ranges (blocks_of (plan_of worked file_of_two_ends (cut 0 6)) true)
+        ≡ (chunk_range 0 1 ∷ chunk_range 3 4 ∷ []) ∷ [] }
+{}
+
+/// Sizes that the terms of a block tell.
+pub fn known_sizes()
+    ensures overlapping { chain_sum (chunk_range 0 5 ∷ [])
+        (reference 0 3 600 ∷ reference 1 4 700 ∷ reference 3 5 400 ∷ []) ≡ Some 1000 }
+    ensures half { chain_sum (chunk_range 0 3 ∷ chunk_range 5 8 ∷ []) (reference 0 3 300 ∷ []) ≡ None }
+    ensures bridged { chain_sum (chunk_range 0 3 ∷ chunk_range 5 8 ∷ [])
+        (reference 0 3 300 ∷ reference 5 8 400 ∷ []) ≡ Some 700 }
+{}
+
+/// Offsets and trims up to a term's length are accepted, greater ones are not.
+pub fn offsets_and_trims()
+    ensures empty_term { terms_of (plan_of_lengths 6 (6 ∷ [])) (cut 0 9) false ≡ file_term 0 0 0 1 0 6 0 ∷ [] }
+    ensures whole_offset { failed_test (plan_of_lengths 6 (6 ∷ [])) (cut 0 9) false ≡ None }
+    ensures offset { failed_test (plan_of_lengths 7 (6 ∷ [])) (cut 0 9) false ≡ Some (Offset 7 6) }
+    ensures trimmed { terms_of (plan_of_lengths 2 (6 ∷ 10 ∷ [])) (cut 10 20) false
+        ≡ file_term 10 14 0 1 0 2 0 ∷ file_term 14 20 1 2 1 0 0 ∷ [] }
+    ensures trim { failed_test (plan_of_lengths 2 (6 ∷ 10 ∷ 3 ∷ [])) (cut 10 20) false ≡ Some (Trim 7 3) }
+{}
+
+/// The pieces of an honest plan's terms, each cut from its block, join to the window.
+#[tactic(auto, using(crate::proofs::Pieces::pieces_join))]
+pub fn pieces_join()
+    ensures { PiecesJoin }
+{}
+
+/// An honest plan is accepted.
+#[tactic(auto, using(crate::proofs::Accepted::honest_accepted))]
+pub fn honest_accepted()
+    ensures { HonestAccepted }
+{}
+
+/// Over one length for each chunk, the size that a chain of terms tells is the block's length.
+#[tactic(auto, using(crate::proofs::Chains::chains_sum))]
+pub fn chains_sum()
+    ensures { ChainsSum }
+{}
