@@ -1,13 +1,7 @@
-// A library with one function.
+//! Writes a range of a file's bytes from connections to a writer.
 #![tactic(auto)]
 
-ghost use Rattle.std.specs.Prelude.{◌≡◌};
-ghost use Rattle.xet_reconstruct.specs.Echo.{echo_of};
+mod data_writer;
+pub mod file_reconstructor;
 
-// The `ensures` clause is the contract: what `echo` returns is `echo_of` of its argument, a definition
-// in `specs/Echo.antt`, which a caller's clause can cite too.
-pub fn echo(x: usize) -> usize
-    ensures { result ≡ echo_of x }
-{
-    x
-}
+pub use file_reconstructor::FileReconstructor;
