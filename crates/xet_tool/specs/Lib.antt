@@ -1,0 +1,5 @@
+pub mod Document
+pub mod Outcome
+pub mod Reading
+pub mod Texts
+pub mod Words

@@ -1,0 +1,38 @@
+//! Reads an input to its end.
+ghost use Rattle.xet_tool.specs.Reading.{ReadAll};
+
+use std::alloc::Global;
+use xet_store::Source;
+
+/// Why an input was not read to its end.
+#[derive(Clone, Copy, PartialEq, Eq, Debug)]
+pub enum ReadError {
+    OutOfMemory,
+    Fault,
+    TooLong,
+}
+
+/// All bytes of the input, at most so many.
+pub fn read_to_end<I: Source>(
+    alloc: Global,
+    input: &mut I,
+    limit: usize,
+) -> Result<Vec<u8>, ReadError>
+    ensures { ReadAll (I.told input.old) (I.told input.new) limit result }
+{
+    let mut all = Vec::new(alloc);
+    let mut buffer = [0u8; 65_536];
+    'pieces: while all.len() <= limit {
+        let count = match input.read(&mut buffer) {
+            Ok(count) => count,
+            Err(_) => return Err(ReadError::Fault),
+        };
+        if count == 0 {
+            return Ok(all);
+        }
+        if all.extend_from_slice(&buffer[..count]).is_err() {
+            return Err(ReadError::OutOfMemory);
+        }
+    }
+    Err(ReadError::TooLong)
+}

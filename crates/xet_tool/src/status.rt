@@ -1,0 +1,50 @@
+//! How the program ends.
+ghost use Rattle.std.specs.Prelude.{◌≡◌};
+ghost use Rattle.xet_tool.specs.Texts.{line, number_of};
+
+/// How the program ends.
+#[derive(Clone, Copy, PartialEq, Eq, Debug)]
+pub enum Status {
+    Done,
+    BadWords,
+    BadStore,
+    NotFound,
+    ReadFault,
+    WriteFault,
+    NoMemory,
+    TooLong,
+}
+
+impl Status {
+    /// The exit status.
+    pub fn number(self) -> u8
+        ensures { result ≡ number_of self }
+    {
+        match self {
+            Status::Done => 0,
+            Status::BadWords => 1,
+            Status::BadStore => 2,
+            Status::NotFound => 3,
+            Status::ReadFault => 4,
+            Status::WriteFault => 5,
+            Status::NoMemory => 6,
+            Status::TooLong => 8,
+        }
+    }
+
+    /// The last line with its end, of a status other than 0. A write fault has none.
+    pub fn line(self) -> &'static [u8]
+        ensures { result.now ≡ line self }
+    {
+        match self {
+            Status::Done => b"",
+            Status::BadWords => b"error words\n",
+            Status::BadStore => b"error store\n",
+            Status::NotFound => b"error file not found\n",
+            Status::ReadFault => b"error read\n",
+            Status::WriteFault => b"",
+            Status::NoMemory => b"error memory\n",
+            Status::TooLong => b"error input\n",
+        }
+    }
+}
