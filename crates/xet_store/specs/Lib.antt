@@ -1,3 +1,7 @@
+pub mod HexText
 pub mod Plan
+pub mod Pushed
+pub mod Settled
 pub mod Told
 pub mod Worked
+pub mod Written

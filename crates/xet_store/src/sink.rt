@@ -1,6 +1,8 @@
 //! Where bytes go.
+ghost use Rattle.std.specs.List.{concat};
 ghost use Rattle.xet_store.specs.Told.{FlushCall, SinkTold, WriteCall, through};
 
+use bytes::Bytes;
 use thiserror::Error;
 
 /// Why a sink took no more.
@@ -28,6 +30,38 @@ pub trait Sink {
     /// Flushes all that was taken. `Failed` comes only where the count of faults rose.
     fn flush(&mut self) -> Result<(), SinkError>
         ensures { FlushCall (told self.old) (told self.new) result };
+
+    /// Takes a prefix of the joined pieces, and answers its length: at least one byte, where they have any. `Failed`
+    /// comes only where the count of faults rose, and then an unknown prefix was taken.
+    ///
+    /// Where a sink has no body of its own, the pieces are written one after another, up to one that isn't taken whole,
+    /// that finds no memory after others were taken, or with which the count would not fit.
+    fn write_vectored(&mut self, pieces: &[Bytes]) -> Result<usize, SinkError>
+        ensures { WriteCall (told self.old) (told self.new) (concat pieces.now) result }
+    {
+        let mut taken = 0usize;
+        for piece in pieces {
+            if taken > usize::MAX - piece.len() {
+                return Ok(taken);
+            }
+            match self.write(piece.as_slice()) {
+                Ok(count) => {
+                    taken += count;
+                    if count < piece.len() {
+                        return Ok(taken);
+                    }
+                }
+                Err(SinkError::OutOfMemory) => {
+                    if taken == 0 {
+                        return Err(SinkError::OutOfMemory);
+                    }
+                    return Ok(taken);
+                }
+                Err(SinkError::Failed) => return Err(SinkError::Failed),
+            }
+        }
+        Ok(taken)
+    }
 }
 
 impl<S: Sink> Sink for &mut S {
@@ -39,5 +73,9 @@ impl<S: Sink> Sink for &mut S {
 
     fn flush(&mut self) -> Result<(), SinkError> {
         (**self).flush()
+    }
+
+    fn write_vectored(&mut self, pieces: &[Bytes]) -> Result<usize, SinkError> {
+        (**self).write_vectored(pieces)
     }
 }
