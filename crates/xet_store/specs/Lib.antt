@@ -1,6 +1,9 @@
 pub mod HexText
+pub mod MemStores
+pub mod Parts
 pub mod Plan
 pub mod Pushed
+pub mod Refusals
 pub mod Settled
 pub mod Told
 pub mod Worked
