@@ -1,5 +1,5 @@
 //! A vector that contracts see as a list.
-ghost use Rattle.std.specs.Prelude.{◌≡◌, [], ◌∷◌, ◌++◌, length, OnOk, OnErr};
+ghost use Rattle.std.specs.Prelude.{◌≡◌, [], ◌∷◌, ◌++◌, length, IfOk, OnOk, OnErr};
 
 use crate::error::OutOfMemory;
 use std::alloc::Global;
@@ -66,5 +66,15 @@ impl<T: Drop> List<T> {
     {
         self.items.push(item)?;
         Ok(())
+    }
+}
+
+impl<T: Copy> List<T> {
+    /// A list of the same items, with memory of its own.
+    pub fn copied(&self, alloc: Global) -> Result<List<T>, OutOfMemory>
+        ensures { IfOk result (λ copy. copy ≡ self.now) }
+    {
+        let items = self.items.iter().copied().collect(alloc)?;
+        Ok(List { items })
     }
 }

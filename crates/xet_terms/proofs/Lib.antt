@@ -1,5 +1,9 @@
 pub mod Accepted
 pub mod Chains
+pub mod Honest
+pub mod Numbered
 pub mod Pieces
 pub mod PlanBlocks
 pub mod Slices
+pub mod Trims
+pub mod Urls

@@ -23,11 +23,11 @@ use Rattle.xet_terms.proofs.Slices.{chunks_at, bytes_at}
 use Rattle.xet_terms.proofs.PlanBlocks.{IsBlockOf, block_listed}
 
 -- the number of a term's block gives a block of its xorb that covers it, with the ranges that its start index counts
-record IsListed (s : Store) (p : Shape) (multi : Bool) (t : PlanTerm) : Type 0 where
-  block : PlanBlock
-  at : slice_get (blocks_of p multi) (position_or_len (λ b. same_block b (term_block p multi t)) (blocks_of p multi)) ≡ Some block
-  ranges : block_ranges (term_block p multi t) ≡ block_ranges block
-  fits : IsBlockOf s t block
+pub record IsListed (s : Store) (p : Shape) (multi : Bool) (t : PlanTerm) : Type 0 where
+  pub block : PlanBlock
+  pub at : slice_get (blocks_of p multi) (position_or_len (λ b. same_block b (term_block p multi t)) (blocks_of p multi)) ≡ Some block
+  pub ranges : block_ranges (term_block p multi t) ≡ block_ranges block
+  pub fits : IsBlockOf s t block
 
 -- a term's bytes, read in its block
 piece_is : (s : Store) (p : Shape) (q : FileRange) (multi : Bool) (place o : ℕ) (t : PlanTerm) → IsPlanTerm s t → IsListed s p multi t → o ≤ t.unpacked_length
@@ -70,9 +70,12 @@ pieces_from s p q multi place o (t ∷ ts) a l f =
     fits_zero [] = tt
     fits_zero (t ∷ ts) = omega arith
 
+pub all_listed : (s : Store) (f : MerkleHash) (q : FileRange) (multi : Bool) → All (IsListed s (plan_of s f q) multi) (plan_terms s f q)
+all_listed s f q multi = λ k d h. let b = block_listed s f q multi k d h in record { block = b.0; at = b.1; ranges = b.2; fits = b.3 }
+
 pub pieces_join : PiecesJoin
 pieces_join s v f q multi =
     pieces_from s (plan_of s f q) q multi q.start (plan_offset s f q) (plan_terms s f q) (plan_terms_are s f q)
-    (λ k d h. let b = block_listed s f q multi k d h in record { block = b.0; at = b.1; ranges = b.2; fits = b.3 })
+    (all_listed s f q multi)
     (offset_fits s v f q)
     ∙ planned_window s v f q

@@ -1,6 +1,6 @@
 -- Laws of plans and their terms.
-use Rattle.std.specs.Prelude.{◌≡◌, ℕ, ◌<◌, Bool, List, Some, All, sum, length, slice_range}
-use Rattle.std.specs.List.{flat_map}
+use Rattle.std.specs.Prelude.{◌≡◌, ℕ, ◌-◌, ◌^◌, ◌<◌, Bool, List, [], ◌∷◌, Option, Some, option_and_then, option_map, All, find, min, sum, length, slice_range}
+use Rattle.std.specs.List.{flat_map, list_any}
 use Rattle.xet_base.specs.declared.merklehash.MerkleHash.{MerkleHash}
 use Rattle.xet_base.specs.declared.cas_types.FileRange.{FileRange}
 use Rattle.xet_base.specs.declared.cas_types.ChunkRange.{ChunkRange}
@@ -8,7 +8,15 @@ use Rattle.xet_base.specs.Ranges.{Ascend, Covers}
 use Rattle.xet_terms.specs.declared.reconstruction_terms.xorb_block.XorbReference.{XorbReference}
 use Rattle.xet_terms.specs.Chain.{chain_sum}
 use Rattle.xet_base.specs.Store.{Store, IsValid, window}
-use Rattle.xet_store.specs.Plan.{plan_of}
+use Rattle.xet_base.specs.Hashes.{hash_eq}
+use Rattle.xet_base.specs.Worked.{cut}
+use Rattle.xet_store.specs.declared.plan.FetchEntry.{FetchEntry}
+use Rattle.xet_store.specs.declared.plan.Plan.{Plan}
+use Rattle.xet_store.specs.declared.plan.PlanTerm.{PlanTerm}
+use Rattle.xet_store.specs.Plan.{Shape, plan_of, shape}
+use Rattle.xet_terms.specs.Blocks.{PlanBlock, blocks_of, lies_in, same_block, term_block}
+use Rattle.xet_terms.specs.TermBlocks.{block_url}
+use Rattle.xet_terms.specs.declared.reconstruction_terms.file_term.FileTerm.{FileTerm}
 use Rattle.xet_terms.specs.Terms.{terms_of, term_piece}
 use Rattle.xet_terms.specs.Tests.{IsAccepted}
 
@@ -20,6 +28,33 @@ PiecesJoin = (s : Store) → IsValid s → (f : MerkleHash) (q : FileRange) (mul
 -- an honest plan is accepted
 abbrev pub HonestAccepted : Type 0
 HonestAccepted = (s : Store) → IsValid s → (f : MerkleHash) (q : FileRange) (multi : Bool) → IsAccepted (plan_of s f q) q multi
+
+-- a term cut at a place of the file
+abbrev pub cut_at : ℕ → FileTerm → FileTerm
+cut_at end t = record t { byte_range = record { start = t.byte_range.start; end = min t.byte_range.end end } }
+
+-- the last of some terms cut at a place of the file, the others as they are
+abbrev pub trim_last : ℕ → List FileTerm → List FileTerm
+trim_last end [] = []
+trim_last end (t ∷ []) = cut_at end t ∷ []
+trim_last end (t ∷ u ∷ us) = t ∷ trim_last end (u ∷ us)
+
+-- the terms of an accepted plan are those of the query without an end, the last one alone cut at the query's end
+abbrev pub TrimsLastAlone : Type 0
+TrimsLastAlone = (p : Shape) (q : FileRange) (multi : Bool) → IsAccepted p q multi → terms_of p q multi ≡ trim_last q.end (terms_of p (cut q.start (2 ^ 64 - 1)) multi)
+
+-- the first entry of its xorb that has a range in which the term lies
+abbrev pub entry_of_term : Plan → PlanTerm → Option FetchEntry
+entry_of_term p t = option_and_then (λ x. find (λ e. list_any (lies_in t) e.ranges) x.fetch) (find (λ x. hash_eq x.xorb t.xorb) p.xorbs)
+
+-- the first term of a block
+abbrev pub first_term : Shape → Bool → PlanBlock → Option PlanTerm
+first_term p multi b = find (λ t. same_block b (term_block p multi t)) p.terms
+
+-- on an accepted plan the URL of each block is that of the first entry in which the block's first term lies
+abbrev pub UrlOfFirst : Type 0
+UrlOfFirst = (p : Plan) (q : FileRange) (multi : Bool) → IsAccepted (shape p) q multi
+    → All (λ b. option_map (λ e. e.url) (option_and_then (entry_of_term p) (first_term (shape p) multi b)) ≡ Some (block_url p multi b)) (blocks_of (shape p) multi)
 
 -- a term lies in one of the ranges, and its size is the sum of its chunks' lengths
 pub record IsSized (lens : List ℕ) (rs : List ChunkRange) (t : XorbReference) : Type 0 where

@@ -6,7 +6,7 @@ ghost use Rattle.xet_store.specs.Worked.{chunk_range};
 ghost use Rattle.xet_terms.specs.declared.error.Corruption.TheVariants.{Offset, Trim};
 ghost use Rattle.xet_terms.specs.Blocks.{block_ranges, blocks_of, transfer_sum};
 ghost use Rattle.xet_terms.specs.Chain.{chain_sum};
-ghost use Rattle.xet_terms.specs.Laws.{ChainsSum, HonestAccepted, PiecesJoin};
+ghost use Rattle.xet_terms.specs.Laws.{ChainsSum, HonestAccepted, PiecesJoin, TrimsLastAlone, UrlOfFirst};
 ghost use Rattle.xet_terms.specs.TermBlocks.{xorb_blocks};
 ghost use Rattle.xet_terms.specs.Terms.{terms_of};
 ghost use Rattle.xet_terms.specs.Tests.{failed_test};
@@ -70,4 +70,15 @@ pub fn honest_accepted()
 #[tactic(auto, using(crate::proofs::Chains::chains_sum))]
 pub fn chains_sum()
     ensures { ChainsSum }
+{}
+
+/// On an accepted plan, to cut every term at the query's end is to cut the last one alone.
+#[tactic(auto, using(crate::proofs::Trims::trims_last_alone))]
+pub fn trims_last_alone()
+    ensures { TrimsLastAlone }
+{}
+
+/// A block of an accepted plan takes its URL from the first entry in which its first term lies.
+pub fn url_of_first()
+    ensures { UrlOfFirst }
 {}

@@ -1,14 +1,15 @@
 //! The terms of a file in a range, and how a query's answer is made into them.
-ghost use Rattle.std.specs.Prelude.{◌≡◌, false};
-ghost use Rattle.xet_terms.specs.Extracts.{ExtractCall};
+ghost use Rattle.std.specs.Prelude.{◌≡◌, ◌≤◌, false, length, slice_range, IfOk, MatchResult};
+ghost use Rattle.xet_terms.specs.Extracts.{ExtractCall, IsPlaceOf, failed_term_test};
 ghost use Rattle.xet_terms.specs.TermBlockCalls.{TermBlockCall};
 
-use crate::error::{FileReconstructionError, Result};
+use crate::error::{Corruption, FileReconstructionError, Result};
 use crate::reconstruction_terms::retrieval_urls::TermBlockRetrievalURLs;
 use crate::reconstruction_terms::xorb_block::{XorbBlock, XorbBlockData};
 use bytes::Bytes;
 use std::alloc::Global;
-use xet_base::{ChunkRange, FileRange, List, MerkleHash, UniqueId};
+use std::ops::Range;
+use xet_base::{ChunkRange, FileRange, List, MerkleHash, OutOfMemory, UniqueId};
 use xet_store::Client;
 
 /// A term of a plan: some bytes of the file, and where they stand in a block.
@@ -35,8 +36,43 @@ impl FileTerm {
     pub fn extract_bytes(&self, alloc: Global, block: &XorbBlockData) -> Result<Bytes>
         ensures { ExtractCall self.now block.now result }
     {
-        Err(FileReconstructionError::OutOfMemory)
+        match self.place_in(block) {
+            Ok(place) => cut(&block.bytes, place).map_err(FileReconstructionError::from),
+            Err(fault) => Err(FileReconstructionError::CorruptedReconstruction(fault)),
+        }
     }
+
+    /// The places of the term's first byte in its block and of the byte after its last one, or the test that it fails.
+    fn place_in(&self, block: &XorbBlockData) -> std::result::Result<Range<usize>, Corruption>
+        ensures { MatchResult result (IsPlaceOf self.now block.now)
+            (λ fault. failed_term_test self.now block.now ≡ Some fault) }
+    {
+        let offsets = block.chunk_offsets.as_slice();
+        let Some((_, first)) = offsets.get(self.xorb_block_start_index).copied() else {
+            return Err(Corruption::OffsetCount {
+                expected: (self.xorb_block_start_index as u64).saturating_add(1),
+                actual: offsets.len() as u64,
+            });
+        };
+        let start = (first as u64).saturating_add(self.offset_into_first_range);
+        let size = self.byte_range.end.saturating_sub(self.byte_range.start);
+        let end = start.saturating_add(size);
+        let length = block.bytes.len() as u64;
+        if length < end {
+            return Err(Corruption::TermPastBlock { end, length });
+        }
+        Ok(start as usize..end as usize)
+    }
+}
+
+/// Some of the bytes, with no copy.
+fn cut(bytes: &Bytes, place: Range<usize>) -> std::result::Result<Bytes, OutOfMemory>
+    requires ascends { place.start ≤ place.end }
+    requires within { place.end ≤ length bytes.now }
+    ensures { IfOk result (λ part. part ≡ slice_range bytes.now place.start place.end) }
+{
+    let part = bytes.slice(place)?;
+    Ok(part)
 }
 
 /// The terms of one plan, and the blocks that they are cut from.
@@ -72,4 +108,56 @@ pub fn retrieve_file_term_block<C: Client>(
     ensures { TermBlockCall (C.told client.old) (C.told client.new) file_hash query_file_byte_range multirange id result }
 {
     Err(FileReconstructionError::OutOfMemory)
+}
+
+#[cfg(test)]
+mod tests {
+    use super::*;
+    use std::test::Fail;
+
+    fn hello(alloc: Global, length: usize) -> std::result::Result<XorbBlockData, OutOfMemory> {
+        let chunk_offsets = [(0, 0), (1, 5), (2, 7), (3, 12)].to_vec(alloc)?;
+        let mut bytes = Bytes::from_static(b"Hello, world!");
+        bytes.truncate(length);
+        Ok(XorbBlockData {
+            chunk_offsets: List::from_vec(chunk_offsets),
+            bytes,
+        })
+    }
+
+    fn six_bytes(xorb_block_start_index: usize) -> FileTerm {
+        FileTerm {
+            byte_range: FileRange::new(7, 13),
+            xorb_chunk_range: ChunkRange::new(2, 4),
+            xorb_block_start_index,
+            offset_into_first_range: 0,
+            xorb_block: 0,
+        }
+    }
+
+    #[test]
+    fn a_term_of_six_bytes(rt: HostRuntime) -> std::result::Result<(), Fail> {
+        let alloc = rt.alloc();
+        let bytes = six_bytes(2).extract_bytes(alloc, &hello(alloc, 13)?)?;
+        assert_eq!(rt; bytes.as_slice(), b"world!".as_slice());
+        let past_block = Corruption::TermPastBlock {
+            end: 13,
+            length: 12,
+        };
+        let answer = six_bytes(2).extract_bytes(alloc, &hello(alloc, 12)?).err();
+        assert_eq!(rt;
+            answer,
+            Some(FileReconstructionError::CorruptedReconstruction(past_block))
+        );
+        let no_chunk = Corruption::OffsetCount {
+            expected: 5,
+            actual: 4,
+        };
+        let answer = six_bytes(4).extract_bytes(alloc, &hello(alloc, 13)?).err();
+        assert_eq!(rt;
+            answer,
+            Some(FileReconstructionError::CorruptedReconstruction(no_chunk))
+        );
+        Ok(())
+    }
 }
