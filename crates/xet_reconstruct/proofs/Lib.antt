@@ -1,0 +1,4 @@
+pub mod Fetches
+pub mod Legals
+pub mod Plans
+pub mod Terms

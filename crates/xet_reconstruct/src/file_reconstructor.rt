@@ -2,10 +2,11 @@
 ghost use Rattle.std.specs.Prelude.{◌≡◌, ◌-◌, ◌^◌};
 ghost use Rattle.xet_reconstruct.specs.Legal.{Legal, told_of};
 
+use crate::run::run_on_first;
 use std::alloc::Global;
 use xet_base::{FileRange, MerkleHash};
 use xet_store::{CancelSignal, ChunkCache, Client, Sink};
-use xet_terms::{FetchPolicy, FileReconstructionError, Result};
+use xet_terms::{FetchPolicy, FileReconstructionError, Result, Setting};
 
 /// A reconstruction: a file, and the range of its bytes that is wanted.
 ///
@@ -67,6 +68,17 @@ impl<P: FetchPolicy> FileReconstructor<P> {
             (told_of C.told K.told X.told S.told clients.old cache.old cancel.old writer.old)
             (told_of C.told K.told X.told S.told clients.new cache.new cancel.new writer.new) result }
     {
-        Err(FileReconstructionError::OutOfMemory)
+        if clients.is_empty() {
+            return Err(FileReconstructionError::ConfigurationError(Setting::NoConnection));
+        }
+        run_on_first(
+            alloc,
+            self.file_hash,
+            self.byte_range,
+            &mut clients[0],
+            cache,
+            cancel,
+            writer,
+        )
     }
 }

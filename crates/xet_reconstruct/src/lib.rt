@@ -1,7 +1,9 @@
 //! Writes a range of a file's bytes from connections to a writer.
 #![tactic(auto)]
 
-mod data_writer;
 pub mod file_reconstructor;
+mod run;
+#[cfg(test)]
+mod tests;
 
 pub use file_reconstructor::FileReconstructor;

@@ -1,4 +1,6 @@
 pub mod HexText
+pub mod MemBlocks
+pub mod MemPlans
 pub mod MemStores
 pub mod Parts
 pub mod Plan

@@ -1,6 +1,10 @@
 //! Requests for blocks, and the answers to them.
+ghost use Rattle.std.specs.Prelude.{◌≡◌, IfOk};
+
+use crate::copies::copied_list;
 use bytes::Bytes;
-use xet_base::{ChunkRange, HttpRange, List, MerkleHash, Text, UniqueId};
+use std::alloc::Global;
+use xet_base::{ChunkRange, HttpRange, List, MerkleHash, OutOfMemory, Text, UniqueId};
 
 /// A request for some chunk ranges of a xorb.
 #[derive(Drop, Debug)]
@@ -29,4 +33,16 @@ pub enum BlockAnswer {
 pub struct BlockBytes {
     pub offsets: List<u32>,
     pub bytes: Bytes,
+}
+
+impl BlockBytes {
+    /// An equal block. Its bytes share memory with this one's.
+    pub fn copied(&self, alloc: Global) -> Result<BlockBytes, OutOfMemory>
+        ensures { IfOk result (λ copy. copy ≡ self.now) }
+    {
+        Ok(BlockBytes {
+            offsets: copied_list(alloc, &self.offsets)?,
+            bytes: self.bytes.clone()?,
+        })
+    }
 }

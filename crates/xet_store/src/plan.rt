@@ -1,5 +1,9 @@
 //! Answers to range queries.
-use xet_base::{ChunkRange, HttpRange, List, MerkleHash, Text};
+ghost use Rattle.std.specs.Prelude.{◌≡◌, IfOk};
+
+use crate::copies::copied_list;
+use std::alloc::Global;
+use xet_base::{ChunkRange, HttpRange, List, MerkleHash, OutOfMemory, Text};
 
 /// What a store says to a query for a range of a file.
 #[derive(Drop, Debug)]
@@ -55,4 +59,62 @@ pub struct FetchEntry {
 pub struct FetchRange {
     pub chunks: ChunkRange,
     pub bytes: HttpRange,
+}
+
+impl PlanAnswer {
+    /// An equal answer, with memory of its own.
+    pub fn copied(&self, alloc: Global) -> Result<PlanAnswer, OutOfMemory>
+        ensures { IfOk result (λ copy. copy ≡ self.now) }
+    {
+        match self {
+            PlanAnswer::Found(plan) => Ok(PlanAnswer::Found(plan.copied(alloc)?)),
+            PlanAnswer::PastEnd => Ok(PlanAnswer::PastEnd),
+            PlanAnswer::NoFile => Ok(PlanAnswer::NoFile),
+        }
+    }
+}
+
+impl Plan {
+    /// An equal plan, with memory of its own.
+    pub fn copied(&self, alloc: Global) -> Result<Plan, OutOfMemory>
+        ensures { IfOk result (λ copy. copy ≡ self.now) }
+    {
+        let mut xorbs = List::new(alloc);
+        for xorb in self.xorbs.as_slice() {
+            xorbs.push(xorb.copied(alloc)?)?;
+        }
+        Ok(Plan {
+            offset_into_first_range: self.offset_into_first_range,
+            terms: copied_list(alloc, &self.terms)?,
+            xorbs,
+        })
+    }
+}
+
+impl PlanXorb {
+    /// An equal xorb, with memory of its own.
+    pub fn copied(&self, alloc: Global) -> Result<PlanXorb, OutOfMemory>
+        ensures { IfOk result (λ copy. copy ≡ self.now) }
+    {
+        let mut fetch = List::new(alloc);
+        for entry in self.fetch.as_slice() {
+            fetch.push(entry.copied(alloc)?)?;
+        }
+        Ok(PlanXorb {
+            xorb: self.xorb,
+            fetch,
+        })
+    }
+}
+
+impl FetchEntry {
+    /// An equal entry, with memory of its own.
+    pub fn copied(&self, alloc: Global) -> Result<FetchEntry, OutOfMemory>
+        ensures { IfOk result (λ copy. copy ≡ self.now) }
+    {
+        Ok(FetchEntry {
+            url: self.url.clone()?,
+            ranges: copied_list(alloc, &self.ranges)?,
+        })
+    }
 }

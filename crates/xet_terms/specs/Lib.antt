@@ -5,6 +5,8 @@ pub mod Chain
 pub mod Errors
 pub mod Extracts
 pub mod Laws
+pub mod Offers
+pub mod RangeBlocks
 pub mod TermBlockCalls
 pub mod TermBlocks
 pub mod Terms

@@ -1,16 +1,20 @@
 //! The terms of a file in a range, and how a query's answer is made into them.
-ghost use Rattle.std.specs.Prelude.{◌≡◌, ◌≤◌, false, length, slice_range, IfOk, MatchResult};
+ghost use Rattle.std.specs.Prelude.{◌≡◌, ◌≤◌, ◌⊎◌, false, length, slice_range, IfErr, IfOk, MatchResult};
+ghost use Rattle.xet_terms.specs.declared.error.FileReconstructionError.TheVariants as error;
 ghost use Rattle.xet_terms.specs.Extracts.{ExtractCall, IsPlaceOf, failed_term_test};
-ghost use Rattle.xet_terms.specs.TermBlockCalls.{TermBlockCall};
+ghost use Rattle.xet_terms.specs.TermBlockCalls.{FromTerms, TermBlockCall};
 
 use crate::error::{Corruption, FileReconstructionError, Result};
+use crate::reconstruction_terms::plan_blocks::PlanBlocks;
+use crate::reconstruction_terms::plan_offers::PlanOffers;
+use crate::reconstruction_terms::plan_tests::check_plan;
 use crate::reconstruction_terms::retrieval_urls::TermBlockRetrievalURLs;
 use crate::reconstruction_terms::xorb_block::{XorbBlock, XorbBlockData};
 use bytes::Bytes;
 use std::alloc::Global;
 use std::ops::Range;
 use xet_base::{ChunkRange, FileRange, List, MerkleHash, OutOfMemory, UniqueId};
-use xet_store::Client;
+use xet_store::{Client, Plan, PlanAnswer};
 
 /// A term of a plan: some bytes of the file, and where they stand in a block.
 ///
@@ -107,13 +111,248 @@ pub fn retrieve_file_term_block<C: Client>(
     requires { multirange ≡ false }
     ensures { TermBlockCall (C.told client.old) (C.told client.new) file_hash query_file_byte_range multirange id result }
 {
-    Err(FileReconstructionError::OutOfMemory)
+    match client.plan(alloc, &file_hash, query_file_byte_range)? {
+        PlanAnswer::Found(plan) => answer_plan(alloc, &plan, file_hash, query_file_byte_range, id),
+        PlanAnswer::PastEnd => Ok(None),
+        PlanAnswer::NoFile => Err(FileReconstructionError::FileNotFound),
+    }
+}
+
+/// What a plan is made into; none where it has no terms.
+fn answer_plan(
+    alloc: Global,
+    plan: &Plan,
+    file_hash: MerkleHash,
+    query: FileRange,
+    id: UniqueId,
+) -> Result<Option<TermBlock>>
+    ensures made { IfOk result (λ made. FromTerms plan.now query false file_hash id plan.now.terms (Ok made)) }
+    ensures refused { IfErr result (λ e. (e ≡ error.OutOfMemory)
+        ⊎ FromTerms plan.now query false file_hash id plan.now.terms (Err e)) }
+{
+    if plan.terms.len() == 0 {
+        return Ok(None);
+    }
+    let offers = PlanOffers::new(alloc, plan)?;
+    let byte_range = check_plan(&offers, query).map_err(
+        FileReconstructionError::CorruptedReconstruction,
+    )?;
+    let blocks = PlanBlocks::new(alloc, &offers)?;
+    let urls = blocks.urls(alloc)?;
+    Ok(Some(TermBlock {
+        byte_range,
+        transfer_bytes: blocks.transfer_bytes(),
+        terms: blocks.file_terms(alloc, query, plan.offset_into_first_range)?,
+        blocks: blocks.xorb_blocks(alloc)?,
+        urls: TermBlockRetrievalURLs::new(file_hash, byte_range, id, urls),
+    }))
 }
 
 #[cfg(test)]
 mod tests {
     use super::*;
     use std::test::Fail;
+    use xet_base::{HttpRange, Text};
+    use xet_store::{
+        BlockAnswer, BlockRequest, ClientError, FetchEntry, FetchRange, PlanTerm, PlanXorb,
+    };
+
+    const XORB: MerkleHash = MerkleHash([0x11; 32]);
+
+    /// A connection with one answer to a query.
+    struct Prepared {
+        answer: Option<PlanAnswer>,
+    }
+
+    impl Client for Prepared {
+        ghost use Rattle.std.specs.Prelude.{◌-◌, ◌^◌, None};
+        ghost use Rattle.xet_store.specs.Told.{ClientTold};
+
+        // Nothing is told, and the counts stand at their last value.
+        ghost told = { λ _. record {
+          store = None;
+          asked = None;
+          said = None;
+          served = None;
+          faults = 2 ^ 64 - 1;
+          expiries = 2 ^ 64 - 1;
+        } };
+
+        fn plan(
+            &mut self,
+            _alloc: Global,
+            _file: &MerkleHash,
+            _range: FileRange,
+        ) -> std::result::Result<PlanAnswer, ClientError> {
+            self.answer.take().ok_or(ClientError::Failed)
+        }
+
+        fn block(
+            &mut self,
+            _alloc: Global,
+            _request: &BlockRequest,
+        ) -> std::result::Result<BlockAnswer, ClientError> {
+            Err(ClientError::Failed)
+        }
+    }
+
+    /// The terms with these lengths and chunks.
+    fn plan_terms(
+        alloc: Global,
+        parts: &[(u32, u32, u32)],
+    ) -> std::result::Result<List<PlanTerm>, Fail> {
+        let mut terms = List::new(alloc);
+        for (length, start, end) in parts {
+            terms.push(PlanTerm {
+                xorb: XORB,
+                unpacked_length: *length,
+                range: ChunkRange::new(*start, *end),
+            })?;
+        }
+        Ok(terms)
+    }
+
+    /// An entry with these chunks and bytes.
+    fn entry(
+        alloc: Global,
+        url: &str,
+        parts: &[(u32, u32, u64, u64)],
+    ) -> std::result::Result<FetchEntry, Fail> {
+        let mut ranges = List::new(alloc);
+        for (start, end, from, to) in parts {
+            ranges.push(FetchRange {
+                chunks: ChunkRange::new(*start, *end),
+                bytes: HttpRange::new(*from, *to),
+            })?;
+        }
+        let url = Text::from_string(String::from_str(alloc, url)?);
+        Ok(FetchEntry { url, ranges })
+    }
+
+    /// What a plan of one xorb is made into.
+    fn made_of(
+        alloc: Global,
+        offset: u64,
+        terms: List<PlanTerm>,
+        entries: Vec<FetchEntry>,
+        query: FileRange,
+    ) -> std::result::Result<Result<Option<TermBlock>>, Fail> {
+        let mut xorbs = List::new(alloc);
+        xorbs.push(PlanXorb {
+            xorb: XORB,
+            fetch: List::from_vec(entries),
+        })?;
+        let mut client = Prepared {
+            answer: Some(PlanAnswer::Found(Plan {
+                offset_into_first_range: offset,
+                terms,
+                xorbs,
+            })),
+        };
+        let id = UniqueId {
+            plan: 1,
+            refresh: 0,
+        };
+        let made = retrieve_file_term_block(alloc, &mut client, XORB, query, false, id);
+        let Prepared { answer: _ } = client;
+        Ok(made)
+    }
+
+    /// A term by its bytes, its chunks, its start index, its offset and its block.
+    fn term(
+        bytes: (u64, u64),
+        chunks: (u32, u32),
+        start_index: usize,
+        offset: u64,
+        block: usize,
+    ) -> FileTerm {
+        FileTerm {
+            byte_range: FileRange::new(bytes.0, bytes.1),
+            xorb_chunk_range: ChunkRange::new(chunks.0, chunks.1),
+            xorb_block_start_index: start_index,
+            offset_into_first_range: offset,
+            xorb_block: block,
+        }
+    }
+
+    #[test]
+    fn shares_blocks_between_terms(rt: HostRuntime) -> std::result::Result<(), Fail> {
+        let terms = plan_terms(rt.alloc(), &[(6, 2, 4), (5, 0, 1), (5, 0, 1)])?;
+        let entries = vec![in rt.alloc();
+            entry(rt.alloc(), "all", &[(0, 1, 0, 5), (2, 4, 7, 13)])?,
+        ]?;
+        let made = made_of(rt.alloc(), 4, terms, entries, FileRange::new(4, 13))??;
+        let block = made.ok_or("no terms")?;
+        let wanted = [
+            term((4, 6), (2, 4), 0, 4, 0),
+            term((6, 11), (0, 1), 0, 0, 1),
+            term((11, 13), (0, 1), 0, 0, 1),
+        ];
+        assert_eq!(rt; block.terms.as_slice(), wanted.as_slice());
+        assert_eq!(rt; block.byte_range, FileRange::new(4, 13));
+        assert_eq!(rt; block.transfer_bytes, 11);
+        Ok(())
+    }
+
+    #[test]
+    fn takes_the_first_entry_that_has_a_term(rt: HostRuntime) -> std::result::Result<(), Fail> {
+        let terms = plan_terms(rt.alloc(), &[(300, 0, 3), (400, 1, 5)])?;
+        let short = entry(rt.alloc(), "short", &[(0, 3, 0, 300)])?;
+        let long = entry(rt.alloc(), "long", &[(0, 5, 0, 500)])?;
+        let entries = vec![in rt.alloc(); short, long]?;
+        let made = made_of(rt.alloc(), 0, terms, entries, FileRange::new(0, 1000))??;
+        let block = made.ok_or("no terms")?;
+        let wanted = [
+            term((0, 300), (0, 3), 0, 0, 0),
+            term((300, 700), (1, 5), 1, 0, 1),
+        ];
+        assert_eq!(rt; block.terms.as_slice(), wanted.as_slice());
+        let (_, url) = block.urls.get_retrieval_url(1).ok_or("no URL")?;
+        assert_eq!(rt; url.url.as_str(), "long");
+        Ok(())
+    }
+
+    #[test]
+    fn tests_offsets_and_trims(rt: HostRuntime) -> std::result::Result<(), Fail> {
+        let cases = [
+            (6, [6, 1, 1], 0..9, None),
+            (
+                7,
+                [6, 1, 1],
+                0..9,
+                Some(Corruption::Offset {
+                    offset: 7,
+                    length: 6,
+                }),
+            ),
+            (
+                2,
+                [6, 10, 3],
+                10..20,
+                Some(Corruption::Trim {
+                    excess: 7,
+                    length: 3,
+                }),
+            ),
+        ];
+        for (offset, lengths, query, wanted) in cases {
+            let parts = [(lengths[0], 0, 1), (lengths[1], 1, 2), (lengths[2], 2, 3)];
+            let terms = plan_terms(rt.alloc(), &parts)?;
+            let entries = vec![in rt.alloc(); entry(rt.alloc(), "all", &[(0, 3, 0, 19)])?]?;
+            let made = made_of(
+                rt.alloc(),
+                offset,
+                terms,
+                entries,
+                FileRange::new(query.start, query.end),
+            )?;
+            assert_eq!(rt;
+                made.err(),
+                wanted.map(FileReconstructionError::CorruptedReconstruction)
+            );
+        }
+        Ok(())
+    }
 
     fn hello(alloc: Global, length: usize) -> std::result::Result<XorbBlockData, OutOfMemory> {
         let chunk_offsets = [(0, 0), (1, 5), (2, 7), (3, 12)].to_vec(alloc)?;
