@@ -1,0 +1,7 @@
+pub mod Adding
+pub mod Chunks
+pub mod Driving
+pub mod Ends
+pub mod Fitting
+pub mod Outcomes
+pub mod Terms

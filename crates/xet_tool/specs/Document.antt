@@ -1,5 +1,5 @@
 -- The store that a JSON value lists.
-use Rattle.std.specs.Prelude.{ℕ, ◌≡◌, ◌^◌, ◌&&◌, Bool, true, false, cond, nat_lt, List, [], ◌∷◌, Option, Some, None, option_and_then, option_map, codes}
+use Rattle.std.specs.Prelude.{ℕ, ◌≡◌, ◌^◌, false, cond, nat_lt, List, [], ◌∷◌, Option, Some, None, option_and_then, option_map, codes}
 use Rattle.std.specs.Result.{result_ok}
 use Rattle.hex.specs.Hex.{decode_of}
 use Rattle.serde_json.specs.Data.{Data, Items, no_items, item, Members, no_members, member}
@@ -16,9 +16,13 @@ abbrev pub some_bytes : List ℕ → Option (List ℕ)
 some_bytes [] = None
 some_bytes (x ∷ xs) = Some (x ∷ xs)
 
--- a chunk: a nonempty even number of hexadecimal digits
+-- the bytes of a nonempty even number of hexadecimal digits
+abbrev pub chunk_of_text : List ℕ → Option (List ℕ)
+chunk_of_text text = option_and_then some_bytes (result_ok (decode_of text))
+
+-- a chunk: a text of a nonempty even number of hexadecimal digits
 abbrev pub chunk_of : Data → Option (List ℕ)
-chunk_of d = option_and_then (λ text. option_and_then some_bytes (result_ok (decode_of text))) (as_str d)
+chunk_of d = option_and_then chunk_of_text (as_str d)
 
 abbrev pub chunks_of_items : Items → Option (List (List ℕ))
 chunks_of_items no_items = Some []

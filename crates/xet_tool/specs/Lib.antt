@@ -1,5 +1,9 @@
+pub mod Adding
+pub mod Cuts
+pub mod Digits
 pub mod Document
 pub mod Outcome
+pub mod Printing
 pub mod Reading
 pub mod Texts
 pub mod Words

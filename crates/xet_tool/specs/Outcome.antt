@@ -1,5 +1,5 @@
 -- What each status of the program says.
-use Rattle.std.specs.Prelude.{ℕ, ◌≡◌, ◌⊎◌, ◌<◌, ◌≤◌, List, [], length, take, map, Option, Some, None, IsSome, IsNone}
+use Rattle.std.specs.Prelude.{ℕ, ◌≡◌, ◌⊎◌, ◌<◌, ◌≤◌, List, [], length, take, Option, Some, None, IsSome, IsNone, option_map}
 use Rattle.std.specs.Str.{IsUtf8}
 use Rattle.serde_json.specs.Data.{Data}
 use Rattle.serde_json.specs.Read.{read}
@@ -90,8 +90,8 @@ abbrev pub TextOutcome : List ℕ → Status → Told → Told → Status → Ty
 TextOutcome text whole b n status =
     (n.source ≡ b.source)
     × (((status ≡ whole) × Took b.sink.took n.sink.took text)
-      ⊎ ((status ≡ WriteFault) × Rose b.sink.faults n.sink.faults × TookPrefix b.sink.took n.sink.took text)
-      ⊎ ((status ≡ NoMemory) × TookPrefix b.sink.took n.sink.took text))
+    ⊎ ((status ≡ WriteFault) × Rose b.sink.faults n.sink.faults × TookPrefix b.sink.took n.sink.took text)
+    ⊎ ((status ≡ NoMemory) × TookPrefix b.sink.took n.sink.took text))
 
 -- any words, by the command that they spell
 abbrev pub Outcome : ℕ → Option Command → Told → Told → Status → Type 0
@@ -100,8 +100,13 @@ Outcome limit (Some Help) b n status = TextOutcome help_text Done b n status
 Outcome limit (Some Version) b n status = TextOutcome version_text Done b n status
 Outcome limit None b n status = TextOutcome (line BadWords) BadWords b n status
 
+-- unless a write failed or memory ended, all that was taken is flushed
+abbrev pub IsFlushed : Status → SinkTold → Type 0
+IsFlushed status n = (n.flushed ≡ option_map length n.took) ⊎ (status ≡ WriteFault) ⊎ (status ≡ NoMemory)
+
 -- the status behind the number that the program answers
 pub record Answers (limit : ℕ) (w : List (List ℕ)) (b n : Told) (number : ℕ) : Type 0 where
   pub status : Status
   pub number_is : number ≡ number_of status
   pub outcome : Outcome limit (command_of w) b n status
+  pub flushed : IsFlushed status n.sink

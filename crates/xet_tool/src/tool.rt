@@ -1,48 +1,15 @@
 //! The top call.
 ghost use Rattle.std.specs.Prelude.{map, string_bytes};
-ghost use Rattle.xet_tool.specs.Outcome.{Answers};
+ghost use Rattle.xet_tool.specs.Outcome.{Answers, IsFlushed, Outcome};
+ghost use Rattle.xet_tool.specs.Words.{command_of};
 
 use crate::get::{LIMIT, get};
+use crate::printing::{print_text, say};
 use crate::status::Status;
 use crate::texts::{HELP, VERSION};
 use crate::words::{Command, read_words};
 use std::alloc::Global;
-use xet_store::{Sink, SinkError, Source, write_plainly};
-
-// The status after a failed write.
-pub fn stopped(error: SinkError) -> Status {
-    match error {
-        SinkError::OutOfMemory => Status::NoMemory,
-        SinkError::Failed => Status::WriteFault,
-    }
-}
-
-// Writes a text and flushes it.
-fn put<O: Sink>(out: &mut O, text: &[u8]) -> Result<(), SinkError> {
-    write_plainly(out, text)?;
-    out.flush()
-}
-
-// Prints a text, which ends the program with this status.
-pub fn print_text<O: Sink>(out: &mut O, status: Status, text: &[u8]) -> Status {
-    match put(out, text) {
-        Ok(()) => status,
-        Err(error) => stopped(error),
-    }
-}
-
-// Prints the line of a status.
-pub fn say<O: Sink>(out: &mut O, status: Status) -> Status {
-    print_text(out, status, status.line())
-}
-
-// Prints a line end and a last line.
-pub fn finish<O: Sink>(out: &mut O, status: Status, line: &[u8]) -> Status {
-    match write_plainly(out, b"\n") {
-        Ok(()) => print_text(out, status, line),
-        Err(error) => stopped(error),
-    }
-}
+use xet_store::{Sink, Source};
 
 // Does what the words ask for.
 fn run_words<I: Source, O: Sink + Send>(
@@ -50,7 +17,12 @@ fn run_words<I: Source, O: Sink + Send>(
     words: &[String],
     input: &mut I,
     out: &mut O,
-) -> Status {
+) -> Status
+    ensures outcome { Outcome LIMIT (command_of (map string_bytes words.now))
+        (record { source = I.told input.old; sink = O.told out.old })
+        (record { source = I.told input.new; sink = O.told out.new }) result }
+    ensures flushed { IsFlushed result (O.told out.new) }
+{
     match read_words(words) {
         Some(Command::Get(wanted)) => get(alloc, wanted, input, out),
         Some(Command::Help) => print_text(out, Status::Done, HELP),
@@ -83,4 +55,38 @@ pub fn run_tool<I: Source, O: Sink + Send>(
         (record { source = I.told input.new; sink = O.told out.new }) result }
 {
     run_words(alloc, words, input, out).number()
+}
+
+#[cfg(test)]
+mod tests {
+    use super::*;
+    use std::alloc::AllocError;
+    use xet_store::{VecSink, VecSource};
+
+    #[test]
+    fn answers_by_words_and_input(rt: HostRuntime) -> Result<(), AllocError> {
+        let cases = [
+            ("", "", 1, "error words\n"),
+            ("get 00 0 end", "", 1, "error words\n"),
+            ("--version", "", 0, "xet_tool 0.1.0\n"),
+            (
+                "get 0000000000000000000000000000000000000000000000000000000000000000 0 end",
+                "{",
+                2,
+                "error store\n",
+            ),
+        ];
+        for (line, text, status, printed) in cases {
+            let mut words = Vec::new(rt.alloc());
+            for word in line.split(' ') {
+                words.push(word.to_string(rt.alloc())?)?;
+            }
+            let mut input = VecSource::new(text.as_bytes().to_vec(rt.alloc())?);
+            let mut out = VecSink::new(rt.alloc());
+            let number = run_tool(rt.alloc(), words.as_slice(), &mut input, &mut out);
+            assert_eq!(rt; number, status, "at {line}");
+            assert!(rt; out.taken() == printed.as_bytes());
+        }
+        Ok(())
+    }
 }

@@ -1,6 +1,6 @@
 //! The words of the command line.
-ghost use Rattle.std.specs.Prelude.{◌≡◌, map, string_bytes};
-ghost use Rattle.xet_tool.specs.Words.{command_of, end_of_text, number_of_text};
+ghost use Rattle.std.specs.Prelude.{◌≡◌, ◌∷◌, [], map, string_bytes};
+ghost use Rattle.xet_tool.specs.Words.{command_of, end_of_text, get_command, number_of_text};
 
 use xet_base::{FileRange, MerkleHash};
 
@@ -46,7 +46,21 @@ fn end(text: &str) -> Option<u64>
     number(text.as_bytes())
 }
 
-fn read_get(file: &str, start: &str, last: &str) -> Option<Command> {
+// The command of one word.
+fn read_one(word: &str) -> Option<Command>
+    ensures { result ≡ command_of (word.now ∷ []) }
+{
+    match word {
+        "--help" => Some(Command::Help),
+        "--version" => Some(Command::Version),
+        _ => None,
+    }
+}
+
+// The command `get` of these words.
+fn read_get(file: &str, start: &str, last: &str) -> Option<Command>
+    ensures { result ≡ get_command file.now start.now last.now }
+{
     let file = MerkleHash::from_hex(file).ok()?;
     let start = number(start.as_bytes())?;
     let end = end(last)?;
@@ -61,11 +75,7 @@ pub fn read_words(words: &[String]) -> Option<Command>
     ensures { result ≡ command_of (map string_bytes words.now) }
 {
     match words {
-        [word] => match word.as_str() {
-            "--help" => Some(Command::Help),
-            "--version" => Some(Command::Version),
-            _ => None,
-        },
+        [word] => read_one(word.as_str()),
         [word, file, start, last] => {
             if word.as_str() != "get" {
                 return None;

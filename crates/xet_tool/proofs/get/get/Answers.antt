@@ -1,0 +1,28 @@
+use Rattle.std.proofs.Common.{rules}
+use Rattle.xet_tool.specs.Outcome.{Told}
+use Rattle.xet_tool.proofs.Outcomes.{got_from, got_no_memory, got_no_store}
+use Rattle.xet_tool.proofs.get.get.Goals as goal
+
+pub returns-in-Err-OutOfMemory-clause-outcome : goal.returns-in-Err-OutOfMemory-clause-outcome
+returns-in-Err-OutOfMemory-clause-outcome g c =
+    let b : Told = record { source = g.I.Source.told c.args.input.now; sink = g.O.Sink.told c.args.out.now } in
+    let n : Told = record { source = g.I.Source.told c.read_to_end.new.input; sink = g.O.Sink.told c.say.new.out } in
+    got_no_memory _ _ b n c.say.result c.say.ensures.text
+
+pub returns-in-Ok-Some-clause-outcome : goal.returns-in-Ok-Some-clause-outcome
+returns-in-Ok-Some-clause-outcome g c =
+    let b : Told = record { source = g.I.Source.told c.args.input.now; sink = g.O.Sink.told c.args.out.now } in
+    let n : Told = record { source = g.I.Source.told c.read_to_end.new.input; sink = g.O.Sink.told c.print.new.out } in
+    got_from _ _ b n c.in-Ok.text.items c.in-Ok-Some.store c.print.result (rw c.in-Ok.is at c.read_to_end.ensures).bytes (search rules) c.print.ensures.printed
+
+pub returns-in-Ok-None-clause-outcome : goal.returns-in-Ok-None-clause-outcome
+returns-in-Ok-None-clause-outcome g c =
+    let b : Told = record { source = g.I.Source.told c.args.input.now; sink = g.O.Sink.told c.args.out.now } in
+    let n : Told = record { source = g.I.Source.told c.read_to_end.new.input; sink = g.O.Sink.told c.say-in-Ok-None.new.out } in
+    got_no_store _ _ b n c.in-Ok.text.items c.say-in-Ok-None.result (rw c.in-Ok.is at c.read_to_end.ensures).bytes (search rules) c.say-in-Ok-None.ensures.text
+
+pub returns-in-Err-clause-outcome : goal.returns-in-Err-clause-outcome
+returns-in-Err-clause-outcome g c =
+    let b : Told = record { source = g.I.Source.told c.args.input.now; sink = g.O.Sink.told c.args.out.now } in
+    let n : Told = record { source = g.I.Source.told c.read_to_end.new.input; sink = g.O.Sink.told c.say-in-Err.new.out } in
+    got_no_memory _ _ b n c.say-in-Err.result c.say-in-Err.ensures.text
