@@ -61,14 +61,15 @@ ended c0 c s0 s1 s n answer go h = record {
 
 -- an error that has its cause, after a prefix was taken
 legal_err : (f : MerkleHash) (r : FileRange) (c0 c : ClientTold) (k0 k : CacheTold) (x0 x : SignalTold) (s0 s : SinkTold) (e : FileReconstructionError)
-    → GoesOn c0 c s0 s → ((t : Store) → c0.store ≡ Some t → IsValid t → TookPrefix s0.took s.took (window t f r)) → Cause f r (one c0 k0 x0 s0) (one c k x s) e
+    → r.start < r.end → GoesOn c0 c s0 s → ((t : Store) → c0.store ≡ Some t → IsValid t → TookPrefix s0.took s.took (window t f r)) → Cause f r (one c0 k0 x0 s0) (one c k x s) e
     → Legal f r (one c0 k0 x0 s0) (one c k x s) (Err e)
-legal_err f r c0 c k0 k x0 x s0 s e go prefix cause = record {
+legal_err f r c0 c k0 k x0 x s0 s e some go prefix cause = record {
   exact = λ t told v. tt;
   prefix = λ t told v. prefix t told.0 v;
   flushed = tt;
   cause = cause;
   settings = λ a h. absurd (cc);
+  unasked = λ empty. absurd (omega (arith, some, empty));
   goes_on = (go.client, tt);
   sink_later = go.faults;
   link = go.link;
@@ -76,14 +77,15 @@ legal_err f r c0 c k0 k x0 x s0 s e go prefix cause = record {
 
 -- the whole window was taken and flushed
 legal_ok : (f : MerkleHash) (r : FileRange) (c0 c : ClientTold) (k0 k : CacheTold) (x0 x : SignalTold) (s0 s : SinkTold) (n : ℕ)
-    → GoesOn c0 c s0 s → s.flushed ≡ option_map length s.took → ((t : Store) → c0.store ≡ Some t → IsValid t → IsExact t f r s0 s n)
+    → r.start < r.end → GoesOn c0 c s0 s → s.flushed ≡ option_map length s.took → ((t : Store) → c0.store ≡ Some t → IsValid t → IsExact t f r s0 s n)
     → Legal f r (one c0 k0 x0 s0) (one c k x s) (Ok n)
-legal_ok f r c0 c k0 k x0 x s0 s n go flushed exact = record {
+legal_ok f r c0 c k0 k x0 x s0 s n some go flushed exact = record {
   exact = λ t told v. exact t told.0 v;
   prefix = λ t told v. let w = exact t told.0 v in record { count = length (window t f r); within = omega arith; took = rw take-length w.1 };
   flushed = flushed;
   cause = tt;
   settings = λ a h. absurd (cc);
+  unasked = λ empty. absurd (omega (arith, some, empty));
   goes_on = (go.client, tt);
   sink_later = go.faults;
   link = go.link;
@@ -101,14 +103,14 @@ same_prefix a b xs e = record { count = 0; within = omega arith; took = same_too
 
 -- the whole window was taken, and the run ends
 legal_finish : (f : MerkleHash) (r : FileRange) (c0 c : ClientTold) (k : CacheTold) (x : SignalTold) (s0 s1 s : SinkTold) (n : ℕ) (answer : Result ℕ FileReconstructionError)
-    → GoesOn c0 c s0 s1 → ((t : Store) → c0.store ≡ Some t → IsValid t → IsExact t f r s0 s1 n) → FinishCall n s1 s answer
+    → r.start < r.end → GoesOn c0 c s0 s1 → ((t : Store) → c0.store ≡ Some t → IsValid t → IsExact t f r s0 s1 n) → FinishCall n s1 s answer
     → Legal f r (one c0 k x s0) (one c k x s) answer
-legal_finish f r c0 c k x s0 s1 s n (Ok m) go exact h =
+legal_finish f r c0 c k x s0 s1 s n (Ok m) some go exact h =
     let total : m ≡ n = h.total in
-    legal_ok f r c0 c k k x x s0 s m (ended c0 c s0 s1 s n (Ok m) go h) h.flushed
+    legal_ok f r c0 c k k x x s0 s m some (ended c0 c s0 s1 s n (Ok m) go h) h.flushed
     (λ t told v. let w = exact t told v in (w.0, h.took ∙ w.1, total ∙ w.2))
-legal_finish f r c0 c k x s0 s1 s n (Err e) go exact h =
-    legal_err f r c0 c k k x x s0 s e (ended c0 c s0 s1 s n (Err e) go h)
+legal_finish f r c0 c k x s0 s1 s n (Err e) some go exact h =
+    legal_err f r c0 c k k x x s0 s e some (ended c0 c s0 s1 s n (Err e) go h)
     (λ t told v. let w = exact t told v in record { count = length (window t f r); within = omega arith; took = rw take-length (h.took ∙ w.1) })
     (by_error e h.cause)
   where
@@ -151,15 +153,15 @@ plan_cause f r id c0 c k0 k x0 x s0 s (error.InternalWriterError w) some h = h
 pub legal_plan_err : (f : MerkleHash) (r : FileRange) (id : UniqueId) (c0 c : ClientTold) (k : CacheTold) (x : SignalTold) (s : SinkTold) (e : FileReconstructionError)
     → r.start < r.end → TermBlockCall c0 c f r false id (Err e) → Legal f r (one c0 k x s) (one c k x s) (Err e)
 legal_plan_err f r id c0 c k x s e some h =
-    legal_err f r c0 c k k x x s s e (asked_only c0 c s f r id (Err e) h)
+    legal_err f r c0 c k k x x s s e some (asked_only c0 c s f r id (Err e) h)
     (λ t told v. same_prefix s.took s.took (window t f r) refl)
     (plan_cause f r id c0 c k k x x s s e some h.cause)
 
 -- no terms came
 pub legal_no_terms : (f : MerkleHash) (r : FileRange) (id : UniqueId) (c0 c : ClientTold) (k : CacheTold) (x : SignalTold) (s0 s : SinkTold) (answer : Result ℕ FileReconstructionError)
-    → TermBlockCall c0 c f r false id (Ok None) → FinishCall 0 s0 s answer → Legal f r (one c0 k x s0) (one c k x s) answer
-legal_no_terms f r id c0 c k x s0 s answer h w =
-    legal_finish f r c0 c k x s0 s0 s 0 answer (asked_only c0 c s0 f r id (Ok None) h)
+    → r.start < r.end → TermBlockCall c0 c f r false id (Ok None) → FinishCall 0 s0 s answer → Legal f r (one c0 k x s0) (one c k x s) answer
+legal_no_terms f r id c0 c k x s0 s answer some h w =
+    legal_finish f r c0 c k x s0 s0 s 0 answer some (asked_only c0 c s0 f r id (Ok None) h)
     (λ t told v.
     let no = made_none c0 c f r false id h.made t told v in
     (inl no.stored, rw no.none (same_took s0.took s0.took refl), ap length (sym no.none)))
@@ -207,11 +209,11 @@ terms_go_on c0 c1 c s0 s h = record { client = h.client; faults = h.faults; link
 
 -- the terms were not all written
 pub legal_terms_err : (f : MerkleHash) (r : FileRange) (id : UniqueId) (tb : TermBlock) (c0 c1 c : ClientTold) (k : CacheTold) (x : SignalTold) (s0 s : SinkTold) (e : FileReconstructionError)
-    → TermBlockCall c0 c1 f r false id (Ok (Some tb))
+    → r.start < r.end → TermBlockCall c0 c1 f r false id (Ok (Some tb))
     → TermsCall (map bare tb.blocks) tb.terms (record { client = c1; sink = s0 }) (record { client = c; sink = s }) (Err e)
     → Legal f r (one c0 k x s0) (one c k x s) (Err e)
-legal_terms_err f r id tb c0 c1 c k x s0 s e h w =
-    legal_err f r c0 c k k x x s0 s e
+legal_terms_err f r id tb c0 c1 c k x s0 s e some h w =
+    legal_err f r c0 c k k x x s0 s e some
     (goes_on_both c0 c1 c s0 s0 s (asked_only c0 c1 s0 f r id (Ok (Some tb)) h) (terms_go_on c0 c1 c s0 s w.goes_on))
     (λ t told v. let all = whole f r id c0 c1 tb h.made t told v in let p = w.prefix t (h.store ∙ told) all.fit in rw all.window_is at p)
     (terms_cause f r id tb c0 c1 c k k x x s0 s e h w.cause)
@@ -235,12 +237,12 @@ written f r id tb c0 c1 c s0 s n h w t told v =
 
 -- all terms were written, and the run ends
 pub legal_whole : (f : MerkleHash) (r : FileRange) (id : UniqueId) (tb : TermBlock) (c0 c1 c : ClientTold) (k : CacheTold) (x : SignalTold) (s0 s1 s : SinkTold) (n : ℕ) (answer : Result ℕ FileReconstructionError)
-    → TermBlockCall c0 c1 f r false id (Ok (Some tb))
+    → r.start < r.end → TermBlockCall c0 c1 f r false id (Ok (Some tb))
     → TermsCall (map bare tb.blocks) tb.terms (record { client = c1; sink = s0 }) (record { client = c; sink = s1 }) (Ok n)
     → FinishCall n s1 s answer
     → Legal f r (one c0 k x s0) (one c k x s) answer
-legal_whole f r id tb c0 c1 c k x s0 s1 s n answer h w l =
-    legal_finish f r c0 c k x s0 s1 s n answer
+legal_whole f r id tb c0 c1 c k x s0 s1 s n answer some h w l =
+    legal_finish f r c0 c k x s0 s1 s n answer some
     (goes_on_both c0 c1 c s0 s0 s1 (asked_only c0 c1 s0 f r id (Ok (Some tb)) h) (terms_go_on c0 c1 c s0 s1 w.goes_on))
     (λ t told v.
     let did = written f r id tb c0 c1 c s0 s1 n h w t told v in
@@ -279,6 +281,7 @@ legal_first f r b n cs k0 k x0 x s0 s answer h = record {
   flushed = h.flushed;
   cause = by_answer answer h.cause;
   settings = λ e q. absurd (cc);
+  unasked = λ empty. let same = h.unasked empty in let first : n ≡ b = cc in ap (λ c. c ∷ cs) first;
   goes_on = (h.goes_on.0, each_stays cs);
   sink_later = h.sink_later;
   link = h.link;

@@ -103,6 +103,8 @@ pub record Legal (f : MerkleHash) (r : FileRange) (b n : RunTold) (answer : Resu
   pub cause : IfErr answer (Cause f r b n)
   -- a failing setting is always told
   pub settings : (e : Setting) → failing_setting b.clients ≡ Some e → answer ≡ Err (error.ConfigurationError e)
+  -- an empty range asks nothing of the connections
+  pub unasked : IsEmptyRange r → n.clients ≡ b.clients
   -- connections go on telling what they told
   pub goes_on : EachGoesOn b.clients n.clients
   pub sink_later : b.sink.faults ≤ n.sink.faults

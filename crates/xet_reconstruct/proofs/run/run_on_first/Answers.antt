@@ -10,7 +10,7 @@ returns-in_err-block g c =
 pub returns-in-None : goal.returns-in-None
 returns-in-None g c =
     let e : c.first_plan.result ≡ Ok None = search rules in
-    legal_no_terms _ _ _ _ _ _ _ _ _ _ (rw e at c.first_plan.ensures) c.finish-in-None.ensures
+    legal_no_terms _ _ _ _ _ _ _ _ _ _ (search rules) (rw e at c.first_plan.ensures) c.finish-in-None.ensures
 
 pub write_terms-requires : goal.write_terms-requires
 write_terms-requires g c =
@@ -21,9 +21,9 @@ pub returns-in_err-written-in-Some : goal.returns-in_err-written-in-Some
 returns-in_err-written-in-Some g c =
     let made : c.first_plan.result ≡ Ok (Some c.in-Some.block) = search rules in
     let e : c.from_residual-in_err-written-in-Some.result ≡ Err c.in_err-written-in-Some.field-0.0 = search rules in
-    rw e (legal_terms_err _ _ _ _ _ _ _ _ _ _ _ _ (rw made at c.first_plan.ensures) (rw c.in_err-written-in-Some.was at c.write_terms.ensures))
+    rw e (legal_terms_err _ _ _ _ _ _ _ _ _ _ _ _ (search rules) (rw made at c.first_plan.ensures) (rw c.in_err-written-in-Some.was at c.write_terms.ensures))
 
 pub returns-in_ok-written-in-Some : goal.returns-in_ok-written-in-Some
 returns-in_ok-written-in-Some g c =
     let made : c.first_plan.result ≡ Ok (Some c.in-Some.block) = search rules in
-    legal_whole _ _ _ _ _ _ _ _ _ _ _ _ _ _ (rw made at c.first_plan.ensures) (rw c.in_ok-written-in-Some.was at c.write_terms.ensures) c.finish-in-Some.ensures
+    legal_whole _ _ _ _ _ _ _ _ _ _ _ _ _ _ (search rules) (rw made at c.first_plan.ensures) (rw c.in_ok-written-in-Some.was at c.write_terms.ensures) c.finish-in-Some.ensures
