@@ -1,13 +1,13 @@
 -- Answers of a run over one connection that are legal.
 use Rattle.std.proofs.Common.{◌≡◌, ℕ, ◌<◌, ◌≤◌, List, [], ◌∷◌, ◌++◌, drop, length, map, Option, Some, None, Ok, Err, refl, ap, sym, ◌∙◌, arith, inl, inr, false, get_or, set}
-use Rattle.std.specs.Prelude.{Contains, IfErr, IfSome, Result, option_map}
+use Rattle.std.specs.Prelude.{Contains, IfErr, IfSome, IsSome, Result, option_map}
 use Rattle.std.specs.List.{flat_map}
 use Rattle.std.proofs.Math.Seq.{drop-append_seam, take-length}
 use Rattle.std.proofs.lemmas.List.{append-nil}
 use Rattle.xet_base.specs.declared.cas_types.FileRange.{FileRange}
 use Rattle.xet_base.specs.declared.merklehash.MerkleHash.{MerkleHash}
 use Rattle.xet_base.specs.declared.unique_id.UniqueId.{UniqueId}
-use Rattle.xet_base.specs.Store.{Store, IsValid, window}
+use Rattle.xet_base.specs.Store.{Store, IsValid, file_of, window}
 use Rattle.xet_store.specs.declared.plan.PlanAnswer.TheVariants.{NoFile}
 use Rattle.xet_store.specs.declared.said.Said.{Said}
 use Rattle.xet_store.specs.declared.said.Said.TheVariants as said
@@ -21,7 +21,7 @@ use Rattle.xet_terms.specs.TermBlocks.{plain_blocks}
 use Rattle.xet_terms.specs.Terms.{terms_of}
 use Rattle.xet_reconstruct.specs.Legal.{Cause, ClientGoesOn, EachGoesOn, IsExact, Legal, RunTold, SomeSaid, told_of}
 use Rattle.xet_reconstruct.specs.Step.{AllFit, FinishCall, FinishCause, IsReady, StepCause, StepGoesOn, TermsCall, bare, piece_in}
-use Rattle.xet_reconstruct.proofs.Plans.{all_fit, bare_blocks, made, made_none, not_corrupted, not_found, pieces_are, ready, window_short}
+use Rattle.xet_reconstruct.proofs.Plans.{all_fit, bare_blocks, made, made_none, not_corrupted, not_found, pieces_are, ready, stored_file, window_short}
 
 -- what a run over one connection is told
 abbrev pub one : ClientTold → CacheTold → SignalTold → SinkTold → RunTold
@@ -65,6 +65,7 @@ legal_err : (f : MerkleHash) (r : FileRange) (c0 c : ClientTold) (k0 k : CacheTo
     → Legal f r (one c0 k0 x0 s0) (one c k x s) (Err e)
 legal_err f r c0 c k0 k x0 x s0 s e some go prefix cause = record {
   exact = λ t told v. tt;
+  stored = λ t told. tt;
   prefix = λ t told v. prefix t told.0 v;
   flushed = tt;
   cause = cause;
@@ -77,10 +78,11 @@ legal_err f r c0 c k0 k x0 x s0 s e some go prefix cause = record {
 
 -- the whole window was taken and flushed
 legal_ok : (f : MerkleHash) (r : FileRange) (c0 c : ClientTold) (k0 k : CacheTold) (x0 x : SignalTold) (s0 s : SinkTold) (n : ℕ)
-    → r.start < r.end → GoesOn c0 c s0 s → s.flushed ≡ option_map length s.took → ((t : Store) → c0.store ≡ Some t → IsValid t → IsExact t f r s0 s n)
+    → r.start < r.end → ((t : Store) → c0.store ≡ Some t → IsSome (file_of t f)) → GoesOn c0 c s0 s → s.flushed ≡ option_map length s.took → ((t : Store) → c0.store ≡ Some t → IsValid t → IsExact t f r s0 s n)
     → Legal f r (one c0 k0 x0 s0) (one c k x s) (Ok n)
-legal_ok f r c0 c k0 k x0 x s0 s n some go flushed exact = record {
+legal_ok f r c0 c k0 k x0 x s0 s n some stored go flushed exact = record {
   exact = λ t told v. exact t told.0 v;
+  stored = λ t told. inl (stored t told.0);
   prefix = λ t told v. let w = exact t told.0 v in record { count = length (window t f r); within = omega arith; took = rw take-length w.1 };
   flushed = flushed;
   cause = tt;
@@ -103,13 +105,13 @@ same_prefix a b xs e = record { count = 0; within = omega arith; took = same_too
 
 -- the whole window was taken, and the run ends
 legal_finish : (f : MerkleHash) (r : FileRange) (c0 c : ClientTold) (k : CacheTold) (x : SignalTold) (s0 s1 s : SinkTold) (n : ℕ) (answer : Result ℕ FileReconstructionError)
-    → r.start < r.end → GoesOn c0 c s0 s1 → ((t : Store) → c0.store ≡ Some t → IsValid t → IsExact t f r s0 s1 n) → FinishCall n s1 s answer
+    → r.start < r.end → ((t : Store) → c0.store ≡ Some t → IsSome (file_of t f)) → GoesOn c0 c s0 s1 → ((t : Store) → c0.store ≡ Some t → IsValid t → IsExact t f r s0 s1 n) → FinishCall n s1 s answer
     → Legal f r (one c0 k x s0) (one c k x s) answer
-legal_finish f r c0 c k x s0 s1 s n (Ok m) some go exact h =
+legal_finish f r c0 c k x s0 s1 s n (Ok m) some stored go exact h =
     let total : m ≡ n = h.total in
-    legal_ok f r c0 c k k x x s0 s m some (ended c0 c s0 s1 s n (Ok m) go h) h.flushed
+    legal_ok f r c0 c k k x x s0 s m some stored (ended c0 c s0 s1 s n (Ok m) go h) h.flushed
     (λ t told v. let w = exact t told v in (w.0, h.took ∙ w.1, total ∙ w.2))
-legal_finish f r c0 c k x s0 s1 s n (Err e) some go exact h =
+legal_finish f r c0 c k x s0 s1 s n (Err e) some stored go exact h =
     legal_err f r c0 c k k x x s0 s e some (ended c0 c s0 s1 s n (Err e) go h)
     (λ t told v. let w = exact t told v in record { count = length (window t f r); within = omega arith; took = rw take-length (h.took ∙ w.1) })
     (by_error e h.cause)
@@ -161,7 +163,7 @@ legal_plan_err f r id c0 c k x s e some h =
 pub legal_no_terms : (f : MerkleHash) (r : FileRange) (id : UniqueId) (c0 c : ClientTold) (k : CacheTold) (x : SignalTold) (s0 s : SinkTold) (answer : Result ℕ FileReconstructionError)
     → r.start < r.end → TermBlockCall c0 c f r false id (Ok None) → FinishCall 0 s0 s answer → Legal f r (one c0 k x s0) (one c k x s) answer
 legal_no_terms f r id c0 c k x s0 s answer some h w =
-    legal_finish f r c0 c k x s0 s0 s 0 answer some (asked_only c0 c s0 f r id (Ok None) h)
+    legal_finish f r c0 c k x s0 s0 s 0 answer some (stored_file c0 c f r false id None h.made) (asked_only c0 c s0 f r id (Ok None) h)
     (λ t told v.
     let no = made_none c0 c f r false id h.made t told v in
     (inl no.stored, rw no.none (same_took s0.took s0.took refl), ap length (sym no.none)))
@@ -242,7 +244,7 @@ pub legal_whole : (f : MerkleHash) (r : FileRange) (id : UniqueId) (tb : TermBlo
     → FinishCall n s1 s answer
     → Legal f r (one c0 k x s0) (one c k x s) answer
 legal_whole f r id tb c0 c1 c k x s0 s1 s n answer some h w l =
-    legal_finish f r c0 c k x s0 s1 s n answer some
+    legal_finish f r c0 c k x s0 s1 s n answer some (stored_file c0 c1 f r false id (Some tb) h.made)
     (goes_on_both c0 c1 c s0 s0 s1 (asked_only c0 c1 s0 f r id (Ok (Some tb)) h) (terms_go_on c0 c1 c s0 s1 w.goes_on))
     (λ t told v.
     let did = written f r id tb c0 c1 c s0 s1 n h w t told v in
@@ -277,6 +279,7 @@ legal_first : (f : MerkleHash) (r : FileRange) (b n : ClientTold) (cs : List Cli
     → Legal f r (record { clients = b ∷ cs; cache = k0; signal = x0; sink = s0 }) (record { clients = n ∷ cs; cache = k; signal = x; sink = s }) answer
 legal_first f r b n cs k0 k x0 x s0 s answer h = record {
   exact = λ t told v. h.exact t (told.0, tt) v;
+  stored = λ t told. h.stored t (told.0, tt);
   prefix = λ t told v. h.prefix t (told.0, tt) v;
   flushed = h.flushed;
   cause = by_answer answer h.cause;

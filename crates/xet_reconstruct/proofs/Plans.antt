@@ -98,6 +98,15 @@ made_none b n f q multi id h s told v = of_answer h.plan (h.honest s told) h.fro
     of_answer PastEnd h e = record { stored = h.0; none = past_end s f q h.1 }
     of_answer NoFile h e = absurd (cc)
 
+-- a file of which the connection told something is stored
+pub stored_file : (b n : ClientTold) (f : MerkleHash) (q : FileRange) (multi : Bool) (id : UniqueId) (o : Option TermBlock) → FromSaid b n f q multi id (Ok o) → (s : Store) → b.store ≡ Some s → IsSome (file_of s f)
+stored_file b n f q multi id o h s told = of_answer h.plan (h.honest s told) h.from
+  where
+    of_answer : (a : PlanAnswer) → IsHonest s f q a → FromAnswer q multi f id a (Ok o) → IsSome (file_of s f)
+    of_answer (Found p) h e = h.0
+    of_answer PastEnd h e = h.0
+    of_answer NoFile h e = absurd (cc)
+
 -- the connection said that the file is not stored
 pub record SaidNoFile (b n : ClientTold) (f : MerkleHash) : Type 0 where
   pub said : Grew b.said n.said (said.Plan NoFile)

@@ -97,6 +97,8 @@ pub record Legal (f : MerkleHash) (r : FileRange) (b n : RunTold) (answer : Resu
   pub exact : (s : Store) → AllTell s b.clients → IsValid s → IfOk answer (IsExact s f r b.sink n.sink)
   -- and whatever the answer, the writer took a prefix of the window
   pub prefix : (s : Store) → AllTell s b.clients → IsValid s → TookPrefix b.sink.took n.sink.took (window s f r)
+  -- over connections that tell one store, valid or not, a file that isn't stored is never answered Ok, unless the range is empty
+  pub stored : (s : Store) → AllTell s b.clients → IfOk answer (λ _. IsSome (file_of s f) ⊎ IsEmptyRange r)
   -- on Ok all that the writer took is flushed
   pub flushed : IfOk answer (λ _. n.sink.flushed ≡ option_map length n.sink.took)
   -- each error has its cause
