@@ -1,7 +1,9 @@
+pub mod Faults
 pub mod HexText
 pub mod MemBlocks
 pub mod MemPlans
 pub mod MemStores
+pub mod MemUrls
 pub mod Parts
 pub mod Plan
 pub mod Pushed

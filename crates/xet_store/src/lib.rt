@@ -8,7 +8,6 @@ pub mod block;
 pub mod cancel;
 pub mod chunk_cache;
 pub mod client;
-mod copies;
 pub mod hex_sink;
 pub mod laws;
 mod mem_block;

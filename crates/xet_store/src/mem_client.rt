@@ -1,12 +1,12 @@
 //! An honest connection to a store in memory.
-ghost use Rattle.std.specs.Prelude.{◌≡◌, ◌<◌, [], Some, IfOk, OnOk, vec_capacity, vec_len};
+ghost use Rattle.std.specs.Prelude.{◌≡◌, ◌+◌, ◌<◌, [], Some, IfOk, IfSome, OnOk, vec_capacity, vec_len};
 ghost use Rattle.xet_base.specs.Store.{IsValid};
-ghost use Rattle.xet_store.specs.Told.{BlockCall};
+ghost use Rattle.xet_store.specs.Told.{BlockCall, PlanCall};
 ghost use Rattle.xet_store.specs.MemBlocks.{mem_block};
+ghost use Rattle.xet_store.specs.MemUrls.{HasUrl, found_count, mem_url};
 
 use crate::block::{BlockAnswer, BlockRequest};
 use crate::client::{Client, ClientError};
-use crate::copies::copied_list;
 use crate::mem_block::block_answer;
 use crate::mem_plan::plan_answer;
 use crate::mem_store::MemStore;
@@ -24,8 +24,9 @@ pub struct MemClient<'a> {
     asked: Vec<(MerkleHash, FileRange)>,
     said: Vec<Said>,
     served: Vec<(u64, usize, MerkleHash, List<ChunkRange>)>,
-    // how many plans it answered
+    // how many plans it found
     plans: u64,
+    ghost counted: { plans ≡ found_count said.items },
 }
 
 impl<'a> MemClient<'a> {
@@ -64,17 +65,22 @@ impl<'a> Client for MemClient<'a> {
       expiries = 0;
     } };
 
+    /// The plan of the range. The plans that were found are counted from 1, and the URL of all their entries is `mem:`
+    /// and the number.
     fn plan(
         &mut self,
         alloc: Global,
         file: &MerkleHash,
         range: FileRange,
-    ) -> Result<PlanAnswer, ClientError> {
-        let number = self.plans.saturating_add(1);
-        let answer = plan_answer(alloc, self.store, file, range, number)?;
-        let copy = answer.copied(alloc)?;
+    ) -> Result<PlanAnswer, ClientError>
+        ensures call { PlanCall (⟦<MemClient<'a> as Client>⟧.told self.old) (⟦<MemClient<'a> as Client>⟧.told self.new) file.now range result }
+        ensures url { IfSome (⟦<MemClient<'a> as Client>⟧.told self.old).said (λ said. IfOk result (HasUrl (mem_url (found_count said + 1)))) }
+    {
         reserve(&mut self.asked)?;
         reserve(&mut self.said)?;
+        let number = self.plans + 1;
+        let answer = plan_answer(alloc, self.store, file, range, number)?;
+        let copy = answer.copied(alloc)?;
         self.asked.push_reserved((*file, range));
         self.said.push_reserved(Said::Plan(copy));
         if let PlanAnswer::Found(_) = &answer {
@@ -90,7 +96,7 @@ impl<'a> Client for MemClient<'a> {
     {
         let block = block_answer(alloc, self.store, &request.xorb, request.chunks.as_slice())?;
         let copy = block.copied(alloc)?;
-        let chunks = copied_list(alloc, &request.chunks)?;
+        let chunks = request.chunks.copied(alloc)?;
         reserve(&mut self.said)?;
         reserve(&mut self.served)?;
         self.said

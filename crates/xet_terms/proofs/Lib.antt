@@ -8,6 +8,7 @@ pub mod Pieces
 pub mod PlanBlocks
 pub mod PlanEnds
 pub mod PlannedBlocks
+pub mod References
 pub mod Slices
 pub mod TermBlockAnswers
 pub mod Trims

@@ -27,7 +27,7 @@ use Rattle.xet_terms.specs.contracts.reconstruction_terms.plan_blocks.BlockKeyOr
 use Rattle.xet_terms.specs.Blocks.{PlanBlock, block_of_term, block_ranges, blocks_of, entry_blocks, lies_in, range_eq, same_block, start_index, term_block}
 use Rattle.xet_terms.specs.Offers.{Offered, entry_offers, offered, offer_of_term, range_block, xorb_offers}
 use Rattle.xet_terms.specs.RangeBlocks.{IsNumbered, IsPlanned, key_of, plan_block}
-use Rattle.xet_terms.specs.TermBlocks.{block_url, plain_block}
+use Rattle.xet_terms.specs.TermBlocks.{block_url}
 use Rattle.xet_terms.specs.Tests.{test_3}
 use Rattle.xet_terms.specs.declared.error.Corruption.TheVariants.{NoRange}
 use Rattle.xet_terms.specs.declared.reconstruction_terms.plan_offers.Offer.{Offer}
@@ -43,16 +43,16 @@ enumerate-push n (y ∷ ys) x =
     ap (λ l. (n, y) ∷ l) (enumerate-push (n + 1) ys x ∙ ap (λ (k : ℕ). enumerate_from (n + 1) ys ++ (k, x) ∷ []) e)
 
 -- one more block of the list has the next number
-pub plain-push : (xs : List RangeBlock) (i : ℕ) (d : RangeBlock) → i < length xs
-    → map plain_block (enumerate_from 0 (map plan_block (take (i + 1) xs))) ≡ map plain_block (enumerate_from 0 (map plan_block (take i xs))) ++ plain_block (i, plan_block (get_or xs i d)) ∷ []
-plain-push xs i d l =
+pub numbered-push : {B : Type 0} (f : ℕ × PlanBlock → B) (xs : List RangeBlock) (i : ℕ) (d : RangeBlock) → i < length xs
+    → map f (enumerate_from 0 (map plan_block (take (i + 1) xs))) ≡ map f (enumerate_from 0 (map plan_block (take i xs))) ++ f (i, plan_block (get_or xs i d)) ∷ []
+numbered-push f xs i d l =
     let x = get_or xs i d in
     let more : map plan_block (take (i + 1) xs) ≡ map plan_block (take i xs) ++ plan_block x ∷ [] = ap (λ (l : List RangeBlock). map plan_block l) (take_more xs i d l) ∙ map-append plan_block (take i xs) (x ∷ []) in
     let at : 0 + length (map plan_block (take i xs)) ≡ i = omega (arith, length-map (take i xs) plan_block, length-take {A = RangeBlock}) in
-    ap (λ (l : List PlanBlock). map plain_block (enumerate_from 0 l)) more
-    ∙ ap (λ l. map plain_block l) (enumerate-push 0 (map plan_block (take i xs)) (plan_block x))
-    ∙ map-append plain_block (enumerate_from 0 (map plan_block (take i xs))) ((0 + length (map plan_block (take i xs)), plan_block x) ∷ [])
-    ∙ ap (λ (k : ℕ). map plain_block (enumerate_from 0 (map plan_block (take i xs))) ++ plain_block (k, plan_block x) ∷ []) at
+    ap (λ (l : List PlanBlock). map f (enumerate_from 0 l)) more
+    ∙ ap (λ l. map f l) (enumerate-push 0 (map plan_block (take i xs)) (plan_block x))
+    ∙ map-append f (enumerate_from 0 (map plan_block (take i xs))) ((0 + length (map plan_block (take i xs)), plan_block x) ∷ [])
+    ∙ ap (λ (k : ℕ). map f (enumerate_from 0 (map plan_block (take i xs))) ++ f (k, plan_block x) ∷ []) at
 
 -- ---- keys of blocks
 

@@ -1,6 +1,6 @@
 -- What a connection's answer is made into.
-use Rattle.std.proofs.Common.{◌≡◌, ◌⊎◌, inl, inr, ℕ, ◌+◌, ◌-◌, ◌^◌, ◌<◌, ◌≤◌, Bool, true, false, cond, List, [], ◌∷◌, length, map, take, ltb, refl, sym, ◌∙◌, ap, subst, arith, Some, None, Ok, Err, Result}
-use Rattle.std.specs.Prelude.{IfOk, IfErr, Option, find, min, option_map, position, sum}
+use Rattle.std.proofs.Common.{◌≡◌, ◌⊎◌, inl, inr, ℕ, ◌+◌, ◌-◌, ◌^◌, ◌<◌, ◌≤◌, Bool, true, false, cond, List, [], ◌∷◌, get_or, length, map, take, ltb, refl, sym, ◌∙◌, ap, subst, arith, Some, None, Ok, Err, Result}
+use Rattle.std.specs.Prelude.{All, IfOk, IfErr, IfSome, Option, find, min, option_map, position, sum}
 use Rattle.std.specs.List.{enumerate_from, list_any}
 use Rattle.std.proofs.lemmas.Bool.{or_parts, ltb-false, leb-false}
 use Rattle.xet_base.specs.declared.cas_types.FileRange.{FileRange}
@@ -27,12 +27,13 @@ use Rattle.xet_terms.specs.declared.reconstruction_terms.plan_blocks.RangeBlock.
 use Rattle.xet_terms.specs.declared.reconstruction_terms.retrieval_urls.RetrievalUrl.{RetrievalUrl}
 use Rattle.xet_terms.specs.Blocks.{PlanBlock, transfer_sum}
 use Rattle.xet_terms.specs.Errors.{of_client_error}
-use Rattle.xet_terms.specs.RangeBlocks.{Fit, IsPlanned, placed_term, plan_block, retrieval_url, terms_at}
+use Rattle.xet_terms.specs.RangeBlocks.{Fit, IsPlanned, numbered_block, placed_term, plan_block, retrieval_url, terms_at}
 use Rattle.xet_terms.specs.TermBlockCalls.{FromAnswer, FromSaid, FromTerms, FromTested, TermBlockCall, TermBlockCause}
-use Rattle.xet_terms.specs.TermBlocks.{IsTermBlock, block_url, plain, plain_block}
+use Rattle.xet_terms.specs.TermBlocks.{IsTermBlock, block_url, known_size, plain}
 use Rattle.xet_terms.specs.Terms.{file_term, terms_from}
 use Rattle.xet_terms.specs.Tests.{ends, failed_test, sizes, sizes_from, test_2, test_3, test_4, test_5, test_6}
 use Rattle.xet_terms.proofs.PlanEnds.{sizes_from-zero, too_far}
+use Rattle.xet_terms.proofs.References.{numbered_plain}
 
 -- ---- an accepted plan fits
 
@@ -124,7 +125,8 @@ pub record IsMadeOf (p : Plan) (q : FileRange) (f : MerkleHash) (id : UniqueId) 
   pub range : b.byte_range ≡ record { start = q.start; end = min (q.start + sum (sizes (shape p))) q.end }
   pub transfer : b.transfer_bytes ≡ min (transfer_sum (map plan_block s.blocks)) (2 ^ 64 - 1)
   pub terms : b.terms ≡ terms_at q.end q.start p.offset_into_first_range s.terms
-  pub blocks : map plain b.blocks ≡ map plain_block (enumerate_from 0 (map plan_block s.blocks))
+  pub blocks : map plain b.blocks ≡ map (numbered_block s.terms) (enumerate_from 0 (map plan_block s.blocks))
+  pub sizes : All (λ x. x.uncompressed_size_if_known ≡ None) b.blocks
   pub urls : b.urls.retrieval_urls ≡ map retrieval_url s.blocks
   pub of_file : b.urls.file_hash ≡ f
   pub of_query : b.urls.byte_range ≡ b.byte_range
@@ -135,7 +137,8 @@ made_is p q f id s b planned made = record {
   range = made.range;
   transfer = made.transfer ∙ ap (λ l. min (transfer_sum l) (2 ^ 64 - 1)) planned.blocks;
   terms = made.terms ∙ ap (λ (l : List PlacedTerm). terms_at q.end q.start p.offset_into_first_range l) planned.terms ∙ terms_at-placed (shape p) q q.start p.offset_into_first_range p.terms;
-  blocks = made.blocks ∙ ap (λ (l : List PlanBlock). map plain_block (enumerate_from 0 l)) planned.blocks;
+  blocks = made.blocks ∙ ap (λ (l : List PlanBlock). map (numbered_block s.terms) (enumerate_from 0 l)) planned.blocks ∙ numbered_plain (shape p) s.terms planned.terms;
+  sizes = λ k d l. subst (λ (o : Option ℕ). IfSome o (λ n. known_size (get_or b.blocks k d).chunk_ranges (get_or b.blocks k d).references ≡ Some n)) (sym (made.sizes k d l)) tt;
   urls = made.urls ∙ urls_are p s.blocks planned.urls ∙ ap (map (url_of_block p)) planned.blocks;
   of_file = made.of_file;
   of_query = made.of_query;
@@ -189,16 +192,18 @@ module _ (before now : ClientTold) (f : MerkleHash) (q : FileRange) (multi : Boo
 
   -- a connection that gave no answer
   pub call_failed : (e : ClientError) → PlanCall before now f q (Err e) → TermBlockCall before now f q multi id (Err (of_client_error e))
-  call_failed client_error.OutOfMemory c = record { made = tt; cause = tt; store = c.store; asked = c.maybe_asked; served = c.served; faults = c.faults; expiries = c.expiries }
-  call_failed client_error.Failed c = record { made = tt; cause = c.failed refl; store = c.store; asked = c.maybe_asked; served = c.served; faults = c.faults; expiries = c.expiries }
+  call_failed client_error.OutOfMemory c = record { made = tt; cause = tt; store = c.store; asked = c.maybe_asked; said = inl c.unsaid; unsaid = λ _. c.unsaid; served = c.served; faults = c.faults; expiries = c.expiries }
+  call_failed client_error.Failed c = record { made = tt; cause = c.failed refl; store = c.store; asked = c.maybe_asked; said = inl c.unsaid; unsaid = λ _. c.unsaid; served = c.served; faults = c.faults; expiries = c.expiries }
 
   -- and one that gave this answer
   pub call_answered : (a : PlanAnswer) (answer : Made) → PlanCall before now f q (Ok a) → IsAnswer q multi f id a answer → TermBlockCall before now f q multi id answer
   call_answered a (Ok o) c h = record {
-    made = record { plan = a; said = c.said; honest = λ s e. c.honest s e; from = h.made };
+    made = record { plan = a; asked = c.asked; said = c.said; honest = λ s e. c.honest s e; from = h.made };
     cause = tt;
     store = c.store;
     asked = inr c.asked;
+    said = inr (a, c.said);
+    unsaid = λ none. cc;
     served = c.served;
     faults = c.faults;
     expiries = c.expiries;
@@ -208,11 +213,21 @@ module _ (before now : ClientTold) (f : MerkleHash) (q : FileRange) (multi : Boo
     cause = go h.refused;
     store = c.store;
     asked = inr c.asked;
+    said = inr (a, c.said);
+    unsaid = λ none. let same : e ≡ error.ClientError = cc in absurd (not_client h.refused same);
     served = c.served;
     faults = c.faults;
     expiries = c.expiries;
   }
     where
+      refused_client : Refused e → e ≡ error.ClientError → ⊥
+      refused_client (inl h) none = cc
+      refused_client (inr (k, h)) none = cc
+
+      not_client : ((e ≡ error.OutOfMemory) ⊎ FromAnswer q multi f id a (Err e)) → e ≡ error.ClientError → ⊥
+      not_client (inl h) none = cc
+      not_client (inr h) none = refused_client (refused_by q multi f id a e h) none
+
       go : ((e ≡ error.OutOfMemory) ⊎ FromAnswer q multi f id a (Err e)) → TermBlockCause before now f q multi id e
       go (inl h) = subst (λ (e : FileReconstructionError). TermBlockCause before now f q multi id e) (sym h) tt
-      go (inr h) = cause_of e (refused_by q multi f id a e h) (record { plan = a; said = c.said; honest = λ s e. c.honest s e; from = h })
+      go (inr h) = cause_of e (refused_by q multi f id a e h) (record { plan = a; asked = c.asked; said = c.said; honest = λ s e. c.honest s e; from = h })

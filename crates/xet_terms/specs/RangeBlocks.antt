@@ -1,6 +1,7 @@
 -- Blocks of one range, and the terms that are placed in them.
-use Rattle.std.specs.Prelude.{ℕ, ◌≡◌, ◌+◌, ◌-◌, ◌^◌, ◌<◌, ◌≤◌, false, List, [], ◌∷◌, ◌++◌, All, MatchOption, length, map, min, position}
+use Rattle.std.specs.Prelude.{ℕ, ◌≡◌, ◌+◌, ◌-◌, ◌^◌, ◌<◌, ◌≤◌, false, List, [], ◌∷◌, ◌++◌, All, MatchOption, None, Vec, filter, length, map, min, nat_eq, position, slice_index_or}
 use Rattle.std.specs.List.{position_or_len}
+use Rattle.std.specs.declared.alloc.Global.{Global}
 use Rattle.xet_store.specs.declared.plan.Plan.{Plan}
 use Rattle.xet_store.specs.declared.plan.PlanTerm.{PlanTerm}
 use Rattle.xet_store.specs.Plan.{Shape, shape}
@@ -10,9 +11,11 @@ use Rattle.xet_terms.specs.declared.reconstruction_terms.plan_blocks.PlacedTerm.
 use Rattle.xet_terms.specs.declared.reconstruction_terms.plan_blocks.PlanBlocks.{PlanBlocks}
 use Rattle.xet_terms.specs.declared.reconstruction_terms.plan_blocks.RangeBlock.{RangeBlock}
 use Rattle.xet_terms.specs.declared.reconstruction_terms.retrieval_urls.RetrievalUrl.{RetrievalUrl}
+use Rattle.xet_terms.specs.declared.reconstruction_terms.xorb_block.XorbBlock.{XorbBlock}
+use Rattle.xet_terms.specs.declared.reconstruction_terms.xorb_block.XorbReference.{XorbReference}
 use Rattle.xet_terms.specs.Blocks.{PlanBlock, block_ranges, blocks_of, same_block, start_index, term_block}
 use Rattle.xet_terms.specs.Offers.{range_block}
-use Rattle.xet_terms.specs.TermBlocks.{block_url}
+use Rattle.xet_terms.specs.TermBlocks.{block_url, by_start, reference_of}
 
 -- the block as one of the plan
 abbrev pub plan_block : RangeBlock → PlanBlock
@@ -64,3 +67,31 @@ terms_at end place o (t ∷ ts) =
       offset_into_first_range = o;
       xorb_block = t.block;
     } ∷ terms_at end (place + (t.term.unpacked_length - o)) 0 ts
+
+-- the references of the terms with a block's number, in the order of the terms
+abbrev pub own_references : List PlacedTerm → ℕ → List XorbReference
+own_references ts n = map (λ t. reference_of t.term) (filter (λ t. nat_eq t.block n) ts)
+
+-- the references in each list
+abbrev pub lists_of : Vec (Vec XorbReference Global) Global → List (List XorbReference)
+lists_of v = map (λ w. w.items) v.items
+
+-- so many lists, which from a number on have the references of the terms with that number
+pub record HasReferences (ts : List PlacedTerm) (n from : ℕ) (lists : List (List XorbReference)) : Type 0 where
+  pub count : length lists ≡ n
+  pub own : (k : ℕ) → from ≤ k → k < n → slice_index_or lists k [] ≡ own_references ts k
+
+-- a block by its number, with these references by their starts, before it is fetched
+abbrev pub with_references : List XorbReference → ℕ × PlanBlock → XorbBlock
+with_references rs b = record {
+  xorb_hash = b.1.xorb;
+  chunk_ranges = block_ranges b.1;
+  xorb_block_index = b.0;
+  references = by_start rs;
+  uncompressed_size_if_known = None;
+  kept = None;
+}
+
+-- a block by its number, with the references of the terms of that number
+abbrev pub numbered_block : List PlacedTerm → ℕ × PlanBlock → XorbBlock
+numbered_block ts b = with_references (own_references ts b.0) b

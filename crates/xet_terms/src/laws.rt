@@ -7,7 +7,7 @@ ghost use Rattle.xet_terms.specs.declared.error.Corruption.TheVariants.{Offset, 
 ghost use Rattle.xet_terms.specs.Blocks.{block_ranges, blocks_of, transfer_sum};
 ghost use Rattle.xet_terms.specs.Chain.{chain_sum};
 ghost use Rattle.xet_terms.specs.Laws.{ChainsSum, HonestAccepted, PiecesJoin, TrimsLastAlone, UrlOfFirst};
-ghost use Rattle.xet_terms.specs.TermBlocks.{xorb_blocks};
+ghost use Rattle.xet_terms.specs.TermBlocks.{by_start, xorb_blocks};
 ghost use Rattle.xet_terms.specs.Terms.{terms_of};
 ghost use Rattle.xet_terms.specs.Tests.{failed_test};
 ghost use Rattle.xet_terms.specs.Worked.{blocks_of_nine_bytes, file_term, plan_of_lengths, reference, two_entries_of_one_xorb};
@@ -42,6 +42,12 @@ pub fn known_sizes()
     ensures half { chain_sum (chunk_range 0 3 ∷ chunk_range 5 8 ∷ []) (reference 0 3 300 ∷ []) ≡ None }
     ensures bridged { chain_sum (chunk_range 0 3 ∷ chunk_range 5 8 ∷ [])
         (reference 0 3 300 ∷ reference 5 8 400 ∷ []) ≡ Some 700 }
+{}
+
+/// References stand by their starts, and those of one start in the order of the terms.
+pub fn sorted_references()
+    ensures { by_start (reference 3 5 9 ∷ reference 0 2 7 ∷ reference 3 4 5 ∷ reference 0 3 8 ∷ [])
+        ≡ reference 0 2 7 ∷ reference 0 3 8 ∷ reference 3 5 9 ∷ reference 3 4 5 ∷ [] }
 {}
 
 /// Offsets and trims up to a term's length are accepted, greater ones are not.

@@ -21,22 +21,29 @@ use xet_store::{Client, Plan, PlanAnswer};
 /// In the Rust crate: `file_reconstruction::reconstruction_terms::file_term::FileTerm`.
 #[derive(Clone, Copy, PartialEq, Eq, Debug)]
 pub struct FileTerm {
-    /// The bytes of the file.
+    /// The term's bytes by their places in the file, half open. It may have none.
     pub byte_range: FileRange,
+    /// The term's chunks by their numbers in the xorb, half open.
     pub xorb_chunk_range: ChunkRange,
     /// How many chunks of the block come before the term's first chunk.
     pub xorb_block_start_index: usize,
     /// How many bytes of the first chunk come before the term.
     pub offset_into_first_range: u64,
-    /// The number of the term's block.
+    /// The number of the term's block in its plan, from 0.
     pub xorb_block: usize,
 }
 
 impl FileTerm {
-    /// The term's bytes, cut from its block with no copy.
+    /// The term's bytes, cut from its block with no copy: as many as its byte range has, from the place of its first
+    /// chunk plus its offset on.
     ///
-    /// `OffsetCount` where the block has no chunk at the start index, with the index plus 1 and the number of chunks;
-    /// else `TermPastBlock` where the term's end in the block passes the block's bytes. Sums stop at `u64::MAX`.
+    /// `CorruptedReconstruction` exactly where the term fails a test: `OffsetCount` where the block has no chunk at the
+    /// start index, with the index plus 1 and the number of chunks; else `TermPastBlock` where the term's end in the
+    /// block passes the block's bytes, with that end and the number of bytes. Sums stop at `u64::MAX`. `OutOfMemory`
+    /// where the cut's memory was refused.
+    ///
+    /// In the Rust crate: `file_reconstruction::reconstruction_terms::file_term::FileTerm::extract_bytes`, which panics
+    /// where a test fails.
     pub fn extract_bytes(&self, alloc: Global, block: &XorbBlockData) -> Result<Bytes>
         ensures { ExtractCall self.now block.now result }
     {
@@ -80,24 +87,29 @@ fn cut(bytes: &Bytes, place: Range<usize>) -> std::result::Result<Bytes, OutOfMe
 }
 
 /// The terms of one plan, and the blocks that they are cut from.
+///
+/// In the Rust crate: the triple that `retrieve_file_term_block` answers.
 #[derive(Drop, Debug)]
 pub struct TermBlock {
-    /// The bytes of the file from the first term's start to the last one's end.
+    /// The bytes of the file from the first term's start to before the last one's end.
     pub byte_range: FileRange,
-    /// The bytes of all blocks, a sum that stops at `u64::MAX`.
+    /// The bytes of all blocks as they are transferred, a sum that stops at `u64::MAX`.
     pub transfer_bytes: u64,
+    /// The terms in the order of the file.
     pub terms: List<FileTerm>,
-    /// The blocks in the order of their first use.
+    /// The blocks in the order of their first use, each before it is fetched.
     pub blocks: List<XorbBlock>,
+    /// The URL of each block.
     pub urls: TermBlockRetrievalURLs,
 }
 
-/// Asks for the plan of a range of a file's bytes, and makes its terms and blocks. Each fetch range is a block:
-/// `multirange` is false.
+/// Asks once for the plan of a half-open range of a file's bytes, and makes its terms and blocks, whose URLs get this
+/// id. Each fetch range is a block: `multirange` is false.
 ///
 /// None exactly where the connection said that the range starts past the file's end, or gave a plan without terms.
 /// `FileNotFound` exactly where it said that the file is not stored. `CorruptedReconstruction` exactly where the plan has
-/// terms and fails a test, with the first test that fails. `ClientError` only where the connection's faults rose.
+/// terms and fails a test, with the first test that fails. `ClientError` only where the connection's faults rose, and
+/// then it said nothing. `OutOfMemory` where memory was refused, here or on the connection.
 ///
 /// In the Rust crate: `file_reconstruction::reconstruction_terms::file_term::retrieve_file_term_block`.
 pub fn retrieve_file_term_block<C: Client>(
@@ -151,6 +163,7 @@ fn answer_plan(
 #[cfg(test)]
 mod tests {
     use super::*;
+    use crate::reconstruction_terms::xorb_block::XorbReference;
     use std::test::Fail;
     use xet_base::{HttpRange, Text};
     use xet_store::{
@@ -291,6 +304,52 @@ mod tests {
         assert_eq!(rt; block.terms.as_slice(), wanted.as_slice());
         assert_eq!(rt; block.byte_range, FileRange::new(4, 13));
         assert_eq!(rt; block.transfer_bytes, 11);
+        Ok(())
+    }
+
+    /// The references of the first block of a plan with these terms, which all lie in its one entry.
+    fn first_references(
+        alloc: Global,
+        parts: &[(u32, u32, u32)],
+        query: FileRange,
+    ) -> std::result::Result<List<XorbReference>, Fail> {
+        let terms = plan_terms(alloc, parts)?;
+        let entries = vec![in alloc; entry(alloc, "all", &[(0, 6, 0, 19)])?]?;
+        let made = made_of(alloc, 0, terms, entries, query)??;
+        let block = made.ok_or("no terms")?;
+        let first = block.blocks.as_slice().first().ok_or("no block")?;
+        Ok(first.references.copied(alloc)?)
+    }
+
+    fn reference(start: u32, end: u32, uncompressed_size: usize) -> XorbReference {
+        XorbReference {
+            term_chunks: ChunkRange::new(start, end),
+            uncompressed_size,
+        }
+    }
+
+    #[test]
+    fn references_of_terms_out_of_file_order_are_sorted(
+        rt: HostRuntime,
+    ) -> std::result::Result<(), Fail> {
+        let parts = [(6, 4, 6), (5, 0, 2), (8, 2, 4)];
+        let references = first_references(rt.alloc(), &parts, FileRange::new(0, 19))?;
+        let wanted = [reference(0, 2, 5), reference(2, 4, 8), reference(4, 6, 6)];
+        assert_eq!(rt; references.as_slice(), wanted.as_slice());
+        Ok(())
+    }
+
+    #[test]
+    fn references_of_one_start_stay_in_order(rt: HostRuntime) -> std::result::Result<(), Fail> {
+        let parts = [(9, 3, 5), (7, 0, 2), (5, 3, 4), (8, 0, 3)];
+        let references = first_references(rt.alloc(), &parts, FileRange::new(0, 29))?;
+        let wanted = [
+            reference(0, 2, 7),
+            reference(0, 3, 8),
+            reference(3, 5, 9),
+            reference(3, 4, 5),
+        ];
+        assert_eq!(rt; references.as_slice(), wanted.as_slice());
         Ok(())
     }
 

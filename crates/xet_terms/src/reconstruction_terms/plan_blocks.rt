@@ -1,10 +1,10 @@
 //! The blocks of a plan: one for each range in which some term lies.
-ghost use Rattle.std.specs.Prelude.{◌≡◌, ◌-◌, ◌^◌, ◌<◌, [], ◌∷◌, All, IfOk, false, length, map, min, vec_len};
+ghost use Rattle.std.specs.Prelude.{◌≡◌, ◌-◌, ◌^◌, ◌<◌, [], ◌∷◌, All, IfOk, None, false, length, map, min};
 ghost use Rattle.std.specs.List.{enumerate_from};
 ghost use Rattle.xet_store.specs.Plan.{shape};
 ghost use Rattle.xet_terms.specs.Blocks.{transfer_sum};
-ghost use Rattle.xet_terms.specs.RangeBlocks.{Fit, IsNumbered, IsPlanned, key_of, plan_block, retrieval_url, terms_at};
-ghost use Rattle.xet_terms.specs.TermBlocks.{plain, plain_block};
+ghost use Rattle.xet_terms.specs.RangeBlocks.{Fit, HasReferences, IsNumbered, IsPlanned, key_of, lists_of, numbered_block, plan_block, retrieval_url, terms_at, with_references};
+ghost use Rattle.xet_terms.specs.TermBlocks.{by_start, plain};
 ghost use Rattle.xet_terms.specs.Tests.{test_3};
 
 use crate::reconstruction_terms::file_term::FileTerm;
@@ -148,7 +148,8 @@ impl<'a> PlanBlocks<'a> {
     /// The references of each block, in the order of the terms.
     fn references(&self, alloc: Global) -> Result<Vec<Vec<XorbReference>>, OutOfMemory>
         requires { All (λ t. t.block < length self.now.blocks) self.now.terms }
-        ensures { IfOk result (λ references. vec_len references ≡ length self.now.blocks) }
+        ensures { IfOk result (λ references.
+            HasReferences self.now.terms (length self.now.blocks) 0 (lists_of references)) }
     {
         let mut references = Vec::new(alloc);
         for _ in self.blocks.as_slice() {
@@ -166,8 +167,9 @@ impl<'a> PlanBlocks<'a> {
     /// The blocks with their references, before they are fetched.
     pub(crate) fn xorb_blocks(&self, alloc: Global) -> Result<List<XorbBlock>, OutOfMemory>
         requires { All (λ t. t.block < length self.now.blocks) self.now.terms }
-        ensures { IfOk result (λ made.
-            map plain made ≡ map plain_block (enumerate_from 0 (map plan_block self.now.blocks))) }
+        ensures blocks { IfOk result (λ made.
+            map plain made ≡ map (numbered_block self.now.terms) (enumerate_from 0 (map plan_block self.now.blocks))) }
+        ensures sizes { IfOk result (λ made. All (λ block. block.uncompressed_size_if_known ≡ None) made) }
     {
         let mut references = self.references(alloc)?;
         let mut blocks = List::new(alloc);
@@ -188,23 +190,29 @@ fn list_of<T: Drop>(alloc: Global, item: T) -> Result<List<T>, OutOfMemory>
     Ok(items)
 }
 
+/// The references by their starts; equal starts stay in their order.
+fn sorted_by_start(mut references: Vec<XorbReference>) -> Result<List<XorbReference>, OutOfMemory>
+    ensures { IfOk result (λ sorted. sorted ≡ by_start references.items) }
+{
+    references.sort_by_key(|reference| reference.term_chunks.start)?;
+    Ok(List::from_vec(references))
+}
+
 /// A block by its number, with the references of its terms.
 fn xorb_block(
     alloc: Global,
     number: usize,
     block: &RangeBlock,
-    mut references: Vec<XorbReference>,
+    references: Vec<XorbReference>,
 ) -> Result<XorbBlock, OutOfMemory>
-    ensures { IfOk result (λ made. plain made ≡ plain_block (number, plan_block block.now)) }
+    ensures block { IfOk result (λ made. plain made ≡ with_references references.items (number, plan_block block.now)) }
+    ensures size { IfOk result (λ made. made.uncompressed_size_if_known ≡ None) }
 {
-    references
-        .as_mut_slice()
-        .sort_by_key(alloc, |reference| reference.term_chunks.start)?;
     Ok(XorbBlock {
         xorb_hash: block.xorb,
         chunk_ranges: list_of(alloc, block.offer.range.chunks)?,
         xorb_block_index: number,
-        references: List::from_vec(references),
+        references: sorted_by_start(references)?,
         uncompressed_size_if_known: None,
         kept: None,
     })

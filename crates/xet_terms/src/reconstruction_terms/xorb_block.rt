@@ -11,13 +11,14 @@ use std::alloc::Global;
 use xet_base::{ChunkRange, List, MerkleHash, OutOfMemory};
 use xet_store::{BlockBytes, BlockRequest};
 
-/// The bytes of a fetched block.
+/// The data of a fetched block.
 ///
 /// In the Rust crate: `file_reconstruction::reconstruction_terms::xorb_block::XorbBlockData`.
 #[derive(Drop, Debug)]
 pub struct XorbBlockData {
     /// For each chunk of the block, in order: its number in the xorb, and the place of its first byte in the block.
     pub chunk_offsets: List<(usize, usize)>,
+    /// The joined bytes of the block's chunks.
     pub bytes: Bytes,
 }
 
@@ -26,7 +27,9 @@ pub struct XorbBlockData {
 /// In the Rust crate: `file_reconstruction::reconstruction_terms::xorb_block::XorbReference`.
 #[derive(Clone, Copy, PartialEq, Eq, Debug)]
 pub struct XorbReference {
+    /// The term's chunks by their numbers in the xorb, half open.
     pub term_chunks: ChunkRange,
+    /// How many bytes all of these chunks have, before an offset or a cut.
     pub uncompressed_size: usize,
 }
 
@@ -35,19 +38,26 @@ pub struct XorbReference {
 /// In the Rust crate: `file_reconstruction::reconstruction_terms::xorb_block::XorbBlock`.
 #[derive(Drop, Debug)]
 pub struct XorbBlock {
+    /// The xorb.
     pub xorb_hash: MerkleHash,
+    /// The numbers of the block's chunks in the xorb, as half-open ranges.
     pub chunk_ranges: List<ChunkRange>,
-    /// The number of the block in its plan.
+    /// The number of the block in its plan, from 0 in the order of first use.
     pub xorb_block_index: usize,
     /// The chunks of each of its terms, by their starts; equal starts are in the order of the terms.
     pub references: List<XorbReference>,
-    /// How many bytes the block has, where its terms tell it.
+    /// How many bytes the block has, if it is known. It is only what its references tell; they may tell it where it is
+    /// not known.
     pub uncompressed_size_if_known: Option<usize>,
+    /// The block's data, once it is fetched.
     pub kept: Option<XorbBlockData>,
 }
 
 impl XorbBlock {
-    /// The request by which the block is fetched; none exactly where the block's number is out of the table.
+    /// The request by which the block is fetched: its chunks, by the URL and the byte ranges that the table has for its
+    /// number. None exactly where that number is out of the table. `OutOfMemory` where the copies' memory was refused.
+    ///
+    /// In the Rust crate: a step of `XorbBlock::retrieve_data`.
     pub fn request(
         &self,
         alloc: Global,
@@ -71,9 +81,14 @@ impl XorbBlock {
         }))
     }
 
-    /// Tests a block's bytes: `OffsetCount` where there is not one offset for each chunk of the ranges, and else
-    /// `OffsetOrder` at the first offset that is not 0 at the first place, not above the one before it, or not below the
-    /// number of bytes.
+    /// The data of a block that a connection answered, where it passes its tests.
+    ///
+    /// `OffsetCount` exactly where there is not one offset for each chunk of the ranges, with the number of chunks, a sum
+    /// that stops at `u64::MAX`, and the number of offsets; a reversed range has no chunks. Else `OffsetOrder` at the
+    /// first offset that is not 0 at the first place, not above the one before it, or not below the number of bytes.
+    /// `OutOfMemory` where the data's memory was refused.
+    ///
+    /// In the Rust crate: a step of `XorbBlock::retrieve_data`.
     pub fn check(&self, alloc: Global, block: &BlockBytes) -> Result<XorbBlockData>
         ensures { CheckCall self.now.chunk_ranges block.now result }
     {
@@ -100,7 +115,9 @@ impl XorbBlock {
         })
     }
 
-    /// Keeps the block's data. Nothing is kept before.
+    /// Keeps the block's data, and changes nothing else. Nothing is kept before.
+    ///
+    /// In the Rust crate: a step of `XorbBlock::retrieve_data`.
     pub fn keep(&mut self, found: XorbBlockData)
         requires { self.old.kept ≡ None }
         ensures { self.new ≡ record self.old { kept = Some found } }

@@ -44,7 +44,8 @@ returns c =
             range = subst (λ (p : Plan). c.in_ok-byte_range.byte_range ≡ record { start = query.start; end = min (query.start + sum (sizes (shape p))) query.end }) same range;
             transfer = c.transfer_bytes.ensures;
             terms = c.in_ok-file_terms.ensures;
-            blocks = c.in_ok-xorb_blocks.ensures;
+            blocks = c.in_ok-xorb_blocks.ensures.blocks;
+            sizes = c.in_ok-xorb_blocks.ensures.sizes;
             urls = ap (λ (u : TermBlockRetrievalURLs). u.retrieval_urls) urls ∙ c.in_ok-urls.ensures;
             of_file = ap (λ (u : TermBlockRetrievalURLs). u.file_hash) urls;
             of_query = ap (λ (u : TermBlockRetrievalURLs). u.byte_range) urls;

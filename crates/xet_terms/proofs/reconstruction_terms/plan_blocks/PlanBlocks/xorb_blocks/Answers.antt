@@ -1,10 +1,16 @@
-use Rattle.std.proofs.Common.{◌≡◌, ◌++◌, ◌∷◌, [], ◌∙◌, sym, ap, map, take}
+use Rattle.std.proofs.Common.{◌≡◌, ◌<◌, ◌++◌, ◌∷◌, [], ◌∙◌, arith, length, sym, ap, map, refl, subst, take}
+use Rattle.std.specs.Prelude.{All, None, Vec}
+use Rattle.std.specs.declared.alloc.Global.{Global}
 use Rattle.std.specs.List.{enumerate_from}
-use Rattle.std.proofs.lemmas.List.{map-append}
+use Rattle.std.proofs.lemmas.List.{length-map, map-append, map-set}
 use Rattle.xet_terms.specs.declared.reconstruction_terms.plan_blocks.RangeBlock.{RangeBlock}
-use Rattle.xet_terms.specs.RangeBlocks.{plan_block}
-use Rattle.xet_terms.specs.TermBlocks.{plain, plain_block}
-use Rattle.xet_terms.proofs.PlannedBlocks.{plain-push}
+use Rattle.std.proofs.lemmas.List.Elements.{All-push}
+use Rattle.xet_terms.specs.declared.reconstruction_terms.xorb_block.XorbBlock.{XorbBlock}
+use Rattle.xet_terms.specs.declared.reconstruction_terms.xorb_block.XorbReference.{XorbReference}
+use Rattle.xet_terms.specs.RangeBlocks.{lists_of, numbered_block, own_references, plan_block, with_references}
+use Rattle.xet_terms.specs.TermBlocks.{plain}
+use Rattle.xet_terms.proofs.PlannedBlocks.{numbered-push}
+use Rattle.xet_terms.proofs.References.{has_less, listed}
 use Rattle.xet_terms.proofs.reconstruction_terms.plan_blocks.PlanBlocks.xorb_blocks.Goals as goal
 
 pub loop-number-preserved : goal.loop-number-preserved
@@ -12,12 +18,22 @@ loop-number-preserved c =
     let items = c.as_slice-block-items.result.now in
     let number = c.loop-number.number in
     let block = c.block-item.result in
+    let terms = c.args.self.now.terms in
     let made = c.in_ok-xorb_block.field-0 in
     let done = c.loop-number.invariant.done in
-    let here : plain made ≡ plain_block (number, plan_block block) = c.in_ok-xorb_block.ensures in
+    let v = c.loop-number.references in
+    let long = length-map v.items (λ (w : Vec XorbReference Global). w.items) in
+    let has = c.loop-number.invariant.lists in
+    let low : number < length c.args.self.now.blocks = rw (← c.as_slice-block-items.ensures) c.loop-number-test.true in
+    let own : c.replace-own.result.items ≡ own_references terms number =
+    ap (λ (w : Vec XorbReference Global). w.items) c.replace-own.ensures.value
+    ∙ sym (listed v number c.index_mut.result.now (omega (arith, low, has.count)) c.index_mut.ensures.value)
+    ∙ has.own number (omega arith) low in
+    let here : plain made ≡ numbered_block terms (number, plan_block block) = c.in_ok-xorb_block.ensures.block ∙ ap (λ rs. with_references rs (number, plan_block block)) own in
     record {
-      lists = c.loop-number.invariant.lists;
+      lists = has_less terms _ number _ (lists_of v) _ _ has (map-set (λ (w : Vec XorbReference Global). w.items) v.items number _) refl;
       done = ap (map plain) c.in_ok-push.ensures.ok ∙ map-append plain c.loop-number.blocks (made ∷ []) ∙ (λ i. done i ++ here i ∷ [])
-          ∙ ap (λ (b : RangeBlock). map plain_block (enumerate_from 0 (map plan_block (take number items))) ++ plain_block (number, plan_block b) ∷ []) c.block-item.is
-          ∙ sym (plain-push items number block c.loop-number-test.true);
+          ∙ ap (λ (b : RangeBlock). map (numbered_block terms) (enumerate_from 0 (map plan_block (take number items))) ++ numbered_block terms (number, plan_block b) ∷ []) c.block-item.is
+          ∙ sym (numbered-push (numbered_block terms) items number block c.loop-number-test.true);
+      sizes = subst (All (λ (x : XorbBlock). x.uncompressed_size_if_known ≡ None)) (sym c.in_ok-push.ensures.ok) (All-push (λ (x : XorbBlock). x.uncompressed_size_if_known ≡ None) c.loop-number.blocks made c.loop-number.invariant.sizes c.in_ok-xorb_block.ensures.size);
     }
