@@ -1,9 +1,10 @@
 -- The chunks of a xorb in a document.
-use Rattle.std.proofs.Common.{◌≡◌, ℕ, ◌+◌, ◌<◌, Bool, true, List, [], ◌∷◌, ◌++◌, length, drop, get_or, refl, sym, ◌∙◌, ap, subst, append_assoc, length-append, arith}
+use Rattle.std.proofs.Common.{◌≡◌, ℕ, ◌+◌, ◌%◌, ◌<◌, Bool, true, List, [], ◌∷◌, ◌++◌, length, drop, get_or, refl, sym, ◌∙◌, ap, subst, append_assoc, length-append, arith}
 use Rattle.std.specs.Prelude.{Option, Some, None, option_and_then, option_map}
 use Rattle.std.proofs.lemmas.Bool.{false≢true}
 use Rattle.std.proofs.lemmas.List.{drop_more}
 use Rattle.hex.specs.Hex.{decode_pairs}
+use Rattle.hex.proofs.HexLemmas.{decode_of-odd}
 use Rattle.serde_json.specs.View.{view, items_view}
 use Rattle.serde_json.specs.declared.value.Value.{Value}
 use Rattle.xet_store.specs.Parts.{parts}
@@ -16,6 +17,10 @@ pub chunk_of-empty : (text : List ℕ) → length text ≡ 0 → chunk_of_text t
 unfolding decode_pairs
 chunk_of-empty [] e = refl
 chunk_of-empty (x ∷ xs) e = absurd (omega arith)
+
+-- nor is an odd number of digits
+pub chunk_of-odd : (text : List ℕ) → length text % 2 ≡ 1 → chunk_of_text text ≡ None
+chunk_of-odd text odd = rw (decode_of-odd text odd) refl
 
 chunk_added : (o : Option (List ℕ)) (added : Bool) (old now : List ℕ) → AddsChunk o added old now → added ≡ true → (chunk : List ℕ) × (o ≡ Some chunk) × (now ≡ old ++ chunk)
 chunk_added None added old now h e = absurd (false≢true (sym h ∙ e))

@@ -17,7 +17,8 @@ use Rattle.xet_store.proofs.Writing.{prefix_front, whole_prefix}
 use Rattle.xet_tool.specs.declared.digits.Printed.{Printed}
 use Rattle.xet_tool.specs.declared.digits.Printed.TheVariants.{All, NoFile, Part, Stopped}
 use Rattle.xet_tool.specs.declared.words.Wanted.{Wanted}
-use Rattle.xet_tool.specs.Digits.{DigitsAs, DigitsOf, Driven, Ran, RanAs, WholeText, told_of_one, wanted_bytes}
+use Rattle.xet_tool.specs.Digits.{DigitsAs, DigitsOf, Driven, Ran, RanAs, WholeText, told_of_one}
+use Rattle.xet_tool.specs.Outcome.{wanted_bytes}
 
 -- the part of no list
 slice_range-nil : (xs : List ℕ) (i j : ℕ) → xs ≡ [] → slice_range xs i j ≡ []

@@ -1,26 +1,19 @@
 -- What the functions that print the digits of a range say.
-use Rattle.std.specs.Prelude.{ℕ, ◌≡◌, ◌⊎◌, ◌<◌, ◌≤◌, List, [], ◌∷◌, length, take, Option, IsSome, IsNone}
+use Rattle.std.specs.Prelude.{ℕ, ◌≡◌, ◌≤◌, List, [], ◌∷◌, length, take, Option}
 use Rattle.hex.specs.Hex.{encode_lower}
-use Rattle.xet_base.specs.Store.{Store, file_of, window}
-use Rattle.xet_reconstruct.specs.Legal.{IsEmptyRange, IsExact, RunTold}
+use Rattle.xet_base.specs.Store.{Store}
+use Rattle.xet_reconstruct.specs.Legal.{IsExact, RunTold}
 use Rattle.xet_store.specs.declared.sink.SinkError.TheVariants.{Failed}
 use Rattle.xet_store.specs.HexText.{HexText}
 use Rattle.xet_store.specs.Told.{CacheTold, ClientTold, Rose, SignalTold, SinkTold, Took, TookPrefix}
 use Rattle.xet_tool.specs.declared.digits.Printed.{Printed}
 use Rattle.xet_tool.specs.declared.digits.Printed.TheVariants.{All, NoFile, Part, Stopped}
 use Rattle.xet_tool.specs.declared.words.Wanted.{Wanted}
+use Rattle.xet_tool.specs.Outcome.{IsFound, IsMissing, wanted_bytes}
 
 -- what the arguments of a run over one connection tell
 abbrev pub told_of_one : ClientTold → CacheTold → SignalTold → SinkTold → RunTold
 told_of_one c k x s = record { clients = c ∷ []; cache = k; signal = x; sink = s }
-
--- the bytes that are wanted
-abbrev pub wanted_bytes : Store → Wanted → List ℕ
-wanted_bytes s q = window s q.file q.range
-
--- the range is not empty, and the file is not stored
-abbrev pub IsMissing : Store → Wanted → Type 0
-IsMissing s q = (q.range.start < q.range.end) × IsNone (file_of s q.file)
 
 -- what a writer took in a run over the store
 abbrev pub RanAs : Store → Wanted → SinkTold → SinkTold → Printed → Type 0
@@ -53,7 +46,7 @@ pub record TookDigits (before now : Option (List ℕ)) (bytes : List ℕ) : Type
 
 -- the digits that were printed
 abbrev pub DigitsAs : Store → Wanted → SinkTold → SinkTold → Printed → Type 0
-DigitsAs s q b n (All k) = (IsSome (file_of s q.file) ⊎ IsEmptyRange q.range) × Took b.took n.took (encode_lower (wanted_bytes s q)) × (k ≡ length (wanted_bytes s q))
+DigitsAs s q b n (All k) = IsFound s q × Took b.took n.took (encode_lower (wanted_bytes s q)) × (k ≡ length (wanted_bytes s q))
 DigitsAs s q b n NoFile = IsMissing s q × Took b.took n.took []
 DigitsAs s q b n Part = TookDigits b.took n.took (wanted_bytes s q)
 DigitsAs s q b n (Stopped e) = (e ≡ Failed → Rose b.faults n.faults) × TookPrefix b.took n.took (encode_lower (wanted_bytes s q))

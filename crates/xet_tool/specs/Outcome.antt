@@ -35,55 +35,87 @@ pub record Told : Type 0 where
   pub source : SourceTold
   pub sink : SinkTold
 
+-- how many bytes the input may have
+abbrev pub input_limit : ℕ
+input_limit = 67108864
+
 -- the input was within the limit and was read to its end
 abbrev pub WasReadToEnd : ℕ → SourceTold → SourceTold → Type 0
 WasReadToEnd limit b n = (t : List ℕ) → b.left ≡ Some t → (length t ≤ limit) × (n.left ≡ Some [])
 
--- a line of the program
-pub record IsLine (text : List ℕ) : Type 0 where
-  pub status : Status
-  pub count : ℕ
-  pub is : (text ≡ line status) ⊎ (text ≡ ok_line count)
+-- the input has more bytes than the limit
+abbrev pub IsTooLong : ℕ → SourceTold → Type 0
+IsTooLong limit b = (t : List ℕ) → b.left ≡ Some t → limit < length t
 
--- a prefix of the text that a run over a store may print: the digits of a prefix of the window, and a line
-pub record IsCutGet (s : Store) (q : Wanted) (b n : SinkTold) : Type 0 where
-  pub bytes : ℕ
-  pub last : List ℕ
-  pub is_line : IsLine last
-  pub took : TookPrefix b.took n.took (get_text (take bytes (window s q.file q.range)) last)
+-- it is a document of no store
+abbrev pub OfNoDocument : SourceTold → Type 0
+OfNoDocument b = (t : List ℕ) → b.left ≡ Some t → NoStore t
 
--- what was printed where a write failed or memory ended, of a document of a store
-abbrev pub IsCut : Store → Wanted → Told → Told → Type 0
-IsCut s q b n = IsCutGet s q b.sink n.sink ⊎ TookPrefix b.sink.took n.sink.took (line NoMemory) ⊎ (Rose b.source.faults n.source.faults × TookPrefix b.sink.took n.sink.took (line ReadFault))
-
-abbrev pub IsCutOf : ℕ → Wanted → Told → Told → Type 0
-IsCutOf limit q b n = (t : List ℕ) (s : Store) → b.source.left ≡ Some t → length t ≤ limit → HasStore t s → IsCut s q b n
-
--- a document of a store, of which the whole text with the line was printed
-pub record IsPrinted (s : Store) (q : Wanted) (b n : SinkTold) : Type 0 where
-  pub stored : IsSome (file_of s q.file) ⊎ IsEmptyRange q.range
-  pub took : Took b.took n.took (get_text (window s q.file q.range) (ok_line (length (window s q.file q.range))))
-
--- a document of a store without the file
-pub record IsRefused (s : Store) (q : Wanted) (b n : SinkTold) : Type 0 where
-  pub some : q.range.start < q.range.end
-  pub unstored : IsNone (file_of s q.file)
-  pub took : Took b.took n.took (get_text [] (line NotFound))
-
--- the input is a document of some store of which this holds
+-- it is a document of some store of which this holds
 abbrev pub OfDocument : SourceTold → (Store → Type 0) → Type 0
 OfDocument b P = (t : List ℕ) → b.left ≡ Some t → (s : Store) × HasStore t s × P s
+
+-- the bytes that are wanted
+abbrev pub wanted_bytes : Store → Wanted → List ℕ
+wanted_bytes s q = window s q.file q.range
+
+-- the store has the file, or the range is empty
+abbrev pub IsFound : Store → Wanted → Type 0
+IsFound s q = IsSome (file_of s q.file) ⊎ IsEmptyRange q.range
+
+-- the range is not empty, and the store has no such file
+abbrev pub IsMissing : Store → Wanted → Type 0
+IsMissing s q = (q.range.start < q.range.end) × IsNone (file_of s q.file)
+
+-- the text of status 0
+abbrev pub done_text : Store → Wanted → List ℕ
+done_text s q = get_text (wanted_bytes s q) (ok_line (length (wanted_bytes s q)))
+
+-- the text of status 3
+abbrev pub missing_text : List ℕ
+missing_text = get_text [] (line NotFound)
+
+-- the text where memory ended after the digits of so many bytes
+abbrev pub memory_text : Store → Wanted → ℕ → List ℕ
+memory_text s q k = get_text (take k (wanted_bytes s q)) (line NoMemory)
+
+-- a store, of which the whole text was printed
+pub record IsPrinted (s : Store) (q : Wanted) (b n : SinkTold) : Type 0 where
+  pub found : IsFound s q
+  pub took : Took b.took n.took (done_text s q)
+
+-- a store without the file
+pub record IsRefused (s : Store) (q : Wanted) (b n : SinkTold) : Type 0 where
+  pub missing : IsMissing s q
+  pub took : Took b.took n.took missing_text
+
+-- what was printed of a store where a write failed or memory ended: a prefix of one of the three texts
+abbrev pub IsCutGet : Store → Wanted → SinkTold → SinkTold → Type 0
+IsCutGet s q b n =
+    (IsFound s q × TookPrefix b.took n.took (done_text s q))
+    ⊎ ((k : ℕ) × TookPrefix b.took n.took (memory_text s q k))
+    ⊎ (IsMissing s q × TookPrefix b.took n.took missing_text)
+
+-- what was printed where a write failed or memory ended, of any input: a prefix of `error memory`, or of the text of
+-- another status where the input is as that status says
+abbrev pub IsCut : ℕ → Wanted → Told → Told → Type 0
+IsCut limit q b n =
+    TookPrefix b.sink.took n.sink.took (line NoMemory)
+    ⊎ (Rose b.source.faults n.source.faults × TookPrefix b.sink.took n.sink.took (line ReadFault))
+    ⊎ (IsTooLong limit b.source × TookPrefix b.sink.took n.sink.took (line TooLong))
+    ⊎ (WasReadToEnd limit b.source n.source × OfNoDocument b.source × TookPrefix b.sink.took n.sink.took (line BadStore))
+    ⊎ (WasReadToEnd limit b.source n.source × OfDocument b.source (λ s. IsCutGet s q b.sink n.sink))
 
 -- `get` over an input, by its status
 abbrev pub GetOutcome : ℕ → Wanted → Told → Told → Status → Type 0
 GetOutcome limit q b n Done = WasReadToEnd limit b.source n.source × OfDocument b.source (λ s. IsPrinted s q b.sink n.sink)
 GetOutcome limit q b n BadWords = ⊥
-GetOutcome limit q b n BadStore = WasReadToEnd limit b.source n.source × ((t : List ℕ) → b.source.left ≡ Some t → NoStore t) × Took b.sink.took n.sink.took (line BadStore)
+GetOutcome limit q b n BadStore = WasReadToEnd limit b.source n.source × OfNoDocument b.source × Took b.sink.took n.sink.took (line BadStore)
 GetOutcome limit q b n NotFound = WasReadToEnd limit b.source n.source × OfDocument b.source (λ s. IsRefused s q b.sink n.sink)
 GetOutcome limit q b n ReadFault = Rose b.source.faults n.source.faults × Took b.sink.took n.sink.took (line ReadFault)
-GetOutcome limit q b n WriteFault = Rose b.sink.faults n.sink.faults × IsCutOf limit q b n
-GetOutcome limit q b n NoMemory = IsCutOf limit q b n
-GetOutcome limit q b n TooLong = ((t : List ℕ) → b.source.left ≡ Some t → limit < length t) × Took b.sink.took n.sink.took (line TooLong)
+GetOutcome limit q b n WriteFault = Rose b.sink.faults n.sink.faults × IsCut limit q b n
+GetOutcome limit q b n NoMemory = IsCut limit q b n
+GetOutcome limit q b n TooLong = IsTooLong limit b.source × Took b.sink.took n.sink.took (line TooLong)
 
 -- a text that is printed whatever the input, with a status, and nothing is read
 abbrev pub TextOutcome : List ℕ → Status → Told → Told → Status → Type 0

@@ -10,6 +10,7 @@ ghost use Rattle.xet_tool.specs.Adding.{AddsFiles, AddsXorbs};
 ghost use Rattle.xet_tool.specs.Cuts.{AddsChunk, AreEnds};
 ghost use Rattle.xet_tool.specs.Document.{IsDocumentOf, IsNoDocument, chunk_of, chunk_of_text, chunks_of_items, number_of_data, term_of_items, terms_of_items, xorb_of_member};
 
+use crate::hex_digits::decode_digits;
 use bytes::Bytes;
 use serde_json::{Map, Value};
 use std::alloc::Global;
@@ -46,7 +47,7 @@ fn holds_float(value: &Value) -> bool
 fn add_digits(text: &str, bytes: &mut Vec<u8>) -> Result<bool, OutOfMemory>
     ensures { IfOk result (λ added. AddsChunk (chunk_of_text text.now) added bytes.old.items bytes.new.items) }
 {
-    if text.is_empty() {
+    if text.is_empty() || text.len() % 2 != 0 {
         return Ok(false);
     }
     let start = bytes.len();
@@ -54,7 +55,7 @@ fn add_digits(text: &str, bytes: &mut Vec<u8>) -> Result<bool, OutOfMemory>
         return Err(OutOfMemory);
     };
     bytes.resize(end, 0)?;
-    Ok(hex::decode_to_slice(text, &mut bytes[start..]).is_ok())
+    Ok(decode_digits(text.as_bytes(), &mut bytes[start..]))
 }
 
 // Adds the bytes of a chunk, or answers false where it isn't one.

@@ -1,7 +1,7 @@
 //! The command `get`.
 ghost use Rattle.std.specs.Prelude.{IfOk, MatchOption};
 ghost use Rattle.serde_json.specs.View.{view};
-ghost use Rattle.xet_tool.specs.Outcome.{GetOutcome, HasStore, IsFlushed, NoStore, Reads};
+ghost use Rattle.xet_tool.specs.Outcome.{GetOutcome, HasStore, IsFlushed, NoStore, Reads, input_limit};
 ghost use Rattle.xet_tool.specs.Printing.{GetFrom, NoData};
 
 use crate::digits::{Printed, print_digits};
@@ -15,8 +15,8 @@ use std::alloc::Global;
 use xet_base::OutOfMemory;
 use xet_store::{MemStore, Sink, Source};
 
-/// How many bytes the input may have.
-pub const LIMIT: usize = 67_108_864;
+// How many bytes the input may have.
+const LIMIT: usize = 67_108_864;
 
 // The value of a text, or none where it is no JSON. The text's memory is given back.
 fn value_of(alloc: Global, text: Vec<u8>) -> Result<Option<Value>, OutOfMemory>
@@ -66,7 +66,7 @@ pub fn get<I: Source, O: Sink + Send>(
     input: &mut I,
     out: &mut O,
 ) -> Status
-    ensures outcome { GetOutcome LIMIT wanted
+    ensures outcome { GetOutcome input_limit wanted
         (record { source = I.told input.old; sink = O.told out.old })
         (record { source = I.told input.new; sink = O.told out.new }) result }
     ensures flushed { IsFlushed result (O.told out.new) }

@@ -7,12 +7,15 @@ use xet_store::Source;
 /// Why an input was not read to its end.
 #[derive(Clone, Copy, PartialEq, Eq, Debug)]
 pub enum ReadError {
+    /// An allocation was refused.
     OutOfMemory,
+    /// A read failed, and the input's faults rose.
     Fault,
+    /// The input has more bytes than the limit.
     TooLong,
 }
 
-/// All bytes of the input, at most so many.
+/// All bytes of the input, at most so many. A longer one is read until more than the limit is there.
 pub fn read_to_end<I: Source>(
     alloc: Global,
     input: &mut I,

@@ -5,13 +5,21 @@ ghost use Rattle.xet_tool.specs.Texts.{line, number_of};
 /// How the program ends.
 #[derive(Clone, Copy, PartialEq, Eq, Debug)]
 pub enum Status {
+    /// What the words ask for was printed.
     Done,
+    /// The words don't read.
     BadWords,
+    /// The input is no document of a valid store.
     BadStore,
+    /// The range isn't empty, and the store has no such file.
     NotFound,
+    /// The input failed.
     ReadFault,
+    /// The output failed.
     WriteFault,
+    /// An allocation was refused.
     NoMemory,
+    /// The input has more bytes than the limit.
     TooLong,
 }
 

@@ -1,9 +1,9 @@
 //! The top call.
 ghost use Rattle.std.specs.Prelude.{map, string_bytes};
-ghost use Rattle.xet_tool.specs.Outcome.{Answers, IsFlushed, Outcome};
+ghost use Rattle.xet_tool.specs.Outcome.{Answers, IsFlushed, Outcome, input_limit};
 ghost use Rattle.xet_tool.specs.Words.{command_of};
 
-use crate::get::{LIMIT, get};
+use crate::get::get;
 use crate::printing::{print_text, say};
 use crate::status::Status;
 use crate::texts::{HELP, VERSION};
@@ -18,7 +18,7 @@ fn run_words<I: Source, O: Sink + Send>(
     input: &mut I,
     out: &mut O,
 ) -> Status
-    ensures outcome { Outcome LIMIT (command_of (map string_bytes words.now))
+    ensures outcome { Outcome input_limit (command_of (map string_bytes words.now))
         (record { source = I.told input.old; sink = O.told out.old })
         (record { source = I.told input.new; sink = O.told out.new }) result }
     ensures flushed { IsFlushed result (O.told out.new) }
@@ -33,24 +33,31 @@ fn run_words<I: Source, O: Sink + Send>(
 
 /// The whole program, over the words after its name, an input and an output. Answers the exit status.
 ///
-/// - 0: what the words ask for was printed. For `get` this is the lower-case hexadecimal digits of the bytes of the file
-///   in the range, cut to the file's end, a line end, `ok n` with their number, and a line end.
+/// - 0: what the words ask for was printed. For `get` the input is a document of a valid store, which has the file
+///   unless the range is empty; and the lower-case hexadecimal digits of the bytes of the file in the range, cut to the
+///   file's end, were printed, a line end, `ok n` with their number, and a line end.
 /// - 1, `error words`: exactly where the words don't read. Nothing was read.
-/// - 2, `error store`: exactly where the input is no document of a valid store.
-/// - 3, a line end and `error file not found`: exactly where the range isn't empty and the store has no such file.
+/// - 2, `error store`: exactly where the input is within the limit and is no document of a valid store.
+/// - 3, a line end and `error file not found`: exactly where the input is a document of a valid store, the range isn't
+///   empty and the store has no such file.
 /// - 4, `error read`: only where the input's faults rose.
 /// - 5, no line: only where the output's faults rose. Nothing more is written.
-/// - 6, `error memory`: where an allocation was refused; after digits a line end comes first.
-/// - 8, `error input`: exactly where the input has more than 67,108,864 bytes.
+/// - 6, `error memory`: where an allocation was refused; after some first digits, or all, a line end comes before it.
+/// - 8, `error input`: exactly where the input has more than 67,108,864 bytes, which is the limit.
 ///
-/// "Exactly" yields to 5 and 6.
+/// "Exactly" yields to 5 and 6, and for 2, 3 and 8 to 4 too: a read may fail first.
+///
+/// With 1, 2, 4 and 8 that line and nothing else was printed. With 5 and 6 a prefix of one text was printed: of the
+/// text of another status, of which all that is said here holds; or for `get` of `error memory`, with no digits, or
+/// with the digits of some first bytes of the range and a line end before it. With all others what was printed is
+/// flushed.
 pub fn run_tool<I: Source, O: Sink + Send>(
     alloc: Global,
     words: &[String],
     input: &mut I,
     out: &mut O,
 ) -> u8
-    ensures { Answers LIMIT (map string_bytes words.now)
+    ensures { Answers input_limit (map string_bytes words.now)
         (record { source = I.told input.old; sink = O.told out.old })
         (record { source = I.told input.new; sink = O.told out.new }) result }
 {

@@ -7,15 +7,20 @@ use xet_base::{FileRange, MerkleHash};
 /// The file, and the range of its bytes, that `get` is to print.
 #[derive(Clone, Copy, PartialEq, Eq, Debug)]
 pub struct Wanted {
+    /// The file's hash.
     pub file: MerkleHash,
+    /// From the start to before the end, in bytes. The end may stand at or before the start.
     pub range: FileRange,
 }
 
 /// What the words ask for.
 #[derive(Clone, Copy, PartialEq, Eq, Debug)]
 pub enum Command {
+    /// `--help`
     Help,
+    /// `--version`
     Version,
+    /// `get` with the file's hash, the start and the end.
     Get(Wanted),
 }
 
