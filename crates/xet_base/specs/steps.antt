@@ -1,0 +1,2 @@
+pub mod KeyIndexes
+pub mod Words

@@ -1,0 +1,202 @@
+//! A list whose values are found by their keys.
+ghost use Rattle.std.specs.Prelude.{◌≡◌, [], ◌∷◌, ◌++◌, None, OnOk, OnErr, Some, find, length, position, slice_get, slice_set};
+ghost use Rattle.std.specs.Option.{option_copied};
+ghost use Rattle.std.specs.Ordering.{is_eq};
+ghost use Rattle.xet_base.specs.Hashes.{hash_eq};
+
+use crate::error::OutOfMemory;
+use crate::merklehash::MerkleHash;
+use std::alloc::Global;
+use std::collections::BTreeMap;
+use std::marker::Model;
+use std::mem;
+
+/// What has a key of its own, by which a list finds it.
+pub trait Keyed<K> {
+    /// The key.
+    ghost key_of: { Self → K };
+
+    /// The key.
+    fn key(&self) -> K
+        ensures { result ≡ key_of self.now };
+}
+
+/// A list of values whose keys differ, in which a value is found by its key through an ordered map and not by a walk.
+/// That the keys differ is what its calls ask of their caller. Contracts see it as the list of its values.
+#[derive(Drop)]
+pub struct KeyedList<K: Ord, V: Keyed<K>> {
+    values: Vec<V>,
+    numbers: BTreeMap<K, usize>,
+}
+
+impl<K: Ord, V: Keyed<K>> Model for KeyedList<K, V> {
+    ghost use Rattle.std.specs.Prelude.{List as Items};
+    ghost use Rattle.xet_base.specs.steps.KeyIndexes.{Numbers};
+
+    ghost Value = { Items V };
+
+    ghost view = { λ s. s.values.items };
+
+    ghost invariant = { λ s. Numbers K.cmp V.key_of s.values.items s.numbers };
+}
+
+impl<K: Ord + Copy, V: Keyed<K>> KeyedList<K, V> {
+    /// No values. It takes no memory.
+    pub fn new(alloc: Global) -> KeyedList<K, V>
+        ensures { result ≡ [] }
+    {
+        KeyedList {
+            values: Vec::new(alloc),
+            numbers: BTreeMap::new(alloc),
+        }
+    }
+
+    /// The values, in the order in which they were added.
+    pub fn as_slice(&self) -> &[V]
+        ensures { result.now ≡ self.now }
+    {
+        self.values.as_slice()
+    }
+
+    /// How many values there are.
+    pub fn len(&self) -> usize
+        ensures { result ≡ length self.now }
+    {
+        self.values.len()
+    }
+
+    /// The place of the value whose key compares as equal to this one, counted from 0, or none where there is none.
+    pub fn position(&self, key: &K) -> Option<usize>
+        ensures { result ≡ position (λ v. is_eq (K.cmp (V.key_of v) key.now)) self.now }
+    {
+        self.numbers.get(key).copied()
+    }
+
+    /// The value whose key compares as equal to this one, or none where there is none.
+    pub fn get(&self, key: &K) -> Option<&V>
+        ensures { option_copied result ≡ find (λ v. is_eq (K.cmp (V.key_of v) key.now)) self.now }
+    {
+        let number = self.position(key)?;
+        self.values.get(number)
+    }
+
+    /// Puts a value in the place of the one with the same key, which `position` tells, and gives that one back. It takes
+    /// no memory.
+    pub fn replace(&mut self, number: usize, value: V) -> V
+        requires { position (λ v. is_eq (K.cmp (V.key_of v) (V.key_of value))) self.old ≡ Some number }
+        ensures old { slice_get self.old number ≡ Some result }
+        ensures list { self.new ≡ slice_set self.old number value }
+    {
+        mem::replace(&mut self.values[number], value)
+    }
+}
+
+impl<K: Ord + Copy, V: Keyed<K> + Drop> KeyedList<K, V> {
+    /// Adds a value at the end. The caller sees to it that its key is not there yet, as `position` tells.
+    ///
+    /// `OutOfMemory` where an allocation was refused, and then the list is as it was and the value is dropped.
+    pub fn push(&mut self, value: V) -> Result<(), OutOfMemory>
+        requires { position (λ v. is_eq (K.cmp (V.key_of v) (V.key_of value))) self.old ≡ None }
+        ensures ok { OnOk result (self.new ≡ self.old ++ value ∷ []) }
+        ensures err { OnErr result (self.new ≡ self.old) }
+    {
+        let number = self.values.len();
+        self.values.reserve(1)?;
+        if self.numbers.insert(value.key(), number).is_err() {
+            return Err(OutOfMemory);
+        }
+        self.values.push_reserved(value);
+        Ok(())
+    }
+}
+
+impl<V: Keyed<MerkleHash>> KeyedList<MerkleHash, V> {
+    /// The place of the value with this hash, counted from 0, or none where it is not there: `position`, said by the
+    /// bytes and not by the order.
+    pub fn number_of(&self, hash: &MerkleHash) -> Option<usize>
+        ensures { result ≡ position (λ v. hash_eq (V.key_of v) hash.now) self.now }
+    {
+        self.position(hash)
+    }
+
+    /// The value with this hash, or none where it is not there: `get`, said by the bytes and not by the order.
+    pub fn find(&self, hash: &MerkleHash) -> Option<&V>
+        ensures { option_copied result ≡ find (λ v. hash_eq (V.key_of v) hash.now) self.now }
+    {
+        self.get(hash)
+    }
+}
+
+impl<V: Keyed<MerkleHash> + Drop> KeyedList<MerkleHash, V> {
+    /// Adds a value at the end: `push`, said by the bytes and not by the order. The caller sees to it that its hash is
+    /// not there yet, as `find` tells.
+    ///
+    /// `OutOfMemory` where an allocation was refused, and then the list is as it was and the value is dropped.
+    pub fn add(&mut self, value: V) -> Result<(), OutOfMemory>
+        requires { find (λ v. hash_eq (V.key_of v) (V.key_of value)) self.old ≡ None }
+        ensures ok { OnOk result (self.new ≡ self.old ++ value ∷ []) }
+        ensures err { OnErr result (self.new ≡ self.old) }
+    {
+        self.push(value)
+    }
+}
+
+#[cfg(test)]
+mod tests {
+    use super::*;
+    use std::test::Fail;
+
+    #[derive(Clone, Copy, PartialEq, Eq, Debug)]
+    struct Entry {
+        hash: MerkleHash,
+        size: u8,
+    }
+
+    impl Keyed<MerkleHash> for Entry {
+        ghost key_of = { λ e. e.hash };
+
+        fn key(&self) -> MerkleHash {
+            self.hash
+        }
+    }
+
+    fn sized(last: u8, size: u8) -> Entry {
+        let mut bytes = [0; 32];
+        bytes[31] = last;
+        Entry {
+            hash: MerkleHash(bytes),
+            size,
+        }
+    }
+
+    #[test]
+    fn finds_values_by_their_hashes(rt: HostRuntime) -> Result<(), Fail> {
+        let values = [sized(7, 1), sized(2, 2), sized(5, 3)];
+        let mut list = KeyedList::new(rt.alloc());
+        for (number, value) in values.iter().enumerate() {
+            assert!(rt; list.find(&value.hash).is_none());
+            list.add(*value)?;
+            assert_eq!(rt; list.number_of(&value.hash), Some(number));
+        }
+        assert_eq!(rt; list.len(), 3);
+        assert_eq!(rt; list.as_slice(), values.as_slice());
+        assert_eq!(rt; list.find(&sized(2, 0).hash).copied(), Some(sized(2, 2)));
+        assert_eq!(rt; list.get(&sized(5, 0).hash).copied(), Some(sized(5, 3)));
+        assert_eq!(rt; list.position(&sized(1, 0).hash), None);
+        Ok(())
+    }
+
+    #[test]
+    fn replaces_a_value_by_one_with_its_key(rt: HostRuntime) -> Result<(), Fail> {
+        let hash = MerkleHash([7; 32]);
+        let mut list = KeyedList::new(rt.alloc());
+        assert!(rt; list.position(&hash).is_none());
+        list.push(Entry { hash, size: 1 })?;
+        if let Some(number) = list.position(&hash) {
+            let old = list.replace(number, Entry { hash, size: 9 });
+            assert_eq!(rt; old, Entry { hash, size: 1 });
+        }
+        assert_eq!(rt; list.as_slice(), [Entry { hash, size: 9 }].as_slice());
+        Ok(())
+    }
+}
