@@ -1,0 +1,13 @@
+pub mod CallerLemmas
+pub mod NumberRanges
+pub mod PlacedBytes
+pub mod PlanOffsets
+pub mod PlanTerms
+pub mod PlanWindows
+pub mod PutBytes
+pub mod RequestAnswers
+pub mod TakenBytes
+pub mod TermChunks
+pub mod TouchedEnds
+pub mod TouchedWindows
+pub mod VectoredWrites

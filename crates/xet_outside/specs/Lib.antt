@@ -1,0 +1,7 @@
+pub mod Answers
+pub mod Laws
+pub mod Places
+pub mod Plan
+pub mod Told
+pub mod Worked
+pub mod Written

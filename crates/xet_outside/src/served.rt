@@ -1,0 +1,17 @@
+//! Blocks that a connection served.
+use xet_base::{ChunkRange, List, MerkleHash};
+
+/// A block that a connection answered with bytes, by its request.
+///
+/// The Rust crates have no such type.
+#[derive(Drop, Debug)]
+pub struct Served {
+    /// The number of the plan that the block is of.
+    pub plan: u64,
+    /// The number of the block in its plan.
+    pub index: usize,
+    /// The xorb's hash.
+    pub xorb: MerkleHash,
+    /// The ranges of its chunks, each half open.
+    pub ranges: List<ChunkRange>,
+}
