@@ -1,0 +1,109 @@
+-- What a buffer holds, and what the sink below it took of it.
+use Rattle.std.proofs.Common.{◌≡◌, ℕ, ◌+◌, ◌<◌, ◌≤◌, Bool, true, false, List, [], ◌++◌, take, drop, length, Option}
+use Rattle.std.proofs.Common.{Some, None, Result, refl, sym, ap, ◌∙◌, arith, append_assoc, append-nil}
+use Rattle.std.proofs.Common.{length-append, length-drop}
+use Rattle.std.specs.Prelude.{option_map}
+use Rattle.std.proofs.lemmas.List.{length-take-le, take-append-drop, take-append-le}
+use Rattle.xet_outside.specs.declared.sink.SinkError.{SinkError}
+use Rattle.xet_outside.specs.Told.{SinkTold, Took, TookPrefix, WriteCall}
+use Rattle.xet_outside.proofs.CallerLemmas.{took_both, took_more, prefix_more}
+use Rattle.xet_sinks.specs.Buffers.{Lacks, buffered_told}
+use Rattle.xet_sinks.specs.HexText.{steps}
+use Rattle.xet_sinks.specs.steps.Held.{Held}
+
+-- the list, where it is told, with nothing more
+pub with_nothing : (o : Option (List ℕ)) → option_map (λ (xs : List ℕ). xs ++ []) o ≡ o
+with_nothing None = refl
+with_nothing (Some xs) = ap Some (append-nil xs)
+
+-- a longer buffer
+pub with_more : (o : Option (List ℕ)) (bs ps : List ℕ) → option_map (λ (xs : List ℕ). xs ++ (bs ++ ps)) o ≡ option_map
+    (λ (xs : List ℕ). xs ++ ps) (option_map (λ (xs : List ℕ). xs ++ bs) o)
+with_more None bs ps = refl
+with_more (Some xs) bs ps = ap Some (sym (append_assoc xs bs ps))
+
+-- so many bytes of a list were taken: their number is seen
+front_of : (k n : Option (List ℕ)) (bs : List ℕ) (c : ℕ) → c ≤ length bs → Took k n (take c bs)
+    → (steps k n ≤ length bs) × Took k n (take (steps k n) bs)
+front_of None n bs c i e = rw e (omega arith, refl)
+front_of (Some xs) n bs c i e =
+    let a = length-append xs (take c bs) in
+    let b = length-take-le c bs i in
+    let s : steps (Some xs) (Some (xs ++ take c bs)) ≡ c = omega arith in
+    rw e (rw s i, rw s refl)
+
+-- the sink below took so many bytes of the buffer
+held_at : (k n : Option (List ℕ)) (bs : List ℕ) (out : ℕ) (stopped : Bool) → out ≤ length bs → Took k n (take out bs)
+    → Held k n bs out stopped
+held_at k n bs out stopped i e =
+    let f = front_of k n bs out i e in
+    record { within = i; wrote = λ _. e; short = f.0; front = f.1 }
+
+-- nothing is held
+pub held_none : (m : Option (List ℕ)) (stopped : Bool) → Held m m [] 0 stopped
+held_none m stopped = held_at m m [] 0 stopped (omega arith) (sym (with_nothing m))
+
+-- memory ran out after so many bytes more
+pub held_part : (k n m : Option (List ℕ)) (bs : List ℕ) (out count : ℕ) → Held k n bs out false
+    → count < length (drop out bs) → Took n m (take count (drop out bs)) → Held k m bs (out + count) false
+held_part k n m bs out count h l e =
+    let w = h.within in
+    let d = length-drop out bs in
+    held_at k m bs (out + count) false (omega arith) (took_more k n m bs out count (h.wrote refl) e)
+
+-- the sink below failed after some bytes more
+pub held_failed : (k n m : Option (List ℕ)) (bs : List ℕ) (out : ℕ) → Held k n bs out false
+    → TookPrefix n m (drop out bs) → Held k m bs out true
+held_failed k n m bs out h p =
+    let q = prefix_more k n m bs out h.within (h.wrote refl) p in
+    let f = front_of k m bs q.count q.within q.took in
+    record { within = h.within; wrote = λ z. absurd (let e : true ≡ false = z in cc); short = f.0; front = f.1 }
+
+-- all of the buffer went out
+pub held_all : (k n m : Option (List ℕ)) (bs : List ℕ) (out : ℕ) → Held k n bs out false → Took n m (drop out bs)
+    → m ≡ option_map (λ (xs : List ℕ). xs ++ bs) k
+held_all k n m bs out h e =
+    let t : Took k m (take out bs ++ drop out bs) = took_both k n m (take out bs) (drop out bs) (h.wrote refl) e in
+    rw (take-append-drop out bs) at t
+
+-- a piece is put behind the buffer
+pub held_more : (k n : Option (List ℕ)) (bs ps : List ℕ) (out : ℕ) (stopped : Bool) → Held k n bs out stopped
+    → Held k n (bs ++ ps) out stopped
+held_more k n bs ps out stopped h =
+    let a = take-append-le out bs ps h.within in
+    let b = take-append-le (steps k n) bs ps h.short in
+    let l = length-append bs ps in
+    let w = h.within in
+    let s = h.short in
+    record { within = omega arith; wrote = λ z. rw a (h.wrote z); short = omega arith; front = rw b h.front }
+
+-- what the sink below lacks
+pub held_lacks : (k n : Option (List ℕ)) (bs : List ℕ) (out : ℕ) (stopped : Bool) → Held k n bs out stopped
+    → Lacks n (option_map (λ (xs : List ℕ). xs ++ bs) k)
+held_lacks k n bs out stopped h = record {
+  missing = drop (steps k n) bs;
+  took =
+      let f : n ≡ option_map (λ (xs : List ℕ). xs ++ take (steps k n) bs) k = h.front in
+      let c = with_more k (take (steps k n) bs) (drop (steps k n) bs) in
+      let d = take-append-drop (steps k n) bs in
+      ap (λ (l : List ℕ). option_map (λ (xs : List ℕ). xs ++ l) k) (sym d) ∙ c ∙ ap
+      (λ (o : Option (List ℕ)). option_map (λ (xs : List ℕ). xs ++ drop (steps k n) bs) o) (sym f);
+}
+
+-- a write past the empty buffer
+pub passed : (s k n m : SinkTold) (piece : List ℕ) (answer : Result ℕ SinkError) → Held k.took n.took [] 0 false
+    → WriteCall n m piece answer → WriteCall (buffered_told s k n []) (buffered_told s m m []) piece answer
+passed s k n m piece answer h w =
+    let e : n.took ≡ option_map (λ (xs : List ℕ). xs ++ []) k.took = h.wrote refl in
+    let f = with_nothing m.took in
+    record {
+      count = w.count;
+      some = w.some;
+      took = rw (f, ← e) w.took;
+      prefix = rw (f, ← e) w.prefix;
+      memory = rw (f, ← e) w.memory;
+      flushed = w.flushed;
+      link = rw w.link refl;
+      faults = w.faults;
+      failed = w.failed;
+    }

@@ -1,0 +1,11 @@
+mod Buffered
+mod DigitsOut
+mod HexDigits
+mod JoinedFronts
+mod MissingDigit
+mod PieceLoop
+mod PieceOfDigits
+mod PutGrown
+mod ReadFront
+mod StillRuns
+mod WholePiece
