@@ -1,0 +1,235 @@
+//! A connection by a script.
+ghost use Rattle.std.specs.Prelude.{◌≡◌, [], cond, drop, None, Some, slice_get, true};
+ghost use Rattle.std.specs.List.{list_any};
+ghost use Rattle.xet_outside.specs.Told.{BlockCall, PlanCall};
+ghost use Rattle.xet_store.specs.Scripts.{FollowsBlock, FollowsPlan, says};
+
+use crate::mem_client::MemClient;
+use crate::mem_store::MemStore;
+use std::alloc::Global;
+use std::collections::VecDeque;
+use xet_base::{FileRange, MerkleHash};
+use xet_outside::{BlockAnswer, BlockBytes, BlockRequest, Client, ClientError, PlanAnswer};
+
+/// What a connection by a script does at one call.
+#[derive(Drop)]
+pub enum ClientStep {
+    /// It answers as the store is.
+    Honest,
+    /// It fails.
+    Fail,
+    /// It says that the block's URL has expired. At a query it is honest.
+    Expire,
+    /// It finds no memory.
+    NoMemory,
+    /// It answers this to a query. At a block it is honest.
+    SayPlan(PlanAnswer),
+    /// It answers these bytes for a block. At a query it is honest.
+    SayBlock(BlockBytes),
+}
+
+impl ClientStep {
+    /// Whether it answers something of its own.
+    fn says(&self) -> bool
+        ensures { result ≡ says self.now }
+    {
+        matches!(self, ClientStep::SayPlan(_) | ClientStep::SayBlock(_))
+    }
+}
+
+/// Whether a step answers something of its own.
+fn speak(steps: &[ClientStep]) -> bool
+    ensures { result ≡ list_any says steps.now }
+{
+    for step in steps {
+        if step.says() {
+            return true;
+        }
+    }
+    false
+}
+
+/// A fake: a connection to a store in memory that does at each of its first calls what a script says. Its counts of
+/// faults and of expired answers stand at their last value at most. It tells the store where no step answers something
+/// of its own, and no lists.
+#[derive(Drop)]
+pub struct ScriptClient<'a> {
+    inner: MemClient<'a>,
+    steps: VecDeque<ClientStep>,
+    // a step of the script answers something of its own
+    speaks: bool,
+    faults: u64,
+    expiries: u64,
+    ghost heard: { list_any says steps.items ≡ true → speaks ≡ true },
+}
+
+impl<'a> ScriptClient<'a> {
+    /// A connection to the store by these steps, from the first to the last. It takes no memory.
+    pub fn new(alloc: Global, store: &'a MemStore, steps: Vec<ClientStep>) -> ScriptClient<'a>
+        ensures told { ⟦<ScriptClient<'a> as Client>⟧.told result
+            ≡ record {
+              store = cond (list_any says steps.items) None (Some store.now);
+              asked = None;
+              said = None;
+              served = None;
+              faults = 0;
+              expiries = 0;
+              link = [];
+            } }
+        ensures steps { result.steps.items ≡ steps.items }
+        ensures store { result.inner.store.now ≡ store.now }
+    {
+        let speaks = speak(steps.as_slice());
+        ScriptClient {
+            inner: MemClient::new(alloc, store),
+            steps: VecDeque::from_vec(steps),
+            speaks,
+            faults: 0,
+            expiries: 0,
+        }
+    }
+}
+
+impl<'a> Client for ScriptClient<'a> {
+    ghost told = { λ c. record {
+      store = cond c.speaks None (⟦<MemClient<'a> as Client>⟧.told c.inner).store;
+      asked = None;
+      said = None;
+      served = None;
+      faults = c.faults;
+      expiries = c.expiries;
+      link = [];
+    } };
+
+    /// The next step: `Fail`, `NoMemory` and `SayPlan` as they say; at every other step, and after the last, the plan of the range.
+    fn plan(
+        &mut self,
+        alloc: Global,
+        file: &MerkleHash,
+        range: FileRange,
+    ) -> Result<PlanAnswer, ClientError>
+        ensures call { PlanCall (⟦<ScriptClient<'a> as Client>⟧.told self.old)
+            (⟦<ScriptClient<'a> as Client>⟧.told self.new) file.now range result }
+        ensures follows { FollowsPlan self.old.inner.store.now file.now range
+            (slice_get self.old.steps.items 0) result }
+        ensures store { self.new.inner.store.now ≡ self.old.inner.store.now }
+        ensures steps { self.new.steps.items ≡ drop 1 self.old.steps.items }
+    {
+        match self.steps.pop_front() {
+            Some(ClientStep::Fail) => {
+                self.faults = self.faults.saturating_add(1);
+                Err(ClientError::Failed)
+            }
+            Some(ClientStep::NoMemory) => Err(ClientError::OutOfMemory),
+            Some(ClientStep::SayPlan(answer)) => Ok(answer),
+            _ => self.inner.plan(alloc, file, range),
+        }
+    }
+
+    /// The next step: `Fail`, `Expire`, `NoMemory` and `SayBlock` as they say; at every
+    /// other step, and after the last, the block of the store.
+    fn block(&mut self, alloc: Global, request: &BlockRequest) -> Result<BlockAnswer, ClientError>
+        ensures call { BlockCall (⟦<ScriptClient<'a> as Client>⟧.told self.old)
+            (⟦<ScriptClient<'a> as Client>⟧.told self.new) request.now result }
+        ensures follows { FollowsBlock self.old.inner.store.now request.now
+            (slice_get self.old.steps.items 0) result }
+        ensures store { self.new.inner.store.now ≡ self.old.inner.store.now }
+        ensures steps { self.new.steps.items ≡ drop 1 self.old.steps.items }
+    {
+        match self.steps.pop_front() {
+            Some(ClientStep::Fail) => {
+                self.faults = self.faults.saturating_add(1);
+                Err(ClientError::Failed)
+            }
+            Some(ClientStep::Expire) => {
+                self.expiries = self.expiries.saturating_add(1);
+                Ok(BlockAnswer::Expired)
+            }
+            Some(ClientStep::NoMemory) => Err(ClientError::OutOfMemory),
+            Some(ClientStep::SayBlock(block)) => Ok(BlockAnswer::Bytes(block)),
+            _ => self.inner.block(alloc, request),
+        }
+    }
+}
+
+#[cfg(test)]
+mod tests {
+    use super::*;
+    use crate::worked::{FILE_OF_ALL, X1, worked_store};
+    use bytes::Bytes;
+    use std::test::Fail;
+    use xet_base::{ChunkRange, List, Text, UniqueId};
+
+    fn request(alloc: Global) -> Result<BlockRequest, Fail> {
+        let mut chunks = List::new(alloc);
+        chunks.push(ChunkRange::new(3, 4))?;
+        Ok(BlockRequest {
+            acquisition: UniqueId {
+                plan: 1,
+                refresh: 0,
+            },
+            index: 0,
+            url: Text::from_string(String::from_str(alloc, "mem:1")?),
+            xorb: X1,
+            chunks,
+            bytes: List::new(alloc),
+        })
+    }
+
+    // What a connection says to a query, as a letter.
+    fn plan_of(alloc: Global, client: &mut ScriptClient) -> u8 {
+        match client.plan(alloc, &FILE_OF_ALL, FileRange::full()) {
+            Ok(PlanAnswer::Found(_)) => b'p',
+            Ok(PlanAnswer::PastEnd) => b'e',
+            Ok(PlanAnswer::NoFile) => b'n',
+            Err(ClientError::Failed) => b'f',
+            Err(ClientError::OutOfMemory) => b'm',
+        }
+    }
+
+    // What it says to a request for a block: the first byte, or a letter.
+    fn block_of(alloc: Global, client: &mut ScriptClient, request: &BlockRequest) -> u8 {
+        match client.block(alloc, request) {
+            Ok(BlockAnswer::Bytes(block)) => block.bytes.as_slice().first().copied().unwrap_or(0),
+            Ok(BlockAnswer::Expired) => b'e',
+            Err(ClientError::Failed) => b'f',
+            Err(ClientError::OutOfMemory) => b'm',
+        }
+    }
+
+    #[test]
+    fn answers_queries_by_its_steps(rt: HostRuntime) -> Result<(), Fail> {
+        let alloc = rt.alloc();
+        let store = worked_store(alloc)?;
+        let mut steps = Vec::new(alloc);
+        steps.push(ClientStep::SayPlan(PlanAnswer::PastEnd))?;
+        steps.push(ClientStep::Fail)?;
+        steps.push(ClientStep::NoMemory)?;
+        steps.push(ClientStep::Expire)?;
+        let mut client = ScriptClient::new(alloc, &store, steps);
+        for wanted in [b'e', b'f', b'm', b'p', b'p'] {
+            assert_eq!(rt; plan_of(alloc, &mut client), wanted);
+        }
+        Ok(())
+    }
+
+    #[test]
+    fn answers_requests_by_its_steps(rt: HostRuntime) -> Result<(), Fail> {
+        let alloc = rt.alloc();
+        let store = worked_store(alloc)?;
+        let request = request(alloc)?;
+        let mut steps = Vec::new(alloc);
+        steps.push(ClientStep::SayBlock(BlockBytes {
+            offsets: List::new(alloc),
+            bytes: Bytes::copy_from_slice(alloc, b"?")?,
+        }))?;
+        steps.push(ClientStep::Fail)?;
+        steps.push(ClientStep::NoMemory)?;
+        steps.push(ClientStep::Expire)?;
+        let mut client = ScriptClient::new(alloc, &store, steps);
+        for wanted in [b'?', b'f', b'm', b'e', b'!'] {
+            assert_eq!(rt; block_of(alloc, &mut client, &request), wanted);
+        }
+        Ok(())
+    }
+}

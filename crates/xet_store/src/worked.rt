@@ -1,0 +1,85 @@
+//! The worked store: a small store on which tests and examples stand.
+ghost use Rattle.std.specs.Prelude.{◌≡◌, IfOk, map};
+ghost use Rattle.xet_base.specs.Worked.{worked, x1};
+ghost use Rattle.xet_store.specs.Refusals.{stored_term};
+
+use crate::mem_store::{MemStore, StoreRefused};
+use bytes::Bytes;
+use std::alloc::Global;
+use xet_base::{FileDataSequenceEntry, List, MerkleHash, OutOfMemory, Xorb};
+
+/// The hashes of its xorbs.
+pub const X1: MerkleHash = MerkleHash([0x11; 32]);
+
+pub const X2: MerkleHash = MerkleHash([0x22; 32]);
+
+/// The hashes of its files: of all chunks of the first xorb, of three terms that repeat chunks, of no terms, of the
+/// first and the last chunk.
+pub const FILE_OF_ALL: MerkleHash = MerkleHash([0xaa; 32]);
+
+pub const FILE_OF_REPEATS: MerkleHash = MerkleHash([0xbb; 32]);
+
+pub const FILE_OF_NOTHING: MerkleHash = MerkleHash([0xcc; 32]);
+
+pub const FILE_OF_TWO_ENDS: MerkleHash = MerkleHash([0xee; 32]);
+
+/// Two xorbs, of the chunks `Hello`, `, `, `world`, `!` and of `ab`, `cde`, and four files over the first. Want of
+/// memory is the only error.
+pub fn worked_store(alloc: Global) -> Result<MemStore, StoreRefused>
+    ensures { IfOk result (λ store. store ≡ worked) }
+{
+    let mut store = MemStore::new(alloc);
+    let hello = chunks(alloc, &["Hello", ", ", "world", "!"])?;
+    store.add_xorb(
+        alloc,
+        Xorb {
+            hash: X1,
+            chunks: hello,
+        },
+    )?;
+    let letters = chunks(alloc, &["ab", "cde"])?;
+    store.add_xorb(
+        alloc,
+        Xorb {
+            hash: X2,
+            chunks: letters,
+        },
+    )?;
+    store.add_file(alloc, FILE_OF_ALL, terms(alloc, &[(0, 4)])?)?;
+    store.add_file(
+        alloc,
+        FILE_OF_REPEATS,
+        terms(alloc, &[(2, 4), (0, 1), (0, 3)])?,
+    )?;
+    store.add_file(alloc, FILE_OF_NOTHING, terms(alloc, &[])?)?;
+    store.add_file(alloc, FILE_OF_TWO_ENDS, terms(alloc, &[(0, 1), (3, 4)])?)?;
+    Ok(store)
+}
+
+// The bytes of some texts.
+fn chunks(alloc: Global, texts: &[&str]) -> Result<List<Bytes>, OutOfMemory>
+    ensures { IfOk result (λ chunks. chunks ≡ map (λ t. t.now) texts.now) }
+{
+    let mut chunks = List::new(alloc);
+    for text in texts {
+        chunks.push(Bytes::copy_from_slice(alloc, text.as_bytes())?)?;
+    }
+    Ok(chunks)
+}
+
+// Terms of the first xorb, by the numbers of their first chunk and of the one after their last.
+fn terms(alloc: Global, ranges: &[(u32, u32)]) -> Result<List<FileDataSequenceEntry>, OutOfMemory>
+    ensures { IfOk result (λ terms. map stored_term terms
+        ≡ map (λ r. record { xorb = x1; from = r.0; to = r.1 }) ranges.now) }
+{
+    let mut terms = List::new(alloc);
+    for (from, to) in ranges {
+        terms.push(FileDataSequenceEntry {
+            xorb: X1,
+            from: *from,
+            to: *to,
+            bytes: 0,
+        })?;
+    }
+    Ok(terms)
+}
