@@ -1,0 +1,362 @@
+//! Why a reconstruction fails.
+ghost use Rattle.std.specs.Prelude.{◌≡◌};
+ghost use Rattle.xet_error.specs.Errors.{corruption_number, of_client_error, of_sink_error, setting_number};
+ghost use Rattle.xet_error.specs.declared.error.FileReconstructionError.TheVariants as error;
+
+use thiserror::Error;
+use xet_base::{FileRange, MerkleHash, OutOfMemory};
+use xet_outside::{ClientError, SinkError};
+
+/// The setting of a run that fails first. It prints its variant's name.
+///
+/// In the Rust crate: the text of `file_reconstruction::error::FileReconstructionError::ConfigurationError`.
+#[derive(Clone, Copy, PartialEq, Eq, Debug, Drop, Error)]
+pub enum Setting {
+    /// The run is lent no connection.
+    #[error("NoConnection")]
+    NoConnection,
+    /// A fetch of a block may not be tried even once.
+    #[error("NoTries")]
+    NoTries,
+    /// The least fetch size, in bytes, is 0.
+    #[error("LeastZero")]
+    LeastZero,
+    /// The greatest fetch size is below the least.
+    #[error("GreatestBelowLeast")]
+    GreatestBelowLeast,
+}
+
+impl Setting {
+    /// The number by which a program names it: 1 to 4, in the order of the variants.
+    pub fn number(&self) -> u8
+        ensures { result ≡ setting_number self.now }
+    {
+        match self {
+            Setting::NoConnection => 1,
+            Setting::NoTries => 2,
+            Setting::LeastZero => 3,
+            Setting::GreatestBelowLeast => 4,
+        }
+    }
+}
+
+/// The test that an answer of a connection fails, with its numbers. Terms, entries, blocks and offsets count from 0;
+/// lengths and offsets are in bytes. It prints its variant's name.
+///
+/// In the Rust crate such an answer panics, fails an assertion, or passes.
+#[derive(Clone, Copy, PartialEq, Eq, Debug, Drop, Error)]
+pub enum Corruption {
+    /// Over multirange blocks, this entry of the xorb has an empty or reversed range, or one that starts before the one
+    /// before it ends. The entries of each xorb count from 0.
+    #[error("Ranges")]
+    Ranges { xorb: MerkleHash, entry: usize },
+    /// The xorb of this term is not in the plan.
+    #[error("NoXorb")]
+    NoXorb { term: usize },
+    /// This term lies in no fetch range of its xorb, or has no chunks. Of two xorbs with one hash the first counts.
+    #[error("NoRange")]
+    NoRange { term: usize },
+    /// The plan's offset is over its first term's length. An equal one is accepted.
+    #[error("Offset")]
+    Offset { offset: u64, length: u64 },
+    /// The end of this term in the file, before it is cut at the query's end, passes `u64::MAX`.
+    #[error("Position")]
+    Position { term: usize },
+    /// The terms pass the query's end by `excess` bytes, which is more than the last term's `length`. As many are
+    /// accepted.
+    #[error("Trim")]
+    Trim { excess: u64, length: u64 },
+    /// A refresh was answered as past the end, or with a plan without terms.
+    #[error("RefreshPastEnd")]
+    RefreshPastEnd,
+    /// A refresh covers these bytes of the file, and not those of the plan before it.
+    #[error("RefreshRange")]
+    RefreshRange { returned: FileRange },
+    /// A refresh has another block at this index, or none.
+    #[error("RefreshBlocks")]
+    RefreshBlocks { index: usize },
+    /// There are `actual` offsets, and not one for each of the block's `expected` chunks; or, of a term that is cut, its
+    /// block has `actual` chunks, and the term needs `expected`. Sums stop at `u64::MAX`.
+    #[error("OffsetCount")]
+    OffsetCount { expected: u64, actual: u64 },
+    /// The offset at this place is not 0 at the first place, is not above the one before it, or is not below the number
+    /// of the block's bytes.
+    #[error("OffsetOrder")]
+    OffsetOrder { place: usize },
+    /// The block has `actual` bytes, and its terms tell `expected`.
+    #[error("BlockLength")]
+    BlockLength { expected: u64, actual: u64 },
+    /// A term ends at `end` in its block, which has `length` bytes only. The end stops at `u64::MAX`.
+    #[error("TermPastBlock")]
+    TermPastBlock { end: u64, length: u64 },
+    /// Terms came for a query that starts at `start`, which is at or past `known`, the known end of the file.
+    #[error("PastKnownEnd")]
+    PastKnownEnd { known: u64, start: u64 },
+}
+
+impl Corruption {
+    /// The number by which a program names it: 1 to 14, in the order of the variants.
+    pub fn number(&self) -> u8
+        ensures { result ≡ corruption_number self.now }
+    {
+        match self {
+            Corruption::Ranges { .. } => 1,
+            Corruption::NoXorb { .. } => 2,
+            Corruption::NoRange { .. } => 3,
+            Corruption::Offset { .. } => 4,
+            Corruption::Position { .. } => 5,
+            Corruption::Trim { .. } => 6,
+            Corruption::RefreshPastEnd => 7,
+            Corruption::RefreshRange { .. } => 8,
+            Corruption::RefreshBlocks { .. } => 9,
+            Corruption::OffsetCount { .. } => 10,
+            Corruption::OffsetOrder { .. } => 11,
+            Corruption::BlockLength { .. } => 12,
+            Corruption::TermPastBlock { .. } => 13,
+            Corruption::PastKnownEnd { .. } => 14,
+        }
+    }
+}
+
+/// Why a writer refuses a term. Starts and ends are places in the file, lengths are in bytes. It prints its variant's
+/// name.
+///
+/// In the Rust crate: the text of `file_reconstruction::error::FileReconstructionError::InternalWriterError`.
+#[derive(Clone, Copy, PartialEq, Eq, Debug, Drop, Error)]
+pub enum WriterFault {
+    /// The term ends at `end`, before its `start`.
+    #[error("Reversed")]
+    Reversed { start: u64, end: u64 },
+    /// The term starts at `start`, and the one before it ended at `expected`.
+    #[error("NotSequential")]
+    NotSequential { expected: u64, start: u64 },
+    /// The term came with `actual` bytes, and its range has `expected`.
+    #[error("Length")]
+    Length { expected: u64, actual: u64 },
+    /// The writer was finished before.
+    #[error("Finished")]
+    Finished,
+    /// The term that starts here has no bytes yet.
+    #[error("StillWanted")]
+    StillWanted { start: u64 },
+    /// No term that starts here waits for bytes.
+    #[error("NotWanted")]
+    NotWanted { start: u64 },
+}
+
+/// Why a reconstruction fails. It is exhaustive, and each variant has one cause. It prints its variant's name.
+///
+/// In the Rust crate: `file_reconstruction::error::FileReconstructionError`.
+#[derive(Clone, Copy, PartialEq, Eq, Debug, Drop, Error)]
+pub enum FileReconstructionError {
+    /// An allocation was refused.
+    #[error("OutOfMemory")]
+    OutOfMemory,
+    /// A connection failed: its count of faults rose.
+    #[error("ClientError")]
+    ClientError,
+    /// A connection said that the file is not stored.
+    #[error("FileNotFound")]
+    FileNotFound,
+    /// The URL of a block had expired.
+    #[error("UrlExpired")]
+    UrlExpired,
+    /// The writer failed: its count of faults rose.
+    #[error("IoError")]
+    IoError,
+    /// An answer of a connection fails this test.
+    #[error("CorruptedReconstruction")]
+    CorruptedReconstruction(Corruption),
+    /// This setting of the run can't be met.
+    #[error("ConfigurationError")]
+    ConfigurationError(Setting),
+    /// The run was asked to stop.
+    #[error("Cancelled")]
+    Cancelled,
+    /// A writer was used out of order.
+    #[error("InternalWriterError")]
+    InternalWriterError(WriterFault),
+}
+
+/// The result of a call of a reconstruction.
+///
+/// In the Rust crate: `file_reconstruction::error::Result`.
+pub type Result<T> = std::result::Result<T, FileReconstructionError>;
+
+/// Want of memory stays want of memory, and a fault is `ClientError`.
+impl From<ClientError> for FileReconstructionError {
+    ghost from_gives = { λ e error. error ≡ of_client_error e };
+
+    fn from(error: ClientError) -> FileReconstructionError {
+        match error {
+            ClientError::OutOfMemory => FileReconstructionError::OutOfMemory,
+            ClientError::Failed => FileReconstructionError::ClientError,
+        }
+    }
+}
+
+/// Want of memory stays want of memory, and a fault is `IoError`.
+impl From<SinkError> for FileReconstructionError {
+    ghost from_gives = { λ e error. error ≡ of_sink_error e };
+
+    fn from(error: SinkError) -> FileReconstructionError {
+        match error {
+            SinkError::OutOfMemory => FileReconstructionError::OutOfMemory,
+            SinkError::Failed => FileReconstructionError::IoError,
+        }
+    }
+}
+
+/// Want of memory stays want of memory.
+impl From<OutOfMemory> for FileReconstructionError {
+    ghost from_gives = { λ _ e. e ≡ error.OutOfMemory };
+
+    fn from(_: OutOfMemory) -> FileReconstructionError {
+        FileReconstructionError::OutOfMemory
+    }
+}
+
+#[cfg(test)]
+mod tests {
+    use super::*;
+    use std::alloc::Global;
+    use std::fmt::Display;
+    use std::process::Abort;
+    use std::test::Fail;
+
+    fn prints(
+        rt: &impl Abort,
+        alloc: Global,
+        value: &impl Display,
+        wanted: &str,
+    ) -> std::result::Result<(), Fail> {
+        let text = format!(in alloc; "{}", value)?;
+        assert_eq!(rt; text.as_str(), wanted);
+        Ok(())
+    }
+
+    #[test]
+    fn settings_and_writer_faults_print_their_names(
+        rt: HostRuntime,
+    ) -> std::result::Result<(), Fail> {
+        let settings = [
+            (Setting::NoConnection, 1, "NoConnection"),
+            (Setting::NoTries, 2, "NoTries"),
+            (Setting::LeastZero, 3, "LeastZero"),
+            (Setting::GreatestBelowLeast, 4, "GreatestBelowLeast"),
+        ];
+        for (setting, number, name) in settings {
+            assert_eq!(rt; setting.number(), number);
+            prints(&rt, rt.alloc(), &setting, name)?;
+        }
+        let faults = [
+            (WriterFault::Reversed { start: 2, end: 1 }, "Reversed"),
+            (
+                WriterFault::NotSequential {
+                    expected: 1,
+                    start: 2,
+                },
+                "NotSequential",
+            ),
+            (
+                WriterFault::Length {
+                    expected: 1,
+                    actual: 2,
+                },
+                "Length",
+            ),
+            (WriterFault::Finished, "Finished"),
+            (WriterFault::StillWanted { start: 1 }, "StillWanted"),
+            (WriterFault::NotWanted { start: 1 }, "NotWanted"),
+        ];
+        for (fault, name) in faults {
+            prints(&rt, rt.alloc(), &fault, name)?;
+        }
+        Ok(())
+    }
+
+    #[test]
+    fn corruptions_print_their_names(rt: HostRuntime) -> std::result::Result<(), Fail> {
+        let xorb = MerkleHash([1; 32]);
+        let returned = FileRange::new(0, 1);
+        let (expected, actual) = (1, 2);
+        let (excess, length) = (2, 1);
+        let corruptions = [
+            (Corruption::Ranges { xorb, entry: 0 }, 1, "Ranges"),
+            (Corruption::NoXorb { term: 0 }, 2, "NoXorb"),
+            (Corruption::NoRange { term: 0 }, 3, "NoRange"),
+            (Corruption::Offset { offset: 2, length }, 4, "Offset"),
+            (Corruption::Position { term: 0 }, 5, "Position"),
+            (Corruption::Trim { excess, length }, 6, "Trim"),
+            (Corruption::RefreshPastEnd, 7, "RefreshPastEnd"),
+            (Corruption::RefreshRange { returned }, 8, "RefreshRange"),
+            (Corruption::RefreshBlocks { index: 0 }, 9, "RefreshBlocks"),
+            (
+                Corruption::OffsetCount { expected, actual },
+                10,
+                "OffsetCount",
+            ),
+            (Corruption::OffsetOrder { place: 0 }, 11, "OffsetOrder"),
+            (
+                Corruption::BlockLength { expected, actual },
+                12,
+                "BlockLength",
+            ),
+            (
+                Corruption::TermPastBlock { end: 2, length },
+                13,
+                "TermPastBlock",
+            ),
+            (
+                Corruption::PastKnownEnd { known: 1, start: 2 },
+                14,
+                "PastKnownEnd",
+            ),
+        ];
+        for (corruption, number, name) in corruptions {
+            assert_eq!(rt; corruption.number(), number);
+            prints(&rt, rt.alloc(), &corruption, name)?;
+        }
+        Ok(())
+    }
+
+    #[test]
+    fn errors_print_their_names(rt: HostRuntime) -> std::result::Result<(), Fail> {
+        let corruption = Corruption::RefreshPastEnd;
+        let errors = [
+            (FileReconstructionError::from(OutOfMemory), "OutOfMemory"),
+            (
+                FileReconstructionError::from(ClientError::OutOfMemory),
+                "OutOfMemory",
+            ),
+            (
+                FileReconstructionError::from(SinkError::OutOfMemory),
+                "OutOfMemory",
+            ),
+            (
+                FileReconstructionError::from(ClientError::Failed),
+                "ClientError",
+            ),
+            (FileReconstructionError::FileNotFound, "FileNotFound"),
+            (FileReconstructionError::UrlExpired, "UrlExpired"),
+            (FileReconstructionError::from(SinkError::Failed), "IoError"),
+            (
+                FileReconstructionError::CorruptedReconstruction(corruption),
+                "CorruptedReconstruction",
+            ),
+            (
+                FileReconstructionError::ConfigurationError(Setting::NoTries),
+                "ConfigurationError",
+            ),
+            (FileReconstructionError::Cancelled, "Cancelled"),
+            (
+                FileReconstructionError::InternalWriterError(WriterFault::Finished),
+                "InternalWriterError",
+            ),
+        ];
+        for (error, name) in errors {
+            prints(&rt, rt.alloc(), &error, name)?;
+        }
+        Ok(())
+    }
+}
