@@ -1,0 +1,24 @@
+mod AscendingSearch
+mod BlockReferences
+mod BlockUrls
+mod BlockWalk
+pub mod CallerLemmas
+mod ChainSums
+mod ChainsExist
+mod ChunkNumbers
+mod EqualBlocks
+mod FirstFailures
+mod HonestBlockTests
+mod HonestBlocks
+mod HonestPlanTests
+mod JoinedPieces
+mod KnownSizes
+mod Lookups
+mod OfferOrder
+mod ReachedSums
+mod ServedChunks
+mod TermBlockAnswers
+mod TermChunks
+mod TermEnds
+mod TermOffers
+mod TrimmedTerms

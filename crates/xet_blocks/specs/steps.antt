@@ -1,0 +1,5 @@
+-- The words of private functions.
+pub mod Offers
+pub mod Planning
+pub mod Reached
+pub mod TermPlaces

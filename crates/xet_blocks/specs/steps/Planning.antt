@@ -1,0 +1,149 @@
+-- Blocks that entries offer, and the terms that are placed in them.
+use Rattle.std.specs.Prelude.{ℕ, ◌≡◌, ◌+◌, ◌-◌, ◌^◌, ◌<◌, ◌≤◌, ◌&&◌, Bool, false, Option, Some, None, List, [], ◌∷◌, ◌++◌, All, MatchOption, Vec, filter, length, map, min, nat_eq, position, slice_index_or}
+use Rattle.std.specs.List.{enumerate_from, position_or_len}
+use Rattle.std.specs.declared.alloc.Global.{Global}
+use Rattle.xet_base.specs.declared.cas_types.FileRange.{FileRange}
+use Rattle.xet_outside.specs.declared.plan.Plan.{Plan}
+use Rattle.xet_outside.specs.declared.plan.PlanTerm.{PlanTerm}
+use Rattle.xet_outside.specs.Plan.{Shape, shape}
+use Rattle.xet_blocks.specs.declared.reconstruction_terms.file_term.FileTerm.{FileTerm}
+use Rattle.xet_blocks.specs.declared.reconstruction_terms.file_term.TermBlock.{TermBlock}
+use Rattle.xet_blocks.specs.declared.reconstruction_terms.plan_blocks.BlockKey.{BlockKey}
+use Rattle.xet_blocks.specs.declared.reconstruction_terms.plan_blocks.PlacedTerm.{PlacedTerm}
+use Rattle.xet_blocks.specs.declared.reconstruction_terms.plan_blocks.PlanBlocks.{PlanBlocks}
+use Rattle.xet_blocks.specs.declared.reconstruction_terms.plan_blocks.OfferedBlock.{OfferedBlock}
+use Rattle.xet_blocks.specs.declared.reconstruction_terms.retrieval_urls.RetrievalUrl.{RetrievalUrl}
+use Rattle.xet_blocks.specs.declared.reconstruction_terms.retrieval_urls.TermBlockRetrievalURLs.{TermBlockRetrievalURLs}
+use Rattle.xet_blocks.specs.declared.reconstruction_terms.xorb_block.XorbBlock.{XorbBlock}
+use Rattle.xet_blocks.specs.declared.reconstruction_terms.xorb_block.XorbReference.{XorbReference}
+use Rattle.xet_blocks.specs.Blocks.{PlanBlock, block_ranges, blocks_of, same_block, start_index, term_block, transfer_sum}
+use Rattle.xet_blocks.specs.steps.Offers.{offer_of_term, offered, ranges_block, xorb_place}
+use Rattle.xet_blocks.specs.PlanChecks.{unordered}
+use Rattle.xet_blocks.specs.TermBlocks.{block_url, by_start, known_size, reference_of}
+
+-- the block as one of the plan
+abbrev pub plan_block : OfferedBlock → PlanBlock
+plan_block b = ranges_block b.xorb b.offer.block.now
+
+-- the number of the block's xorb, and the block's own among those of the xorb
+abbrev pub key_of : OfferedBlock → BlockKey
+key_of b = record { place = b.place; number = b.offer.number }
+
+-- two keys are equal
+abbrev pub same_key : BlockKey → BlockKey → Bool
+same_key a b = nat_eq a.place b.place && nat_eq a.number b.number
+
+-- the block's URL and what it serves
+abbrev pub retrieval_url : OfferedBlock → RetrievalUrl
+retrieval_url b = record { url = b.offer.url.now; ranges = map (λ r. r.bytes) b.offer.block.now }
+
+-- a term with its block's number, and how many of the block's chunks come before it
+abbrev pub placed_term : Shape → Bool → PlanTerm → PlacedTerm
+placed_term p multi t = record {
+  term = t;
+  block = position_or_len (λ b. same_block b (term_block p multi t)) (blocks_of p multi);
+  start_index = start_index (block_ranges (term_block p multi t)) t.range.start;
+}
+
+-- the block is that of the offer of some term
+pub record IsOfTerm (p : Plan) (multi : Bool) (b : OfferedBlock) : Type 0 where
+  pub term : PlanTerm
+  pub xorb : b.xorb ≡ term.xorb
+  pub place : b.place ≡ xorb_place p term.xorb
+  pub offer : offer_of_term p multi term ≡ Some (offered b.offer)
+
+-- a block's ranges are nonempty, and each starts at or after the end of the one before it
+abbrev pub HasRanges : OfferedBlock → Type 0
+HasRanges b = unordered 0 b.offer.block.now ≡ false
+
+-- a term has chunks
+abbrev pub HasChunks : PlacedTerm → Type 0
+HasChunks t = t.term.range.start < t.term.range.end
+
+-- the blocks of a plan, each with its URL, and its terms
+pub record IsPlanned (p : Plan) (multi : Bool) (s : PlanBlocks) : Type 0 where
+  pub blocks : map plan_block s.blocks ≡ blocks_of (shape p) multi
+  pub terms : s.terms ≡ map (placed_term (shape p) multi) p.terms
+  pub urls : map (λ b. b.offer.url.now) s.blocks ≡ map (λ b. block_url p multi (plan_block b)) s.blocks
+  pub within : All (λ t. t.block < length s.blocks) s.terms
+  pub ascend : All HasRanges s.blocks
+  pub some : All HasChunks s.terms
+
+-- the keys tell a block from these as its xorb and ranges do
+abbrev pub IsToldApart : OfferedBlock → List OfferedBlock → Type 0
+IsToldApart b bs = All (λ c. same_key (key_of c) (key_of b) ≡ same_block (plan_block c) (plan_block b)) bs
+
+-- the number of a block among these, where it is there
+abbrev pub number_in : List OfferedBlock → OfferedBlock → Option ℕ
+number_in bs b = position (λ c. same_block c (plan_block b)) (map plan_block bs)
+
+-- a block has a number, and is added where it is not there
+abbrev pub IsNumbered : List OfferedBlock → List OfferedBlock → OfferedBlock → ℕ → Type 0
+IsNumbered before after b n =
+    MatchOption (number_in before b) ((after ≡ before ++ b ∷ []) × (n ≡ length before)) (λ i. (after ≡ before) × (n ≡ i))
+
+-- a term that lies in a range of a block is added with the block's number
+pub record IsPlaced (before after : PlanBlocks) (t : PlanTerm) (b : OfferedBlock) : Type 0 where
+  pub number : ℕ
+  pub numbered : IsNumbered before.blocks after.blocks b number
+  pub terms : after.terms ≡ before.terms ++ record {
+    term = t;
+    block = number;
+    start_index = min (b.offer.before + (t.range.start - b.offer.range.chunks.start)) (2 ^ 64 - 1);
+  } ∷ []
+  pub fits : t.range.start < 2 ^ 32
+
+-- from a place on the terms have sizes, and end below 2 ^ 64
+abbrev pub Fit : ℕ → ℕ → List PlanTerm → Type 0
+Fit place o [] = Unit {0}
+Fit place o (t ∷ ts) =
+    let end = place + (t.unpacked_length - o) in
+    (o ≤ t.unpacked_length) × (end < 2 ^ 64) × Fit end 0 ts
+
+-- the terms from a place on, the first with the offset, cut at an end
+abbrev pub terms_at : ℕ → ℕ → ℕ → List PlacedTerm → List FileTerm
+terms_at end place o [] = []
+terms_at end place o (t ∷ ts) =
+    record {
+      byte_range = record { start = place; end = min (place + (t.term.unpacked_length - o)) end };
+      xorb_chunk_range = t.term.range;
+      xorb_block_start_index = t.start_index;
+      offset_into_first_range = o;
+      xorb_block = t.block;
+    } ∷ terms_at end (place + (t.term.unpacked_length - o)) 0 ts
+
+-- the references of the terms with a block's number, in the order of the terms
+abbrev pub own_references : List PlacedTerm → ℕ → List XorbReference
+own_references ts n = map (λ t. reference_of t.term) (filter (λ t. nat_eq t.block n) ts)
+
+-- the references in each list
+abbrev pub lists_of : Vec (Vec XorbReference Global) Global → List (List XorbReference)
+lists_of v = map (λ w. w.items) v.items
+
+-- so many lists, which from a number on have the references of the terms with that number
+pub record HasReferences (ts : List PlacedTerm) (n from : ℕ) (lists : List (List XorbReference)) : Type 0 where
+  pub count : length lists ≡ n
+  pub own : (k : ℕ) → from ≤ k → k < n → slice_index_or lists k [] ≡ own_references ts k
+
+-- a block by its number, with these references by their starts and the size that they tell, before it is fetched
+abbrev pub with_references : List XorbReference → ℕ × PlanBlock → XorbBlock
+with_references rs b = record {
+  xorb_hash = b.1.xorb;
+  chunk_ranges = block_ranges b.1;
+  xorb_block_index = b.0;
+  references = by_start rs;
+  uncompressed_size_if_known = known_size (block_ranges b.1) (by_start rs);
+  kept = None;
+}
+
+-- a block by its number, with the references of the terms of that number
+abbrev pub numbered_block : List PlacedTerm → ℕ × PlanBlock → XorbBlock
+numbered_block ts b = with_references (own_references ts b.0) b
+
+-- the parts of a block of terms, made of these blocks and with these URLs
+pub record IsMadeOf (q : FileRange) (offset : ℕ) (s : PlanBlocks) (u : TermBlockRetrievalURLs) (b : TermBlock) : Type 0 where
+  pub range : b.byte_range ≡ u.byte_range
+  pub transfer : b.transfer_bytes ≡ min (transfer_sum (map plan_block s.blocks)) (2 ^ 64 - 1)
+  pub terms : b.terms ≡ terms_at q.end q.start offset s.terms
+  pub blocks : b.blocks ≡ map (numbered_block s.terms) (enumerate_from 0 (map plan_block s.blocks))
+  pub urls : b.urls ≡ u

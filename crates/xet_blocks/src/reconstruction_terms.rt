@@ -1,0 +1,9 @@
+//! The terms of a file, the blocks that they are cut from, and the URLs of these.
+pub mod file_term;
+mod lists;
+mod plan_blocks;
+mod plan_checks;
+mod plan_offers;
+mod reached_sizes;
+pub mod retrieval_urls;
+pub mod xorb_block;

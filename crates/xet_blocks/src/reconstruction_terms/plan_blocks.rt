@@ -1,0 +1,305 @@
+//! The blocks of a plan: one for all ranges of an entry or for each of them, where some term lies in it.
+ghost use Rattle.std.specs.Prelude.{◌≡◌, ◌+◌, ◌-◌, ◌^◌, ◌<◌, ◌≤◌, [], ◌∷◌, All, IfErr, IfOk, None, OnOk, length, map, min};
+ghost use Rattle.std.specs.List.{enumerate_from};
+ghost use Rattle.xet_outside.specs.Plan.{shape};
+ghost use Rattle.xet_blocks.specs.Blocks.{range_bytes, transfer_sum};
+ghost use Rattle.xet_blocks.specs.Refusals.{IsRefusal};
+ghost use Rattle.xet_blocks.specs.steps.Offers.{xorb_place};
+ghost use Rattle.xet_blocks.specs.steps.Planning.{Fit, HasChunks, HasRanges, HasReferences, IsNumbered, IsPlaced, IsPlanned, IsToldApart, lists_of, numbered_block, plan_block, retrieval_url, terms_at, with_references};
+ghost use Rattle.xet_blocks.specs.TermBlocks.{by_start};
+ghost use Rattle.xet_blocks.specs.PlanChecks.{no_range_test, ranges_test};
+
+use crate::reconstruction_terms::file_term::FileTerm;
+use crate::reconstruction_terms::lists::with_room;
+use crate::reconstruction_terms::plan_offers::{Offer, PlanOffers};
+use crate::reconstruction_terms::retrieval_urls::RetrievalUrl;
+use crate::reconstruction_terms::xorb_block::{XorbBlock, XorbReference};
+use std::alloc::Global;
+use std::mem;
+use xet_base::{ChunkRange, FileRange, HttpRange, Keyed, KeyedList, List, MerkleHash, OutOfMemory};
+use xet_error::{Corruption, FileReconstructionError};
+use xet_outside::{FetchRange, PlanTerm};
+
+/// What tells a term's block from others: the number of its xorb, and its number among the blocks that the xorb offers. A
+/// term lies in no block before its own, so that the blocks of two terms with different numbers have different ranges.
+#[derive(Clone, Copy, PartialEq, Eq, PartialOrd, Ord)]
+pub(crate) struct BlockKey {
+    place: usize,
+    number: usize,
+}
+
+/// A block of a xorb, by one of its ranges.
+#[derive(Clone, Copy)]
+pub(crate) struct OfferedBlock<'a> {
+    pub(crate) xorb: MerkleHash,
+    /// The number of the xorb among those of the plan.
+    pub(crate) place: usize,
+    pub(crate) offer: Offer<'a>,
+}
+
+impl<'a> Keyed<BlockKey> for OfferedBlock<'a> {
+    ghost key_of = { λ b. record { place = b.place; number = b.offer.number } };
+
+    fn key(&self) -> BlockKey {
+        BlockKey {
+            place: self.place,
+            number: self.offer.number,
+        }
+    }
+}
+
+/// A term of a plan, the number of its block, and how many of the block's chunks come before it.
+#[derive(Clone, Copy)]
+pub(crate) struct PlacedTerm {
+    term: PlanTerm,
+    block: usize,
+    start_index: usize,
+}
+
+/// The terms of a plan, and their blocks in the order of first use.
+#[derive(Drop)]
+pub(crate) struct PlanBlocks<'a> {
+    blocks: KeyedList<BlockKey, OfferedBlock<'a>>,
+    terms: List<PlacedTerm>,
+}
+
+impl<'a> PlanBlocks<'a> {
+    /// The terms of a plan and their blocks, given the number of each term's xorb. Tests that each term lies in a range of
+    /// its xorb.
+    pub(crate) fn new(
+        alloc: Global,
+        offers: &PlanOffers<'a>,
+        xorbs: &[usize],
+    ) -> Result<PlanBlocks<'a>, FileReconstructionError>
+        requires ordered { ranges_test (shape offers.now.plan.now) offers.now.multirange ≡ None }
+        requires numbered { let plan = offers.now.plan.now in xorbs.now ≡ map (λ t. xorb_place plan t.xorb) plan.terms }
+        ensures planned { let plan = offers.now.plan.now in IfOk result
+            (λ made. (no_range_test (shape plan) offers.now.multirange ≡ None)
+            × IsPlanned plan offers.now.multirange made) }
+        ensures refused { IfErr result
+            (IsRefusal (no_range_test (shape offers.now.plan.now) offers.now.multirange)) }
+    {
+        let mut made = PlanBlocks::with_room(alloc, xorbs.len())?;
+        for (number, term) in offers.plan.terms.as_slice().iter().enumerate() {
+            let place = xorbs[number];
+            let Some(offer) = offers.find(place, term) else {
+                let failed = Corruption::NoRange { term: number };
+                return Err(FileReconstructionError::CorruptedReconstruction(failed));
+            };
+            made.add_term(term, place, offer)?;
+        }
+        Ok(made)
+    }
+
+    /// No terms, with room for so many.
+    fn with_room(alloc: Global, terms: usize) -> Result<PlanBlocks<'a>, OutOfMemory>
+        ensures blocks { IfOk result (λ made. made.blocks ≡ []) }
+        ensures terms { IfOk result (λ made. made.terms ≡ []) }
+    {
+        Ok(PlanBlocks {
+            blocks: KeyedList::new(alloc),
+            terms: with_room(alloc, terms)?,
+        })
+    }
+
+    /// Adds a term that lies in this range of the xorb with this number.
+    fn add_term(
+        &mut self,
+        term: &PlanTerm,
+        place: usize,
+        offer: Offer<'a>,
+    ) -> Result<(), OutOfMemory>
+        requires inside { offer.range.chunks.start ≤ term.now.range.start }
+        requires apart { IsToldApart (record { xorb = term.now.xorb; place = place; offer = offer }) self.old.blocks }
+        ensures { OnOk result (IsPlaced self.old self.new term.now
+            (record { xorb = term.now.xorb; place = place; offer = offer.entry })) }
+    {
+        let xorb = term.xorb;
+        let block = self.number_of(OfferedBlock { xorb, place, offer })?;
+        let inside = u64::from(first_chunk(term) - offer.range.chunks.start);
+        self.terms.push(PlacedTerm {
+            term: *term,
+            block,
+            start_index: offer.before.saturating_add(inside) as usize,
+        })?;
+        Ok(())
+    }
+
+    /// The number of a block, which is added where it is not there.
+    fn number_of(&mut self, block: OfferedBlock<'a>) -> Result<usize, OutOfMemory>
+        requires { IsToldApart block self.old.blocks }
+        ensures number { IfOk result (IsNumbered self.old.blocks self.new.blocks block.entry) }
+        ensures terms { self.new.terms ≡ self.old.terms }
+    {
+        if let Some(number) = self.blocks.position(&block.key()) {
+            return Ok(number);
+        }
+        let number = self.blocks.len();
+        self.blocks.push(block)?;
+        Ok(number)
+    }
+
+    /// The bytes of all blocks, a sum that stops at `u64::MAX`.
+    pub(crate) fn transfer_bytes(&self) -> u64
+        ensures { result ≡ min (transfer_sum (map plan_block self.now.blocks)) (2 ^ 64 - 1) }
+    {
+        let mut sum = 0u64;
+        for block in self.blocks.as_slice() {
+            sum = add_bytes(sum, block.offer.block);
+        }
+        sum
+    }
+
+    /// The URL of each block.
+    pub(crate) fn urls(&self, alloc: Global) -> Result<List<RetrievalUrl>, OutOfMemory>
+        ensures { IfOk result (λ urls. urls ≡ map retrieval_url self.now.blocks) }
+    {
+        let mut urls = with_room(alloc, self.blocks.len())?;
+        for block in self.blocks.as_slice() {
+            let url = block.offer.url.clone()?;
+            let ranges = bytes_of(alloc, block.offer.block)?;
+            urls.push(RetrievalUrl { url, ranges })?;
+        }
+        Ok(urls)
+    }
+
+    /// The terms, where the first stands at the query's start and without so many bytes at its front. Each is cut at the
+    /// query's end.
+    pub(crate) fn file_terms(
+        &self,
+        alloc: Global,
+        query: FileRange,
+        mut offset: u64,
+    ) -> Result<List<FileTerm>, OutOfMemory>
+        requires { Fit query.start offset (map (λ t. t.term) self.now.terms) }
+        ensures { IfOk result (λ terms. terms ≡ terms_at query.end query.start offset self.now.terms) }
+    {
+        let mut terms = with_room(alloc, self.terms.len())?;
+        let mut place = query.start;
+        for placed in self.terms.as_slice() {
+            let end = place + (u64::from(placed.term.unpacked_length) - offset);
+            terms.push(FileTerm {
+                byte_range: FileRange::new(place, end.min(query.end)),
+                xorb_chunk_range: placed.term.range,
+                xorb_block_start_index: placed.start_index,
+                offset_into_first_range: offset,
+                xorb_block: placed.block,
+            })?;
+            place = end;
+            offset = 0;
+        }
+        Ok(terms)
+    }
+
+    /// The references of each block, in the order of the terms.
+    fn references(&self, alloc: Global) -> Result<Vec<Vec<XorbReference>>, OutOfMemory>
+        requires { All (λ t. t.block < length self.now.blocks) self.now.terms }
+        ensures { IfOk result (λ references.
+            HasReferences self.now.terms (length self.now.blocks) 0 (lists_of references)) }
+    {
+        let mut references = Vec::with_capacity(alloc, self.blocks.len())?;
+        for _ in self.blocks.as_slice() {
+            references.push(Vec::with_capacity(alloc, 1)?)?;
+        }
+        for placed in self.terms.as_slice() {
+            references[placed.block].push(XorbReference {
+                term_chunks: placed.term.range,
+                uncompressed_size: placed.term.unpacked_length as usize,
+            })?;
+        }
+        Ok(references)
+    }
+
+    /// The blocks with their references and the sizes that these tell, before they are fetched.
+    pub(crate) fn xorb_blocks(&self, alloc: Global) -> Result<List<XorbBlock>, OutOfMemory>
+        requires within { All (λ t. t.block < length self.now.blocks) self.now.terms }
+        requires ascend { All HasRanges self.now.blocks }
+        requires some { All HasChunks self.now.terms }
+        ensures { IfOk result (λ made.
+            made ≡ map (numbered_block self.now.terms) (enumerate_from 0 (map plan_block self.now.blocks))) }
+    {
+        let mut references = self.references(alloc)?;
+        let mut blocks = with_room(alloc, self.blocks.len())?;
+        for (number, block) in self.blocks.as_slice().iter().enumerate() {
+            let own = mem::replace(&mut references[number], Vec::new(alloc));
+            blocks.push(xorb_block(alloc, number, block, own)?)?;
+        }
+        Ok(blocks)
+    }
+}
+
+/// The number of the term's first chunk.
+fn first_chunk(term: &PlanTerm) -> u32
+    ensures value { result ≡ term.now.range.start }
+    ensures fits { term.now.range.start < 2 ^ 32 }
+{
+    term.range.start
+}
+
+/// A sum of bytes with those of these ranges, a sum that stops at `u64::MAX`.
+fn add_bytes(mut sum: u64, ranges: &[FetchRange]) -> u64
+    ensures { result ≡ min (sum + range_bytes ranges.now) (2 ^ 64 - 1) }
+{
+    for range in ranges {
+        sum = sum.saturating_add(range.bytes.length());
+    }
+    sum
+}
+
+/// The byte ranges of fetch ranges.
+fn bytes_of(alloc: Global, ranges: &[FetchRange]) -> Result<List<HttpRange>, OutOfMemory>
+    ensures { IfOk result (λ made. made ≡ map (λ r. r.bytes) ranges.now) }
+{
+    let mut made = with_room(alloc, ranges.len())?;
+    for range in ranges {
+        made.push(range.bytes)?;
+    }
+    Ok(made)
+}
+
+/// The chunk ranges of fetch ranges.
+fn chunks_of(alloc: Global, ranges: &[FetchRange]) -> Result<List<ChunkRange>, OutOfMemory>
+    ensures { IfOk result (λ made. made ≡ map (λ r. r.chunks) ranges.now) }
+{
+    let mut made = with_room(alloc, ranges.len())?;
+    for range in ranges {
+        made.push(range.chunks)?;
+    }
+    Ok(made)
+}
+
+/// The references by their starts; equal starts stay in their order.
+fn sorted_by_start(mut references: Vec<XorbReference>) -> Result<List<XorbReference>, OutOfMemory>
+    ensures { IfOk result (λ sorted. sorted ≡ by_start references.items) }
+{
+    references.sort_by_key(|reference| reference.term_chunks.start)?;
+    Ok(List::from_vec(references))
+}
+
+/// A block by its number, with the references of its terms and the size that they tell.
+fn xorb_block(
+    alloc: Global,
+    number: usize,
+    block: &OfferedBlock,
+    references: Vec<XorbReference>,
+) -> Result<XorbBlock, OutOfMemory>
+    requires ascends { HasRanges block.now }
+    requires some { All (λ r. r.term_chunks.start < r.term_chunks.end) references.items }
+    ensures { IfOk result (λ made. made ≡ with_references references.items (number, plan_block block.now)) }
+{
+    let chunk_ranges = chunks_of(alloc, block.offer.block)?;
+    let references = sorted_by_start(references)?;
+    let uncompressed_size_if_known = XorbBlock::determine_size_if_possible(
+        alloc,
+        chunk_ranges.as_slice(),
+        references.as_slice(),
+    )?;
+    Ok(XorbBlock {
+        xorb_hash: block.xorb,
+        chunk_ranges,
+        xorb_block_index: number,
+        references,
+        uncompressed_size_if_known,
+        kept: None,
+    })
+}

@@ -1,0 +1,295 @@
+//! Blocks: what is fetched at once of a xorb.
+ghost use Rattle.std.specs.Prelude.{◌≡◌, ◌-◌, ◌++◌, Some, None, OnErr, OnOk, IfOk, IfErr, zip};
+ghost use Rattle.std.specs.Prelude.{◌<◌, All};
+ghost use Rattle.std.specs.List.{range_with_len};
+ghost use Rattle.std.specs.Result.{result_err};
+ghost use Rattle.std.specs.List.Sorted.{IsNonDecreasingBy};
+ghost use Rattle.xet_base.specs.Ranges.{Ascend};
+ghost use Rattle.xet_blocks.specs.BlockCalls.{CheckCall, RequestCall};
+ghost use Rattle.xet_blocks.specs.BlockChecks.{chunk_total, count_test, failed_block_test, is_misplaced, length_test, misplaced_after, numbers_in, order_test};
+ghost use Rattle.xet_blocks.specs.Chain.{last_end};
+ghost use Rattle.xet_blocks.specs.TermBlocks.{known_size};
+
+use crate::reconstruction_terms::lists::with_room;
+use crate::reconstruction_terms::reached_sizes::{ReachedSizes, sizes_fit};
+use crate::reconstruction_terms::retrieval_urls::TermBlockRetrievalURLs;
+use bytes::Bytes;
+use std::alloc::Global;
+use xet_base::{ChunkRange, List, MerkleHash, OutOfMemory};
+use xet_error::{Corruption, FileReconstructionError, Result};
+use xet_outside::{BlockBytes, BlockRequest};
+
+/// The data of a fetched block.
+///
+/// In the Rust crate: `file_reconstruction::reconstruction_terms::xorb_block::XorbBlockData`.
+#[derive(Drop, Debug)]
+pub struct XorbBlockData {
+    /// For each chunk of the block, in order: its number in the xorb, and the place of its first byte in the block.
+    pub chunk_offsets: List<(usize, usize)>,
+    /// The joined bytes of the block's chunks.
+    pub bytes: Bytes,
+}
+
+/// A term's chunks in a xorb, and how many bytes they have.
+///
+/// In the Rust crate: `file_reconstruction::reconstruction_terms::xorb_block::XorbReference`.
+#[derive(Clone, Copy, PartialEq, Eq, Debug)]
+pub struct XorbReference {
+    /// The term's chunks by their numbers in the xorb, half open.
+    pub term_chunks: ChunkRange,
+    /// How many bytes all of these chunks have, before an offset or a cut.
+    pub uncompressed_size: usize,
+}
+
+/// Chunk ranges of a xorb that are fetched at once, for all terms that lie in them.
+///
+/// In the Rust crate: `file_reconstruction::reconstruction_terms::xorb_block::XorbBlock`.
+#[derive(Drop, Debug)]
+pub struct XorbBlock {
+    /// The xorb.
+    pub xorb_hash: MerkleHash,
+    /// The numbers of the block's chunks in the xorb, as half-open ranges.
+    pub chunk_ranges: List<ChunkRange>,
+    /// The number of the block in its plan, from 0 in the order of first use.
+    pub xorb_block_index: usize,
+    /// The chunks of each of its terms, by their starts; equal starts are in the order of the terms.
+    pub references: List<XorbReference>,
+    /// How many bytes the block has, where its references tell it.
+    pub uncompressed_size_if_known: Option<usize>,
+    /// The block's data, once it is fetched.
+    pub kept: Option<XorbBlockData>,
+}
+
+impl PartialEq for XorbBlock {
+    ghost use Rattle.std.specs.Cmp.{partial_equiv_from_equiv};
+    ghost use Rattle.xet_blocks.specs.BlockEquality.{blocks_equal, same_xorb_block};
+
+    ghost eq = { same_xorb_block };
+
+    ghost laws = { partial_equiv_from_equiv blocks_equal };
+
+    /// Blocks are equal where the xorb, the chunk ranges and the number in the plan are.
+    fn eq(&self, other: &XorbBlock) -> bool {
+        self.xorb_hash == other.xorb_hash
+            && self.chunk_ranges.as_slice() == other.chunk_ranges.as_slice()
+            && self.xorb_block_index == other.xorb_block_index
+    }
+}
+
+impl Eq for XorbBlock {
+    ghost use Rattle.xet_blocks.specs.BlockEquality.{blocks_equal};
+
+    ghost laws = { blocks_equal };
+}
+
+impl XorbBlock {
+    /// How many bytes a block of these chunk ranges has, where terms in it tell it by the sizes of their chunks: some
+    /// of the terms lead from the first range's start to the last one's end, each starting where the one before it
+    /// ends, or at the start of the range after the one at whose end that one ends. Of several such lists the first
+    /// found counts. No ranges have 0 bytes. None where there is no such list, and where there is a range and the sum of
+    /// all sizes passes `usize::MAX`.
+    ///
+    /// The ranges are nonempty and ascend, and the terms are nonempty and sorted by their starts. `OutOfMemory` where
+    /// memory for the reached places was refused.
+    ///
+    /// In the Rust crate: `XorbBlock::determine_size_if_possible`.
+    pub fn determine_size_if_possible(
+        alloc: Global,
+        xorb_ranges: &[ChunkRange],
+        terms: &[XorbReference],
+    ) -> std::result::Result<Option<usize>, OutOfMemory>
+        requires ascend { Ascend 0 (last_end xorb_ranges.now) xorb_ranges.now }
+        requires some { All (λ t. t.term_chunks.start < t.term_chunks.end) terms.now }
+        requires sorted { IsNonDecreasingBy (λ t. t.term_chunks.start) terms.now }
+        ensures { IfOk result (λ size. size ≡ known_size xorb_ranges.now terms.now) }
+    {
+        let (Some(first), Some(last)) = (xorb_ranges.first(), xorb_ranges.last()) else {
+            return Ok(Some(0));
+        };
+        if !sizes_fit(terms) {
+            return Ok(None);
+        }
+        let mut reached = ReachedSizes::new(alloc, first.start)?;
+        for term in terms {
+            reached.follow(xorb_ranges, term)?;
+        }
+        Ok(reached.sum(last.end))
+    }
+
+    /// The request by which the block is fetched: its chunks, by the URL and the byte ranges that the table has for its
+    /// number. None exactly where that number is out of the table. `OutOfMemory` where the copies' memory was refused.
+    ///
+    /// In the Rust crate: a step of `XorbBlock::retrieve_data`.
+    pub fn request(
+        &self,
+        alloc: Global,
+        urls: &TermBlockRetrievalURLs,
+    ) -> Result<Option<BlockRequest>>
+        ensures { RequestCall self.now urls.now result }
+    {
+        let Some((acquisition, found)) = urls.get_retrieval_url(self.xorb_block_index) else {
+            return Ok(None);
+        };
+        let url = found.url.clone()?;
+        let chunks = self.chunk_ranges.copied(alloc)?;
+        let bytes = found.ranges.copied(alloc)?;
+        Ok(Some(BlockRequest {
+            acquisition,
+            index: self.xorb_block_index,
+            url,
+            xorb: self.xorb_hash,
+            chunks,
+            bytes,
+        }))
+    }
+
+    /// The data of a block that a connection answered, where it passes its tests.
+    ///
+    /// `OffsetCount` exactly where there is not one offset for each chunk of the ranges, with the number of chunks, a sum
+    /// that stops at `u64::MAX`, and the number of offsets; a reversed range has no chunks. Else `OffsetOrder` at the
+    /// first offset that is not 0 at the first place, not above the one before it, or not below the number of bytes. Else
+    /// `BlockLength` where the block's size is known and is not the number of bytes. `OutOfMemory` where the data's
+    /// memory was refused.
+    ///
+    /// In the Rust crate: a step of `XorbBlock::retrieve_data`.
+    pub fn check(&self, alloc: Global, block: &BlockBytes) -> Result<XorbBlockData>
+        ensures { CheckCall self.now block.now result }
+    {
+        let ranges = self.chunk_ranges.as_slice();
+        let offsets = block.offsets.as_slice();
+        check_block(ranges, self.uncompressed_size_if_known, block).map_err(
+            FileReconstructionError::CorruptedReconstruction,
+        )?;
+        let chunk_offsets = numbered_offsets(alloc, ranges, offsets)?;
+        let bytes = block.bytes.clone().map_err(OutOfMemory::from)?;
+        Ok(XorbBlockData {
+            chunk_offsets,
+            bytes,
+        })
+    }
+
+    /// Keeps the block's data, and changes nothing else. Nothing is kept before.
+    ///
+    /// In the Rust crate: a step of `XorbBlock::retrieve_data`.
+    pub fn keep(&mut self, found: XorbBlockData)
+        requires { self.old.kept ≡ None }
+        ensures { self.new ≡ record self.old { kept = Some found } }
+    {
+        self.kept = Some(found);
+    }
+}
+
+/// Tests that there is one offset for each chunk of the ranges.
+fn check_count(ranges: &[ChunkRange], block: &BlockBytes) -> std::result::Result<(), Corruption>
+    ensures { result_err result ≡ count_test ranges.now block.now }
+{
+    let expected = chunk_total(ranges);
+    let actual = block.offsets.len() as u64;
+    if expected != actual {
+        return Err(Corruption::OffsetCount { expected, actual });
+    }
+    Ok(())
+}
+
+/// Tests that the offsets are in order.
+fn check_order(block: &BlockBytes) -> std::result::Result<(), Corruption>
+    ensures { result_err result ≡ order_test block.now }
+{
+    match first_misplaced(block.offsets.as_slice(), block.bytes.len()) {
+        Some(place) => Err(Corruption::OffsetOrder { place }),
+        None => Ok(()),
+    }
+}
+
+/// Tests that there are as many bytes as are known.
+fn check_length(size: Option<usize>, block: &BlockBytes) -> std::result::Result<(), Corruption>
+    ensures { result_err result ≡ length_test size block.now }
+{
+    match size {
+        Some(size) if size != block.bytes.len() => Err(Corruption::BlockLength {
+            expected: size as u64,
+            actual: block.bytes.len() as u64,
+        }),
+        _ => Ok(()),
+    }
+}
+
+/// The first test that a block of these ranges and this known size fails.
+fn check_block(
+    ranges: &[ChunkRange],
+    size: Option<usize>,
+    block: &BlockBytes,
+) -> std::result::Result<(), Corruption>
+    ensures { result_err result ≡ failed_block_test ranges.now size block.now }
+{
+    check_count(ranges, block)?;
+    check_order(block)?;
+    check_length(size, block)
+}
+
+/// How many chunks the ranges have, a sum that stops at `u64::MAX`. A reversed range has none.
+fn chunk_total(ranges: &[ChunkRange]) -> u64
+    ensures { result ≡ chunk_total ranges.now }
+{
+    let mut total = 0u64;
+    for range in ranges {
+        total = total.saturating_add(u64::from(range.end.saturating_sub(range.start)));
+    }
+    total
+}
+
+/// Whether an offset after another, or at the first place, is out of order in a block of this many bytes.
+fn is_misplaced(size: usize, before: Option<u32>, offset: u32) -> bool
+    ensures { result ≡ is_misplaced size before offset }
+{
+    let follows = match before {
+        Some(before) => before < offset,
+        None => offset == 0,
+    };
+    !follows || size <= offset as usize
+}
+
+/// The place of the first offset that is out of order in a block of this many bytes.
+fn first_misplaced(offsets: &[u32], size: usize) -> Option<usize>
+    ensures { result ≡ misplaced_after size None offsets.now }
+{
+    let mut before = None;
+    for (place, offset) in offsets.iter().enumerate() {
+        if is_misplaced(size, before, *offset) {
+            return Some(place);
+        }
+        before = Some(*offset);
+    }
+    None
+}
+
+/// The number of each chunk of the ranges, with its offset, as far as there are both.
+fn numbered_offsets(
+    alloc: Global,
+    ranges: &[ChunkRange],
+    offsets: &[u32],
+) -> std::result::Result<List<(usize, usize)>, OutOfMemory>
+    ensures { IfOk result (λ pairs. pairs ≡ zip (numbers_in ranges.now) offsets.now) }
+{
+    let mut pairs = with_room(alloc, offsets.len())?;
+    for range in ranges {
+        let rest = &offsets[pairs.len()..];
+        push_chunks(&mut pairs, *range, rest)?;
+    }
+    Ok(pairs)
+}
+
+/// Adds the number of each chunk of a range, with its offset, as far as there are both.
+fn push_chunks(
+    pairs: &mut List<(usize, usize)>,
+    range: ChunkRange,
+    offsets: &[u32],
+) -> std::result::Result<(), OutOfMemory>
+    ensures { OnOk result (pairs.new ≡ pairs.old ++ zip (range_with_len range.start (range.end - range.start)) offsets.now) }
+{
+    let count = range.end.saturating_sub(range.start) as usize;
+    for (index, offset) in offsets[..count.min(offsets.len())].iter().enumerate() {
+        pairs.push((range.start as usize + index, *offset as usize))?;
+    }
+    Ok(())
+}

@@ -1,7 +1,0 @@
-use Rattle.std.proofs.Common.{◌≡◌, ◌+◌, ℕ, None, drop, option_map}
-use Rattle.xet_terms.specs.BlockTests.{misplaced_after}
-use Rattle.xet_terms.proofs.reconstruction_terms.xorb_block.first_misplaced.Given as goal
-
-abbrev pub invariant-loop-place : goal.invariant-loop-place
-invariant-loop-place l =
-    option_map (λ (k : ℕ). l.place + k) (misplaced_after l.size l.before (drop l.place l.offsets)) ≡ misplaced_after l.size None l.offsets

@@ -1,8 +1,0 @@
-use Rattle.std.proofs.Common.{◌≡◌, ◌≤◌, ◌++◌, length, drop, zip}
-use Rattle.xet_terms.specs.BlockTests.{numbers_in}
-use Rattle.xet_terms.proofs.reconstruction_terms.xorb_block.numbered_offsets.Given as goal
-
-abbrev pub invariant-loop-range : goal.invariant-loop-range
-invariant-loop-range l =
-    (length l.pairs ≤ length l.offsets)
-    × (l.pairs ++ zip (numbers_in (drop l.range-index l.ranges)) (drop (length l.pairs) l.offsets) ≡ zip (numbers_in l.ranges) l.offsets)
