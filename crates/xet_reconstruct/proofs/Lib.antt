@@ -1,7 +1,13 @@
-pub mod Fetches
-pub mod Legals
-pub mod News
-pub mod Plans
-pub mod Saids
-pub mod Steps
-pub mod Terms
+mod AllTerms
+mod BlockFetches
+mod BlocksOfPlan
+mod Exchanges
+mod HonestAnswers
+mod HonestPlans
+mod KeptData
+mod LegalPlans
+mod LegalRuns
+mod LegalSlices
+mod LegalTerms
+mod OneTerm
+mod PlanAnswers

@@ -1,5 +1,9 @@
+pub mod Causes
 pub mod Failures
+pub mod Forms
 pub mod InCall
+pub mod Laws
 pub mod Legal
 pub mod Pieces
-pub mod Step
+pub mod Setup
+pub mod steps

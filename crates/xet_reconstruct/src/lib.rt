@@ -2,6 +2,7 @@
 #![tactic(auto)]
 
 pub mod file_reconstructor;
+pub mod laws;
 mod run;
 #[cfg(test)]
 mod tests;

@@ -1,0 +1,3 @@
+-- What the private functions of a run say.
+pub mod Blocks
+pub mod Calls
