@@ -1,0 +1,3 @@
+pub mod ClaimPasses
+pub mod ClaimViews
+pub mod steps

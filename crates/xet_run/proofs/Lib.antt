@@ -1,0 +1,15 @@
+pub mod CallerLemmas
+mod Bounds
+mod Counts
+mod Facts
+mod Fronts
+mod Histories
+mod Kept
+mod Keys
+mod Push
+mod Replays
+mod Scripts
+mod Steps
+mod TermSteps
+mod Walks
+mod Wanted

@@ -1,0 +1,11 @@
+-- Limits that follow the running downloads.
+use Rattle.std.specs.Prelude.{ℕ, ◌≡◌, ◌+◌, ◌*◌, min}
+use Rattle.xet_run.specs.declared.budget_book.BudgetSettings.{BudgetSettings}
+
+-- the limit while so many downloads run: the base and a part for each, but never more than the limit of all
+abbrev pub target_of : BudgetSettings → ℕ → ℕ
+target_of s running = min s.limit (s.base + running * s.per_file)
+
+-- the number is the limit of these settings for some number of running downloads
+abbrev pub IsTarget : BudgetSettings → ℕ → Type 0
+IsTarget s n = (running : ℕ) × (n ≡ target_of s running)

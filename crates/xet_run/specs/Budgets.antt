@@ -1,0 +1,33 @@
+-- What a budget admits, and what a source of limits tells.
+use Rattle.std.specs.Prelude.{ℕ, zero, suc, ◌≡◌, ◌+◌, ◌<◌, ◌++◌, List, [], ◌∷◌, Option, IfSome, IfNone, option_map}
+use Rattle.xet_run.specs.declared.budget.Admission.{Admission}
+use Rattle.xet_run.specs.declared.budget.Budget.{Budget}
+
+-- bytes are unwritten, and with these they would pass the limit
+abbrev pub PassesLimit : Budget → ℕ → ℕ → Type 0
+PassesLimit b length limit = (b.unwritten ≡ 0 → ⊥) × (limit < b.unwritten + length)
+
+-- a call that admits so many bytes, but where they pass the limit, and then changes nothing
+pub record AdmitCall (before after : Budget) (length limit : ℕ) (answer : Option Admission) : Type 0 where
+  pub refused : IfNone answer (PassesLimit before length limit)
+  pub kept : IfNone answer (after ≡ before)
+  pub fits : IfSome answer (λ _. PassesLimit before length limit → ⊥)
+  pub given : IfSome answer (λ a. a.length ≡ length)
+  pub counted : IfSome answer (λ _. after ≡ record before { unwritten = before.unwritten + length })
+
+-- what a source of limits tells, each where it is told: the one limit that it always answers, and its answers so far
+pub record LimitTold : Type 0 where
+  pub fixed : Option ℕ
+  pub limits : Option (List ℕ)
+
+-- one ask for a limit: the fixed limit stays and is the answer, and the list is longer by the answer
+pub record LimitCall (before after : LimitTold) (answer : ℕ) : Type 0 where
+  pub fixed : after.fixed ≡ before.fixed
+  pub is_fixed : IfSome before.fixed (λ n. answer ≡ n)
+  pub listed : after.limits ≡ option_map (λ ls. ls ++ answer ∷ []) before.limits
+
+-- the first n answers of a script of limits: its numbers in order, and 0 after them
+abbrev pub scripted : ℕ → List ℕ → List ℕ
+scripted zero ls = []
+scripted (suc n) [] = 0 ∷ scripted n []
+scripted (suc n) (l ∷ ls) = l ∷ scripted n ls

@@ -1,0 +1,9 @@
+pub mod Allowed
+pub mod Books
+pub mod Budgets
+pub mod CoreCalls
+pub mod Events
+pub mod Laws
+pub mod RunBooks
+pub mod RunReplay
+pub mod steps

@@ -1,0 +1,296 @@
+//! The core of a run: a history of events, each of which was allowed after those before it.
+ghost use Rattle.std.specs.Prelude.{◌≡◌, ◌+◌, ◌≤◌, [], true, false, MatchOption, option_map, slice_get, count_by};
+ghost use Rattle.xet_run.specs.Allowed.{IsAllowedHistory, IsRunning, IsMissing, MayAdmit, MayWrite};
+ghost use Rattle.xet_run.specs.CoreCalls.{Adds};
+ghost use Rattle.xet_run.specs.Events.{planned, plan_count, is_admit, is_kept, written, unwritten, first_error};
+ghost use Rattle.xet_run.specs.steps.Index.{waiting_of};
+
+use crate::core_refusal::CoreRefusal;
+use crate::event::{Event, PlannedBlock, PlannedTerm};
+use crate::index::{BlockId, Index, WaitingTerm, adjoin, end_after};
+use std::alloc::Global;
+use std::marker::Model;
+use xet_base::{FileRange, List};
+use xet_error::FileReconstructionError;
+
+/// A run's history: each of its events was allowed after those before it. Contracts see it as the list of its events.
+///
+/// Each event call adds its event, or is refused and leaves the history as it was: `NotAllowed` exactly where the event
+/// isn't allowed after the history, `OutOfMemory` where an allocation was refused. None looks through the history: it
+/// takes constant time, or logarithmic time in the blocks that were admitted, and `planned` besides linear time in its
+/// terms.
+///
+/// In place of the loop, tasks and semaphore of `file_reconstruction::file_reconstructor` of the Rust crate.
+#[derive(Drop)]
+pub struct RunCore {
+    events: Vec<Event>,
+    index: Index,
+}
+
+impl Model for RunCore {
+    ghost use Rattle.std.specs.Prelude.{List};
+    ghost use Rattle.xet_run.specs.declared.event.Event.{Event};
+
+    ghost Value = { List Event };
+
+    ghost use Rattle.xet_run.specs.steps.Index.{IsIndexed};
+
+    ghost view = { λ c. c.events.items };
+
+    ghost invariant = { λ c. IsIndexed c.events.items c.index };
+}
+
+impl RunCore {
+    /// A core without events. It takes no memory.
+    pub fn new(alloc: Global) -> RunCore
+        ensures { result ≡ [] }
+    {
+        RunCore {
+            events: Vec::new(alloc),
+            index: Index::new(alloc),
+        }
+    }
+
+    /// The events, oldest first.
+    pub fn history(&self) -> &[Event]
+        ensures events { result.now ≡ self.now }
+        ensures allowed { IsAllowedHistory self.now }
+    {
+        self.events.as_slice()
+    }
+
+    /// How many bytes of the admitted terms aren't written.
+    pub fn unwritten(&self) -> u64
+        ensures { result ≡ unwritten self.now }
+    {
+        self.index.unwritten
+    }
+
+    /// How many bytes were written.
+    pub fn written(&self) -> u64
+        ensures { result ≡ written self.now }
+    {
+        self.index.written
+    }
+
+    /// Whether the block was fetched or came from the cache.
+    pub fn is_kept(&self, plan: u64, block: usize) -> bool
+        ensures { result ≡ is_kept self.now plan block }
+    {
+        self.index.kept.contains(&BlockId { plan, block })
+    }
+
+    /// The error of the first Fail event, or `Cancelled` where Cancel came first.
+    pub fn first_error(&self) -> Option<FileReconstructionError>
+        ensures { result ≡ first_error self.now }
+    {
+        self.index.first_error
+    }
+
+    /// Records the plan of a query, with its terms and blocks; its number is the next one. A query past the file's end
+    /// is a plan without terms.
+    ///
+    /// Allowed where no Fail or Cancel came, the terms adjoin from where the planned terms end (from the query's start
+    /// where nothing is planned yet), none is reversed, and each has one of the blocks.
+    pub fn planned(
+        &mut self,
+        query: FileRange,
+        terms: List<PlannedTerm>,
+        blocks: List<PlannedBlock>,
+    ) -> Result<(), CoreRefusal>
+        ensures { Adds self.old self.new (Event.Planned (plan_count self.old + 1) query terms blocks) result }
+    {
+        if self.index.first_error.is_some() {
+            return Err(CoreRefusal::NotAllowed);
+        }
+        let place = self.index.planned_end.unwrap_or(query.start);
+        if !adjoin(terms.as_slice(), place, blocks.len()) {
+            return Err(CoreRefusal::NotAllowed);
+        }
+        let Some(plan) = self.index.plans.checked_add(1) else {
+            return Err(CoreRefusal::OutOfMemory);
+        };
+        self.events.reserve(1)?;
+        self.index.queue(plan, terms.as_slice())?;
+        self.index.plans = plan;
+        self.index.planned_end = end_after(self.index.planned_end, terms.as_slice());
+        self.events.push_reserved(Event::Planned {
+            plan,
+            query,
+            terms,
+            blocks,
+        });
+        Ok(())
+    }
+
+    /// Admits the next planned term, while at most `limit` bytes may be unwritten.
+    ///
+    /// Allowed where no Fail or Cancel came, a planned term isn't admitted, and no bytes are unwritten or with its
+    /// length they are at most the limit.
+    pub fn admit(&mut self, limit: u64) -> Result<(), CoreRefusal>
+        ensures { Adds self.old self.new (Event.Admit limit) result }
+    {
+        let Some(next) = self.next_to_admit(limit) else {
+            return Err(CoreRefusal::NotAllowed);
+        };
+        self.events.reserve(1)?;
+        self.index.admit(next)?;
+        self.events.push_reserved(Event::Admit { limit });
+        Ok(())
+    }
+
+    /// Records that a lane fetched a block.
+    ///
+    /// Allowed where no Fail or Cancel came, an admitted term that isn't wholly written has the block, and the block
+    /// isn't kept. An empty term counts as written.
+    pub fn fetched(&mut self, lane: u32, plan: u64, block: usize) -> Result<(), CoreRefusal>
+        ensures { Adds self.old self.new (Event.Fetched lane plan block) result }
+    {
+        if !self.may_fetch(plan, block) {
+            return Err(CoreRefusal::NotAllowed);
+        }
+        self.events.reserve(1)?;
+        self.index.keep(BlockId { plan, block })?;
+        self.events
+            .push_reserved(Event::Fetched { lane, plan, block });
+        Ok(())
+    }
+
+    /// Records that the cache gave a block. Allowed where it may be fetched.
+    pub fn cached(&mut self, plan: u64, block: usize) -> Result<(), CoreRefusal>
+        ensures { Adds self.old self.new (Event.Cached plan block) result }
+    {
+        if !self.may_fetch(plan, block) {
+            return Err(CoreRefusal::NotAllowed);
+        }
+        self.events.reserve(1)?;
+        self.index.keep(BlockId { plan, block })?;
+        self.events.push_reserved(Event::Cached { plan, block });
+        Ok(())
+    }
+
+    /// Records that a lane was answered that a block's URL has expired. Allowed where it may be fetched.
+    pub fn expired(&mut self, lane: u32, plan: u64, block: usize) -> Result<(), CoreRefusal>
+        ensures { Adds self.old self.new (Event.Expired lane plan block) result }
+    {
+        if !self.may_fetch(plan, block) {
+            return Err(CoreRefusal::NotAllowed);
+        }
+        self.events.reserve(1)?;
+        self.index.expire(plan)?;
+        self.events
+            .push_reserved(Event::Expired { lane, plan, block });
+        Ok(())
+    }
+
+    /// Records that the URLs of a plan were asked for anew.
+    ///
+    /// Allowed where no Fail or Cancel came, and the plan has an Expired event since its last Refreshed event.
+    pub fn refreshed(&mut self, plan: u64) -> Result<(), CoreRefusal>
+        ensures { Adds self.old self.new (Event.Refreshed plan) result }
+    {
+        if self.index.first_error.is_some() || !self.index.stale.contains(&plan) {
+            return Err(CoreRefusal::NotAllowed);
+        }
+        self.events.reserve(1)?;
+        self.index.stale.remove(&plan);
+        self.events.push_reserved(Event::Refreshed { plan });
+        Ok(())
+    }
+
+    /// Records that so many bytes of the oldest admitted term that isn't wholly written were written.
+    ///
+    /// Allowed where no Fail or Cancel came, it is at least one byte, that term's block is kept, and it has so many
+    /// bytes left.
+    pub fn wrote(&mut self, taken: u64) -> Result<(), CoreRefusal>
+        ensures { Adds self.old self.new (Event.Wrote taken) result }
+    {
+        if !self.may_write(taken) {
+            return Err(CoreRefusal::NotAllowed);
+        }
+        self.events.reserve(1)?;
+        self.index.write(taken);
+        self.events.push_reserved(Event::Wrote { taken });
+        Ok(())
+    }
+
+    /// Records an error. A later one doesn't change the first.
+    ///
+    /// Allowed where no Cancel came.
+    pub fn fail(&mut self, error: FileReconstructionError) -> Result<(), CoreRefusal>
+        ensures { Adds self.old self.new (Event.Fail error) result }
+    {
+        if self.index.cancelled {
+            return Err(CoreRefusal::NotAllowed);
+        }
+        self.events.reserve(1)?;
+        self.index.first_error = self.index.first_error.or(Some(error));
+        self.events.push_reserved(Event::Fail { error });
+        Ok(())
+    }
+
+    /// Records that the run was cancelled.
+    ///
+    /// Allowed where no Fail or Cancel came.
+    pub fn cancel(&mut self) -> Result<(), CoreRefusal>
+        ensures { Adds self.old self.new Event.Cancel result }
+    {
+        if self.index.first_error.is_some() {
+            return Err(CoreRefusal::NotAllowed);
+        }
+        self.events.reserve(1)?;
+        self.index.first_error = Some(FileReconstructionError::Cancelled);
+        self.index.cancelled = true;
+        self.events.push_reserved(Event::Cancel);
+        Ok(())
+    }
+
+    /// Whether a block may be fetched: the run goes on, an unfinished term has it and it isn't kept.
+    fn may_fetch(&self, plan: u64, block: usize) -> bool
+        ensures yes { result ≡ true → IsRunning self.now × IsMissing self.now plan block }
+        ensures no { result ≡ false → IsRunning self.now → IsMissing self.now plan block → ⊥ }
+    {
+        if self.index.first_error.is_some() {
+            return false;
+        }
+        self.index.is_missing(BlockId { plan, block })
+    }
+
+    /// The next planned term, where it may be admitted under this limit.
+    fn next_to_admit(&self, limit: u64) -> Option<WaitingTerm>
+        ensures { MatchOption result (IsRunning self.now → MayAdmit limit self.now → ⊥)
+            (λ t. IsRunning self.now × MayAdmit limit self.now
+            × (option_map waiting_of (slice_get (planned self.now) (count_by is_admit self.now)) ≡ Some t)) }
+    {
+        if self.index.first_error.is_some() {
+            return None;
+        }
+        let Some(next) = self.index.next_waiting() else {
+            return None;
+        };
+        if self.index.unwritten == 0 {
+            return Some(next);
+        }
+        match self.index.unwritten.checked_add(next.length) {
+            Some(total) if total <= limit => Some(next),
+            _ => None,
+        }
+    }
+
+    /// Whether so many bytes of the oldest unfinished term may be written.
+    fn may_write(&self, taken: u64) -> bool
+        ensures yes { result ≡ true → IsRunning self.now × (1 ≤ taken) × MayWrite self.now taken }
+        ensures no { result ≡ false → IsRunning self.now → 1 ≤ taken → MayWrite self.now taken → ⊥ }
+    {
+        if self.index.first_error.is_some() || taken == 0 {
+            return false;
+        }
+        let Some(oldest) = self.index.oldest() else {
+            return false;
+        };
+        if !self.index.kept.contains(&oldest.id) {
+            return false;
+        }
+        taken <= oldest.end.saturating_sub(self.index.written)
+    }
+}

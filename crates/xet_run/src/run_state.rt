@@ -1,0 +1,383 @@
+//! The book of a run under a lock, with the history of its calls, which a ledger counts.
+ghost use Rattle.std.specs.Prelude.{◌≡◌, ℕ, ◌⊎◌, ◌+◌, ◌-◌, ◌^◌, min, ◌<◌, ◌≤◌, ◌++◌, ◌∷◌, [], Err, vec_len, vec_capacity, length, IfOk, OnOk, OnErr};
+ghost use Rattle.xet_error.specs.declared.error.FileReconstructionError.TheVariants as error;
+ghost use Rattle.xet_run.specs.declared.run_book.RunError.TheVariants as run_error;
+ghost use Rattle.xet_run.specs.RunReplay.{book_after, book_after_all, all_replied, opening, replied, IsReplayed};
+ghost use Rattle.xet_run.specs.steps.RunLogs.{log, Logs, LogsError, LogsNone, LogsState};
+
+use crate::run_book::{RunBook, RunError};
+use crate::run_call::RunCall;
+use std::alloc::Global;
+use std::sync::ledger::{Blank, Book, Ledger, Share};
+use std::sync::{Mutex, Wait};
+use xet_base::{List, MerkleHash, OutOfMemory};
+use xet_error::FileReconstructionError;
+
+/// What lies under the lock.
+#[derive(Drop)]
+pub(crate) struct Logged<L: Ledger> {
+    book: RunBook,
+    history: Vec<RunCall>,
+    calls: Book<L>,
+    ghost replays: { book ≡ book_after_all opening history.items },
+    ghost replied: { all_replied opening history.items ≡ history.items },
+    ghost counted: { vec_len history ≡ calls.total },
+}
+
+/// The right to make calls on the state of a run, and how many calls were made with it.
+#[derive(Drop)]
+pub struct RunPass<L: Ledger> {
+    pub(crate) share: Share<L>,
+    calls: u64,
+    parts: u64,
+    ghost counted: { calls ≡ min share.amount (2 ^ 64 - 1) },
+    ghost has: { parts ≡ share.parts },
+}
+
+impl<L: Ledger> RunPass<L> {
+    /// A pass with these parts and no calls.
+    pub fn split(&mut self, parts: u64) -> RunPass<L>
+        requires { (1 ≤ parts) × (parts < self.old.share.parts) }
+        ensures parts { (result.share.parts ≡ parts) × (self.new.share.parts + parts ≡ self.old.share.parts) }
+        ensures calls { (result.share.amount ≡ 0) × (self.new.share.amount ≡ self.old.share.amount) }
+    {
+        let share = self.share.split_off(parts, 0);
+        self.parts -= parts;
+        RunPass {
+            share,
+            calls: 0,
+            parts,
+        }
+    }
+
+    /// Takes in the other's parts and calls.
+    pub fn gather(&mut self, other: RunPass<L>)
+        requires { L.parts ≡ 2 ^ 32 }
+        ensures parts { self.new.share.parts ≡ self.old.share.parts + other.share.parts }
+        ensures calls { self.new.share.amount ≡ self.old.share.amount + other.share.amount }
+    {
+        let RunPass {
+            share,
+            calls,
+            parts,
+        } = other;
+        self.share.merge(share);
+        self.calls = self.calls.saturating_add(calls);
+        self.parts = self.parts.saturating_add(parts);
+    }
+
+    /// How many calls were made with it, a sum that stops at `u64::MAX`.
+    pub fn calls(&self) -> u64
+        ensures { result ≡ min self.now.share.amount (2 ^ 64 - 1) }
+    {
+        self.calls
+    }
+
+    /// How many parts it has.
+    pub fn parts(&self) -> u64
+        ensures { result ≡ self.now.share.parts }
+    {
+        self.parts
+    }
+
+    /// Counts one call more.
+    fn count(&mut self, book: &mut Book<L>)
+        requires { 0 < self.old.share.parts }
+        ensures total { book.new.total ≡ book.old.total + 1 }
+        ensures calls { self.new.share.amount ≡ self.old.share.amount + 1 }
+        ensures parts { self.new.share.parts ≡ self.old.share.parts }
+    {
+        book.add(&mut self.share, 1);
+        self.calls = self.calls.saturating_add(1);
+    }
+}
+
+impl<L: Ledger> Logged<L> {
+    /// Keeps a call that was made on the book before it.
+    fn keep(&mut self, mine: &mut RunPass<L>, call: RunCall, book: RunBook)
+        requires parts { 0 < mine.old.share.parts }
+        requires reply { replied self.old.book call ≡ call }
+        requires book { book ≡ book_after self.old.book call }
+        requires room { vec_len self.old.history < vec_capacity self.old.history }
+        ensures kept { Logs (log self.old.history.items mine.old.share.amount)
+            (log self.new.history.items mine.new.share.amount) call }
+        ensures parts { mine.new.share.parts ≡ mine.old.share.parts }
+    {
+        let Logged {
+            book: kept,
+            history,
+            calls,
+        } = self;
+        history.push_reserved(call);
+        mine.count(calls);
+        *kept = book;
+    }
+
+    fn set_error(
+        &mut self,
+        mine: &mut RunPass<L>,
+        error: FileReconstructionError,
+    ) -> Result<(), OutOfMemory>
+        requires { 0 < mine.old.share.parts }
+        ensures kept { OnOk result (Logs (log self.old.history.items mine.old.share.amount)
+            (log self.new.history.items mine.new.share.amount) (RunCall.SetError error)) }
+        ensures refused { OnErr result (LogsNone (log self.old.history.items mine.old.share.amount)
+            (log self.new.history.items mine.new.share.amount)) }
+        ensures parts { mine.new.share.parts ≡ mine.old.share.parts }
+    {
+        self.history.reserve(1)?;
+        let mut book = self.book;
+        book.set_error(error);
+        self.keep(mine, RunCall::SetError(error), book);
+        Ok(())
+    }
+
+    fn check_error(&mut self, mine: &mut RunPass<L>) -> Result<(), FileReconstructionError>
+        requires { 0 < mine.old.share.parts }
+        ensures kept { LogsError (log self.old.history.items mine.old.share.amount)
+            (log self.new.history.items mine.new.share.amount) result }
+        ensures parts { mine.new.share.parts ≡ mine.old.share.parts }
+    {
+        if self.history.reserve(1).is_err() {
+            return Err(FileReconstructionError::OutOfMemory);
+        }
+        let mut book = self.book;
+        let reply = book.check_error();
+        self.keep(mine, RunCall::CheckError(reply.err()), book);
+        reply
+    }
+
+    fn check_run_state(&mut self, mine: &mut RunPass<L>) -> Result<(), RunError>
+        requires { 0 < mine.old.share.parts }
+        ensures kept { LogsState (log self.old.history.items mine.old.share.amount)
+            (log self.new.history.items mine.new.share.amount) result }
+        ensures parts { mine.new.share.parts ≡ mine.old.share.parts }
+    {
+        if self.history.reserve(1).is_err() {
+            return Err(RunError::OutOfMemory);
+        }
+        let mut book = self.book;
+        let reply = book.check_run_state();
+        self.keep(mine, RunCall::CheckRunState(reply.err()), book);
+        reply
+    }
+
+    fn cancel(&mut self, mine: &mut RunPass<L>) -> Result<(), OutOfMemory>
+        requires { 0 < mine.old.share.parts }
+        ensures kept { OnOk result (Logs (log self.old.history.items mine.old.share.amount)
+            (log self.new.history.items mine.new.share.amount) RunCall.Cancel) }
+        ensures refused { OnErr result (LogsNone (log self.old.history.items mine.old.share.amount)
+            (log self.new.history.items mine.new.share.amount)) }
+        ensures parts { mine.new.share.parts ≡ mine.old.share.parts }
+    {
+        self.history.reserve(1)?;
+        let mut book = self.book;
+        book.cancel();
+        self.keep(mine, RunCall::Cancel, book);
+        Ok(())
+    }
+
+    fn record_new_block(&mut self, mine: &mut RunPass<L>) -> Result<(), OutOfMemory>
+        requires { 0 < mine.old.share.parts }
+        ensures kept { OnOk result (Logs (log self.old.history.items mine.old.share.amount)
+            (log self.new.history.items mine.new.share.amount) RunCall.NewBlock) }
+        ensures refused { OnErr result (LogsNone (log self.old.history.items mine.old.share.amount)
+            (log self.new.history.items mine.new.share.amount)) }
+        ensures parts { mine.new.share.parts ≡ mine.old.share.parts }
+    {
+        self.history.reserve(1)?;
+        let mut book = self.book;
+        book.record_new_block();
+        self.keep(mine, RunCall::NewBlock, book);
+        Ok(())
+    }
+
+    fn record_new_term(&mut self, mine: &mut RunPass<L>, term_size: u64) -> Result<(), OutOfMemory>
+        requires { 0 < mine.old.share.parts }
+        ensures kept { OnOk result (Logs (log self.old.history.items mine.old.share.amount)
+            (log self.new.history.items mine.new.share.amount) (RunCall.NewTerm term_size)) }
+        ensures refused { OnErr result (LogsNone (log self.old.history.items mine.old.share.amount)
+            (log self.new.history.items mine.new.share.amount)) }
+        ensures parts { mine.new.share.parts ≡ mine.old.share.parts }
+    {
+        self.history.reserve(1)?;
+        let mut book = self.book;
+        book.record_new_term(term_size);
+        self.keep(mine, RunCall::NewTerm(term_size), book);
+        Ok(())
+    }
+
+    fn total_bytes_scheduled(&mut self, mine: &mut RunPass<L>) -> Result<u64, OutOfMemory>
+        requires { 0 < mine.old.share.parts }
+        ensures kept { IfOk result (λ n. Logs (log self.old.history.items mine.old.share.amount)
+            (log self.new.history.items mine.new.share.amount) (RunCall.Scheduled n)) }
+        ensures refused { OnErr result (LogsNone (log self.old.history.items mine.old.share.amount)
+            (log self.new.history.items mine.new.share.amount)) }
+        ensures parts { mine.new.share.parts ≡ mine.old.share.parts }
+    {
+        self.history.reserve(1)?;
+        let mut book = self.book;
+        let reply = book.total_bytes_scheduled();
+        self.keep(mine, RunCall::Scheduled(reply), book);
+        Ok(reply)
+    }
+}
+
+/// The state of a run, which its threads share: a `RunBook` under a lock, with the history of the calls on it. Each
+/// call holds the lock once, keeps itself in the history with its reply, and is counted by its pass. A call that finds
+/// no memory answers `OutOfMemory` and is neither kept nor counted.
+///
+/// In the Rust crate: `file_reconstruction::run_state::RunState`.
+#[derive(Drop)]
+pub struct RunState<L: Ledger> {
+    file_hash: MerkleHash,
+    state: Mutex<Logged<L>>,
+}
+
+impl<L: Ledger> RunState<L> {
+    /// The state of a run with no calls, and a pass with all parts of a ledger of its own. It takes no memory.
+    pub fn new(
+        alloc: Global,
+        blank: Blank,
+        file_hash: MerkleHash,
+    ) -> Result<(RunState<L>, RunPass<L>), OutOfMemory>
+        requires name { blank.name ≡ L.name }
+        requires parts { (blank.parts ≡ L.parts) × (L.parts ≡ 2 ^ 32) }
+        ensures file { IfOk result (λ r. r.0.file_hash ≡ file_hash) }
+        ensures pass { IfOk result (λ r. (r.1.share.parts ≡ L.parts) × (r.1.share.amount ≡ 0)) }
+    {
+        let (calls, share) = blank.open::<L>();
+        let logged = Logged {
+            book: RunBook::new(),
+            history: Vec::new(alloc),
+            calls,
+        };
+        let state = RunState {
+            file_hash,
+            state: Mutex::new(logged),
+        };
+        let pass = RunPass {
+            share,
+            calls: 0,
+            parts: 1 << 32,
+        };
+        Ok((state, pass))
+    }
+
+    /// The file of the run.
+    pub fn file_hash(&self) -> &MerkleHash
+        ensures { result.now ≡ self.now.file_hash }
+    {
+        &self.file_hash
+    }
+
+    /// Keeps the error where it is the first one, and marks the run as cancelled.
+    pub fn set_error<R: Wait>(
+        &self,
+        rt: &R,
+        pass: &mut RunPass<L>,
+        error: FileReconstructionError,
+    ) -> Result<(), OutOfMemory>
+        requires { 0 < pass.old.share.parts }
+        ensures counted { OnOk result (pass.new.share.amount ≡ pass.old.share.amount + 1) }
+        ensures refused { OnErr result (pass.new.share.amount ≡ pass.old.share.amount) }
+        ensures parts { pass.new.share.parts ≡ pass.old.share.parts }
+    {
+        self.state.lock(rt).set_error(pass, error)
+    }
+
+    /// The first error, as an `Err`. Want of memory is answered as `OutOfMemory` too; the pass's count tells the two
+    /// apart.
+    pub fn check_error<R: Wait>(
+        &self,
+        rt: &R,
+        pass: &mut RunPass<L>,
+    ) -> Result<(), FileReconstructionError>
+        requires { 0 < pass.old.share.parts }
+        ensures counted { (pass.new.share.amount ≡ pass.old.share.amount + 1)
+            ⊎ ((pass.new.share.amount ≡ pass.old.share.amount) × (result ≡ Err error.OutOfMemory)) }
+        ensures parts { pass.new.share.parts ≡ pass.old.share.parts }
+    {
+        self.state.lock(rt).check_error(pass)
+    }
+
+    /// The first error as `RunError::Error`, else `RunError::Cancelled` where the run is marked.
+    pub fn check_run_state<R: Wait>(&self, rt: &R, pass: &mut RunPass<L>) -> Result<(), RunError>
+        requires { 0 < pass.old.share.parts }
+        ensures counted { (pass.new.share.amount ≡ pass.old.share.amount + 1)
+            ⊎ ((pass.new.share.amount ≡ pass.old.share.amount) × (result ≡ Err run_error.OutOfMemory)) }
+        ensures parts { pass.new.share.parts ≡ pass.old.share.parts }
+    {
+        self.state.lock(rt).check_run_state(pass)
+    }
+
+    /// Marks the run as cancelled.
+    pub fn cancel<R: Wait>(&self, rt: &R, pass: &mut RunPass<L>) -> Result<(), OutOfMemory>
+        requires { 0 < pass.old.share.parts }
+        ensures counted { OnOk result (pass.new.share.amount ≡ pass.old.share.amount + 1) }
+        ensures refused { OnErr result (pass.new.share.amount ≡ pass.old.share.amount) }
+        ensures parts { pass.new.share.parts ≡ pass.old.share.parts }
+    {
+        self.state.lock(rt).cancel(pass)
+    }
+
+    /// Counts a new block.
+    pub fn record_new_block<R: Wait>(
+        &self,
+        rt: &R,
+        pass: &mut RunPass<L>,
+    ) -> Result<(), OutOfMemory>
+        requires { 0 < pass.old.share.parts }
+        ensures counted { OnOk result (pass.new.share.amount ≡ pass.old.share.amount + 1) }
+        ensures refused { OnErr result (pass.new.share.amount ≡ pass.old.share.amount) }
+        ensures parts { pass.new.share.parts ≡ pass.old.share.parts }
+    {
+        self.state.lock(rt).record_new_block(pass)
+    }
+
+    /// Counts the bytes of a new term.
+    pub fn record_new_term<R: Wait>(
+        &self,
+        rt: &R,
+        pass: &mut RunPass<L>,
+        term_size: u64,
+    ) -> Result<(), OutOfMemory>
+        requires { 0 < pass.old.share.parts }
+        ensures counted { OnOk result (pass.new.share.amount ≡ pass.old.share.amount + 1) }
+        ensures refused { OnErr result (pass.new.share.amount ≡ pass.old.share.amount) }
+        ensures parts { pass.new.share.parts ≡ pass.old.share.parts }
+    {
+        self.state.lock(rt).record_new_term(pass, term_size)
+    }
+
+    /// How many bytes of terms were scheduled, a sum that stops at `u64::MAX`.
+    pub fn total_bytes_scheduled<R: Wait>(
+        &self,
+        rt: &R,
+        pass: &mut RunPass<L>,
+    ) -> Result<u64, OutOfMemory>
+        requires { 0 < pass.old.share.parts }
+        ensures counted { OnOk result (pass.new.share.amount ≡ pass.old.share.amount + 1) }
+        ensures refused { OnErr result (pass.new.share.amount ≡ pass.old.share.amount) }
+        ensures parts { pass.new.share.parts ≡ pass.old.share.parts }
+    {
+        self.state.lock(rt).total_bytes_scheduled(pass)
+    }
+
+    /// The history of the calls, oldest first, each with the reply that the book gives at its point. Where all passes
+    /// were gathered into this one, it has as many calls as the pass counts.
+    pub fn close(self, pass: RunPass<L>) -> List<RunCall>
+        ensures replayed { IsReplayed result }
+        ensures counted { pass.share.parts ≡ L.parts → length result ≡ pass.share.amount }
+    {
+        let RunState { state, .. } = self;
+        let Logged {
+            history,
+            mut calls,
+            ..
+        } = state.into_inner();
+        let RunPass { mut share, .. } = pass;
+        calls.audit(&mut share);
+        List::from_vec(history)
+    }
+}
