@@ -1,15 +1,3 @@
-pub mod Accepted
-pub mod AscendingSearch
-pub mod Chains
-pub mod Honest
-pub mod Numbered
-pub mod OfferedBlocks
-pub mod Pieces
-pub mod PlanBlocks
-pub mod PlanEnds
-pub mod PlannedBlocks
-pub mod References
-pub mod Slices
-pub mod TermBlockAnswers
-pub mod Trims
-pub mod Urls
+mod Asking
+pub mod CallerLemmas
+mod Managing

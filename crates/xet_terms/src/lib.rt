@@ -1,13 +1,20 @@
-//! Plans as terms and blocks: what a range query's answer is made into, and its tests.
+//! The settings of a reconstruction, and the manager that cuts a range into queries and hands their plans out.
+//!
+//! The items of the crates below, which make plans into terms and blocks and fetch these, are here too.
 #![tactic(auto)]
 
-pub mod error;
-pub mod fetch_policy;
 pub mod laws;
-pub mod reconstruction_terms;
+pub mod manager;
+pub mod reconstruction_config;
 
-pub use error::{Corruption, FileReconstructionError, Result, Setting, WriterFault};
-pub use fetch_policy::{FetchPolicy, PrefetchView, Steady};
-pub use reconstruction_terms::file_term::{FileTerm, TermBlock, retrieve_file_term_block};
-pub use reconstruction_terms::retrieval_urls::{RetrievalUrl, TermBlockRetrievalURLs};
-pub use reconstruction_terms::xorb_block::{XorbBlock, XorbBlockData, XorbReference};
+pub use manager::{PlanDue, ReconstructionTermManager};
+pub use reconstruction_config::ReconstructionConfig;
+pub use xet_blocks::{
+    Corruption, DataSource, FetchPolicy, FileReconstructionError, FileTerm, PrefetchView, Result,
+    RetrievalUrl, Setting, Steady, TermBlock, TermBlockRetrievalURLs, WriterFault, XorbBlock,
+    XorbBlockData, XorbReference, retrieve_file_term_block,
+};
+pub use xet_fetch::{
+    FetchSettings, Fetched, URLProvider, XorbURLProvider, check_cached, entry, look_up, offer,
+    offer_data, refresh_retrieval_urls, retrieve_data,
+};

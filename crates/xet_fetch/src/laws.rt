@@ -1,0 +1,23 @@
+//! Laws of refreshes and cached entries, over the definitions alone.
+ghost use Rattle.xet_fetch.specs.Laws.{CachedTermsPass, EntriesReturn, HonestEntriesPass, HonestTables};
+
+/// A term of an accepted plan passes its test in any entry that passes the tests of its block.
+pub fn cached_terms_pass()
+    ensures { CachedTermsPass }
+{}
+
+/// An honest entry of a block of an honest plan passes the block's tests.
+pub fn honest_entries_pass()
+    ensures { HonestEntriesPass }
+{}
+
+/// An honest block's data is its entry again.
+pub fn entries_return()
+    ensures { EntriesReturn }
+{}
+
+/// Over a store the plan of a query is the plan of the bytes that its terms cover: honest answers to a refresh pass its
+/// tests, and honest blocks theirs.
+pub fn honest_tables()
+    ensures { HonestTables }
+{}
