@@ -1,0 +1,6 @@
+-- What proofs of the crates above may cite of this crate's words.
+
+-- a queue whose terms are all ready, with one more
+pub use Rattle.xet_writers.proofs.Ready.{ready_more}
+-- the tests of a term that starts where the writer expects it and brings its bytes, and of an open writer
+pub use Rattle.xet_writers.proofs.Ready.{fits_place, open_writer}

@@ -1,0 +1,11 @@
+mod Joined
+mod Terms
+mod Passing
+mod Ends
+mod Completing
+mod Windows
+mod Ready
+mod Indexes
+mod Places
+mod FirstNumbers
+pub mod CallerLemmas

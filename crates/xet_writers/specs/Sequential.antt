@@ -1,0 +1,143 @@
+-- The writer that writes in order.
+use Rattle.std.specs.Prelude.{ℕ, ◌≡◌, ◌⊎◌, ◌+◌, ◌≤◌, ◌++◌, length, List, [], ◌∷◌, take, drop, Bool, true, Option, Some, None, option_map, Result, Err, IfOk, IfErr, OnErr}
+use Rattle.std.specs.List.{concat}
+use Rattle.xet_base.specs.declared.cas_types.FileRange.{FileRange}
+use Rattle.xet_run.specs.declared.budget.Admission.{Admission}
+use Rattle.xet_outside.specs.Told.{SinkTold, Took, TookPrefix, Rose}
+use Rattle.xet_blocks.specs.declared.reconstruction_terms.file_term.DataSource.{DataSource}
+use Rattle.xet_blocks.specs.declared.reconstruction_terms.file_term.DataSource.TheVariants.{Ready, Wanted}
+use Rattle.xet_error.specs.declared.error.FileReconstructionError.{FileReconstructionError}
+use Rattle.xet_error.specs.declared.error.FileReconstructionError.TheVariants as error
+use Rattle.xet_writers.specs.declared.queued_term.QueuedTerm.{QueuedTerm}
+use Rattle.xet_writers.specs.Calls.{WriterTold, Refused, Accepted, closed_by, set_fault, supply_fault, finish_fault}
+use Rattle.xet_writers.specs.Pieces.{TookAtLeast}
+use Rattle.xet_writers.specs.Queues.{admissions, ready, ready_bytes, supplied, wanted}
+
+-- what contracts see of it: the sink; the terms that are not wholly written, in order; the admissions of written terms
+-- that were not given back; the place at which the next term must start; the bytes of the written terms
+pub record Sequential (S : Type 0) : Type 0 where
+  pub sink : S
+  pub queue : List QueuedTerm
+  pub released : List Admission
+  pub expected : ℕ
+  pub delivered : ℕ
+  pub kept : Option FileReconstructionError
+  pub finished : Bool
+
+-- what it tells as every writer does
+abbrev pub told_of : {S : Type 0} → Sequential S → WriterTold
+told_of w = record { next = Some w.expected; wanted = wanted w.queue; kept = w.kept; finished = w.finished }
+
+abbrev pub keeping : {S : Type 0} → Sequential S → Option FileReconstructionError → Sequential S
+keeping w e = record w { kept = e }
+
+-- the bytes of a source
+abbrev pub bytes_in : DataSource → Option (List ℕ)
+bytes_in (Ready bytes) = Some bytes
+bytes_in (Wanted block) = None
+
+-- a term at the end of the queue
+abbrev pub queued : {S : Type 0} → Sequential S → FileRange → Option Admission → DataSource → Sequential S
+queued w r a s = record w {
+  queue = w.queue ++ record { byte_range = r; admission = a; bytes = bytes_in s } ∷ [];
+  expected = r.end;
+}
+
+-- one call of `set_next_term_data_source`
+pub record SetSequential {S : Type 0} (before after : Sequential S) (range : FileRange)
+    (admission : Option Admission) (source : DataSource)
+    (answer : Result (Unit {0}) FileReconstructionError) : Type 0 where
+  pub refused : Refused told_of keeping before after (set_fault (Some before.expected) range source) answer
+  pub accepted : Accepted told_of before after (set_fault (Some before.expected) range source)
+      (queued before range admission source) answer
+
+-- one call of `supply`
+pub record SupplySequential {S : Type 0} (before after : Sequential S) (start : ℕ) (bytes : List ℕ)
+    (answer : Result (Unit {0}) FileReconstructionError) : Type 0 where
+  pub refused : Refused told_of keeping before after (supply_fault (wanted before.queue) start bytes) answer
+  pub accepted : Accepted told_of before after (supply_fault (wanted before.queue) start bytes)
+      (record before { queue = supplied start bytes before.queue }) answer
+
+-- the first terms of the queue were wholly written
+pub record Passed {S : Type 0} (before after : Sequential S) (terms : ℕ) : Type 0 where
+  pub within : terms ≤ length (ready before.queue)
+  pub queue : after.queue ≡ drop terms before.queue
+  pub released : after.released ≡ before.released ++ admissions (take terms before.queue)
+  pub delivered : after.delivered ≡ before.delivered + length (concat (take terms (ready before.queue)))
+  pub expected : after.expected ≡ before.expected
+  pub finished : after.finished ≡ before.finished
+
+-- all that is ready was written, so many bytes
+pub record WroteAll {S : Type 0} (told : S → SinkTold) (before after : Sequential S) (count : ℕ) : Type 0 where
+  pub passed : Passed before after (length (ready before.queue))
+  pub count_is : count ≡ length (ready_bytes before.queue)
+  pub took : Took (told before.sink).took (told after.sink).took (ready_bytes before.queue)
+  pub kept : after.kept ≡ before.kept
+
+-- the sink took no more, and the error is kept: it took the first terms wholly, and of the ready bytes none out of
+-- order
+pub record WrotePart {S : Type 0} (told : S → SinkTold) (before after : Sequential S)
+    (e : FileReconstructionError) : Type 0 where
+  pub terms : ℕ
+  pub passed : Passed before after terms
+  pub took : TookAtLeast (told before.sink).took (told after.sink).took
+      (length (concat (take terms (ready before.queue)))) (ready_bytes before.queue)
+  pub kept : after.kept ≡ Some e
+  pub cause : (e ≡ error.OutOfMemory) ⊎ ((e ≡ error.IoError) × Rose (told before.sink).faults (told after.sink).faults)
+
+-- a write of what is ready
+pub record Wrote {S : Type 0} (told : S → SinkTold) (before after : Sequential S)
+    (answer : Result ℕ FileReconstructionError) : Type 0 where
+  pub whole : IfOk answer (WroteAll told before after)
+  pub part : IfErr answer (λ e. ((e ≡ error.OutOfMemory) × (after ≡ before)) ⊎ WrotePart told before after e)
+  pub flushed : (told after.sink).flushed ≡ (told before.sink).flushed
+  pub link : (told after.sink).link ≡ (told before.sink).link
+  pub faults : (told before.sink).faults ≤ (told after.sink).faults
+
+-- one call of `write_ready`
+pub record ReadyCall {S : Type 0} (told : S → SinkTold) (before after : Sequential S)
+    (answer : Result ℕ FileReconstructionError) : Type 0 where
+  pub closed : (e : FileReconstructionError) → closed_by (told_of before) ≡ Some e → (answer ≡ Err e) × (after ≡ before)
+  pub open_ : closed_by (told_of before) ≡ None → Wrote told before after answer
+
+-- the same of the sink alone, where the writer is open and these are the bytes of its ready terms: what the leader of a
+-- run needs beside the fetches of a round
+pub record WindowCall (before after : SinkTold) (window : List ℕ)
+    (answer : Result ℕ FileReconstructionError) : Type 0 where
+  pub took : IfOk answer (λ k. Took before.took after.took window × (k ≡ length window))
+  pub prefix : OnErr answer (TookPrefix before.took after.took window)
+  pub cause : IfErr answer (λ e. (e ≡ error.OutOfMemory) ⊎ ((e ≡ error.IoError) × Rose before.faults after.faults))
+  pub flushed : after.flushed ≡ before.flushed
+  pub link : after.link ≡ before.link
+  pub faults : before.faults ≤ after.faults
+
+-- the end: all was written and flushed, and the answer is the bytes of all terms
+pub record Ended {S : Type 0} (told : S → SinkTold) (before after : Sequential S) (count : ℕ) : Type 0 where
+  pub left : after ≡ record before {
+    sink = after.sink;
+    queue = [];
+    released = before.released ++ admissions before.queue;
+    delivered = count;
+    finished = true;
+  }
+  pub count_is : count ≡ before.delivered + length (ready_bytes before.queue)
+  pub all : count ≡ before.expected
+  pub took : Took (told before.sink).took (told after.sink).took (ready_bytes before.queue)
+  pub flushed : (told after.sink).flushed ≡ option_map length (told after.sink).took
+
+-- one call of `finish`
+pub record FinishSequential {S : Type 0} (told : S → SinkTold) (before after : Sequential S)
+    (answer : Result ℕ FileReconstructionError) : Type 0 where
+  pub refused : Refused told_of keeping before after (finish_fault (wanted before.queue)) answer
+  pub done : closed_by (told_of before) ≡ None → finish_fault (wanted before.queue) ≡ None
+      → IfOk answer (Ended told before after)
+  pub part : closed_by (told_of before) ≡ None → finish_fault (wanted before.queue) ≡ None
+      → IfErr answer (λ e. ((e ≡ error.OutOfMemory) × (after ≡ before)) ⊎ WrotePart told before after e)
+  pub link : (told after.sink).link ≡ (told before.sink).link
+  pub faults : (told before.sink).faults ≤ (told after.sink).faults
+
+-- the oldest admission of a written term
+abbrev pub TookReleased : {S : Type 0} → Sequential S → Sequential S → Option Admission → Type 0
+TookReleased before after None = (before.released ≡ []) × (after ≡ before)
+TookReleased before after (Some a) = (before.released ≡ a ∷ after.released)
+    × (after ≡ record before { released = after.released })

@@ -1,0 +1,5 @@
+-- Working words of private functions.
+pub mod Indexed
+pub mod SequentialSteps
+pub mod WantedPlaces
+pub mod UnorderedSteps

@@ -1,0 +1,458 @@
+//! The writer that writes terms in order.
+ghost use Rattle.std.specs.List.{concat, position_from};
+ghost use Rattle.std.specs.Prelude.{◌≡◌, ◌+◌, ◌<◌, ◌≤◌, ◌^◌, ◌++◌, [], ◌∷◌, IfErr, IfOk, None, OnErr, OnOk, Some, false, length, option_to_list, true};
+ghost use Rattle.std.specs.VecDeque.{deque_capacity, deque_len};
+ghost use Rattle.xet_error.specs.declared.error.FileReconstructionError.TheVariants as error;
+ghost use Rattle.xet_error.specs.Errors.{of_sink_error};
+ghost use Rattle.xet_writers.specs.Calls.{FinishCall, SetCall, SupplyCall, closed_by, finish_fault, kept_fault};
+ghost use Rattle.xet_writers.specs.Pieces.{WrotePieces};
+ghost use Rattle.xet_writers.specs.Queues.{fits, is_wanted_at, ready_bytes, wanted};
+ghost use Rattle.xet_writers.specs.Sequential.{FinishSequential, ReadyCall, SetSequential, SupplySequential, TookReleased, WindowCall, Wrote, told_of};
+ghost use Rattle.xet_writers.specs.steps.SequentialSteps.{Flushed, GiveCall, Last, PassedAll, PassedFront, with_bytes};
+ghost use Rattle.xet_writers.specs.steps.WantedPlaces.{places_of};
+
+use crate::data_writer::DataWriter;
+use crate::faults::{error_to_keep, test_length, test_term};
+use crate::pieces::{Sent, write_each, write_together};
+use crate::queued_term::{QueuedTerm, WantedPlace};
+use crate::waiting::Waiting;
+use bytes::Bytes;
+use std::alloc::Global;
+use std::collections::VecDeque;
+use std::marker::Model;
+use xet_base::{FileRange, OutOfMemory};
+use xet_blocks::DataSource;
+use xet_error::{FileReconstructionError, Result, WriterFault};
+use xet_outside::{Sink, SinkError};
+use xet_run::Admission;
+
+/// Writes terms in order into a sink. The first term starts at place 0, and each one where the one before it ends.
+///
+/// The sink's errors are kept, as bytes of a wrong length are: every later call but `take_released` answers them.
+///
+/// Taking a term takes constant time, and logarithmic time in the wanted terms where it is wanted. Writing takes linear
+/// time in the pieces and the bytes that go out; bytes are shared and never copied.
+///
+/// In the Rust crate: `file_reconstruction::data_writer::sequential_writer::SequentialWriter`.
+#[derive(Drop)]
+pub struct SequentialWriter<S> {
+    sink: S,
+    use_vectorized: bool,
+    // the terms that are not wholly written
+    queue: VecDeque<QueuedTerm>,
+    // how many terms left the queue, which is the number of its first term
+    passed: u64,
+    // the wanted terms of the queue, by their starts
+    waiting: Waiting<WantedPlace>,
+    // the admissions of written terms, with room for those of the queue
+    released: VecDeque<Admission>,
+    // the place at which the next term must start
+    expected: u64,
+    // the bytes of the written terms
+    delivered: u64,
+    kept: Option<FileReconstructionError>,
+    finished: bool,
+}
+
+impl<S> Model for SequentialWriter<S> {
+    ghost use Rattle.std.specs.Prelude.{◌≡◌, ◌+◌, ◌^◌, ◌<◌, ◌≤◌, Some};
+    ghost use Rattle.std.specs.VecDeque.{deque_len, deque_capacity};
+    ghost use Rattle.xet_writers.specs.Queues.{chain_end};
+    ghost use Rattle.xet_writers.specs.Sequential.{Sequential};
+    ghost use Rattle.xet_writers.specs.steps.WantedPlaces.{places_of};
+
+    ghost Value = { Sequential S };
+
+    ghost view = { λ w. record {
+      sink = w.sink;
+      queue = w.queue.items;
+      released = w.released.items;
+      expected = w.expected;
+      delivered = w.delivered;
+      kept = w.kept;
+      finished = w.finished;
+    } };
+
+    ghost invariant = { λ w. (chain_end w.delivered w.queue.items ≡ Some w.expected)
+        × (deque_len w.released + deque_len w.queue ≤ deque_capacity w.released)
+        × (w.waiting ≡ places_of w.passed w.queue.items)
+        × (w.passed + deque_len w.queue < 2 ^ 64) };
+}
+
+/// Notes a term that waits for its bytes, by its number.
+fn note_wanted(
+    waiting: &mut Waiting<WantedPlace>,
+    term: &QueuedTerm,
+    number: u64,
+) -> std::result::Result<(), OutOfMemory>
+    ensures ok { OnOk result (waiting.new ≡ waiting.old ++ places_of number (term.now ∷ [])) }
+    ensures err { OnErr result (waiting.new ≡ waiting.old) }
+{
+    if term.bytes.is_some() {
+        return Ok(());
+    }
+    let start = term.byte_range.start;
+    waiting.add(WantedPlace { start, number })
+}
+
+/// Adds a piece, which shares its bytes, unless it is empty.
+fn add_copy(pieces: &mut Vec<Bytes>, bytes: &Bytes) -> std::result::Result<(), OutOfMemory>
+    ensures { OnOk result (concat pieces.new.items ≡ concat pieces.old.items ++ bytes.now) }
+{
+    if bytes.is_empty() {
+        return Ok(());
+    }
+    pieces.push(bytes.clone()?)?;
+    Ok(())
+}
+
+/// The bytes of the terms before the first wanted one, without the empty ones.
+fn ready_pieces(
+    alloc: Global,
+    queue: &VecDeque<QueuedTerm>,
+) -> std::result::Result<Vec<Bytes>, OutOfMemory>
+    ensures { IfOk result (λ pieces. concat pieces.items ≡ ready_bytes queue.now.items) }
+{
+    let mut pieces = Vec::new(alloc);
+    for i in 0..queue.len() {
+        let Some(bytes) = &queue[i].bytes else {
+            return Ok(pieces);
+        };
+        add_copy(&mut pieces, bytes)?;
+    }
+    Ok(pieces)
+}
+
+/// Gives a term of the queue its bytes.
+fn put_bytes(queue: &mut VecDeque<QueuedTerm>, place: usize, bytes: Bytes)
+    requires { place < length queue.old.items }
+    ensures items { queue.new.items ≡ with_bytes queue.old.items place bytes }
+    ensures len { deque_len queue.new ≡ deque_len queue.old }
+{
+    queue[place].bytes = Some(bytes);
+}
+
+/// Adds the admission of a written term, for which there is room.
+fn give_back(released: &mut VecDeque<Admission>, admission: Option<Admission>)
+    requires { deque_len released.old < deque_capacity released.old }
+    ensures items { released.new.items ≡ released.old.items ++ option_to_list admission }
+    ensures room { deque_len released.new ≤ deque_len released.old + 1 }
+    ensures capacity { deque_capacity released.new ≡ deque_capacity released.old }
+{
+    if let Some(admission) = admission {
+        released.push_back_reserved(admission);
+    }
+}
+
+/// Writes pieces by one of the two loops.
+fn send<S: Sink>(sink: &mut S, pieces: Vec<Bytes>, use_vectorized: bool) -> Sent
+    requires { length (concat pieces.items) < 2 ^ 64 }
+    ensures { WrotePieces (S.told sink.old) (S.told sink.new) (concat pieces.items) result.count result.end }
+{
+    let mut pieces = pieces;
+    if use_vectorized {
+        return write_together(sink, pieces.as_mut_slice());
+    }
+    write_each(sink, pieces.as_slice())
+}
+
+impl<S> SequentialWriter<S> {
+    /// A writer into this sink, which takes no memory yet. `use_vectorized` chooses the loop that hands many pieces to
+    /// one write.
+    ///
+    /// In the Rust crate: `file_reconstruction::data_writer::sequential_writer::SequentialWriter::new`.
+    pub fn new(alloc: Global, sink: S, use_vectorized: bool) -> SequentialWriter<S>
+        ensures { result ≡ record {
+          sink = sink;
+          queue = [];
+          released = [];
+          expected = 0;
+          delivered = 0;
+          kept = None;
+          finished = false;
+        } }
+    {
+        SequentialWriter {
+            sink,
+            use_vectorized,
+            queue: VecDeque::new(alloc),
+            passed: 0,
+            waiting: Waiting::new(alloc),
+            released: VecDeque::new(alloc),
+            expected: 0,
+            delivered: 0,
+            kept: None,
+            finished: false,
+        }
+    }
+
+    /// The sink, which ends the loan of a writer over a reference.
+    pub fn into_inner(self) -> S
+        ensures { result ≡ self.sink }
+    {
+        self.sink
+    }
+
+    /// The oldest admission of a wholly written term that was not given back yet; none exactly where there is none. An
+    /// empty term counts as written when its place in the order is reached.
+    ///
+    /// In the Rust crate the permit is dropped with the term.
+    pub fn take_released(&mut self) -> Option<Admission>
+        ensures { TookReleased self.old self.new result }
+    {
+        self.released.pop_front()
+    }
+
+    /// The places of the queue: the terms follow one another from the written bytes to the next term's start.
+    fn recall_places(&self)
+        ensures { wanted self.now.queue ≡ []
+            → self.now.delivered + length (ready_bytes self.now.queue) ≡ self.now.expected }
+    {
+        let _place = self.delivered;
+    }
+
+    /// The error of every call, if there is one.
+    fn closed(&self) -> Option<FileReconstructionError>
+        ensures { result ≡ closed_by (told_of self.now) }
+    {
+        if self.kept.is_some() {
+            return self.kept;
+        }
+        if self.finished {
+            return Some(FileReconstructionError::InternalWriterError(WriterFault::Finished));
+        }
+        None
+    }
+
+    /// Refuses a call for a fault.
+    fn refuse(&mut self, fault: WriterFault) -> FileReconstructionError
+        ensures error { result ≡ error.InternalWriterError fault }
+        ensures kept { self.new ≡ record self.old { kept = kept_fault fault } }
+    {
+        self.kept = error_to_keep(fault);
+        FileReconstructionError::InternalWriterError(fault)
+    }
+
+    /// Keeps an error of the sink.
+    fn keep(&mut self, error: SinkError) -> FileReconstructionError
+        ensures error { result ≡ of_sink_error error }
+        ensures kept { self.new ≡ record self.old { kept = Some (of_sink_error error) } }
+    {
+        let error = FileReconstructionError::from(error);
+        self.kept = Some(error);
+        error
+    }
+
+    /// Takes a term into the queue, with room for its admission.
+    fn queue_term(&mut self, term: QueuedTerm) -> Result<()>
+        requires start { term.byte_range.start ≡ self.old.expected }
+        requires fits { fits term.bytes term.byte_range ≡ true }
+        ensures done { OnOk result (self.new ≡ record self.old {
+          queue = self.old.queue ++ term ∷ [];
+          expected = term.byte_range.end;
+        }) }
+        ensures memory { IfErr result (λ e. (e ≡ error.OutOfMemory) × (self.new ≡ self.old)) }
+    {
+        let end = term.byte_range.end;
+        let number = self.passed + self.queue.len() as u64;
+        let full = number == u64::MAX;
+        if full
+            || self.released.reserve(self.queue.len() + 1).is_err()
+            || self.queue.reserve(1).is_err()
+        {
+            return Err(FileReconstructionError::OutOfMemory);
+        }
+        note_wanted(&mut self.waiting, &term, number)?;
+        self.queue.push_back_reserved(term);
+        self.expected = end;
+        Ok(())
+    }
+
+    /// The place in the queue of the first wanted term with this start.
+    fn find_wanted(&self, start: u64) -> Option<usize>
+        ensures { result ≡ position_from (is_wanted_at start) 0 self.now.queue }
+    {
+        match self.waiting.find(start) {
+            Some(place) => Some((place.number - self.passed) as usize),
+            None => None,
+        }
+    }
+
+    /// The fault of an end while a term waits for its bytes.
+    fn test_end(&self) -> Option<WriterFault>
+        ensures { result ≡ finish_fault (wanted self.now.queue) }
+    {
+        match self.waiting.first() {
+            Some(place) => Some(WriterFault::StillWanted { start: place.start }),
+            None => None,
+        }
+    }
+
+    /// Gives the first wanted term with this start its bytes, which are as many as its range has, or tells the fault.
+    fn give(&mut self, start: u64, bytes: Bytes) -> Option<WriterFault>
+        ensures { GiveCall self.old self.new start bytes result }
+    {
+        let Some(place) = self.find_wanted(start) else {
+            return Some(WriterFault::NotWanted { start });
+        };
+        if let Some(fault) = test_length(self.queue[place].byte_range, &bytes) {
+            return Some(fault);
+        }
+        put_bytes(&mut self.queue, place, bytes);
+        let _ = self.waiting.take(start);
+        None
+    }
+
+    /// Passes over the first term, where it has at most so many bytes. Answers how many bytes are left.
+    fn pass_front(&mut self, left: u64) -> Option<u64>
+        ensures { PassedFront self.old self.new left result }
+    {
+        let length = match self.queue.front() {
+            Some(
+                QueuedTerm {
+                    bytes: Some(bytes),
+                    ..
+                },
+            ) => bytes.len() as u64,
+            _ => return None,
+        };
+        if left < length {
+            return None;
+        }
+        let Some(QueuedTerm { admission, .. }) = self.queue.pop_front() else {
+            return None;
+        };
+        self.delivered += length;
+        self.passed += 1;
+        give_back(&mut self.released, admission);
+        Some(left - length)
+    }
+
+    /// Passes over the terms that these first bytes fill.
+    fn pass(&mut self, count: u64)
+        ensures { PassedAll self.old self.new count }
+    {
+        let mut left = count;
+        while let Some(rest) = self.pass_front(left) {
+            left = rest;
+        }
+    }
+}
+
+impl<S: Sink> SequentialWriter<S> {
+    /// Writes the terms before the first wanted one.
+    fn write_queued(&mut self, alloc: Global) -> Result<u64>
+        requires { self.old.kept ≡ None }
+        ensures { Wrote S.told self.old self.new result }
+    {
+        let pieces = ready_pieces(alloc, &self.queue)?;
+        let before = self.delivered;
+        let Sent { count, end } = send(&mut self.sink, pieces, self.use_vectorized);
+        self.pass(count);
+        match end {
+            Ok(()) => Ok(self.delivered - before),
+            Err(error) => Err(self.keep(error)),
+        }
+    }
+
+    /// Writes the queued terms in order up to the first wanted one, and answers the bytes of these. After an error the
+    /// sink took a prefix of them; the terms that it took wholly, as far as its answers told, are out of the queue.
+    ///
+    /// The kept error, or `Finished`. `IoError` where the sink failed, `OutOfMemory` where the sink found no memory or
+    /// an allocation was refused before the first write.
+    ///
+    /// In the Rust crate the writer's own task does this.
+    pub fn write_ready(&mut self, alloc: Global) -> Result<u64>
+        ensures call { ReadyCall S.told self.old self.new result }
+        ensures window { closed_by (told_of self.old) ≡ None
+            → WindowCall (S.told self.old.sink) (S.told self.new.sink) (ready_bytes self.old.queue) result }
+    {
+        if let Some(error) = self.closed() {
+            return Err(error);
+        }
+        self.write_queued(alloc)
+    }
+
+    /// Flushes what was written, and ends the writer.
+    fn flush(&mut self) -> Result<u64>
+        ensures { Flushed S.told self.old self.new result }
+    {
+        match self.sink.flush() {
+            Ok(()) => {
+                self.finished = true;
+                Ok(self.delivered)
+            }
+            Err(error) => Err(self.keep(error)),
+        }
+    }
+
+    /// Writes what is left, and flushes it.
+    fn write_last(&mut self, alloc: Global) -> Result<u64>
+        requires kept { self.old.kept ≡ None }
+        requires whole { wanted self.old.queue ≡ [] }
+        ensures { Last S.told self.old self.new result }
+    {
+        self.recall_places();
+        self.write_queued(alloc)?;
+        self.flush()
+    }
+}
+
+impl<S: Sink> DataWriter for SequentialWriter<S> {
+    ghost told = { λ w. told_of w };
+
+    fn set_next_term_data_source(
+        &mut self,
+        alloc: Global,
+        byte_range: FileRange,
+        admission: Option<Admission>,
+        source: DataSource,
+    ) -> Result<()>
+        ensures told { SetCall (told_of self.old) (told_of self.new) byte_range source result }
+        ensures call { SetSequential self.old self.new byte_range admission source result }
+    {
+        let _ = alloc;
+        if let Some(error) = self.closed() {
+            return Err(error);
+        }
+        if let Some(fault) = test_term(Some(self.expected), byte_range, &source) {
+            return Err(self.refuse(fault));
+        }
+        let bytes = match source {
+            DataSource::Ready(bytes) => Some(bytes),
+            DataSource::Wanted(_) => None,
+        };
+        self.queue_term(QueuedTerm {
+            byte_range,
+            admission,
+            bytes,
+        })
+    }
+
+    fn supply(&mut self, alloc: Global, start: u64, bytes: Bytes) -> Result<()>
+        ensures told { SupplyCall (told_of self.old) (told_of self.new) start bytes result }
+        ensures call { SupplySequential self.old self.new start bytes result }
+    {
+        let _ = alloc;
+        if let Some(error) = self.closed() {
+            return Err(error);
+        }
+        if let Some(fault) = self.give(start, bytes) {
+            return Err(self.refuse(fault));
+        }
+        Ok(())
+    }
+
+    fn finish(&mut self, alloc: Global) -> Result<u64>
+        ensures told { FinishCall (told_of self.old) (told_of self.new) result }
+        ensures call { FinishSequential S.told self.old self.new result }
+    {
+        if let Some(error) = self.closed() {
+            return Err(error);
+        }
+        if let Some(fault) = self.test_end() {
+            return Err(self.refuse(fault));
+        }
+        self.write_last(alloc)
+    }
+}

@@ -1,0 +1,10 @@
+//! Tests of `xet_writers`: both writers, both loops. They stand in a crate of their own, since a crate with tests is
+//! proved twice.
+#![tactic(auto)]
+
+#[cfg(test)]
+mod calls;
+#[cfg(test)]
+mod sequential;
+#[cfg(test)]
+mod unordered;
