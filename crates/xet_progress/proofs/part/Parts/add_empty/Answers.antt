@@ -1,0 +1,48 @@
+use Rattle.std.proofs.Common.{rules, ◌≡◌, ℕ, List, [], ◌∷◌, ◌++◌, refl, sym, ◌∙◌, ap, inl, inr, Some, None, true, false}
+use Rattle.std.specs.Prelude.{Option, position, nat_eq, is_some}
+use Rattle.std.specs.List.{list_any}
+use Rattle.xet_base.proofs.CallerLemmas.{position_some, position_no}
+use Rattle.xet_progress.specs.declared.part.Part.{Part}
+use Rattle.xet_progress.proofs.Indexed.{numbered}
+use Rattle.xet_progress.proofs.part.Parts.add_empty.Goals as goal
+
+there : (o : Option ℕ) (f : ℕ) (ps : List Part) → is_some o ≡ true → o ≡ position (λ (p : Part). nat_eq p.file f) ps → list_any (λ (p : Part). nat_eq p.file f) ps ≡ true
+there None f ps e h = absurd (cc)
+there (Some k) f ps e h = (position_some (λ (p : Part). nat_eq p.file f) ps k (sym h)).0
+
+absent : (o : Option ℕ) (f : ℕ) (ps : List Part) → is_some o ≡ false → o ≡ position (λ (p : Part). nat_eq p.file f) ps → position (λ (p : Part). nat_eq p.file f) ps ≡ None
+absent None f ps e h = sym h
+absent (Some k) f ps e h = absurd (cc)
+
+pub returns-then-is_some-clause-ok : goal.returns-then-is_some-clause-ok
+returns-then-is_some-clause-ok c =
+    let some : is_some c.number_of.result ≡ true = search rules in
+    let e : c.number_of.result ≡ position (λ (p : Part). nat_eq p.file c.args.file) c.args.self.now = search rules in
+    inl (there c.number_of.result c.args.file c.args.self.now some e, refl)
+
+pub returns-then-is_some-clause-alike : goal.returns-then-is_some-clause-alike
+returns-then-is_some-clause-alike c = inl refl
+
+pub push-requires : goal.push-requires
+push-requires c =
+    let none : is_some c.number_of.result ≡ false = search rules in
+    let e : c.number_of.result ≡ position (λ (p : Part). nat_eq p.file c.args.file) c.args.self.now = search rules in
+    numbered (λ (p : Part). p.file) c.args.file c.self.inside.list.items c.self.inside.places c.self.invariant
+    ∙ ap (λ (l : List Part). position (λ (p : Part). nat_eq p.file c.args.file) l) c.self.view_is
+    ∙ absent c.number_of.result c.args.file c.args.self.now none e
+
+pub invariant_of-self : goal.invariant_of-self
+invariant_of-self c = rw c.reserve.ensures.items c.self.invariant
+
+pub returns-clause-ok : goal.returns-clause-ok
+returns-clause-ok c =
+    let none : is_some c.number_of.result ≡ false = search rules in
+    let e : c.number_of.result ≡ position (λ (p : Part). nat_eq p.file c.args.file) c.args.self.now = search rules in
+    let p : c.push-2.new.self.items ≡ c.reserve.new.self.items ++ record { file = c.args.file; waiting = 0; credited = 0 } ∷ [] = search rules in
+    inr (
+      position_no (λ (p : Part). nat_eq p.file c.args.file) c.args.self.now (absent c.number_of.result c.args.file c.args.self.now none e),
+      p ∙ ap (λ (l : List Part). l ++ record { file = c.args.file; waiting = 0; credited = 0 } ∷ []) (c.reserve.ensures.items ∙ c.self.view_is),
+    )
+
+pub returns-clause-alike : goal.returns-clause-alike
+returns-clause-alike c = inr (returns-clause-ok c)

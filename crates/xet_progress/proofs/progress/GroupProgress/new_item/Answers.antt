@@ -1,0 +1,4 @@
+use Rattle.xet_progress.proofs.progress.GroupProgress.new_item.Goals as goal
+
+pub returns-clause-made : goal.returns-clause-made
+returns-clause-made g c = record { before = c.deref_mut.result.now; now = c.new_item.new.self; call = c.in_ok-new_item.ensures }

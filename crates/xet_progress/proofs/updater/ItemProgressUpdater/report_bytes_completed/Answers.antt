@@ -1,0 +1,10 @@
+use Rattle.xet_progress.specs.Group.{more_completed}
+use Rattle.xet_progress.specs.Held.{UpdaterCall, known_answer}
+use Rattle.xet_progress.proofs.Held.{completed_test, updater_call}
+use Rattle.xet_progress.proofs.updater.ItemProgressUpdater.report_bytes_completed.Goals as goal
+
+pub returns : goal.returns
+returns g c =
+    let call : UpdaterCall c.deref_mut.result.now c.report_bytes_completed.new.self c.self.inside.id (more_completed c.args.increment) (known_answer c.report_bytes_completed.result) =
+    updater_call c.deref_mut.result.now c.report_bytes_completed.new.self c.self.inside.id (more_completed c.args.increment) (completed_test c.args.increment) c.report_bytes_completed.result c.report_bytes_completed.ensures in
+    record { before = c.deref_mut.result.now; now = c.report_bytes_completed.new.self; call = rw (c.known.ensures, ← c.self.view_is) call }

@@ -1,0 +1,8 @@
+-- Working words of private functions.
+pub mod Credits
+pub mod Depends
+pub mod Files
+pub mod Found
+pub mod Kept
+pub mod Noted
+pub mod Open

@@ -1,0 +1,529 @@
+//! The completion tracker that several users share.
+ghost use Rattle.std.specs.Prelude.{◌≡◌, ◌+◌, ◌-◌, ◌^◌, ◌<◌, ◌≤◌, true, [], map, length, min, vec_len, IfOk};
+ghost use Rattle.xet_progress.specs.declared.step.TrackerReply.TheVariants.{Done, FileId, Flag, Sums};
+ghost use Rattle.xet_progress.specs.declared.step.TrackerStep.TheVariants.{RegisterNewFile, IncrementFileSize, RegisterNewXorb, RegisterDependencies, RegisterXorbUploadCompletion, RegisterXorbUploadProgress, RegisterXorbUploadProgressBackground, Status, IsComplete, AssertComplete};
+ghost use Rattle.xet_progress.specs.Replies.{Answered, Counted, KeptCall, after_all, gives, gives_id, map_ok, replies_of, said, said_complete, steps_of};
+
+use crate::answer::{done_answer, flag_answer, id_answer, plain_answer, sums_answer, whole_answer};
+use crate::error::{Incomplete, ProgressError};
+use crate::progress::GroupProgress;
+use crate::report::Reports;
+use crate::state::TrackerState;
+use crate::step::{FileXorbDependency, TrackerCall, TrackerReply, TrackerStep};
+use crate::updater::ItemProgressUpdater;
+use crate::xorb::Found;
+use std::alloc::Global;
+use std::sync::ledger::{Blank, Book, Ledger, Share};
+use std::sync::{Arc, Mutex, Wait};
+use xet_base::{List, MerkleHash, OutOfMemory};
+
+/// Counts the calls of one user of a tracker, and holds parts of its ledger, all 2^32 of them at first.
+///
+/// The Rust crate has no such type.
+#[derive(Drop)]
+pub struct TrackerPass<L: Ledger> {
+    share: Share<L>,
+    parts: u64,
+    calls: u64,
+    ghost some: { 0 < parts },
+    ghost backed: { parts ≤ share.parts },
+    ghost counted: { calls ≡ min share.amount (2 ^ 64 - 1) },
+}
+
+impl<L: Ledger> TrackerPass<L> {
+    /// A pass with some of the parts, at least one and fewer than there are, and no calls.
+    pub fn split(&mut self, parts: u64) -> TrackerPass<L>
+        requires some { 0 < parts }
+        requires rest { parts < self.old.parts }
+        ensures parts { result.parts ≡ parts }
+        ensures calls { result.calls ≡ 0 }
+        ensures left { self.new.parts + parts ≡ self.old.parts }
+        ensures same { self.new.calls ≡ self.old.calls }
+    {
+        let TrackerPass {
+            share,
+            parts: own,
+            calls: _,
+        } = self;
+        *own -= parts;
+        TrackerPass {
+            share: share.split_off(parts, 0),
+            parts,
+            calls: 0,
+        }
+    }
+
+    /// Takes the parts and calls of another pass. The sums stop at `u64::MAX`.
+    pub fn gather(&mut self, other: TrackerPass<L>)
+        ensures parts { self.new.parts ≡ min (self.old.parts + other.parts) (2 ^ 64 - 1) }
+        ensures calls { self.new.calls ≡ min (self.old.calls + other.calls) (2 ^ 64 - 1) }
+    {
+        let TrackerPass {
+            share,
+            parts,
+            calls,
+        } = self;
+        *parts = parts.saturating_add(other.parts);
+        *calls = calls.saturating_add(other.calls);
+        share.merge(other.share);
+    }
+
+    /// How many calls it counts.
+    pub fn calls(&self) -> u64
+        ensures { result ≡ self.now.calls }
+    {
+        self.calls
+    }
+
+    /// How many parts it holds.
+    pub fn parts(&self) -> u64
+        ensures { result ≡ self.now.parts }
+    {
+        self.parts
+    }
+}
+
+/// The state and what it was asked, in order.
+#[derive(Drop)]
+struct Kept<L: Ledger> {
+    state: TrackerState,
+    history: Vec<TrackerCall>,
+    made: Book<L>,
+    reports: Reports,
+    ghost replays: { state ≡ after_all [] (steps_of history.items) },
+    ghost replied: { map (λ c. c.reply) history.items ≡ replies_of [] (steps_of history.items) },
+    ghost counted: { vec_len history ≡ made.total },
+}
+
+impl<L: Ledger> Kept<L> {
+    /// Makes a call, keeps it with its reply, and tells items and group.
+    fn step<R: Wait>(
+        &mut self,
+        rt: &R,
+        alloc: Global,
+        pass: &mut TrackerPass<L>,
+        step: TrackerStep,
+    ) -> Result<TrackerReply, OutOfMemory>
+        ensures parts { pass.new.parts ≡ pass.old.parts }
+        ensures history { KeptCall self.old.history.items self.new.history.items step result }
+        ensures calls { Counted pass.old.calls pass.new.calls result }
+        ensures kind { IfOk result (λ r. gives step r ≡ true) }
+        ensures answer { Answered step result }
+    {
+        if self.history.reserve(1).is_err() || self.reports.prepare(&self.state, &step).is_err() {
+            return Err(OutOfMemory);
+        }
+        let Kept {
+            state,
+            history,
+            made,
+            reports,
+        } = self;
+        let before = entry_of(state, &step);
+        let reply = state.step(alloc, &step)?;
+        reports.tell(rt, state, &step, &reply, before);
+        if history.push(TrackerCall { step, reply }).is_err() {
+            unreachable!()
+        }
+        count(made, pass);
+        Ok(reply)
+    }
+
+    /// Makes the call that registers a file, and keeps the file's item where it is accepted.
+    fn add_file<R: Wait>(
+        &mut self,
+        rt: &R,
+        alloc: Global,
+        pass: &mut TrackerPass<L>,
+        updater: ItemProgressUpdater,
+        n_bytes: Option<u64>,
+    ) -> Result<TrackerReply, OutOfMemory>
+        ensures parts { pass.new.parts ≡ pass.old.parts }
+        ensures history { KeptCall self.old.history.items self.new.history.items (RegisterNewFile n_bytes) result }
+        ensures calls { Counted pass.old.calls pass.new.calls result }
+        ensures kind { IfOk result (λ r. gives_id r ≡ true) }
+        ensures answer { Answered (RegisterNewFile n_bytes) result }
+    {
+        let reply = self.step(rt, alloc, pass, TrackerStep::RegisterNewFile { n_bytes })?;
+        if let TrackerReply::FileId(_) = reply {
+            self.reports.add_file(rt, updater, n_bytes);
+        }
+        Ok(reply)
+    }
+
+    /// What was asked, in order.
+    fn into_history(mut self, pass: TrackerPass<L>) -> Vec<TrackerCall>
+        ensures count { pass.parts ≡ L.parts → length result.items ≡ pass.calls }
+        ensures replied { map (λ c. c.reply) result.items ≡ replies_of [] (steps_of result.items) }
+    {
+        let mut pass = pass;
+        let mut none = pass.share.empty();
+        none.merge(pass.share);
+        self.made.audit(&mut none);
+        self.history
+    }
+}
+
+/// The entry of the xorb that a call reports of.
+fn entry_of(state: &TrackerState, step: &TrackerStep) -> Option<Found> {
+    match step {
+        TrackerStep::RegisterXorbUploadCompletion { xorb_hash } => state.xorb(xorb_hash),
+        TrackerStep::RegisterXorbUploadProgress { xorb_hash, .. } => state.xorb(xorb_hash),
+        TrackerStep::RegisterXorbUploadProgressBackground { xorb_hash, .. } => {
+            state.xorb(xorb_hash)
+        }
+        _ => None,
+    }
+}
+
+/// Counts a call in the ledger and in the pass.
+fn count<L: Ledger>(made: &mut Book<L>, pass: &mut TrackerPass<L>)
+    ensures made { made.new.total ≡ made.old.total + 1 }
+    ensures parts { pass.new.parts ≡ pass.old.parts }
+    ensures calls { pass.new.calls ≡ min (pass.old.calls + 1) (2 ^ 64 - 1) }
+{
+    let TrackerPass {
+        share,
+        parts: _,
+        calls,
+    } = pass;
+    made.add(share, 1);
+    *calls = calls.saturating_add(1);
+}
+
+/// A tracker's state under a lock, with every call that it was asked and its reply, in order. Each call is one hold
+/// of the lock: it makes the state's step, keeps it, and tells items and group. Whenever the lock is free, replaying
+/// the kept calls gives the state, and each kept reply is the state's reply at its place.
+///
+/// In the Rust crate: `progress_tracking::upload_tracking::CompletionTracker`, which keeps no calls.
+#[derive(Drop)]
+pub struct CompletionTracker<L: Ledger> {
+    kept: Mutex<Kept<L>>,
+}
+
+impl<L: Ledger> CompletionTracker<L> {
+    /// A tracker with no files and no xorbs, which reports to this group, and the pass with all its parts. It takes no
+    /// memory.
+    ///
+    /// In the Rust crate: `CompletionTracker::new`.
+    pub fn new(
+        alloc: Global,
+        group: Arc<GroupProgress>,
+        blank: Blank,
+    ) -> (CompletionTracker<L>, TrackerPass<L>)
+        requires name { blank.name ≡ L.name }
+        requires parts { blank.parts ≡ L.parts }
+        requires all { L.parts ≡ 2 ^ 32 }
+        ensures parts { result.1.parts ≡ 2 ^ 32 }
+        ensures calls { result.1.calls ≡ 0 }
+    {
+        let (made, share) = blank.open::<L>();
+        let kept = Kept {
+            state: TrackerState::new(alloc),
+            history: Vec::new(alloc),
+            made,
+            reports: Reports::new(alloc, group),
+        };
+        let pass = TrackerPass {
+            share,
+            parts: 4_294_967_296,
+            calls: 0,
+        };
+        (
+            CompletionTracker {
+                kept: Mutex::new(kept),
+            },
+            pass,
+        )
+    }
+
+    /// Registers a file: `n_bytes` fixes its size, and with none it starts at 0 and grows. Answers its id, counted
+    /// from 0. `updater` is told the file's size and completed bytes.
+    ///
+    /// `SumTooGreat` where the sum of all files' totals would pass `u64::MAX`, over the accepted calls before this
+    /// one. `OutOfMemory` where an allocation was refused; then, and then alone, the call is neither kept nor
+    /// counted.
+    ///
+    /// In the Rust crate: `CompletionTracker::register_new_file`.
+    pub fn register_new_file<R: Wait>(
+        &self,
+        rt: &R,
+        alloc: Global,
+        pass: &mut TrackerPass<L>,
+        updater: ItemProgressUpdater,
+        n_bytes: Option<u64>,
+    ) -> Result<u64, ProgressError>
+        ensures parts { pass.new.parts ≡ pass.old.parts }
+        ensures calls { Counted pass.old.calls pass.new.calls (said FileId result) }
+        ensures answer { Answered (RegisterNewFile n_bytes) (said FileId result) }
+    {
+        let reply = self
+            .kept
+            .lock(rt)
+            .add_file(rt, alloc, pass, updater, n_bytes);
+        id_answer(&reply)
+    }
+
+    /// Adds to the size of a file that grows. A fixed size stays.
+    ///
+    /// `UnknownFile` where no file has this id, then, for one that grows, `SumTooGreat` where the sum of all
+    /// files' totals would pass `u64::MAX`, over the accepted calls before this one. `OutOfMemory`
+    /// where an allocation was refused; then, and then alone, the call is neither kept nor counted.
+    ///
+    /// In the Rust crate: `CompletionTracker::increment_file_size`.
+    pub fn increment_file_size<R: Wait>(
+        &self,
+        rt: &R,
+        alloc: Global,
+        pass: &mut TrackerPass<L>,
+        file_id: u64,
+        size_increment: u64,
+    ) -> Result<(), ProgressError>
+        ensures parts { pass.new.parts ≡ pass.old.parts }
+        ensures calls { Counted pass.old.calls pass.new.calls (said (λ _. Done) result) }
+        ensures answer { Answered (IncrementFileSize file_id size_increment) (said (λ _. Done) result) }
+    {
+        let reply = self.kept.lock(rt).step(
+            rt,
+            alloc,
+            pass,
+            TrackerStep::IncrementFileSize {
+                file_id,
+                size_increment,
+            },
+        );
+        done_answer(&reply)
+    }
+
+    /// Registers a xorb with its size: true at its first registration, also where a dependency named it before.
+    ///
+    /// `OtherSize` where it was registered with another size, and where it is new `SumTooGreat` where the sum
+    /// of the sizes of all xorbs would pass `u64::MAX`, over the accepted calls before this one. `OutOfMemory`
+    /// where an allocation was refused; then, and then alone, the call is neither kept nor counted.
+    ///
+    /// In the Rust crate: `CompletionTracker::register_new_xorb`.
+    pub fn register_new_xorb<R: Wait>(
+        &self,
+        rt: &R,
+        alloc: Global,
+        pass: &mut TrackerPass<L>,
+        xorb_hash: MerkleHash,
+        xorb_size: u64,
+    ) -> Result<bool, ProgressError>
+        ensures parts { pass.new.parts ≡ pass.old.parts }
+        ensures calls { Counted pass.old.calls pass.new.calls (said Flag result) }
+        ensures answer { Answered (RegisterNewXorb xorb_hash xorb_size) (said Flag result) }
+    {
+        let reply = self.kept.lock(rt).step(
+            rt,
+            alloc,
+            pass,
+            TrackerStep::RegisterNewXorb {
+                xorb_hash,
+                xorb_size,
+            },
+        );
+        flag_answer(&reply)
+    }
+
+    /// Registers dependencies of files on xorbs: all of them or none. External ones and those on a completed xorb
+    /// count at once, the others wait.
+    ///
+    /// `UnknownFile` where one names no file, else `PastTotal` where a file's dependencies would pass its total, each
+    /// with the first such place in the list, over the accepted calls before this one. `OutOfMemory` where an
+    /// allocation was refused; then, and then alone, the call is neither kept nor counted.
+    ///
+    /// In the Rust crate: `CompletionTracker::register_dependencies`.
+    pub fn register_dependencies<R: Wait>(
+        &self,
+        rt: &R,
+        alloc: Global,
+        pass: &mut TrackerPass<L>,
+        dependencies: &[FileXorbDependency],
+    ) -> Result<(), ProgressError>
+        ensures parts { pass.new.parts ≡ pass.old.parts }
+        ensures calls { Counted pass.old.calls pass.new.calls (said (λ _. Done) result) }
+        ensures answer { Answered (RegisterDependencies dependencies.now) (said (λ _. Done) result) }
+    {
+        let Ok(dependencies) = Vec::from_slice(alloc, dependencies) else {
+            return Err(ProgressError::OutOfMemory);
+        };
+        let dependencies = List::from_vec(dependencies);
+        let reply = self.kept.lock(rt).step(
+            rt,
+            alloc,
+            pass,
+            TrackerStep::RegisterDependencies { dependencies },
+        );
+        done_answer(&reply)
+    }
+
+    /// Counts a xorb as completed, and credits the rest of each part that waits for it. It is ignored where it is
+    /// completed already.
+    ///
+    /// `UnknownXorb` where it was never registered, over the accepted calls before this one. `OutOfMemory` where an
+    /// allocation was refused; then, and then alone, the call is neither kept nor counted.
+    ///
+    /// In the Rust crate: `CompletionTracker::register_xorb_upload_completion`.
+    pub fn register_xorb_upload_completion<R: Wait>(
+        &self,
+        rt: &R,
+        alloc: Global,
+        pass: &mut TrackerPass<L>,
+        xorb_hash: MerkleHash,
+    ) -> Result<(), ProgressError>
+        ensures parts { pass.new.parts ≡ pass.old.parts }
+        ensures calls { Counted pass.old.calls pass.new.calls (said (λ _. Done) result) }
+        ensures answer { Answered (RegisterXorbUploadCompletion xorb_hash) (said (λ _. Done) result) }
+    {
+        let reply = self.kept.lock(rt).step(
+            rt,
+            alloc,
+            pass,
+            TrackerStep::RegisterXorbUploadCompletion { xorb_hash },
+        );
+        done_answer(&reply)
+    }
+
+    /// Counts more bytes of a xorb as sent, and credits each part that waits for it with its share, rounded down.
+    ///
+    /// `UnknownXorb` where it was never registered, `XorbCompleted` where it is completed, else `PastTotal`
+    /// where the bytes sent would pass its size, over the accepted calls before this one. `OutOfMemory`
+    /// where an allocation was refused; then, and then alone, the call is neither kept nor counted.
+    ///
+    /// In the Rust crate: `CompletionTracker::register_xorb_upload_progress`.
+    pub fn register_xorb_upload_progress<R: Wait>(
+        &self,
+        rt: &R,
+        alloc: Global,
+        pass: &mut TrackerPass<L>,
+        xorb_hash: MerkleHash,
+        new_byte_progress: u64,
+    ) -> Result<(), ProgressError>
+        ensures parts { pass.new.parts ≡ pass.old.parts }
+        ensures calls { Counted pass.old.calls pass.new.calls (said (λ _. Done) result) }
+        ensures answer { Answered (RegisterXorbUploadProgress xorb_hash new_byte_progress) (said (λ _. Done) result) }
+    {
+        let reply = self.kept.lock(rt).step(
+            rt,
+            alloc,
+            pass,
+            TrackerStep::RegisterXorbUploadProgress {
+                xorb_hash,
+                new_byte_progress,
+            },
+        );
+        done_answer(&reply)
+    }
+
+    /// Counts more bytes of a xorb as sent, as `register_xorb_upload_progress` does. It is ignored where the xorb is
+    /// completed.
+    ///
+    /// `UnknownXorb` where it was never registered, and where it isn't completed `PastTotal` where the bytes
+    /// sent would pass its size, over the accepted calls before this one. `OutOfMemory`
+    /// where an allocation was refused; then, and then alone, the call is neither kept nor counted.
+    ///
+    /// In the Rust crate: `CompletionTracker::register_xorb_upload_progress_background`.
+    pub fn register_xorb_upload_progress_background<R: Wait>(
+        &self,
+        rt: &R,
+        alloc: Global,
+        pass: &mut TrackerPass<L>,
+        xorb_hash: MerkleHash,
+        new_byte_progress: u64,
+    ) -> Result<(), ProgressError>
+        ensures parts { pass.new.parts ≡ pass.old.parts }
+        ensures calls { Counted pass.old.calls pass.new.calls (said (λ _. Done) result) }
+        ensures answer { Answered (RegisterXorbUploadProgressBackground xorb_hash new_byte_progress)
+            (said (λ _. Done) result) }
+    {
+        let reply = self.kept.lock(rt).step(
+            rt,
+            alloc,
+            pass,
+            TrackerStep::RegisterXorbUploadProgressBackground {
+                xorb_hash,
+                new_byte_progress,
+            },
+        );
+        done_answer(&reply)
+    }
+
+    /// The sums of completed and total bytes over all files.
+    ///
+    /// `OutOfMemory` where an allocation was refused; then, and then alone, the call is neither kept nor counted.
+    ///
+    /// In the Rust crate: `CompletionTracker::status`.
+    pub fn status<R: Wait>(
+        &self,
+        rt: &R,
+        alloc: Global,
+        pass: &mut TrackerPass<L>,
+    ) -> Result<(u64, u64), OutOfMemory>
+        ensures parts { pass.new.parts ≡ pass.old.parts }
+        ensures calls { Counted pass.old.calls pass.new.calls (map_ok (λ s. Sums s.0 s.1) result) }
+        ensures answer { Answered Status (map_ok (λ s. Sums s.0 s.1) result) }
+    {
+        let reply = self
+            .kept
+            .lock(rt)
+            .step(rt, alloc, pass, TrackerStep::Status)?;
+        Ok(sums_answer(&reply))
+    }
+
+    /// Whether all bytes of all files are completed.
+    ///
+    /// `OutOfMemory` where an allocation was refused; then, and then alone, the call is neither kept nor counted.
+    ///
+    /// In the Rust crate: `CompletionTracker::is_complete`.
+    pub fn is_complete<R: Wait>(
+        &self,
+        rt: &R,
+        alloc: Global,
+        pass: &mut TrackerPass<L>,
+    ) -> Result<bool, OutOfMemory>
+        ensures parts { pass.new.parts ≡ pass.old.parts }
+        ensures calls { Counted pass.old.calls pass.new.calls (map_ok Flag result) }
+        ensures answer { Answered IsComplete (map_ok Flag result) }
+    {
+        let reply = self
+            .kept
+            .lock(rt)
+            .step(rt, alloc, pass, TrackerStep::IsComplete)?;
+        Ok(plain_answer(&reply))
+    }
+
+    /// What is missing: the first file that isn't complete, then the first xorb by its hash that isn't completed, of
+    /// those that a registration or a dependency that isn't external named.
+    ///
+    /// `OutOfMemory` where an allocation was refused; then, and then alone, the call is neither kept nor counted.
+    ///
+    /// In the Rust crate: `CompletionTracker::assert_complete`.
+    pub fn assert_complete<R: Wait>(
+        &self,
+        rt: &R,
+        alloc: Global,
+        pass: &mut TrackerPass<L>,
+    ) -> Result<Result<(), Incomplete>, OutOfMemory>
+        ensures parts { pass.new.parts ≡ pass.old.parts }
+        ensures calls { Counted pass.old.calls pass.new.calls (map_ok said_complete result) }
+        ensures answer { Answered AssertComplete (map_ok said_complete result) }
+    {
+        let reply = self
+            .kept
+            .lock(rt)
+            .step(rt, alloc, pass, TrackerStep::AssertComplete)?;
+        Ok(whole_answer(&reply))
+    }
+
+    /// What the tracker was asked, in order, and what it answered. Once all split passes were gathered it has as many
+    /// calls as the pass counts.
+    ///
+    /// The Rust crate has no such call.
+    pub fn close(self, pass: TrackerPass<L>) -> List<TrackerCall>
+        ensures count { pass.parts ≡ L.parts → length result ≡ pass.calls }
+        ensures replied { map (λ c. c.reply) result ≡ replies_of [] (steps_of result) }
+    {
+        List::from_vec(self.kept.into_inner().into_history(pass))
+    }
+}

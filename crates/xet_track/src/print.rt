@@ -1,0 +1,81 @@
+//! The lines of replies.
+ghost use Rattle.std.specs.Prelude.{◌≡◌, ◌++◌, OnErr, OnOk};
+ghost use Rattle.std.specs.Fmt.{decimal};
+ghost use Rattle.xet_track.specs.Texts.{number_of_invalid, text_of_reply};
+
+use itoa::Buffer;
+use xet_base::{Invalid, OutOfMemory};
+use xet_progress::TrackerReply;
+
+/// Adds bytes: all or none.
+pub(crate) fn add_bytes(out: &mut Vec<u8>, bytes: &[u8]) -> Result<(), OutOfMemory>
+    ensures ok { OnOk result (out.new.items ≡ out.old.items ++ bytes.now) }
+    ensures memory { OnErr result (out.new.items ≡ out.old.items) }
+{
+    if out.extend_from_slice(bytes).is_err() {
+        return Err(OutOfMemory);
+    }
+    Ok(())
+}
+
+/// Adds a text: all or nothing.
+pub(crate) fn add(out: &mut Vec<u8>, text: &str) -> Result<(), OutOfMemory>
+    ensures ok { OnOk result (out.new.items ≡ out.old.items ++ text.now) }
+    ensures memory { OnErr result (out.new.items ≡ out.old.items) }
+{
+    add_bytes(out, text.as_bytes())
+}
+
+/// Adds the digits of a number.
+fn add_number(out: &mut Vec<u8>, number: u64) -> Result<(), OutOfMemory>
+    ensures { OnOk result (out.new.items ≡ out.old.items ++ decimal number) }
+{
+    let mut buffer = Buffer::new();
+    add(out, buffer.format(number))
+}
+
+/// The number of a refusal.
+fn number_of(why: &Invalid) -> u64
+    ensures { result ≡ number_of_invalid why.now }
+{
+    match why {
+        Invalid::Finalized => 1,
+        Invalid::ReversedRange { .. } => 2,
+        Invalid::IdsUsedUp => 3,
+        Invalid::DuplicateId { .. } => 4,
+        Invalid::UnknownItem { .. } => 5,
+        Invalid::UnknownFile { .. } => 6,
+        Invalid::UnknownXorb { .. } => 7,
+        Invalid::OtherSize { .. } => 8,
+        Invalid::PastTotal { .. } => 9,
+        Invalid::XorbCompleted { .. } => 10,
+        Invalid::SumTooGreat { .. } => 11,
+    }
+}
+
+/// Adds the line of a reply.
+pub(crate) fn add_reply(out: &mut Vec<u8>, reply: &TrackerReply) -> Result<(), OutOfMemory>
+    ensures { OnOk result (out.new.items ≡ out.old.items ++ text_of_reply reply.now) }
+{
+    match reply {
+        TrackerReply::Done => add(out, "ok\n"),
+        TrackerReply::FileId(id) => {
+            add_number(out, *id)?;
+            add(out, "\n")
+        }
+        TrackerReply::Flag(true) => add(out, "true\n"),
+        TrackerReply::Flag(false) => add(out, "false\n"),
+        TrackerReply::Sums { completed, total } => {
+            add_number(out, *completed)?;
+            add(out, " ")?;
+            add_number(out, *total)?;
+            add(out, "\n")
+        }
+        TrackerReply::Unfinished(_) => add(out, "unfinished\n"),
+        TrackerReply::Refused(why) => {
+            add(out, "refused ")?;
+            add_number(out, number_of(why))?;
+            add(out, "\n")
+        }
+    }
+}
