@@ -1,8 +1,11 @@
-pub mod Adding
-pub mod Chunks
-pub mod Driving
-pub mod Ends
-pub mod Fitting
-pub mod HexDigits
-pub mod Outcomes
-pub mod Terms
+mod ChunkEnds
+mod DigitPairs
+mod DocumentChunks
+mod DocumentMembers
+mod DocumentTerms
+mod GetNumbers
+mod GetOutcomes
+mod PrintedDigits
+mod StoreRefusals
+mod TapRuns
+mod TrackOutcomes

@@ -1,9 +1,12 @@
-pub mod Adding
-pub mod Cuts
-pub mod Digits
+pub mod AnyBytes
 pub mod Document
+pub mod Ends
+pub mod Get
+pub mod GetWords
 pub mod Outcome
-pub mod Printing
-pub mod Reading
+pub mod Taps
 pub mod Texts
+pub mod Track
+pub mod Wanted
 pub mod Words
+pub mod steps

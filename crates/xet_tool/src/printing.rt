@@ -1,7 +1,8 @@
 //! Texts and last lines on the output.
 ghost use Rattle.std.specs.Prelude.{◌≡◌, ◌∷◌};
 ghost use Rattle.xet_tool.specs.Outcome.{IsFlushed};
-ghost use Rattle.xet_tool.specs.Printing.{Finished, status_of};
+ghost use Rattle.xet_tool.specs.Outcome.{Finished};
+ghost use Rattle.xet_tool.specs.steps.Printing.{status_of};
 ghost use Rattle.xet_tool.specs.Texts.{line};
 
 use crate::status::Status;

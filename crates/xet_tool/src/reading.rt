@@ -1,8 +1,11 @@
 //! Reads an input to its end.
-ghost use Rattle.xet_tool.specs.Reading.{ReadAll};
+ghost use Rattle.xet_tool.specs.steps.Reading.{ReadAll};
 
 use std::alloc::Global;
 use xet_store::Source;
+
+/// How many bytes the input may have.
+pub const LIMIT: usize = 67_108_864;
 
 /// Why an input was not read to its end.
 #[derive(Clone, Copy, PartialEq, Eq, Debug)]

@@ -11,6 +11,8 @@ pub enum Status {
     BadWords,
     /// The input is no document of a valid store.
     BadStore,
+    /// A line of the script doesn't read. The line is printed by the command.
+    BadScript,
     /// The range isn't empty, and the store has no such file.
     NotFound,
     /// The input failed.
@@ -21,6 +23,8 @@ pub enum Status {
     NoMemory,
     /// The input has more bytes than the limit.
     TooLong,
+    /// A block that a tap handed on failed the test of this number. The line is printed by the command.
+    BadBlock(u8),
 }
 
 impl Status {
@@ -32,15 +36,17 @@ impl Status {
             Status::Done => 0,
             Status::BadWords => 1,
             Status::BadStore => 2,
+            Status::BadScript => 2,
             Status::NotFound => 3,
             Status::ReadFault => 4,
             Status::WriteFault => 5,
             Status::NoMemory => 6,
             Status::TooLong => 8,
+            Status::BadBlock(_) => 12,
         }
     }
 
-    /// The last line with its end, of a status other than 0. A write fault has none.
+    /// The last line with its end, of a status other than 0 and 12, whose lines have a number. A write fault has none.
     pub fn line(self) -> &'static [u8]
         ensures { result.now ≡ line self }
     {
@@ -48,11 +54,13 @@ impl Status {
             Status::Done => b"",
             Status::BadWords => b"error words\n",
             Status::BadStore => b"error store\n",
+            Status::BadScript => b"error script\n",
             Status::NotFound => b"error file not found\n",
             Status::ReadFault => b"error read\n",
             Status::WriteFault => b"",
             Status::NoMemory => b"error memory\n",
             Status::TooLong => b"error input\n",
+            Status::BadBlock(_) => b"",
         }
     }
 }

@@ -2,20 +2,24 @@
 
 /// What `--help` prints.
 pub const HELP: &[u8] = b"\
-xet_tool: prints a range of a file of a Xet store
+xet_tool: prints a range of a file of a Xet store, or runs a script of calls of a tracker
 
 usage:
-  xet_tool get HASH START END   print bytes START to before END of the file HASH
+  xet_tool get HASH START END [multi]
+                                print bytes START to before END of the file HASH
+  xet_tool track                make the calls of a script, and print the reply to each
   xet_tool --help               print this text
   xet_tool --version            print the version
+  Other words, also -h, help or none at all, do not read.
 
-words:
+words of get:
   HASH        the file's hash: 64 hexadecimal digits
   START, END  places in the file in bytes, counted from 0: 1 to 20 decimal digits of at most
               18446744073709551615. END may also be the word end. What lies past the file's end
               is cut off, and a range with END at or before START is empty.
+  multi       fetch all ranges of a fetch entry as one block, and not each by itself
 
-input:
+input of get:
   A store as one JSON document on standard input, of at most 67108864 bytes:
     {
       \"xorbs\": { HASH: [CHUNK, ..], .. },
@@ -27,21 +31,46 @@ input:
   keys are passed over. It is no document of a store where a term is empty or not inside a xorb,
   where two keys of xorbs or two of files spell one hash, or where a number anywhere has a
   fraction or an exponent, needs more than 64 bits, or is -0.
+  The document is kept in memory with its store: mostly a few times its size, and up to a hundred
+  times where it is made to take as much as it can.
+
+input of track:
+  A script on standard input, of at most 67108864 bytes: a call of a new tracker of uploads on
+  each line, with one space between its words. N and ID are numbers as START is, and NAME is one
+  below 4294967296. The line for each call is printed:
+    file N                  a new file of N bytes: its ID, counted from 0
+    file ?                  a new file that grows: its ID
+    grow ID N               such a file has N bytes more: ok
+    xorb NAME N             a xorb of N bytes: true where it is new, false where it is there
+    dep ID NAME N           N bytes of the file come with the xorb's upload: ok
+    ext ID NAME N           N bytes of the file were uploaded before: ok
+    progress NAME N         N bytes more of the xorb were sent: ok
+    background NAME N       the same
+    done NAME               the xorb was uploaded: ok
+    status                  the completed bytes of all files, and their total
+    complete                true where all files and xorbs are completed, or false
+  A call that is refused changes nothing and prints refused K, where K is 6 for an unknown file,
+  7 for an unknown xorb, 8 for another size, 9 past a total, 10 where the xorb is completed, and
+  11 where a sum has no room.
 
 output:
   For get the bytes as lower-case hexadecimal digits, a line end, and a last line. The lines of
-  1, 2, 4 and 8 stand alone.
+  1, 2, 4 and 8 stand alone, but that of 2 for track, which ends the lines of a script that does
+  not read. With 0 track prints its lines and no last line. All lines, those of errors too, go
+  to standard output. For the bytes themselves turn the digits of the first line back, as with
+  | head -n 1 | xxd -r -p.
 
 last line, and exit status:
   ok N                    0  all N bytes of the range were printed
   error words             1  the words do not read; nothing was read of the input
   error store             2  the input is no document of a valid store
+  error script            2  a line of the script does not read, and no later one was run
   error file not found    3  the range is not empty, and the store has no such file
   error read              4  standard input failed
   (none)                  5  standard output failed
   error memory            6  an allocation was refused
   error input             8  the input is longer than the limit
-  After 5 and 6 the digits may be cut short.
+  After 5 and 6 the digits may be cut short, and lines may be missing.
 
 example, with the store in the file hello.json:
   xet_tool get aaaaaaaaaaaaaaaaaaaaaaaaaaaaaaaaaaaaaaaaaaaaaaaaaaaaaaaaaaaaaaaa 3 9 <hello.json

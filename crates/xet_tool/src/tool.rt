@@ -1,30 +1,35 @@
 //! The top call.
-ghost use Rattle.std.specs.Prelude.{map, string_bytes};
-ghost use Rattle.xet_tool.specs.Outcome.{Answers, IsFlushed, Outcome, input_limit};
+ghost use Rattle.std.specs.Prelude.{◌≡◌, length, map, string_bytes};
+ghost use Rattle.xet_tool.specs.Ends.{input_limit};
+ghost use Rattle.xet_tool.specs.Outcome.{Answers, IsFlushed, Outcome};
 ghost use Rattle.xet_tool.specs.Words.{command_of};
 
-use crate::get::get;
+use crate::commands::get::get;
+use crate::commands::track::track;
 use crate::printing::{print_text, say};
 use crate::status::Status;
 use crate::texts::{HELP, VERSION};
 use crate::words::{Command, read_words};
 use std::alloc::Global;
-use xet_store::{Sink, Source};
+use xet_store::{Sink, Source, Tap};
 
 // Does what the words ask for.
-fn run_words<I: Source, O: Sink + Send>(
+fn run_words<I: Source, O: Sink + Send, T: Tap + Send>(
     alloc: Global,
     words: &[String],
     input: &mut I,
     out: &mut O,
+    taps: &mut [T],
 ) -> Status
+    requires { length taps.old ≡ 64 }
     ensures outcome { Outcome input_limit (command_of (map string_bytes words.now))
-        (record { source = I.told input.old; sink = O.told out.old })
-        (record { source = I.told input.new; sink = O.told out.new }) result }
+        (record { source = I.told input.old; sink = O.told out.old; taps = map T.told taps.old })
+        (record { source = I.told input.new; sink = O.told out.new; taps = map T.told taps.new }) result }
     ensures flushed { IsFlushed result (O.told out.new) }
 {
     match read_words(words) {
-        Some(Command::Get(wanted)) => get(alloc, wanted, input, out),
+        Some(Command::Get(wanted)) => get(alloc, wanted, input, out, taps),
+        Some(Command::Track) => track(alloc, input, out),
         Some(Command::Help) => print_text(out, Status::Done, HELP),
         Some(Command::Version) => print_text(out, Status::Done, VERSION),
         None => say(out, Status::BadWords),
@@ -35,40 +40,52 @@ fn run_words<I: Source, O: Sink + Send>(
 ///
 /// - 0: what the words ask for was printed. For `get` the input is a document of a valid store, which has the file
 ///   unless the range is empty; and the lower-case hexadecimal digits of the bytes of the file in the range, cut to the
-///   file's end, were printed, a line end, `ok n` with their number, and a line end.
+///   file's end, were printed, a line end, `ok n` with their number, and a line end. For `track` each line of the input
+///   reads as a call of a completion tracker, and the line of each reply was printed.
 /// - 1, `error words`: exactly where the words don't read. Nothing was read.
-/// - 2, `error store`: exactly where the input is within the limit and is no document of a valid store.
+/// - 2, `error store` for `get`: exactly where the input is within the limit and is no document of a valid store;
+///   `error script` for `track`, after the lines of the calls before it: exactly where a line of it doesn't read.
 /// - 3, a line end and `error file not found`: exactly where the input is a document of a valid store, the range isn't
 ///   empty and the store has no such file.
 /// - 4, `error read`: only where the input's faults rose.
 /// - 5, no line: only where the output's faults rose. Nothing more is written.
 /// - 6, `error memory`: where an allocation was refused; after some first digits, or all, a line end comes before it.
 /// - 8, `error input`: exactly where the input has more than 67,108,864 bytes, which is the limit.
+/// - 12, `error block K` after the digits of some bytes and a line end: over a tap that isn't honest. Where the first
+///   tap tells what passed and what it handed on, K is the test that a block of the store's own plan, or a term in one,
+///   fails in what it handed on. Never over taps that hand each block on as it came.
 ///
-/// "Exactly" yields to 5 and 6, and for 2, 3 and 8 to 4 too: a read may fail first.
+/// "Exactly" yields to 5 and 6, and for 2, 3 and 8 to 4 too: a read may fail first. What is said of the bytes of a
+/// store's file is said over taps that hand each block on as it came. Over such taps that tell what passed, each chunk
+/// with a byte in the range passed with status 0. Over a first tap of any kind that tells what passed and what it handed
+/// on, the digits of status 0 are those of all terms of the store's own plan in these blocks, which pass their tests,
+/// and with another status those of some first bytes. There are 64 taps, of which only the first is asked, and with 1,
+/// 2, 4 and 8 and for `track` none.
 ///
-/// With 1, 2, 4 and 8 that line and nothing else was printed. With 5 and 6 a prefix of one text was printed: of the
-/// text of another status, of which all that is said here holds; or for `get` of `error memory`, with no digits, or
-/// with the digits of some first bytes of the range and a line end before it. With all others what was printed is
-/// flushed.
-pub fn run_tool<I: Source, O: Sink + Send>(
+/// With 1, 2, 4 and 8, but 2 of `track`, that line and nothing else was printed. With 5 and 6 a prefix of one text was
+/// printed: of the text of another status, of which all that is said here holds; or of `error memory`, for `get` with no
+/// digits, or with the digits of some first bytes of the range and a line end before it, and for `track` after some
+/// first lines. With all others what was printed is flushed.
+pub fn run_tool<I: Source, O: Sink + Send, T: Tap + Send>(
     alloc: Global,
     words: &[String],
     input: &mut I,
     out: &mut O,
+    taps: &mut [T],
 ) -> u8
+    requires { length taps.old ≡ 64 }
     ensures { Answers input_limit (map string_bytes words.now)
-        (record { source = I.told input.old; sink = O.told out.old })
-        (record { source = I.told input.new; sink = O.told out.new }) result }
+        (record { source = I.told input.old; sink = O.told out.old; taps = map T.told taps.old })
+        (record { source = I.told input.new; sink = O.told out.new; taps = map T.told taps.new }) result }
 {
-    run_words(alloc, words, input, out).number()
+    run_words(alloc, words, input, out, taps).number()
 }
 
 #[cfg(test)]
 mod tests {
     use super::*;
     use std::alloc::AllocError;
-    use xet_store::{VecSink, VecSource};
+    use xet_store::{NoTap, VecSink, VecSource};
 
     #[test]
     fn answers_by_words_and_input(rt: HostRuntime) -> Result<(), AllocError> {
@@ -90,7 +107,13 @@ mod tests {
             }
             let mut input = VecSource::new(text.as_bytes().to_vec(rt.alloc())?);
             let mut out = VecSink::new(rt.alloc());
-            let number = run_tool(rt.alloc(), words.as_slice(), &mut input, &mut out);
+            let number = run_tool(
+                rt.alloc(),
+                words.as_slice(),
+                &mut input,
+                &mut out,
+                &mut [NoTap; 64],
+            );
             assert_eq!(rt; number, status, "at {line}");
             assert!(rt; out.taken() == printed.as_bytes());
         }

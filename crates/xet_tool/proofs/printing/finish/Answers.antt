@@ -1,5 +1,5 @@
 use Rattle.std.proofs.Common.{◌∷◌, []}
-use Rattle.xet_tool.proofs.Outcomes.{finished_err, finished_more}
+use Rattle.xet_tool.proofs.GetOutcomes.{finished_err, finished_more}
 use Rattle.xet_tool.proofs.printing.finish.Goals as goal
 
 pub returns-in-Ok-clause-text : goal.returns-in-Ok-clause-text

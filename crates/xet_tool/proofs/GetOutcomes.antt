@@ -1,0 +1,312 @@
+-- What the texts, and the command `get` over an input, print.
+use Rattle.std.proofs.Common.{◌≡◌, ℕ, ◌<◌, ◌≤◌, List, [], ◌∷◌, ◌++◌, drop, take, length, get_or, map, set, true, Option, Some, None, Err, refl, ap, sym, ◌∙◌, arith, inl, inr}
+use Rattle.std.specs.Prelude.{◌⊎◌, IfSome}
+use Rattle.std.proofs.Math.Seq.{drop-length, take-length}
+use Rattle.std.proofs.lemmas.List.{append-nil}
+use Rattle.hex.specs.Hex.{encode_lower}
+use Rattle.xet_base.specs.Store.{Store}
+use Rattle.xet_outside.specs.declared.served.Served.{Served}
+use Rattle.xet_outside.specs.declared.sink.SinkError.{SinkError}
+use Rattle.xet_outside.specs.declared.sink.SinkError.TheVariants as sink_error
+use Rattle.xet_outside.specs.Told.{Rose, SinkTold, SourceTold, Took, TookPrefix}
+use Rattle.xet_outside.specs.Written.{WroteAll}
+use Rattle.xet_outside.proofs.CallerLemmas.{prefix_after, prefix_front, took_both, whole_prefix}
+use Rattle.xet_store.specs.Taps.{TapTold}
+use Rattle.xet_blocks.specs.ServedChunks.{AllServed}
+use Rattle.xet_reconstruct.specs.InCall.{joined, new_in}
+use Rattle.xet_tool.specs.declared.commands.get.digits.Printed.TheVariants.{All, NoFile, Part, Stopped}
+use Rattle.xet_tool.specs.declared.commands.get.digits.Printed.TheVariants as printed
+use Rattle.xet_tool.specs.declared.commands.get.wanted.Wanted.{Wanted}
+use Rattle.xet_tool.specs.declared.status.Status.{Status}
+use Rattle.xet_tool.specs.declared.status.Status.TheVariants.{Done, BadWords, BadStore, BadScript, NotFound, ReadFault, WriteFault, NoMemory, TooLong, BadBlock}
+use Rattle.xet_tool.specs.AnyBytes.{AnyCut, AnyGet, IsOfRun, counted, last_line}
+use Rattle.xet_tool.specs.Document.{HasStore, NoStore, OfNoDocument}
+use Rattle.xet_tool.specs.Ends.{Told, WasReadToEnd}
+use Rattle.xet_tool.specs.Get.{GetOutcome, IsCut, IsCutGet, OverStore, memory_text}
+use Rattle.xet_tool.specs.Outcome.{Finished}
+use Rattle.xet_tool.specs.steps.PrintedDigits.{DigitsBehind, DigitsOf}
+use Rattle.xet_tool.specs.steps.Printing.{GetFrom, GotFrom, status_of}
+use Rattle.xet_tool.specs.Taps.{AllHonest, FromTap, FromTaps, all_passed, other_taps}
+use Rattle.xet_tool.specs.Texts.{block_line, get_text, line, ok_line}
+use Rattle.xet_tool.specs.Wanted.{wanted_bytes}
+use Rattle.xet_tool.proofs.PrintedDigits.{encode-nil, from_memory}
+
+-- a first text, and then a second one
+pub finished_more : (b m n : SinkTold) (xs ys : List ℕ) (whole status : Status) → Took b.took m.took xs → b.faults ≤ m.faults → Finished ys whole m n status → Finished (xs ++ ys) whole b n status
+finished_more b m n xs ys whole status t l (inl h) = inl (h.0, took_both b.took m.took n.took xs ys t h.1)
+finished_more b m n xs ys whole status t l (inr (inl h)) = inr (inl (h.0, let r = h.1 in omega arith, prefix_after b.took m.took n.took xs ys t h.2))
+finished_more b m n xs ys whole status t l (inr (inr h)) = inr (inr (h.0, prefix_after b.took m.took n.took xs ys t h.1))
+
+-- the first of two texts was not written whole
+pub finished_err : (b n : SinkTold) (xs ys : List ℕ) (whole : Status) (e : SinkError) → WroteAll b n xs (Err e) → Finished (xs ++ ys) whole b n (status_of e)
+finished_err b n xs ys whole sink_error.OutOfMemory h = inr (inr (refl, prefix_front b.took n.took xs ys h.prefix))
+finished_err b n xs ys whole sink_error.Failed h = inr (inl (refl, h.failed refl, prefix_front b.took n.took xs ys h.prefix))
+
+-- the digits of some bytes, and then a line, which is a text of the store
+lined : (s : Store) (q : Wanted) (b m n : SinkTold) (xs last : List ℕ) (whole status : Status) → Took b.took m.took (encode_lower xs) → b.faults ≤ m.faults → Finished (10 ∷ last) whole m n status → (Took b.took n.took (get_text xs last) → GetFrom s q b n whole) → (TookPrefix b.took n.took (get_text xs last) → IsCutGet s q b n) → GetFrom s q b n status
+lined s q b m n xs last whole status t f h done cut =
+    by_case (finished_more b m n (encode_lower xs) (10 ∷ last) whole status t f h)
+  where
+    by_case : Finished (get_text xs last) whole b n status → GetFrom s q b n status
+    by_case (inl h) = rw h.0 (done h.1)
+    by_case (inr (inl h)) = rw h.0 (h.1, cut h.2)
+    by_case (inr (inr h)) = rw h.0 (cut h.1)
+
+-- all digits, and the last line
+pub got_all : (s : Store) (q : Wanted) (b m n : SinkTold) (k : ℕ) (status : Status) → DigitsOf s q b m (All k) → Finished (10 ∷ ok_line k) Done m n status → GetFrom s q b n status
+got_all s q b m n k status d h =
+    let w = wanted_bytes s q in
+    let e : k ≡ length w = d.digits.2 in
+    lined s q b m n w (ok_line k) Done status d.digits.1 d.faults h
+    (λ t. record { found = d.digits.0; took = rw e at t })
+    (λ p. inl (d.digits.0, rw e at p))
+
+-- the digits of some first bytes, and want of memory
+memory_after : (s : Store) (q : Wanted) (b m n : SinkTold) (k : ℕ) (status : Status) → Took b.took m.took (encode_lower (take k (wanted_bytes s q))) → b.faults ≤ m.faults → Finished (10 ∷ line NoMemory) NoMemory m n status → GetFrom s q b n status
+memory_after s q b m n k status t f h =
+    lined s q b m n (take k (wanted_bytes s q)) (line NoMemory) NoMemory status t f h
+    (λ t. inr (inl (k, whole_prefix b.took n.took (memory_text s q k) t)))
+    (λ p. inr (inl (k, p)))
+
+-- all digits, and want of memory
+pub got_all_cut : (s : Store) (q : Wanted) (b m n : SinkTold) (k : ℕ) (status : Status) → DigitsOf s q b m (All k) → Finished (10 ∷ line NoMemory) NoMemory m n status → GetFrom s q b n status
+got_all_cut s q b m n k status d h =
+    let w = wanted_bytes s q in
+    memory_after s q b m n (length w) status (rw (take-length w) d.digits.1) d.faults h
+
+-- some digits, and want of memory
+pub got_part : (s : Store) (q : Wanted) (b m n : SinkTold) (status : Status) → DigitsOf s q b m Part → Finished (10 ∷ line NoMemory) NoMemory m n status → GetFrom s q b n status
+got_part s q b m n status d h = memory_after s q b m n d.digits.count status d.digits.took d.faults h
+
+-- no file
+pub got_no_file : (s : Store) (q : Wanted) (b m n : SinkTold) (status : Status) → DigitsOf s q b m NoFile → Finished (10 ∷ line NotFound) NotFound m n status → GetFrom s q b n status
+got_no_file s q b m n status d h =
+    lined s q b m n [] (line NotFound) NotFound status (rw encode-nil d.digits.1) d.faults h
+    (λ t. record { missing = d.digits.0; took = t })
+    (λ p. inr (inr (d.digits.0, p)))
+
+-- a write of digits failed
+pub got_stopped : (s : Store) (q : Wanted) (b n : SinkTold) (e : SinkError) → DigitsOf s q b n (Stopped e) → GetFrom s q b n (status_of e)
+got_stopped s q b n e d =
+    let w = wanted_bytes s q in
+    by_error e d.digits.0 (inr (inl (length w, rw (take-length w) (prefix_front b.took n.took (encode_lower w) (10 ∷ line NoMemory) d.digits.1))))
+  where
+    by_error : (e : SinkError) → (e ≡ sink_error.Failed → Rose b.faults n.faults) → IsCutGet s q b n → GetFrom s q b n (status_of e)
+    by_error sink_error.OutOfMemory rose cut = cut
+    by_error sink_error.Failed rose cut = (rose refl, cut)
+
+-- ---- over one tap
+
+-- the digits of some bytes of which this holds, and then the last line
+lined_any : (P : Status → List ℕ → Type 0) (b m n : SinkTold) (p : List ℕ) (whole status : Status) → IsOfRun whole → P whole p → Took b.took m.took (encode_lower p) → b.faults ≤ m.faults → Finished (10 ∷ last_line whole p) whole m n status → (Took b.took n.took (get_text p (last_line whole p)) → AnyGet P b n whole) → AnyGet P b n status
+lined_any P b m n p whole status of_run from t f h done =
+    by_case (finished_more b m n (encode_lower p) (10 ∷ last_line whole p) whole status t f h)
+  where
+    by_case : Finished (get_text p (last_line whole p)) whole b n status → AnyGet P b n status
+    by_case (inl h) = rw h.0 (done h.1)
+    by_case (inr (inl h)) = rw h.0 (h.1, record { status = whole; of_run = of_run; some = record { bytes = p; from = from }; took = h.2 })
+    by_case (inr (inr h)) = rw h.0 (record { status = whole; of_run = of_run; some = record { bytes = p; from = from }; took = h.1 })
+
+-- and then the line for want of memory
+lined_memory : (P : Status → List ℕ → Type 0) (b m n : SinkTold) (p : List ℕ) (status : Status) → P NoMemory p → Took b.took m.took (encode_lower p) → b.faults ≤ m.faults → Finished (10 ∷ line NoMemory) NoMemory m n status → AnyGet P b n status
+lined_memory P b m n p status from t f h =
+    lined_any P b m n p NoMemory status tt from t f h
+    (λ w. record { status = NoMemory; of_run = tt; some = record { bytes = p; from = from }; took = whole_prefix b.took n.took (get_text p (line NoMemory)) w })
+
+-- another status than 0
+not_done : (b n : SinkTold) (xs : List ℕ) (whole status : Status) → (whole ≡ Done → ⊥) → Finished xs whole b n status → status ≡ Done → ⊥
+not_done b n xs whole status other (inl h) e = other (sym h.0 ∙ e)
+not_done b n xs whole status other (inr (inl h)) e = wrong (sym h.0 ∙ e)
+  where
+    wrong : WriteFault ≡ Done → ⊥
+    wrong e = cc
+not_done b n xs whole status other (inr (inr h)) e = wrong (sym h.0 ∙ e)
+  where
+    wrong : NoMemory ≡ Done → ⊥
+    wrong e = cc
+
+no_memory : NoMemory ≡ Done → ⊥
+no_memory e = cc
+
+-- all digits, and the last line
+pub tap_all : (s : Store) (q : Wanted) (t u : TapTold) (b m n : SinkTold) (k : ℕ) (status : Status) → DigitsBehind s q t u b m (All k) → Finished (10 ∷ ok_line k) Done m n status → GotFrom s q t u b n status
+tap_all s q t u b m n k status d h =
+    let e : k ≡ counted d.any.bytes = d.any.count in
+    record {
+      honest = λ honest. got_all s q b m n k status (d.digits honest) h;
+      any = lined_any (FromTap s q t u) b m n d.any.bytes Done status tt d.any.from d.any.took d.faults (rw e at h)
+          (λ w. (record { bytes = d.any.bytes; from = d.any.from }, w));
+      chunks = λ honest _. d.chunks honest;
+    }
+
+-- all digits, and want of memory
+pub tap_all_cut : (s : Store) (q : Wanted) (t u : TapTold) (b m n : SinkTold) (k : ℕ) (status : Status) → DigitsBehind s q t u b m (All k) → Finished (10 ∷ line NoMemory) NoMemory m n status → GotFrom s q t u b n status
+tap_all_cut s q t u b m n k status d h = record {
+  honest = λ honest. got_all_cut s q b m n k status (d.digits honest) h;
+  any = lined_memory (FromTap s q t u) b m n d.any.bytes status (from_memory s q t u Done d.any.bytes d.any.from) d.any.took d.faults h;
+  chunks = λ honest e. absurd (not_done m n (10 ∷ line NoMemory) NoMemory status no_memory h e);
+}
+
+-- some digits, and want of memory
+pub tap_part : (s : Store) (q : Wanted) (t u : TapTold) (b m n : SinkTold) (status : Status) → DigitsBehind s q t u b m Part → Finished (10 ∷ line NoMemory) NoMemory m n status → GotFrom s q t u b n status
+tap_part s q t u b m n status d h = record {
+  honest = λ honest. got_part s q b m n status (d.digits honest) h;
+  any = lined_memory (FromTap s q t u) b m n d.any.bytes status d.any.from d.any.took d.faults h;
+  chunks = λ honest e. absurd (not_done m n (10 ∷ line NoMemory) NoMemory status no_memory h e);
+}
+
+-- no file
+pub tap_no_file : (s : Store) (q : Wanted) (t u : TapTold) (b m n : SinkTold) (status : Status) → DigitsBehind s q t u b m NoFile → Finished (10 ∷ line NotFound) NotFound m n status → GotFrom s q t u b n status
+tap_no_file s q t u b m n status d h = record {
+  honest = λ honest. got_no_file s q b m n status (d.digits honest) h;
+  any = lined_any (FromTap s q t u) b m n d.any.bytes NotFound status tt d.any.from d.any.took d.faults h
+      (λ w. (record { bytes = d.any.bytes; from = d.any.from }, w));
+  chunks = λ honest e. absurd (not_done m n (10 ∷ line NotFound) NotFound status wrong h e);
+}
+  where
+    wrong : NotFound ≡ Done → ⊥
+    wrong e = cc
+
+-- a block failed a test
+pub tap_bad : (s : Store) (q : Wanted) (t u : TapTold) (b m n : SinkTold) (k : ℕ) (status : Status) → DigitsBehind s q t u b m (printed.BadBlock k) → Finished (10 ∷ block_line k) (BadBlock k) m n status → GotFrom s q t u b n status
+tap_bad s q t u b m n k status d h = record {
+  honest = λ honest. absurd ((d.digits honest).digits);
+  any = lined_any (FromTap s q t u) b m n d.any.bytes (BadBlock k) status tt d.any.from d.any.took d.faults h
+      (λ w. (record { bytes = d.any.bytes; from = d.any.from }, w));
+  chunks = λ honest e. absurd (not_done m n (10 ∷ block_line k) (BadBlock k) status wrong h e);
+}
+  where
+    wrong : BadBlock k ≡ Done → ⊥
+    wrong e = cc
+
+-- a block failed a test, and want of memory
+pub tap_bad_cut : (s : Store) (q : Wanted) (t u : TapTold) (b m n : SinkTold) (k : ℕ) (status : Status) → DigitsBehind s q t u b m (printed.BadBlock k) → Finished (10 ∷ line NoMemory) NoMemory m n status → GotFrom s q t u b n status
+tap_bad_cut s q t u b m n k status d h = record {
+  honest = λ honest. absurd ((d.digits honest).digits);
+  any = lined_memory (FromTap s q t u) b m n d.any.bytes status (from_memory s q t u (BadBlock k) d.any.bytes d.any.from) d.any.took d.faults h;
+  chunks = λ honest e. absurd (not_done m n (10 ∷ line NoMemory) NoMemory status no_memory h e);
+}
+
+-- a write of digits failed
+pub tap_stopped : (s : Store) (q : Wanted) (t u : TapTold) (b n : SinkTold) (e : SinkError) → DigitsBehind s q t u b n (Stopped e) → GotFrom s q t u b n (status_of e)
+tap_stopped s q t u b n e d = record {
+  honest = λ honest. got_stopped s q b n e (d.digits honest);
+  any = by_error e d.any.stops;
+  chunks = λ honest w. absurd (wrong e w);
+}
+  where
+    cut : AnyCut (FromTap s q t u) b n
+    cut = record {
+      status = NoMemory;
+      of_run = tt;
+      some = record { bytes = d.any.bytes; from = d.any.from };
+      took = prefix_front b.took n.took (encode_lower d.any.bytes) (10 ∷ line NoMemory) d.any.took;
+    }
+
+    by_error : (e : SinkError) → (e ≡ sink_error.Failed → Rose b.faults n.faults) → AnyGet (FromTap s q t u) b n (status_of e)
+    by_error sink_error.OutOfMemory rose = cut
+    by_error sink_error.Failed rose = (rose refl, cut)
+
+    wrong : (e : SinkError) → status_of e ≡ Done → ⊥
+    wrong sink_error.OutOfMemory w = cc
+    wrong sink_error.Failed w = cc
+
+-- ---- over all taps
+
+-- what was done over a store and all taps, by the status
+pub record GotAll (s : Store) (q : Wanted) (ts us : List TapTold) (b n : SinkTold) (status : Status) : Type 0 where
+  pub honest : AllHonest ts → GetFrom s q b n status
+  pub any : AnyGet (FromTaps s q ts us) b n status
+  pub chunks : AllHonest ts → status ≡ Done → IfSome (all_passed ts us) (AllServed s q.file q.range)
+  pub others : other_taps us ≡ other_taps ts
+
+-- nothing passed the taps that were not asked
+none_passed : (ts : List TapTold) → (all_passed ts ts ≡ None) ⊎ (all_passed ts ts ≡ Some [])
+none_passed [] = inr refl
+none_passed (t ∷ ts) = by_told t.passed (none_passed ts)
+  where
+    by_told : (o : Option (List Served)) → (all_passed ts ts ≡ None) ⊎ (all_passed ts ts ≡ Some []) → (joined (new_in o o) (all_passed ts ts) ≡ None) ⊎ (joined (new_in o o) (all_passed ts ts) ≡ Some [])
+    by_told None h = inl refl
+    by_told (Some xs) (inl e) = inl (ap (joined (Some (drop (length xs) xs))) e)
+    by_told (Some xs) (inr e) = inr (ap (joined (Some (drop (length xs) xs))) e ∙ ap (λ (l : List Served). Some (l ++ [])) (drop-length xs))
+
+-- what passed the first passed them all
+first_passed : (o : Option (List Served)) (ts : List TapTold) (P : List Served → Type 0) → IfSome o P → IfSome (joined o (all_passed ts ts)) P
+first_passed None ts P h = tt
+first_passed (Some xs) ts P h = by_others (none_passed ts)
+  where
+    by_others : (all_passed ts ts ≡ None) ⊎ (all_passed ts ts ≡ Some []) → IfSome (joined (Some xs) (all_passed ts ts)) P
+    by_others (inl e) = rw e tt
+    by_others (inr e) = rw (e, append-nil xs) h
+
+pub got_slice : {T : Type 0} (told : T → TapTold) (s : Store) (q : Wanted) (taps : List T) (d tap : T) (b n : SinkTold) (status : Status)
+    → 0 < length taps → GotFrom s q (told (get_or taps 0 d)) (told tap) b n status → GotAll s q (map told taps) (map told (set taps 0 tap)) b n status
+got_slice told s q [] d tap b n status some h = absurd (omega arith)
+got_slice {T} told s q (t ∷ ts) d tap b n status some h = record {
+  honest = λ all. h.honest (first all);
+  any = h.any;
+  chunks = λ all e. first_passed (new_in (told t).passed (told tap).passed) (map told ts) (AllServed s q.file q.range) (h.chunks (first all) e);
+  others = refl;
+}
+  where
+    first : AllHonest (told t ∷ map told ts) → (told t).honest ≡ true
+    first all = all 0 (told t) (omega arith)
+
+-- ---- the command over an input
+
+-- a line alone
+said : (limit : ℕ) (q : Wanted) (b n : Told) (whole status : Status) → Finished (line whole) whole b.sink n.sink status → (Took b.sink.took n.sink.took (line whole) → GetOutcome limit q b n whole) → (TookPrefix b.sink.took n.sink.took (line whole) → IsCut limit q b n) → GetOutcome limit q b n status
+said limit q b n whole status (inl h) done cut = rw h.0 (done h.1)
+said limit q b n whole status (inr (inl h)) done cut = rw h.0 (h.1, cut h.2)
+said limit q b n whole status (inr (inr h)) done cut = rw h.0 (cut h.1)
+
+-- want of memory before a store was there
+pub got_no_memory : (limit : ℕ) (q : Wanted) (b n : Told) (status : Status) → Finished (line NoMemory) NoMemory b.sink n.sink status → GetOutcome limit q b n status
+got_no_memory limit q b n status h = said limit q b n NoMemory status h (λ t. inl (whole_prefix b.sink.took n.sink.took (line NoMemory) t)) (λ p. inl p)
+
+-- what the input had, where that is told, and that it was read to its end
+abbrev pub IsWhole : ℕ → SourceTold → SourceTold → List ℕ → Type 0
+IsWhole limit b n text = (t : List ℕ) → b.left ≡ Some t → (text ≡ t) × (length t ≤ limit) × (n.left ≡ Some [])
+
+pub read_to_end : (limit : ℕ) (b n : SourceTold) (text : List ℕ) → IsWhole limit b n text → WasReadToEnd limit b n
+read_to_end limit b n text w t l = let a = w t l in (a.1, a.2)
+
+-- a text that is a document of no store
+pub got_no_store : (limit : ℕ) (q : Wanted) (b n : Told) (text : List ℕ) (status : Status) → IsWhole limit b.source n.source text → NoStore text → n.taps ≡ b.taps → Finished (line BadStore) BadStore b.sink n.sink status → GetOutcome limit q b n status
+got_no_store limit q b n text status w none unasked h =
+    let read = read_to_end limit b.source n.source text w in
+    said limit q b n BadStore status h (λ t. record { read = read; no_document = here; unasked = unasked; took = t })
+    (λ p. inr (inr (inr (inl (read, here, p)))))
+  where
+    here : OfNoDocument b.source
+    here t l = rw (w t l).0 at none
+
+-- a text that is a document of a store
+pub got_from : (limit : ℕ) (q : Wanted) (b n : Told) (text : List ℕ) (s : Store) (status : Status) → IsWhole limit b.source n.source text → HasStore text s → GotAll s q b.taps n.taps b.sink n.sink status → GetOutcome limit q b n status
+got_from limit q b n text s status w d g = by_status status g
+  where
+    read : WasReadToEnd limit b.source n.source
+    read = read_to_end limit b.source n.source text w
+
+    over : OverStore limit s b n
+    over = record { read = read; document = λ t l. rw (w t l).0 at d; others = g.others }
+
+    cut : (AllHonest b.taps → IsCutGet s q b.sink n.sink) → AnyCut (FromTaps s q b.taps n.taps) b.sink n.sink → IsCut limit q b n
+    cut honest any = inr (inr (inr (inr (record { store = s; over = over; honest = honest; any = any }))))
+
+    by_status : (status : Status) → GotAll s q b.taps n.taps b.sink n.sink status → GetOutcome limit q b n status
+    by_status Done g = record {
+      store = s;
+      over = over;
+      honest = λ all. record { printed = g.honest all; passed = g.chunks all refl };
+      any = g.any;
+    }
+    by_status BadWords g = absurd g.any
+    by_status BadStore g = absurd g.any
+    by_status BadScript g = absurd g.any
+    by_status NotFound g = record { store = s; over = over; honest = g.honest; any = g.any }
+    by_status ReadFault g = absurd g.any
+    by_status WriteFault g = (g.any.0, cut (λ all. (g.honest all).1) g.any.1)
+    by_status NoMemory g = cut g.honest g.any
+    by_status TooLong g = absurd g.any
+    by_status (BadBlock k) g = record { store = s; over = over; dishonest = g.honest; any = g.any }

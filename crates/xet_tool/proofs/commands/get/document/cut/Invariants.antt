@@ -1,0 +1,10 @@
+use Rattle.std.proofs.Common.{◌≡◌, ◌++◌, length, drop}
+use Rattle.xet_store.specs.Parts.{parts}
+use Rattle.xet_tool.specs.steps.ChunkEnds.{AreEnds}
+use Rattle.xet_tool.proofs.commands.get.document.cut.Given as goal
+
+abbrev pub invariant-loop-end : goal.invariant-loop-end
+invariant-loop-end l = record {
+  ends : AreEnds l.start (drop l.end-index l.ends) (length l.bytes);
+  left : parts l.bytes 0 l.ends ≡ l.chunks ++ parts l.bytes l.start (drop l.end-index l.ends);
+}

@@ -1,0 +1,7 @@
+-- Working words of private functions.
+pub mod AddedMembers
+pub mod ChunkEnds
+pub mod LaterFlushes
+pub mod PrintedDigits
+pub mod Printing
+pub mod Reading

@@ -1,0 +1,102 @@
+//! The command `get`.
+ghost use Rattle.std.specs.Prelude.{◌≡◌, IfOk, MatchOption, length, map};
+ghost use Rattle.serde_json.specs.View.{view};
+ghost use Rattle.xet_tool.specs.Document.{HasStore, NoStore, Reads};
+ghost use Rattle.xet_tool.specs.Ends.{input_limit};
+ghost use Rattle.xet_tool.specs.Get.{GetOutcome};
+ghost use Rattle.xet_tool.specs.Outcome.{IsFlushed};
+ghost use Rattle.xet_tool.specs.steps.Printing.{GotFrom, NoData};
+
+mod digits;
+mod document;
+mod hex_digits;
+pub mod wanted;
+
+use crate::commands::get::digits::{Printed, print_digits};
+use crate::commands::get::document::store_of;
+use crate::commands::get::wanted::Wanted;
+use crate::printing::{finish, say, say_after, stopped};
+use crate::reading::{LIMIT, ReadError, read_to_end};
+use crate::status::Status;
+use serde_json::Value;
+use std::alloc::Global;
+use xet_base::OutOfMemory;
+use xet_store::{MemStore, Sink, Source, Tap};
+
+// The value of a text, or none where it is no JSON. The text's memory is given back.
+fn value_of(alloc: Global, text: Vec<u8>) -> Result<Option<Value>, OutOfMemory>
+    ensures { IfOk result (λ o. MatchOption o (NoData text.items) (λ v. Reads text.items (view v))) }
+{
+    match Value::from_slice(alloc, text.as_slice()) {
+        Ok(value) => Ok(Some(value)),
+        Err(error) => {
+            if error.is_memory() {
+                return Err(OutOfMemory);
+            }
+            Ok(None)
+        }
+    }
+}
+
+// The store of a text, where it has one.
+fn document_of(alloc: Global, text: Vec<u8>) -> Result<Option<MemStore>, OutOfMemory>
+    ensures { IfOk result (λ o. MatchOption o (NoStore text.items) (HasStore text.items)) }
+{
+    match value_of(alloc, text)? {
+        Some(value) => store_of(alloc, &value),
+        None => Ok(None),
+    }
+}
+
+// Prints the digits of the range and the last line.
+fn print<T: Tap + Send, O: Sink + Send>(
+    alloc: Global,
+    wanted: Wanted,
+    store: &MemStore,
+    tap: &mut T,
+    out: &mut O,
+) -> Status
+    ensures printed { GotFrom store.now wanted (T.told tap.old) (T.told tap.new) (O.told out.old) (O.told out.new) result }
+    ensures flushed { IsFlushed result (O.told out.new) }
+{
+    match print_digits(alloc, wanted, store, tap, out) {
+        Printed::All(count) => match format!(in alloc; "ok {count}\n") {
+            Ok(line) => finish(out, Status::Done, line.as_bytes()),
+            Err(_) => say_after(out, Status::NoMemory),
+        },
+        Printed::NoFile => say_after(out, Status::NotFound),
+        Printed::Part => say_after(out, Status::NoMemory),
+        Printed::Stopped(error) => stopped(error),
+        Printed::BadBlock(test) => match format!(in alloc; "error block {test}\n") {
+            Ok(line) => finish(out, Status::BadBlock(test), line.as_bytes()),
+            Err(_) => say_after(out, Status::NoMemory),
+        },
+    }
+}
+
+/// Reads the input to its end, and prints the range of the file of its store. Its blocks go through the first tap.
+pub fn get<I: Source, O: Sink + Send, T: Tap + Send>(
+    alloc: Global,
+    wanted: Wanted,
+    input: &mut I,
+    out: &mut O,
+    taps: &mut [T],
+) -> Status
+    requires { length taps.old ≡ 64 }
+    ensures outcome { GetOutcome input_limit wanted
+        (record { source = I.told input.old; sink = O.told out.old; taps = map T.told taps.old })
+        (record { source = I.told input.new; sink = O.told out.new; taps = map T.told taps.new }) result }
+    ensures flushed { IsFlushed result (O.told out.new) }
+{
+    let text = match read_to_end(alloc, input, LIMIT) {
+        Ok(text) => text,
+        Err(ReadError::OutOfMemory) => return say(out, Status::NoMemory),
+        Err(ReadError::Fault) => return say(out, Status::ReadFault),
+        Err(ReadError::TooLong) => return say(out, Status::TooLong),
+    };
+    match document_of(alloc, text) {
+        Ok(Some(store)) => print(alloc, wanted, &store, &mut taps[0], out),
+        Ok(None) => say(out, Status::BadStore),
+        Err(_) => say(out, Status::NoMemory),
+    }
+}
