@@ -80,8 +80,8 @@ impl<K: Ord + Copy, V: Keyed<K>> KeyedList<K, V> {
         self.values.get(number)
     }
 
-    /// Puts a value in the place of the one with the same key, which `position` tells, and gives that one back. It takes
-    /// no memory.
+    /// Puts a value in the place of the one with the same key, which `position` tells, and gives that one back. It
+    /// takes no memory.
     pub fn replace(&mut self, number: usize, value: V) -> V
         requires { position (λ v. is_eq (K.cmp (V.key_of v) (V.key_of value))) self.old ≡ Some number }
         ensures old { slice_get self.old number ≡ Some result }

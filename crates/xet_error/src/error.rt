@@ -75,8 +75,8 @@ pub enum Corruption {
     /// A refresh has another block at this index, or none.
     #[error("RefreshBlocks")]
     RefreshBlocks { index: usize },
-    /// There are `actual` offsets, and not one for each of the block's `expected` chunks; or, of a term that is cut, its
-    /// block has `actual` chunks, and the term needs `expected`. Sums stop at `u64::MAX`.
+    /// There are `actual` offsets, and not one for each of the block's `expected` chunks; or, of a term that is cut,
+    /// its block has `actual` chunks, and the term needs `expected`. Sums stop at `u64::MAX`.
     #[error("OffsetCount")]
     OffsetCount { expected: u64, actual: u64 },
     /// The offset at this place is not 0 at the first place, is not above the one before it, or is not below the number

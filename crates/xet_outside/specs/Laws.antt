@@ -48,7 +48,8 @@ BlocksAnswerNoQuery = (before after : ClientTold) (r : BlockRequest) (answer : R
 -- calls in a row
 abbrev pub AnswersJoin : Type 0
 AnswersJoin = (before between after : ClientTold) (xs ys : List Query) (all more : List Said)
-    → IsAnswered before between xs all → IsAnswered between after ys more → IsAnswered before after (xs ++ ys) (all ++ more)
+    → IsAnswered before between xs all → IsAnswered between after ys more
+    → IsAnswered before after (xs ++ ys) (all ++ more)
 
 -- an answer to a query stays one after more calls, and an answer among what more calls add is one among all
 abbrev pub QueryAnswersStay : Type 0
@@ -56,5 +57,6 @@ QueryAnswersStay = (xs ys : List Query) (all more : List Said) (q : Query) (a : 
     → AnswerToQuery xs all q a → AnswerToQuery (xs ++ ys) (all ++ more) q a
 
 abbrev pub QueryAnswersCome : Type 0
-QueryAnswersCome = (before between : ClientTold) (xs ys : List Query) (all more : List Said) (q : Query) (a : PlanAnswer)
+QueryAnswersCome = (before between : ClientTold) (xs ys : List Query) (all more : List Said)
+    (q : Query) (a : PlanAnswer)
     → IsAnswered before between xs all → AnswerToQuery ys more q a → AnswerToQuery (xs ++ ys) (all ++ more) q a

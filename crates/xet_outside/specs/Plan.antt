@@ -71,7 +71,8 @@ ranges_of (k ∷ ks) = with_number k (ranges_of ks)
 -- the numbers of a xorb's chunks that some term has
 abbrev pub touched_numbers : List PlanTerm → MerkleHash → ℕ → List ℕ
 touched_numbers ts x n =
-    filter (λ k. list_any (λ t. hash_eq t.xorb x && nat_le t.range.start k && nat_lt k t.range.end) ts) (range_with_len 0 n)
+    filter (λ k. list_any (λ t. hash_eq t.xorb x && nat_le t.range.start k && nat_lt k t.range.end) ts)
+    (range_with_len 0 n)
 
 -- the place of some of a xorb's chunks in its joined chunks
 abbrev pub byte_range : List (List ℕ) → ChunkRange → HttpRange

@@ -49,9 +49,9 @@ pub record PlaceSet : Type 0 where
   pub place : ℕ
   pub taken : ℕ
 
--- what a sink works through, the outermost first: references, by their ghost names, adapters, by what the sink below had
--- taken when they were made, and last the place where it writes, if it has one. No call but those that set the place
--- changes it
+-- what a sink works through, the outermost first: references, by their ghost names, adapters, by what the sink below
+-- had taken when they were made, and last the place where it writes, if it has one. No call but those that set the
+-- place changes it
 abbrev pub Link : Type 0
 Link = List (ℕ ⊎ (Option (List ℕ) ⊎ PlaceSet))
 
@@ -110,7 +110,8 @@ IsHonestBlock s r (Bytes b) = Holds s r.xorb r.chunks → b ≡ block_of s r.xor
 IsHonestBlock s r Expired = Unit {0}
 
 -- one call of `plan`
-pub record PlanCall (before after : ClientTold) (file : MerkleHash) (range : FileRange) (answer : Result PlanAnswer ClientError) : Type 0 where
+pub record PlanCall (before after : ClientTold) (file : MerkleHash) (range : FileRange)
+    (answer : Result PlanAnswer ClientError) : Type 0 where
   pub store : after.store ≡ before.store
   pub honest : (s : Store) → before.store ≡ Some s → IfOk answer (IsHonest s file range)
   pub asked : OnOk answer (Grew before.asked after.asked (file, range))
@@ -129,7 +130,8 @@ ServedBy before after r (Bytes b) = Grew before.served after.served (served_of r
 ServedBy before after r Expired = after.served ≡ before.served
 
 -- one call of `block`
-pub record BlockCall (before after : ClientTold) (request : BlockRequest) (answer : Result BlockAnswer ClientError) : Type 0 where
+pub record BlockCall (before after : ClientTold) (request : BlockRequest)
+    (answer : Result BlockAnswer ClientError) : Type 0 where
   pub store : after.store ≡ before.store
   pub honest : (s : Store) → before.store ≡ Some s → IfOk answer (IsHonestBlock s request)
   pub asked : after.asked ≡ before.asked
@@ -161,7 +163,8 @@ abbrev pub MayLook : CacheTold → CacheTold → MerkleHash → ChunkRange → T
 MayLook before after x r = (after.looked ≡ before.looked) ⊎ Grew before.looked after.looked (x, r, None)
 
 -- one call of `get`
-pub record GetCall (before after : CacheTold) (xorb : MerkleHash) (range : ChunkRange) (answer : Result (Option BlockBytes) CacheError) : Type 0 where
+pub record GetCall (before after : CacheTold) (xorb : MerkleHash) (range : ChunkRange)
+    (answer : Result (Option BlockBytes) CacheError) : Type 0 where
   pub entries : after.entries ≡ before.entries
   pub found : IfOk answer (λ o. IfSome o (λ b. IfSome before.entries (λ es. Contains es (xorb, range, b))))
   pub looked : IfOk answer (λ o. Grew before.looked after.looked (xorb, range, o))
@@ -172,7 +175,8 @@ pub record GetCall (before after : CacheTold) (xorb : MerkleHash) (range : Chunk
   pub failed : IsErrOf answer cache_error.Failed → Rose before.faults after.faults
 
 -- one call of `put`
-pub record PutCall (before after : CacheTold) (xorb : MerkleHash) (range : ChunkRange) (block : BlockBytes) (answer : Result (Unit {0}) CacheError) : Type 0 where
+pub record PutCall (before after : CacheTold) (xorb : MerkleHash) (range : ChunkRange) (block : BlockBytes)
+    (answer : Result (Unit {0}) CacheError) : Type 0 where
   pub entries : (after.entries ≡ before.entries) ⊎ Grew before.entries after.entries (xorb, range, block)
   pub looked : after.looked ≡ before.looked
   pub offers : Counted before.offers after.offers

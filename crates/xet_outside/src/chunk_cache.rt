@@ -61,7 +61,8 @@ impl ChunkCache for NoCache {
         _xorb: &MerkleHash,
         _range: ChunkRange,
     ) -> Result<Option<BlockBytes>, CacheError>
-        ensures call { GetCall (⟦<NoCache as ChunkCache>⟧.told self.old) (⟦<NoCache as ChunkCache>⟧.told self.new) _xorb.now _range result }
+        ensures call { GetCall (⟦<NoCache as ChunkCache>⟧.told self.old) (⟦<NoCache as ChunkCache>⟧.told self.new)
+            _xorb.now _range result }
         ensures none { result ≡ Ok None }
     {
         Ok(None)
@@ -75,7 +76,8 @@ impl ChunkCache for NoCache {
         _range: ChunkRange,
         _block: &BlockBytes,
     ) -> Result<(), CacheError>
-        ensures call { PutCall (⟦<NoCache as ChunkCache>⟧.told self.old) (⟦<NoCache as ChunkCache>⟧.told self.new) _xorb.now _range _block.now result }
+        ensures call { PutCall (⟦<NoCache as ChunkCache>⟧.told self.old) (⟦<NoCache as ChunkCache>⟧.told self.new)
+            _xorb.now _range _block.now result }
         ensures left { result ≡ Ok tt }
     {
         Ok(())

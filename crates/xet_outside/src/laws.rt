@@ -21,8 +21,8 @@ pub fn worked_blocks()
     ensures { block_of worked x1 (chunk_range 0 1 ∷ chunk_range 2 4 ∷ []) ≡ block_of_hello_world }
 {}
 
-/// Each call of `block` adds an answer with bytes for each served block that it adds, a call of `plan` adds neither, and
-/// calls in a row add one after the other. So the n-th answer with bytes is to the n-th served block, and stays so.
+/// Each call of `block` adds an answer with bytes for each served block that it adds, a call of `plan` adds neither,
+/// and calls in a row add one after the other. So the n-th answer with bytes is to the n-th served block, and stays so.
 pub fn answers_belong_to_requests()
     ensures block { BlocksPair }
     ensures plan { PlansPair }
@@ -31,8 +31,8 @@ pub fn answers_belong_to_requests()
     ensures come { AnswersCome }
 {}
 
-/// Each call of `plan` that answers adds an answer for its query, a call of `block` adds neither, and calls in a row add
-/// one after the other. So the n-th answer to a query is to the n-th query, up to one that was not answered.
+/// Each call of `plan` that answers adds an answer for its query, a call of `block` adds neither, and calls in a row
+/// add one after the other. So the n-th answer to a query is to the n-th query, up to one that was not answered.
 pub fn answers_belong_to_queries()
     ensures plan { QueriesAnswered }
     ensures block { BlocksAnswerNoQuery }
