@@ -9,7 +9,8 @@ use Rattle.std.proofs.lemmas.List.Folds.{concat-append}
 use Rattle.xet_base.specs.declared.mdb_shard.Xorb.{Xorb}
 use Rattle.xet_base.specs.Store.{IsValidXorb}
 use Rattle.xet_outside.specs.Plan.{lengths}
-use Rattle.xet_store.specs.Parts.{parts, ends_of, IsJoined}
+use Rattle.xet_store.specs.Parts.{parts}
+use Rattle.xet_store.specs.steps.Joined.{ends_of, IsJoined}
 
 -- how long the chunks are together
 pub joined_length_is : (cs : List (List ℕ)) → sum (lengths cs) ≡ length (concat cs)

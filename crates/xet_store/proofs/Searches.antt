@@ -1,6 +1,6 @@
 -- What a search finds.
-use Rattle.std.proofs.Common.{◌≡◌, ℕ, ◌<◌, ◌+◌, Bool, true, false, cond, List, [], ◌∷◌, length, map, get_or, refl, sym, ◌∙◌, ap, arith}
-use Rattle.std.specs.Prelude.{Option, Some, None, find, position, slice_get, option_and_then, not, is_some, IfSome}
+use Rattle.std.proofs.Common.{◌≡◌, ℕ, zero, suc, ◌<◌, ◌+◌, Bool, true, false, cond, List, [], ◌∷◌, length, map, get_or, refl, sym, ◌∙◌, ap, arith}
+use Rattle.std.specs.Prelude.{AllPairs, IsFalse, Option, Some, None, find, position, slice_get, option_and_then, not, is_some, IfSome}
 use Rattle.std.specs.Option.{option_copied}
 use Rattle.std.specs.List.{position_or_len, list_any}
 use Rattle.std.proofs.lemmas.Bool.{lt-ltb, le-ltb, false≢true}
@@ -10,7 +10,10 @@ use Rattle.std.proofs.lemmas.Option.{slice_get_past, slice_get_within, slice_get
 use borrow.Author.Tests.{ltb-true, ltb-false}
 use denote.Ref.{Bor}
 use lib.Dec.{ltb}
-use Rattle.xet_base.proofs.CallerLemmas.{find_some, place_none, place_within}
+use Rattle.xet_base.specs.Hashes.{hash_eq}
+use Rattle.xet_base.specs.declared.mdb_shard.Xorb.{Xorb}
+use Rattle.xet_base.specs.declared.merklehash.MerkleHash.{MerkleHash}
+use Rattle.xet_base.proofs.CallerLemmas.{find_some, hash_eq-true, place_none, place_within}
 
 -- where a search finds nothing, nothing passes
 pub find_none : {A : Type 0} (p : A → Bool) (xs : List A) → find p xs ≡ None → list_any p xs ≡ false
@@ -37,3 +40,25 @@ find_within p xs x h =
       slice_get_within xs (position_or_len p xs) x e,
       get_or_from_slice_get xs (position_or_len p xs) x x e,
     )
+
+-- the first element that passes, by the place before which none does
+find_first : {A : Type 0} (p : A → Bool) (xs : List A) (i : ℕ) (x : A) → i < length xs → get_or xs i x ≡ x
+    → p x ≡ true → ((j : ℕ) → j < i → p (get_or xs j x) ≡ false) → find p xs ≡ Some x
+find_first p [] i x l e h f = absurd (omega arith)
+find_first p (y ∷ xs) zero x l e h f = ap (λ (b : Bool). cond b (Some y) (find p xs)) (ap p e ∙ h) ∙ ap Some e
+find_first p (y ∷ xs) (suc i) x l e h f =
+    ap (λ (b : Bool). cond b (Some y) (find p xs)) (f 0 (omega arith))
+    ∙ find_first p xs i x (omega arith) e h (λ j k. f (suc j) (omega arith))
+
+-- a xorb with this hash, at whatever place, is the one that a search finds, where the hashes differ
+pub find_near : (xs : List Xorb) (i : ℕ) (x : Xorb) (h : MerkleHash)
+    → AllPairs (λ a b. IsFalse (hash_eq a.hash b.hash)) xs → slice_get xs i ≡ Some x → hash_eq x.hash h ≡ true
+    → find (λ y. hash_eq y.hash h) xs ≡ Some x
+find_near xs i x h differ at here =
+    let within = slice_get_within xs i x at in
+    let is = get_or_from_slice_get xs i x x at in
+    let same : x.hash ≡ h = hash_eq-true x.hash h here in
+    find_first (λ y. hash_eq y.hash h) xs i x within is here (λ j before.
+    ap (λ (k : MerkleHash). hash_eq (get_or xs j x).hash k) (sym same)
+    ∙ ap (λ (y : Xorb). hash_eq (get_or xs j x).hash y.hash) (sym is)
+    ∙ differ j i x before within)

@@ -21,12 +21,14 @@ abbrev pub entry_at : List CacheEntry → MerkleHash → ChunkRange → Option B
 entry_at es x r = option_map (λ (e : CacheEntry). e.2) (find (has_key x r) es)
 
 -- a look: the entry of the key, or want of memory
-pub record MapGet (es : List CacheEntry) (x : MerkleHash) (r : ChunkRange) (answer : Result (Option BlockBytes) CacheError) : Type 0 where
+pub record MapGet (es : List CacheEntry) (x : MerkleHash) (r : ChunkRange)
+    (answer : Result (Option BlockBytes) CacheError) : Type 0 where
   pub found : IfOk answer (λ o. o ≡ entry_at es x r)
   pub memory : IfErr answer (λ e. e ≡ cache_error.OutOfMemory)
 
 -- an offer: the entry is added where its key isn't there, or memory was wanted
-pub record MapPut (before after : List CacheEntry) (x : MerkleHash) (r : ChunkRange) (b : BlockBytes) (answer : Result (Unit {0}) CacheError) : Type 0 where
+pub record MapPut (before after : List CacheEntry) (x : MerkleHash) (r : ChunkRange) (b : BlockBytes)
+    (answer : Result (Unit {0}) CacheError) : Type 0 where
   pub added : entry_at before x r ≡ None → OnOk answer (after ≡ before ++ (x, r, b) ∷ [])
   pub left : IsSome (entry_at before x r) → (after ≡ before) × (answer ≡ Ok tt)
   pub kept : OnErr answer (after ≡ before)

@@ -1,1 +1,4 @@
+pub mod ChunkPlaces
+pub mod Joined
 pub mod MemPlans
+pub mod TermRefusals

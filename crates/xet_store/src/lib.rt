@@ -3,7 +3,7 @@
 
 pub mod client_log;
 pub mod laws;
-pub mod look_log;
+mod look_log;
 pub mod map_cache;
 mod mem_block;
 pub mod mem_client;
@@ -11,22 +11,27 @@ mod mem_cut;
 mod mem_fetch;
 mod mem_plan;
 pub mod mem_store;
+pub mod mem_uploader;
 pub mod script_client;
 pub mod script_signal;
 mod stored_xorb;
 pub mod tap;
 pub mod tap_client;
-pub mod tap_log;
+mod tap_log;
 mod touched_chunks;
+pub mod uploader;
 pub mod worked;
+pub mod xorb_records;
 
 pub use map_cache::MapCache;
 pub use mem_client::MemClient;
 pub use mem_store::{MemStore, StoreRefused};
+pub use mem_uploader::MemUploader;
 pub use script_client::{ClientStep, ScriptClient};
 pub use script_signal::ScriptSignal;
 pub use tap::{MemTap, NoTap, ScriptTap, Tap};
 pub use tap_client::TapClient;
+pub use uploader::{Put, Uploader};
 pub use xet_outside::{
     BlockAnswer, BlockBytes, BlockRequest, CacheError, CancelSignal, ChunkCache, Client,
     ClientError, FetchEntry, FetchRange, NeverCancel, NoCache, PlaceSink, Plan, PlanAnswer,
@@ -37,3 +42,4 @@ pub use xet_sinks::{
     BufferedSink, FileSink, HexSink, MemFile, ReadSource, ScriptSink, ScriptSource, SinkStep,
     SourceStep, VecSink, VecSource, WriteSink,
 };
+pub use xorb_records::{ChunkPlace, XorbRecords};

@@ -40,7 +40,12 @@ pub struct MapCache {
 impl MapCache {
     /// A cache without entries. It takes no memory.
     pub fn new(alloc: Global) -> MapCache
-        ensures told { ⟦<MapCache as ChunkCache>⟧.told result ≡ record { entries = Some []; looked = Some []; offers = Some 0; faults = 0 } }
+        ensures told { ⟦<MapCache as ChunkCache>⟧.told result ≡ record {
+          entries = Some [];
+          looked = Some [];
+          offers = Some 0;
+          faults = 0;
+        } }
     {
         MapCache {
             entries: KeyedList::new(alloc),
@@ -53,7 +58,8 @@ impl MapCache {
     fn number_of(&self, key: &CacheKey) -> Option<usize>
         ensures { MatchOption result (entry_at self.now.entries key.now.xorb key.now.range ≡ None)
             (λ i. (i < length self.now.entries)
-            × (entry_at self.now.entries key.now.xorb key.now.range ≡ option_map (λ e. e.2) (slice_get self.now.entries i))) }
+            × (entry_at self.now.entries key.now.xorb key.now.range
+            ≡ option_map (λ e. e.2) (slice_get self.now.entries i))) }
     {
         self.entries.position(key)
     }
@@ -85,15 +91,16 @@ impl ChunkCache for MapCache {
       faults = 0;
     } };
 
-    /// The entry of the key; none exactly where there is none. `OutOfMemory` where memory was refused, and then the look
-    /// is not told.
+    /// The entry of the key; none exactly where there is none. `OutOfMemory` where memory was refused, and then the
+    /// look is not told.
     fn get(
         &mut self,
         alloc: Global,
         xorb: &MerkleHash,
         range: ChunkRange,
     ) -> Result<Option<BlockBytes>, CacheError>
-        ensures call { GetCall (⟦<MapCache as ChunkCache>⟧.told self.old) (⟦<MapCache as ChunkCache>⟧.told self.new) xorb.now range result }
+        ensures call { GetCall (⟦<MapCache as ChunkCache>⟧.told self.old)
+            (⟦<MapCache as ChunkCache>⟧.told self.new) xorb.now range result }
         ensures exact { MapGet self.old.entries xorb.now range result }
     {
         let Ok(found) = self.entry(alloc, xorb, range) else {
@@ -103,8 +110,8 @@ impl ChunkCache for MapCache {
         Ok(found)
     }
 
-    /// Adds the entry where its key isn't there, and else leaves the entries. `OutOfMemory` where memory was refused, and
-    /// then the entries are as before.
+    /// Adds the entry where its key isn't there, and else leaves the entries. `OutOfMemory` where memory was refused,
+    /// and then the entries are as before.
     fn put(
         &mut self,
         alloc: Global,
@@ -112,7 +119,8 @@ impl ChunkCache for MapCache {
         range: ChunkRange,
         block: &BlockBytes,
     ) -> Result<(), CacheError>
-        ensures call { PutCall (⟦<MapCache as ChunkCache>⟧.told self.old) (⟦<MapCache as ChunkCache>⟧.told self.new) xorb.now range block.now result }
+        ensures call { PutCall (⟦<MapCache as ChunkCache>⟧.told self.old)
+            (⟦<MapCache as ChunkCache>⟧.told self.new) xorb.now range block.now result }
         ensures exact { MapPut self.old.entries self.new.entries xorb.now range block.now result }
     {
         self.offers = self.offers.saturating_add(1);

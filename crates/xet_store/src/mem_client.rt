@@ -7,7 +7,7 @@ ghost use Rattle.xet_store.specs.MemUrls.{HasUrl, found_count, mem_url};
 
 use crate::client_log::ClientLog;
 use crate::mem_block::block_answer;
-use crate::mem_plan::plan_answer;
+use crate::mem_plan::{MemAnswer, plan_answer};
 use crate::mem_store::MemStore;
 use std::alloc::Global;
 use xet_base::{FileRange, MerkleHash};
@@ -25,12 +25,14 @@ pub struct MemClient<'a> {
     log: ClientLog,
     // how many plans it found
     plans: u64,
+    // where the xorb of each block of the last plan is looked for first
+    places: Vec<usize>,
     ghost counted: { plans ≡ found_count log.said },
 }
 
 impl<'a> MemClient<'a> {
     /// A connection that was asked nothing yet. It takes no memory.
-    pub fn new(_alloc: Global, store: &'a MemStore) -> MemClient<'a>
+    pub fn new(alloc: Global, store: &'a MemStore) -> MemClient<'a>
         ensures told { ⟦<MemClient<'a> as Client>⟧.told result ≡ record {
           store = Some store.now;
           asked = Some [];
@@ -48,6 +50,7 @@ impl<'a> MemClient<'a> {
             store,
             log: ClientLog::new(),
             plans: 0,
+            places: Vec::new(alloc),
         }
     }
 }
@@ -79,10 +82,11 @@ impl<'a> Client for MemClient<'a> {
         ensures store { self.new.store.now ≡ self.old.store.now }
     {
         let number = self.plans.checked_add(1).ok_or(ClientError::OutOfMemory)?;
-        let answer = plan_answer(alloc, self.store, file, range, number)?;
+        let MemAnswer { answer, places } = plan_answer(alloc, self.store, file, range, number)?;
         if let PlanAnswer::Found(_) = &answer {
             self.plans = number;
         }
+        self.places = places;
         self.log = self.log.and_plan(file, &range, &answer);
         Ok(answer)
     }
@@ -96,7 +100,9 @@ impl<'a> Client for MemClient<'a> {
         ensures error { IfErr result (λ e. e ≡ ClientError.OutOfMemory) }
         ensures store { self.new.store.now ≡ self.old.store.now }
     {
-        let block = block_answer(alloc, self.store, &request.xorb, request.chunks.as_slice())?;
+        let place = self.places.get(request.index).copied().unwrap_or(0);
+        let chunks = request.chunks.as_slice();
+        let block = block_answer(alloc, self.store, &request.xorb, place, chunks)?;
         let answer = BlockAnswer::Bytes(block);
         self.log = self.log.and_block(request, &answer);
         Ok(answer)

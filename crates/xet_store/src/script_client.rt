@@ -101,7 +101,8 @@ impl<'a> Client for ScriptClient<'a> {
       link = [];
     } };
 
-    /// The next step: `Fail`, `NoMemory` and `SayPlan` as they say; at every other step, and after the last, the plan of the range.
+    /// The next step: `Fail`, `NoMemory` and `SayPlan` as they say; at every other step, and after the last, the plan
+    /// of the range.
     fn plan(
         &mut self,
         alloc: Global,

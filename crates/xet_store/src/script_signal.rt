@@ -35,7 +35,8 @@ impl CancelSignal for ScriptSignal {
 
     /// The next answer, and no after the last.
     fn asked(&mut self) -> bool
-        ensures call { AskCall (⟦<ScriptSignal as CancelSignal>⟧.told self.old) (⟦<ScriptSignal as CancelSignal>⟧.told self.new) result }
+        ensures call { AskCall (⟦<ScriptSignal as CancelSignal>⟧.told self.old)
+            (⟦<ScriptSignal as CancelSignal>⟧.told self.new) result }
         ensures answer { result ≡ unwrap_or (slice_get self.old.answers.items self.old.given) false }
     {
         self.asks = self.asks.saturating_add(1);

@@ -23,7 +23,8 @@ pub struct TapClient<'a, 't, T: Tap> {
     start: Snapshot<T>,
     log: ClientLog,
     pub ghost given: { AreGiven (said_behind (T.told start.value) log) (T.told tap.now) },
-    pub ghost plans: { PlansAreHonest inner.store.now log.asked (plans_in log.said) } by { PlansAreHonest-prop inner.store.now log.asked (plans_in log.said) },
+    pub ghost plans: { PlansAreHonest inner.store.now log.asked (plans_in log.said) } by { PlansAreHonest-prop
+        inner.store.now log.asked (plans_in log.said) },
 }
 
 impl<'a, 't, T: Tap> TapClient<'a, 't, T> {
