@@ -2,7 +2,6 @@ mod AscendingSearch
 mod BlockReferences
 mod BlockUrls
 mod BlockWalk
-pub mod CallerLemmas
 mod ChainSums
 mod ChainsExist
 mod ChunkNumbers
@@ -14,6 +13,7 @@ mod HonestPlanTests
 mod JoinedPieces
 mod KnownSizes
 mod Lookups
+mod NearXorbs
 mod OfferOrder
 mod ReachedSums
 mod ServedChunks
@@ -22,3 +22,5 @@ mod TermChunks
 mod TermEnds
 mod TermOffers
 mod TrimmedTerms
+mod WholeSizes
+pub mod CallerLemmas

@@ -36,7 +36,8 @@ FromAnswer query (Found p) answer = FromTerms p query p.terms answer
 FromAnswer query PastEnd answer = answer ≡ Ok None
 FromAnswer query NoFile answer = answer ≡ Err error.FileNotFound
 
--- a connection was asked this query alone, and said one answer, which is that of the store that it tells and made this one
+-- a connection was asked this query alone, and said one answer, which is that of the store that it tells and made this
+-- one
 pub record FromSaid (before after : ClientTold) (query : PlanQuery) (answer : Answer) : Type 0 where
   pub plan : PlanAnswer
   pub asked : Grew before.asked after.asked (query.file, query.range)

@@ -194,7 +194,10 @@ fn a_data_task_before_and_after_the_block_is_kept(rt: HostRuntime) -> Result<(),
 }
 
 fn reference(start: u32, end: u32, uncompressed_size: usize) -> XorbReference
-    ensures { result ≡ record { term_chunks = record { start = start; end = end }; uncompressed_size = uncompressed_size } }
+    ensures { result ≡ record {
+      term_chunks = record { start = start; end = end };
+      uncompressed_size = uncompressed_size;
+    } }
 {
     XorbReference {
         term_chunks: ChunkRange::new(start, end),

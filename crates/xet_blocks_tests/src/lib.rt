@@ -1,5 +1,5 @@
-//! Tests of `xet_blocks`, over prepared plans and over a store in memory. They stand in a crate of their own, since a crate
-//! with tests is proved twice.
+//! Tests of `xet_blocks`, over prepared plans and over a store in memory. They stand in a crate of their own, since a
+//! crate with tests is proved twice.
 #![tactic(auto)]
 
 #[cfg(test)]

@@ -80,7 +80,8 @@ number_in bs b = position (λ c. same_block c (plan_block b)) (map plan_block bs
 -- a block has a number, and is added where it is not there
 abbrev pub IsNumbered : List OfferedBlock → List OfferedBlock → OfferedBlock → ℕ → Type 0
 IsNumbered before after b n =
-    MatchOption (number_in before b) ((after ≡ before ++ b ∷ []) × (n ≡ length before)) (λ i. (after ≡ before) × (n ≡ i))
+    MatchOption (number_in before b) ((after ≡ before ++ b ∷ []) × (n ≡ length before))
+    (λ i. (after ≡ before) × (n ≡ i))
 
 -- a term that lies in a range of a block is added with the block's number
 pub record IsPlaced (before after : PlanBlocks) (t : PlanTerm) (b : OfferedBlock) : Type 0 where
@@ -141,7 +142,8 @@ abbrev pub numbered_block : List PlacedTerm → ℕ × PlanBlock → XorbBlock
 numbered_block ts b = with_references (own_references ts b.0) b
 
 -- the parts of a block of terms, made of these blocks and with these URLs
-pub record IsMadeOf (q : FileRange) (offset : ℕ) (s : PlanBlocks) (u : TermBlockRetrievalURLs) (b : TermBlock) : Type 0 where
+pub record IsMadeOf (q : FileRange) (offset : ℕ) (s : PlanBlocks) (u : TermBlockRetrievalURLs)
+    (b : TermBlock) : Type 0 where
   pub range : b.byte_range ≡ u.byte_range
   pub transfer : b.transfer_bytes ≡ min (transfer_sum (map plan_block s.blocks)) (2 ^ 64 - 1)
   pub terms : b.terms ≡ terms_at q.end q.start offset s.terms

@@ -4,6 +4,7 @@ use Rattle.std.specs.Ordering.{nat_cmp}
 use Rattle.std.specs.BTreeMap.{get}
 use Rattle.xet_base.specs.declared.cas_types.ChunkRange.{ChunkRange}
 use Rattle.xet_blocks.specs.declared.reconstruction_terms.reached_sizes.ReachedSizes.{ReachedSizes}
+use Rattle.xet_blocks.specs.declared.reconstruction_terms.xorb_block.XorbReference.{XorbReference}
 
 -- how many bytes come before a chunk that is reached
 abbrev pub sum_of : ReachedSizes → ℕ → Option ℕ
@@ -18,3 +19,9 @@ bridge_of (r ∷ s ∷ rs) a = cond (nat_eq r.end a && nat_lt a s.start) (Some s
 -- a sum at this place alone
 abbrev pub reached_here : ℕ → ℕ → ℕ → Option ℕ
 reached_here place n p = cond (nat_eq place p) (Some n) None
+
+-- how many bytes the first term has, where it starts and ends at these chunks
+abbrev pub size_between : ℕ → ℕ → List XorbReference → Option ℕ
+size_between start end [] = None
+size_between start end (t ∷ ts) =
+    cond (nat_eq t.term_chunks.start start && nat_eq t.term_chunks.end end) (Some t.uncompressed_size) None

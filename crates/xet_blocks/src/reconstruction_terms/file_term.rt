@@ -140,9 +140,9 @@ pub struct TermBlock {
 /// block where the xorb and the whole list of ranges are equal.
 ///
 /// None exactly where the connection said that the range starts past the file's end, or gave a plan without terms.
-/// `FileNotFound` exactly where it said that the file is not stored. `CorruptedReconstruction` exactly where the plan has
-/// terms and fails a test, with the first test that fails. `ClientError` only where the connection's faults rose, and
-/// then it said nothing. `OutOfMemory` where memory was refused, here or on the connection.
+/// `FileNotFound` exactly where it said that the file is not stored. `CorruptedReconstruction` exactly where the plan
+/// has terms and fails a test, with the first test that fails. `ClientError` only where the connection's faults rose,
+/// and then it said nothing. `OutOfMemory` where memory was refused, here or on the connection.
 ///
 /// In the Rust crate: `file_reconstruction::reconstruction_terms::file_term::retrieve_file_term_block`.
 pub fn retrieve_file_term_block<C: Client>(

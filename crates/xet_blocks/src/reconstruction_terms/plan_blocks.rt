@@ -1,6 +1,10 @@
 //! The blocks of a plan: one for all ranges of an entry or for each of them, where some term lies in it.
 ghost use Rattle.std.specs.Prelude.{◌≡◌, ◌+◌, ◌-◌, ◌^◌, ◌<◌, ◌≤◌, [], ◌∷◌, All, IfErr, IfOk, None, OnOk, length, map, min};
+ghost use Rattle.std.proofs.Common.{rules};
+ghost use Rattle.std.specs.Cmp.{partial_order_from_own_ties};
+ghost use Rattle.std.specs.Cmp.Rules.{comparing};
 ghost use Rattle.std.specs.List.{enumerate_from};
+ghost use Rattle.std.specs.Ordering.{as_partial_cmp, flip_args, nat_cmp, on, then_cmp};
 ghost use Rattle.xet_outside.specs.Plan.{shape};
 ghost use Rattle.xet_blocks.specs.Blocks.{range_bytes, transfer_sum};
 ghost use Rattle.xet_blocks.specs.Refusals.{IsRefusal};
@@ -15,17 +19,48 @@ use crate::reconstruction_terms::plan_offers::{Offer, PlanOffers};
 use crate::reconstruction_terms::retrieval_urls::RetrievalUrl;
 use crate::reconstruction_terms::xorb_block::{XorbBlock, XorbReference};
 use std::alloc::Global;
+use std::cmp::Ordering;
 use std::mem;
 use xet_base::{ChunkRange, FileRange, HttpRange, Keyed, KeyedList, List, MerkleHash, OutOfMemory};
 use xet_error::{Corruption, FileReconstructionError};
 use xet_outside::{FetchRange, PlanTerm};
 
-/// What tells a term's block from others: the number of its xorb, and its number among the blocks that the xorb offers. A
-/// term lies in no block before its own, so that the blocks of two terms with different numbers have different ranges.
-#[derive(Clone, Copy, PartialEq, Eq, PartialOrd, Ord)]
+/// What tells a term's block from others: the number of its xorb, and its number among the blocks that the xorb
+/// offers. A term lies in no block before its own, so that the blocks of two terms with different numbers have
+/// different ranges. The greater ones come first: the keys of a plan mostly rise, and a search through an ordered map
+/// looks at its first ones first.
+#[derive(Clone, Copy, PartialEq, Eq)]
 pub(crate) struct BlockKey {
     place: usize,
     number: usize,
+}
+
+impl Ord for BlockKey {
+    ghost cmp = { then_cmp (on (λ k. k.place) (flip_args nat_cmp)) (on (λ k. k.number) (flip_args nat_cmp)) };
+
+    ghost total = { Prim.search (comparing, rules) };
+
+    ghost matches_partial_cmp = { Prim.search (comparing, rules) };
+
+    ghost matches_eq = { Prim.search (comparing, rules) };
+
+    fn cmp(&self, other: &BlockKey) -> Ordering {
+        other
+            .place
+            .cmp(&self.place)
+            .then(other.number.cmp(&self.number))
+    }
+}
+
+impl PartialOrd for BlockKey {
+    ghost partial_cmp = { as_partial_cmp
+        (then_cmp (on (λ k. k.place) (flip_args nat_cmp)) (on (λ k. k.number) (flip_args nat_cmp))) };
+
+    ghost laws = { partial_order_from_own_ties (Prim.search (comparing, rules)) (Prim.search (comparing, rules)) };
+
+    fn partial_cmp(&self, other: &BlockKey) -> Option<Ordering> {
+        Some(self.cmp(other))
+    }
 }
 
 /// A block of a xorb, by one of its ranges.
@@ -64,8 +99,8 @@ pub(crate) struct PlanBlocks<'a> {
 }
 
 impl<'a> PlanBlocks<'a> {
-    /// The terms of a plan and their blocks, given the number of each term's xorb. Tests that each term lies in a range of
-    /// its xorb.
+    /// The terms of a plan and their blocks, given the number of each term's xorb. Tests that each term lies in a range
+    /// of its xorb.
     pub(crate) fn new(
         alloc: Global,
         offers: &PlanOffers<'a>,
@@ -163,8 +198,8 @@ impl<'a> PlanBlocks<'a> {
         Ok(urls)
     }
 
-    /// The terms, where the first stands at the query's start and without so many bytes at its front. Each is cut at the
-    /// query's end.
+    /// The terms, where the first stands at the query's start and without so many bytes at its front. Each is cut at
+    /// the query's end.
     pub(crate) fn file_terms(
         &self,
         alloc: Global,

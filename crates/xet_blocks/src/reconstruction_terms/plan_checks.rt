@@ -57,7 +57,8 @@ pub(crate) fn check_entries(plan: &Plan, multirange: bool) -> Result<(), Corrupt
     Ok(())
 }
 
-/// Tests that the xorb of each term is in the plan. Gives the number of each term's xorb, which is looked up here alone.
+/// Tests that the xorb of each term is in the plan. Gives the number of each term's xorb, which is looked up here
+/// alone: at first where the xorb of the term before stands, and behind it.
 pub(crate) fn check_xorbs(
     alloc: Global,
     offers: &PlanOffers,
@@ -67,12 +68,14 @@ pub(crate) fn check_xorbs(
     ensures refused { IfErr result (IsRefusal (no_xorb_test (shape offers.now.plan.now))) }
 {
     let mut numbers = with_room(alloc, offers.plan.terms.len())?;
+    let mut last = 0;
     for (place, term) in offers.plan.terms.as_slice().iter().enumerate() {
-        let Some(number) = offers.number_of(&term.xorb) else {
+        let Some(number) = offers.number_near(&term.xorb, last) else {
             let failed = Corruption::NoXorb { term: place };
             return Err(FileReconstructionError::CorruptedReconstruction(failed));
         };
         numbers.push(number)?;
+        last = number;
     }
     Ok(numbers)
 }
@@ -104,8 +107,8 @@ fn check_offset(plan: &Plan) -> Result<(), Corruption>
     }
 }
 
-/// Tests that each term's end in the file is a number, and that the terms pass the query's end by no more bytes than the
-/// last one has. Gives the last one's end.
+/// Tests that each term's end in the file is a number, and that the terms pass the query's end by no more bytes than
+/// the last one has. Gives the last one's end.
 fn check_ends(plan: &Plan, query: FileRange) -> Result<u64, Corruption>
     requires { 0 < length plan.now.terms }
     ensures { let plan = shape plan.now in MatchResult result

@@ -1,6 +1,7 @@
 //! Where the chunks of a plan's terms are fetched: the ranges that the entries of its xorbs offer.
-ghost use Rattle.std.specs.Prelude.{◌≡◌, ◌++◌, ◌∷◌, [], false, find, length, map, nat_le, not, option_map, true, IfOk, IsSome, MatchOption, None, OnOk};
+ghost use Rattle.std.specs.Prelude.{◌≡◌, ◌++◌, ◌∷◌, [], false, find, length, map, nat_le, not, option_map, true, IfOk, IsSome, MatchOption, None, OnOk, Some, position};
 ghost use Rattle.std.specs.List.Sorted.{IsPartitionPoint};
+ghost use Rattle.xet_base.specs.Hashes.{hash_eq};
 ghost use Rattle.xet_outside.specs.Plan.{shape};
 ghost use Rattle.xet_blocks.specs.Blocks.{lies_in, plan_xorb_of};
 ghost use Rattle.xet_blocks.specs.steps.Offers.{first_xorbs, offered, xorb_offers, xorb_place};
@@ -138,6 +139,13 @@ impl<'a> XorbOffers<'a> {
         })
     }
 
+    /// Whether they are those of the xorb with this hash. The order compares by words, and equality by bytes.
+    fn are_of(&self, xorb: &MerkleHash) -> bool
+        ensures { result ≡ hash_eq self.now.xorb xorb.now }
+    {
+        self.xorb.cmp(xorb).is_eq()
+    }
+
     /// The first range in which the term lies. Where the ranges ascend no other one has the term, and its place is
     /// searched by halves.
     fn find(&self, term: &PlanTerm) -> Option<Offer<'a>>
@@ -207,7 +215,8 @@ pub(crate) struct PlanOffers<'a> {
     /// The offers of each xorb.
     xorbs: KeyedList<MerkleHash, XorbOffers<'a>>,
     ghost hashed: { map (λ x. x.xorb) xorbs ≡ map (λ x. x.xorb) (first_xorbs plan.now.xorbs) },
-    ghost offered: { map (λ x. map offered x.offers) xorbs ≡ map (xorb_offers multirange) (first_xorbs plan.now.xorbs) },
+    ghost offered: { map (λ x. map offered x.offers) xorbs
+        ≡ map (xorb_offers multirange) (first_xorbs plan.now.xorbs) },
 }
 
 impl<'a> PlanOffers<'a> {
@@ -242,6 +251,33 @@ impl<'a> PlanOffers<'a> {
             × (number ≡ xorb_place self.now.plan.now xorb.now)) }
     {
         self.xorbs.number_of(xorb)
+    }
+
+    /// The number of a xorb among those of the plan that differ, or none where it is not in the plan: `number_of`,
+    /// which looks at a number and the one after it first.
+    pub(crate) fn number_near(&self, xorb: &MerkleHash, number: usize) -> Option<usize>
+        ensures { MatchOption result (plan_xorb_of (shape self.now.plan.now) xorb.now ≡ None)
+            (λ number. IsSome (plan_xorb_of (shape self.now.plan.now) xorb.now)
+            × (number ≡ xorb_place self.now.plan.now xorb.now)) }
+    {
+        if self.is_at(number, xorb) {
+            return Some(number);
+        }
+        let next = number.saturating_add(1);
+        if self.is_at(next, xorb) {
+            return Some(next);
+        }
+        self.number_of(xorb)
+    }
+
+    /// Whether the xorb has this number among those of the plan that differ.
+    fn is_at(&self, number: usize, xorb: &MerkleHash) -> bool
+        ensures { result ≡ true → position (λ x. hash_eq x.xorb xorb.now) self.now.xorbs ≡ Some number }
+    {
+        match self.xorbs.as_slice().get(number) {
+            Some(offers) => offers.are_of(xorb),
+            None => false,
+        }
     }
 
     /// The first range in which the term lies of the xorb with this number, which is the term's.

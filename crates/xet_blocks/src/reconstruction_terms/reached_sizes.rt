@@ -40,7 +40,8 @@ impl ReachedSizes {
 
     /// Adds a chunk, unless it is there.
     fn reach(&mut self, place: u32, sum: usize) -> Result<(), OutOfMemory>
-        ensures { OnOk result ((p : ℕ) → sum_of self.new p ≡ first_some (sum_of self.old p ∷ reached_here place sum p ∷ [])) }
+        ensures { OnOk result ((p : ℕ) →
+            sum_of self.new p ≡ first_some (sum_of self.old p ∷ reached_here place sum p ∷ [])) }
     {
         if self.sums.get(&place).is_none() {
             self.sums.insert(place, sum)?;
@@ -55,7 +56,8 @@ impl ReachedSizes {
         term: &XorbReference,
     ) -> Result<(), OutOfMemory>
         requires ascend { Ascend 0 (last_end ranges.now) ranges.now }
-        requires fits { (n : ℕ) → sum_of self.old term.now.term_chunks.start ≡ Some n → term.now.uncompressed_size + n < 2 ^ 64 }
+        requires fits { (n : ℕ) → sum_of self.old term.now.term_chunks.start ≡ Some n
+            → term.now.uncompressed_size + n < 2 ^ 64 }
         ensures { OnOk result ((p : ℕ) → sum_of self.new p
             ≡ first_some (sum_of self.old p ∷ sum_by_term ranges.now (sum_of self.old) p term.now ∷ [])) }
     {

@@ -70,12 +70,12 @@ impl TermBlockRetrievalURLs {
         self.retrieval_urls
     }
 
-    /// The URL of a block by its number, from 0, and the acquisition that it came with; none exactly where the number is
-    /// out of range.
+    /// The URL of a block by its number, from 0, and the acquisition that it came with; none exactly where the number
+    /// is out of range.
     ///
     /// In the Rust crate:
-    /// `file_reconstruction::reconstruction_terms::retrieval_urls::TermBlockRetrievalURLs::get_retrieval_url`, which panics
-    /// out of range.
+    /// `file_reconstruction::reconstruction_terms::retrieval_urls::TermBlockRetrievalURLs::get_retrieval_url`, which
+    /// panics out of range.
     pub fn get_retrieval_url(&self, xorb_block_index: usize) -> Option<(UniqueId, &RetrievalUrl)>
         ensures { MatchOption result (length self.now.retrieval_urls ≤ xorb_block_index)
             (λ found. (found.0 ≡ self.now.acquisition_id)

@@ -9,6 +9,7 @@ ghost use Rattle.xet_blocks.specs.BlockCalls.{CheckCall, RequestCall};
 ghost use Rattle.xet_blocks.specs.BlockChecks.{chunk_total, count_test, failed_block_test, is_misplaced, length_test, misplaced_after, numbers_in, order_test};
 ghost use Rattle.xet_blocks.specs.Chain.{last_end};
 ghost use Rattle.xet_blocks.specs.TermBlocks.{known_size};
+ghost use Rattle.xet_blocks.specs.steps.Reached.{size_between};
 
 use crate::reconstruction_terms::lists::with_room;
 use crate::reconstruction_terms::reached_sizes::{ReachedSizes, sizes_fit};
@@ -86,8 +87,8 @@ impl XorbBlock {
     /// How many bytes a block of these chunk ranges has, where terms in it tell it by the sizes of their chunks: some
     /// of the terms lead from the first range's start to the last one's end, each starting where the one before it
     /// ends, or at the start of the range after the one at whose end that one ends. Of several such lists the first
-    /// found counts. No ranges have 0 bytes. None where there is no such list, and where there is a range and the sum of
-    /// all sizes passes `usize::MAX`.
+    /// found counts. No ranges have 0 bytes. None where there is no such list, and where there is a range and the sum
+    /// of all sizes passes `usize::MAX`.
     ///
     /// The ranges are nonempty and ascend, and the terms are nonempty and sorted by their starts. `OutOfMemory` where
     /// memory for the reached places was refused.
@@ -108,6 +109,9 @@ impl XorbBlock {
         };
         if !sizes_fit(terms) {
             return Ok(None);
+        }
+        if let Some(size) = size_between(first.start, last.end, terms) {
+            return Ok(Some(size));
         }
         let mut reached = ReachedSizes::new(alloc, first.start)?;
         for term in terms {
@@ -145,11 +149,11 @@ impl XorbBlock {
 
     /// The data of a block that a connection answered, where it passes its tests.
     ///
-    /// `OffsetCount` exactly where there is not one offset for each chunk of the ranges, with the number of chunks, a sum
-    /// that stops at `u64::MAX`, and the number of offsets; a reversed range has no chunks. Else `OffsetOrder` at the
-    /// first offset that is not 0 at the first place, not above the one before it, or not below the number of bytes. Else
-    /// `BlockLength` where the block's size is known and is not the number of bytes. `OutOfMemory` where the data's
-    /// memory was refused.
+    /// `OffsetCount` exactly where there is not one offset for each chunk of the ranges, with the number of chunks, a
+    /// sum that stops at `u64::MAX`, and the number of offsets; a reversed range has no chunks. Else `OffsetOrder` at
+    /// the first offset that is not 0 at the first place, not above the one before it, or not below the number of
+    /// bytes. Else `BlockLength` where the block's size is known and is not the number of bytes. `OutOfMemory` where
+    /// the data's memory was refused.
     ///
     /// In the Rust crate: a step of `XorbBlock::retrieve_data`.
     pub fn check(&self, alloc: Global, block: &BlockBytes) -> Result<XorbBlockData>
@@ -176,6 +180,18 @@ impl XorbBlock {
         ensures { self.new ≡ record self.old { kept = Some found } }
     {
         self.kept = Some(found);
+    }
+}
+
+/// How many bytes the first term has, where it starts and ends at these chunks.
+fn size_between(start: u32, end: u32, terms: &[XorbReference]) -> Option<usize>
+    ensures { result ≡ size_between start end terms.now }
+{
+    match terms {
+        [term, ..] if term.term_chunks.start == start && term.term_chunks.end == end => {
+            Some(term.uncompressed_size)
+        }
+        _ => None,
     }
 }
 
@@ -285,7 +301,8 @@ fn push_chunks(
     range: ChunkRange,
     offsets: &[u32],
 ) -> std::result::Result<(), OutOfMemory>
-    ensures { OnOk result (pairs.new ≡ pairs.old ++ zip (range_with_len range.start (range.end - range.start)) offsets.now) }
+    ensures { OnOk result (pairs.new
+        ≡ pairs.old ++ zip (range_with_len range.start (range.end - range.start)) offsets.now) }
 {
     let count = range.end.saturating_sub(range.start) as usize;
     for (index, offset) in offsets[..count.min(offsets.len())].iter().enumerate() {
