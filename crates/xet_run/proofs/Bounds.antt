@@ -1,4 +1,4 @@
--- The unwritten bytes after an admission.
+-- The unwritten bytes just after an admission, whatever follows it.
 use Rattle.std.proofs.Common.{◌≡◌, ℕ, ◌+◌, ◌≤◌, ◌⊎◌, List, [], ◌∷◌, ◌++◌, Option, Some, None, refl, ◌∙◌, ap, ⊎_elim, arith, max}
 use Rattle.std.specs.Prelude.{count_by, slice_get, MatchOption}
 use Rattle.std.specs.List.{sum_by}
@@ -27,4 +27,4 @@ one_more es limit f a = go (slice_get (planned es) (count_by is_admit es)) refl 
         ⊎_elim (λ (z : unwritten es ≡ 0). omega (arith, all, w, covered, z)) (λ (z : unwritten es + size t ≤ limit). omega (arith, all, w, covered, z)) m
 
 pub within_limit : WithinLimit
-within_limit es limit a = let p = allowed_parts [] es (Admit limit ∷ []) a in one_more es limit (facts es p.0) p.1.0
+within_limit es limit after a = let p = allowed_parts [] es (Admit limit ∷ after) a in one_more es limit (facts es p.0) p.1.0

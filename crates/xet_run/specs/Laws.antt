@@ -21,8 +21,8 @@ abbrev pub FirstErrorStays : Type 0
 FirstErrorStays = (before after : List Event) (e : FileReconstructionError)
     → first_error before ≡ Some e → first_error (before ++ after) ≡ Some e
 
--- just after an Admit event the unwritten bytes are within its limit, or those of the term that it admits
+-- just after each Admit event the unwritten bytes are within its limit, or those of the term that it admits
 abbrev pub WithinLimit : Type 0
-WithinLimit = (before : List Event) (limit : ℕ) → IsAllowedHistory (before ++ Admit limit ∷ [])
+WithinLimit = (before : List Event) (limit : ℕ) (after : List Event) → IsAllowedHistory (before ++ Admit limit ∷ after)
     → MatchOption (slice_get (planned before) (count_by is_admit before)) ⊥
     (λ t. unwritten (before ++ Admit limit ∷ []) ≤ max limit (size t))

@@ -17,7 +17,7 @@ pub fn first_error_stays()
     ensures { FirstErrorStays }
 {}
 
-/// Just after an admission the unwritten bytes are within its limit, or those of the admitted term.
+/// Just after each admission of a history the unwritten bytes are within its limit, or those of the admitted term.
 pub fn within_limit()
     ensures { WithinLimit }
 {}

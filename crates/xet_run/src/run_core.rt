@@ -107,10 +107,8 @@ impl RunCore {
         if !adjoin(terms.as_slice(), place, blocks.len()) {
             return Err(CoreRefusal::NotAllowed);
         }
-        let Some(plan) = self.index.plans.checked_add(1) else {
-            return Err(CoreRefusal::OutOfMemory);
-        };
         self.events.reserve(1)?;
+        let plan = self.index.plans + 1;
         self.index.queue(plan, terms.as_slice())?;
         self.index.plans = plan;
         self.index.planned_end = end_after(self.index.planned_end, terms.as_slice());

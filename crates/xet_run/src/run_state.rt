@@ -1,5 +1,6 @@
 //! The book of a run under a lock, with the history of its calls, which a ledger counts.
-ghost use Rattle.std.specs.Prelude.{◌≡◌, ℕ, ◌⊎◌, ◌+◌, ◌-◌, ◌^◌, min, ◌<◌, ◌≤◌, ◌++◌, ◌∷◌, [], Err, vec_len, vec_capacity, length, IfOk, OnOk, OnErr};
+ghost use Rattle.std.specs.Prelude.{◌≡◌, ℕ, ◌⊎◌, ◌+◌, ◌-◌, ◌^◌, min, ◌<◌, ◌≤◌, ◌++◌, ◌∷◌, [], Err, None, Some, vec_len, vec_capacity, length, IfOk, IsOk, OnOk, OnErr};
+ghost use Rattle.std.specs.Result.{result_err};
 ghost use Rattle.xet_error.specs.declared.error.FileReconstructionError.TheVariants as error;
 ghost use Rattle.xet_run.specs.declared.run_book.RunError.TheVariants as run_error;
 ghost use Rattle.xet_run.specs.RunReplay.{book_after, book_after_all, all_replied, opening, replied, IsReplayed};
@@ -8,6 +9,7 @@ ghost use Rattle.xet_run.specs.steps.RunLogs.{log, Logs, LogsError, LogsNone, Lo
 use crate::run_book::{RunBook, RunError};
 use crate::run_call::RunCall;
 use std::alloc::Global;
+use std::marker::PhantomData;
 use std::sync::ledger::{Blank, Book, Ledger, Share};
 use std::sync::{Mutex, Wait};
 use xet_base::{List, MerkleHash, OutOfMemory};
@@ -24,14 +26,25 @@ pub(crate) struct Logged<L: Ledger> {
     ghost counted: { vec_len history ≡ calls.total },
 }
 
-/// The right to make calls on the state of a run, and how many calls were made with it.
+/// That a ledger has 2^32 parts. It takes no bytes.
+#[derive(Drop)]
+pub(crate) struct Whole<L: Ledger> {
+    of: PhantomData<L>,
+    ghost parts: { L.parts ≡ 2 ^ 32 },
+}
+
+/// The right to make calls on the state of a run, how many calls were made with it, and the last of them with its
+/// reply. It has at least one of the 2^32 parts of the run's ledger.
 #[derive(Drop)]
 pub struct RunPass<L: Ledger> {
     pub(crate) share: Share<L>,
+    whole: Whole<L>,
     calls: u64,
     parts: u64,
+    last: Option<RunCall>,
     ghost counted: { calls ≡ min share.amount (2 ^ 64 - 1) },
     ghost has: { parts ≡ share.parts },
+    ghost some: { 0 < share.parts },
 }
 
 impl<L: Ledger> RunPass<L> {
@@ -40,26 +53,31 @@ impl<L: Ledger> RunPass<L> {
         requires { (1 ≤ parts) × (parts < self.old.share.parts) }
         ensures parts { (result.share.parts ≡ parts) × (self.new.share.parts + parts ≡ self.old.share.parts) }
         ensures calls { (result.share.amount ≡ 0) × (self.new.share.amount ≡ self.old.share.amount) }
+        ensures last { (result.last ≡ None) × (self.new.last ≡ self.old.last) }
     {
         let share = self.share.split_off(parts, 0);
         self.parts -= parts;
         RunPass {
             share,
+            whole: Whole { of: PhantomData },
             calls: 0,
             parts,
+            last: None,
         }
     }
 
-    /// Takes in the other's parts and calls.
+    /// Takes in the other's parts and calls. The last call stays its own.
     pub fn gather(&mut self, other: RunPass<L>)
-        requires { L.parts ≡ 2 ^ 32 }
         ensures parts { self.new.share.parts ≡ self.old.share.parts + other.share.parts }
         ensures calls { self.new.share.amount ≡ self.old.share.amount + other.share.amount }
+        ensures last { self.new.last ≡ self.old.last }
     {
         let RunPass {
             share,
+            whole: _,
             calls,
             parts,
+            last: _,
         } = other;
         self.share.merge(share);
         self.calls = self.calls.saturating_add(calls);
@@ -80,27 +98,34 @@ impl<L: Ledger> RunPass<L> {
         self.parts
     }
 
-    /// Counts one call more.
-    fn count(&mut self, book: &mut Book<L>)
-        requires { 0 < self.old.share.parts }
+    /// The last call that was made and counted with it, with its reply. None where there was none.
+    pub fn last(&self) -> Option<RunCall>
+        ensures { result ≡ self.now.last }
+    {
+        self.last
+    }
+
+    /// Counts this call.
+    fn count(&mut self, book: &mut Book<L>, call: RunCall)
         ensures total { book.new.total ≡ book.old.total + 1 }
         ensures calls { self.new.share.amount ≡ self.old.share.amount + 1 }
         ensures parts { self.new.share.parts ≡ self.old.share.parts }
+        ensures last { self.new.last ≡ Some call }
     {
         book.add(&mut self.share, 1);
         self.calls = self.calls.saturating_add(1);
+        self.last = Some(call);
     }
 }
 
 impl<L: Ledger> Logged<L> {
     /// Keeps a call that was made on the book before it.
     fn keep(&mut self, mine: &mut RunPass<L>, call: RunCall, book: RunBook)
-        requires parts { 0 < mine.old.share.parts }
         requires reply { replied self.old.book call ≡ call }
         requires book { book ≡ book_after self.old.book call }
         requires room { vec_len self.old.history < vec_capacity self.old.history }
-        ensures kept { Logs (log self.old.history.items mine.old.share.amount)
-            (log self.new.history.items mine.new.share.amount) call }
+        ensures kept { Logs (log self.old.history.items mine.old.share.amount mine.old.last)
+            (log self.new.history.items mine.new.share.amount mine.new.last) call }
         ensures parts { mine.new.share.parts ≡ mine.old.share.parts }
     {
         let Logged {
@@ -109,7 +134,7 @@ impl<L: Ledger> Logged<L> {
             calls,
         } = self;
         history.push_reserved(call);
-        mine.count(calls);
+        mine.count(calls, call);
         *kept = book;
     }
 
@@ -118,11 +143,10 @@ impl<L: Ledger> Logged<L> {
         mine: &mut RunPass<L>,
         error: FileReconstructionError,
     ) -> Result<(), OutOfMemory>
-        requires { 0 < mine.old.share.parts }
-        ensures kept { OnOk result (Logs (log self.old.history.items mine.old.share.amount)
-            (log self.new.history.items mine.new.share.amount) (RunCall.SetError error)) }
-        ensures refused { OnErr result (LogsNone (log self.old.history.items mine.old.share.amount)
-            (log self.new.history.items mine.new.share.amount)) }
+        ensures kept { OnOk result (Logs (log self.old.history.items mine.old.share.amount mine.old.last)
+            (log self.new.history.items mine.new.share.amount mine.new.last) (RunCall.SetError error)) }
+        ensures refused { OnErr result (LogsNone (log self.old.history.items mine.old.share.amount mine.old.last)
+            (log self.new.history.items mine.new.share.amount mine.new.last)) }
         ensures parts { mine.new.share.parts ≡ mine.old.share.parts }
     {
         self.history.reserve(1)?;
@@ -133,9 +157,8 @@ impl<L: Ledger> Logged<L> {
     }
 
     fn check_error(&mut self, mine: &mut RunPass<L>) -> Result<(), FileReconstructionError>
-        requires { 0 < mine.old.share.parts }
-        ensures kept { LogsError (log self.old.history.items mine.old.share.amount)
-            (log self.new.history.items mine.new.share.amount) result }
+        ensures kept { LogsError (log self.old.history.items mine.old.share.amount mine.old.last)
+            (log self.new.history.items mine.new.share.amount mine.new.last) result }
         ensures parts { mine.new.share.parts ≡ mine.old.share.parts }
     {
         if self.history.reserve(1).is_err() {
@@ -148,9 +171,9 @@ impl<L: Ledger> Logged<L> {
     }
 
     fn check_run_state(&mut self, mine: &mut RunPass<L>) -> Result<(), RunError>
-        requires { 0 < mine.old.share.parts }
-        ensures kept { LogsState (log self.old.history.items mine.old.share.amount)
-            (log self.new.history.items mine.new.share.amount) result }
+        ensures kept { LogsState (log self.old.history.items mine.old.share.amount mine.old.last)
+            (log self.new.history.items mine.new.share.amount mine.new.last) result }
+        ensures memory { result ≡ Err run_error.OutOfMemory → mine.new.share.amount ≡ mine.old.share.amount }
         ensures parts { mine.new.share.parts ≡ mine.old.share.parts }
     {
         if self.history.reserve(1).is_err() {
@@ -163,11 +186,10 @@ impl<L: Ledger> Logged<L> {
     }
 
     fn cancel(&mut self, mine: &mut RunPass<L>) -> Result<(), OutOfMemory>
-        requires { 0 < mine.old.share.parts }
-        ensures kept { OnOk result (Logs (log self.old.history.items mine.old.share.amount)
-            (log self.new.history.items mine.new.share.amount) RunCall.Cancel) }
-        ensures refused { OnErr result (LogsNone (log self.old.history.items mine.old.share.amount)
-            (log self.new.history.items mine.new.share.amount)) }
+        ensures kept { OnOk result (Logs (log self.old.history.items mine.old.share.amount mine.old.last)
+            (log self.new.history.items mine.new.share.amount mine.new.last) RunCall.Cancel) }
+        ensures refused { OnErr result (LogsNone (log self.old.history.items mine.old.share.amount mine.old.last)
+            (log self.new.history.items mine.new.share.amount mine.new.last)) }
         ensures parts { mine.new.share.parts ≡ mine.old.share.parts }
     {
         self.history.reserve(1)?;
@@ -178,11 +200,10 @@ impl<L: Ledger> Logged<L> {
     }
 
     fn record_new_block(&mut self, mine: &mut RunPass<L>) -> Result<(), OutOfMemory>
-        requires { 0 < mine.old.share.parts }
-        ensures kept { OnOk result (Logs (log self.old.history.items mine.old.share.amount)
-            (log self.new.history.items mine.new.share.amount) RunCall.NewBlock) }
-        ensures refused { OnErr result (LogsNone (log self.old.history.items mine.old.share.amount)
-            (log self.new.history.items mine.new.share.amount)) }
+        ensures kept { OnOk result (Logs (log self.old.history.items mine.old.share.amount mine.old.last)
+            (log self.new.history.items mine.new.share.amount mine.new.last) RunCall.NewBlock) }
+        ensures refused { OnErr result (LogsNone (log self.old.history.items mine.old.share.amount mine.old.last)
+            (log self.new.history.items mine.new.share.amount mine.new.last)) }
         ensures parts { mine.new.share.parts ≡ mine.old.share.parts }
     {
         self.history.reserve(1)?;
@@ -193,11 +214,10 @@ impl<L: Ledger> Logged<L> {
     }
 
     fn record_new_term(&mut self, mine: &mut RunPass<L>, term_size: u64) -> Result<(), OutOfMemory>
-        requires { 0 < mine.old.share.parts }
-        ensures kept { OnOk result (Logs (log self.old.history.items mine.old.share.amount)
-            (log self.new.history.items mine.new.share.amount) (RunCall.NewTerm term_size)) }
-        ensures refused { OnErr result (LogsNone (log self.old.history.items mine.old.share.amount)
-            (log self.new.history.items mine.new.share.amount)) }
+        ensures kept { OnOk result (Logs (log self.old.history.items mine.old.share.amount mine.old.last)
+            (log self.new.history.items mine.new.share.amount mine.new.last) (RunCall.NewTerm term_size)) }
+        ensures refused { OnErr result (LogsNone (log self.old.history.items mine.old.share.amount mine.old.last)
+            (log self.new.history.items mine.new.share.amount mine.new.last)) }
         ensures parts { mine.new.share.parts ≡ mine.old.share.parts }
     {
         self.history.reserve(1)?;
@@ -208,11 +228,10 @@ impl<L: Ledger> Logged<L> {
     }
 
     fn total_bytes_scheduled(&mut self, mine: &mut RunPass<L>) -> Result<u64, OutOfMemory>
-        requires { 0 < mine.old.share.parts }
-        ensures kept { IfOk result (λ n. Logs (log self.old.history.items mine.old.share.amount)
-            (log self.new.history.items mine.new.share.amount) (RunCall.Scheduled n)) }
-        ensures refused { OnErr result (LogsNone (log self.old.history.items mine.old.share.amount)
-            (log self.new.history.items mine.new.share.amount)) }
+        ensures kept { IfOk result (λ n. Logs (log self.old.history.items mine.old.share.amount mine.old.last)
+            (log self.new.history.items mine.new.share.amount mine.new.last) (RunCall.Scheduled n)) }
+        ensures refused { OnErr result (LogsNone (log self.old.history.items mine.old.share.amount mine.old.last)
+            (log self.new.history.items mine.new.share.amount mine.new.last)) }
         ensures parts { mine.new.share.parts ≡ mine.old.share.parts }
     {
         self.history.reserve(1)?;
@@ -224,8 +243,8 @@ impl<L: Ledger> Logged<L> {
 }
 
 /// The state of a run, which its threads share: a `RunBook` under a lock, with the history of the calls on it. Each
-/// call holds the lock once, keeps itself in the history with its reply, and is counted by its pass. A call that finds
-/// no memory answers `OutOfMemory` and is neither kept nor counted.
+/// call holds the lock once, keeps itself in the history with its reply, and is counted by its pass, whose last call it
+/// is then. A call that finds no memory answers `OutOfMemory` and is neither kept nor counted.
 ///
 /// In the Rust crate: `file_reconstruction::run_state::RunState`.
 #[derive(Drop)]
@@ -243,8 +262,10 @@ impl<L: Ledger> RunState<L> {
     ) -> Result<(RunState<L>, RunPass<L>), OutOfMemory>
         requires name { blank.name ≡ L.name }
         requires parts { (blank.parts ≡ L.parts) × (L.parts ≡ 2 ^ 32) }
+        ensures made { IsOk result }
         ensures file { IfOk result (λ r. r.0.file_hash ≡ file_hash) }
         ensures pass { IfOk result (λ r. (r.1.share.parts ≡ L.parts) × (r.1.share.amount ≡ 0)) }
+        ensures last { IfOk result (λ r. r.1.last ≡ None) }
     {
         let (calls, share) = blank.open::<L>();
         let logged = Logged {
@@ -258,8 +279,10 @@ impl<L: Ledger> RunState<L> {
         };
         let pass = RunPass {
             share,
+            whole: Whole { of: PhantomData },
             calls: 0,
             parts: 1 << 32,
+            last: None,
         };
         Ok((state, pass))
     }
@@ -278,9 +301,10 @@ impl<L: Ledger> RunState<L> {
         pass: &mut RunPass<L>,
         error: FileReconstructionError,
     ) -> Result<(), OutOfMemory>
-        requires { 0 < pass.old.share.parts }
-        ensures counted { OnOk result (pass.new.share.amount ≡ pass.old.share.amount + 1) }
-        ensures refused { OnErr result (pass.new.share.amount ≡ pass.old.share.amount) }
+        ensures counted { OnOk result ((pass.new.share.amount ≡ pass.old.share.amount + 1)
+            × (pass.new.last ≡ Some (RunCall.SetError error))) }
+        ensures refused { OnErr result ((pass.new.share.amount ≡ pass.old.share.amount)
+            × (pass.new.last ≡ pass.old.last)) }
         ensures parts { pass.new.share.parts ≡ pass.old.share.parts }
     {
         self.state.lock(rt).set_error(pass, error)
@@ -293,9 +317,10 @@ impl<L: Ledger> RunState<L> {
         rt: &R,
         pass: &mut RunPass<L>,
     ) -> Result<(), FileReconstructionError>
-        requires { 0 < pass.old.share.parts }
-        ensures counted { (pass.new.share.amount ≡ pass.old.share.amount + 1)
-            ⊎ ((pass.new.share.amount ≡ pass.old.share.amount) × (result ≡ Err error.OutOfMemory)) }
+        ensures counted { ((pass.new.share.amount ≡ pass.old.share.amount + 1)
+            × (pass.new.last ≡ Some (RunCall.CheckError (result_err result))))
+            ⊎ (((pass.new.share.amount ≡ pass.old.share.amount) × (pass.new.last ≡ pass.old.last))
+            × (result ≡ Err error.OutOfMemory)) }
         ensures parts { pass.new.share.parts ≡ pass.old.share.parts }
     {
         self.state.lock(rt).check_error(pass)
@@ -303,9 +328,11 @@ impl<L: Ledger> RunState<L> {
 
     /// The first error as `RunError::Error`, else `RunError::Cancelled` where the run is marked.
     pub fn check_run_state<R: Wait>(&self, rt: &R, pass: &mut RunPass<L>) -> Result<(), RunError>
-        requires { 0 < pass.old.share.parts }
-        ensures counted { (pass.new.share.amount ≡ pass.old.share.amount + 1)
-            ⊎ ((pass.new.share.amount ≡ pass.old.share.amount) × (result ≡ Err run_error.OutOfMemory)) }
+        ensures counted { ((pass.new.share.amount ≡ pass.old.share.amount + 1)
+            × (pass.new.last ≡ Some (RunCall.CheckRunState (result_err result))))
+            ⊎ (((pass.new.share.amount ≡ pass.old.share.amount) × (pass.new.last ≡ pass.old.last))
+            × (result ≡ Err run_error.OutOfMemory)) }
+        ensures memory { result ≡ Err run_error.OutOfMemory → pass.new.share.amount ≡ pass.old.share.amount }
         ensures parts { pass.new.share.parts ≡ pass.old.share.parts }
     {
         self.state.lock(rt).check_run_state(pass)
@@ -313,9 +340,10 @@ impl<L: Ledger> RunState<L> {
 
     /// Marks the run as cancelled.
     pub fn cancel<R: Wait>(&self, rt: &R, pass: &mut RunPass<L>) -> Result<(), OutOfMemory>
-        requires { 0 < pass.old.share.parts }
-        ensures counted { OnOk result (pass.new.share.amount ≡ pass.old.share.amount + 1) }
-        ensures refused { OnErr result (pass.new.share.amount ≡ pass.old.share.amount) }
+        ensures counted { OnOk result ((pass.new.share.amount ≡ pass.old.share.amount + 1)
+            × (pass.new.last ≡ Some RunCall.Cancel)) }
+        ensures refused { OnErr result ((pass.new.share.amount ≡ pass.old.share.amount)
+            × (pass.new.last ≡ pass.old.last)) }
         ensures parts { pass.new.share.parts ≡ pass.old.share.parts }
     {
         self.state.lock(rt).cancel(pass)
@@ -327,9 +355,10 @@ impl<L: Ledger> RunState<L> {
         rt: &R,
         pass: &mut RunPass<L>,
     ) -> Result<(), OutOfMemory>
-        requires { 0 < pass.old.share.parts }
-        ensures counted { OnOk result (pass.new.share.amount ≡ pass.old.share.amount + 1) }
-        ensures refused { OnErr result (pass.new.share.amount ≡ pass.old.share.amount) }
+        ensures counted { OnOk result ((pass.new.share.amount ≡ pass.old.share.amount + 1)
+            × (pass.new.last ≡ Some RunCall.NewBlock)) }
+        ensures refused { OnErr result ((pass.new.share.amount ≡ pass.old.share.amount)
+            × (pass.new.last ≡ pass.old.last)) }
         ensures parts { pass.new.share.parts ≡ pass.old.share.parts }
     {
         self.state.lock(rt).record_new_block(pass)
@@ -342,9 +371,10 @@ impl<L: Ledger> RunState<L> {
         pass: &mut RunPass<L>,
         term_size: u64,
     ) -> Result<(), OutOfMemory>
-        requires { 0 < pass.old.share.parts }
-        ensures counted { OnOk result (pass.new.share.amount ≡ pass.old.share.amount + 1) }
-        ensures refused { OnErr result (pass.new.share.amount ≡ pass.old.share.amount) }
+        ensures counted { OnOk result ((pass.new.share.amount ≡ pass.old.share.amount + 1)
+            × (pass.new.last ≡ Some (RunCall.NewTerm term_size))) }
+        ensures refused { OnErr result ((pass.new.share.amount ≡ pass.old.share.amount)
+            × (pass.new.last ≡ pass.old.last)) }
         ensures parts { pass.new.share.parts ≡ pass.old.share.parts }
     {
         self.state.lock(rt).record_new_term(pass, term_size)
@@ -356,9 +386,10 @@ impl<L: Ledger> RunState<L> {
         rt: &R,
         pass: &mut RunPass<L>,
     ) -> Result<u64, OutOfMemory>
-        requires { 0 < pass.old.share.parts }
-        ensures counted { OnOk result (pass.new.share.amount ≡ pass.old.share.amount + 1) }
-        ensures refused { OnErr result (pass.new.share.amount ≡ pass.old.share.amount) }
+        ensures counted { IfOk result (λ n. (pass.new.share.amount ≡ pass.old.share.amount + 1)
+            × (pass.new.last ≡ Some (RunCall.Scheduled n))) }
+        ensures refused { OnErr result ((pass.new.share.amount ≡ pass.old.share.amount)
+            × (pass.new.last ≡ pass.old.last)) }
         ensures parts { pass.new.share.parts ≡ pass.old.share.parts }
     {
         self.state.lock(rt).total_bytes_scheduled(pass)

@@ -184,9 +184,12 @@ fn a_book_of_a_run_keeps_its_first_error(rt: HostRuntime) -> Result<(), Fail> {
     Ok(())
 }
 
-/// What the calls of one run answered, and its stored history.
+/// What the calls of one run answered, its file, how many parts its pass had at first, the two after a split, and the
+/// one after the gathering, and its stored history.
 #[derive(Drop)]
 struct Answers {
+    file: MerkleHash,
+    parts: [u64; 4],
     error: Result<(), FileReconstructionError>,
     state: Result<(), RunError>,
     scheduled: Result<u64, OutOfMemory>,
@@ -204,8 +207,11 @@ fn calls_of_a_run<L: Ledger, R: Wait>(
     requires parts { (blank.parts ≡ L.parts) × (L.parts ≡ 2 ^ 32) }
 {
     let (state, mut pass) = RunState::<L>::new(alloc, blank, MerkleHash([1; 32]))?;
+    let file = *state.file_hash();
+    let all = pass.parts();
     state.set_error(rt, &mut pass, FileReconstructionError::IoError)?;
     let mut other = pass.split(1);
+    let (left, one) = (pass.parts(), other.parts());
     state.set_error(rt, &mut other, FileReconstructionError::UrlExpired)?;
     let error = state.check_error(rt, &mut pass);
     state.record_new_term(rt, &mut other, 5)?;
@@ -217,6 +223,8 @@ fn calls_of_a_run<L: Ledger, R: Wait>(
     pass.gather(other);
     let counted = pass.calls();
     Ok(Answers {
+        file,
+        parts: [all, left, one, pass.parts()],
         error,
         state: seen,
         scheduled,
@@ -243,6 +251,8 @@ fn a_run_keeps_its_calls(rt: HostRuntime) -> Result<(), Fail> {
         RunCall::CheckRunState(Some(RunError::Error(FileReconstructionError::IoError))),
     ];
     let answers = one_run(&rt, rt.alloc())?;
+    assert_eq!(rt; answers.file, MerkleHash([1; 32]));
+    assert_eq!(rt; answers.parts, [1 << 32, (1 << 32) - 1, 1, 1 << 32]);
     assert_eq!(rt; answers.error, Err(FileReconstructionError::IoError));
     assert_eq!(rt;
         answers.state,
