@@ -8,3 +8,5 @@ pub use Rattle.xet_fetch.proofs.HonestRefreshes.{honest_tables}
 pub use Rattle.xet_fetch.proofs.HonestEntries.{entries_return, honest_entries_pass}
 -- terms in entries that pass the tests of their blocks
 pub use Rattle.xet_fetch.proofs.CachedTerms.{cached_terms_pass}
+-- an answer belongs to its own request: the bytes of the last try, the answer to the last refresh, and those before it
+pub use Rattle.xet_fetch.proofs.Fetching.{bytes_own, plan_own, query_own}

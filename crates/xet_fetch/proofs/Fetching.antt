@@ -1,69 +1,220 @@
 -- Tries of a block, refreshes between them, and the data that they give.
-use Rattle.std.proofs.Common.{◌≡◌, ℕ, suc, ◌+◌, ◌-◌, ◌<◌, ◌≤◌, ◌⊎◌, Bool, true, false, cond, List, [], ◌∷◌, ◌++◌, length, map, Ok, Err, Some, None, Option, Result, refl, sym, ◌∙◌, ap, set, subst, inl, inr, arith, append_assoc, length-append}
-use Rattle.std.specs.Prelude.{IsSome, MatchOption, option_map, nat_eq, slice_get}
+use Rattle.std.proofs.Common.{◌≡◌, ℕ, zero, suc, ◌+◌, ◌-◌, ◌<◌, ◌≤◌, ◌⊎◌, Bool, true, false, cond, List, [], ◌∷◌, ◌++◌, length, map, Ok, Err, Some, None, Option, Result, refl, sym, ◌∙◌, ap, set, subst, inl, inr, arith, length-append}
+use Rattle.std.specs.Prelude.{All, IsSome, MatchOption, option_map, nat_eq, slice_get}
 use Rattle.std.proofs.lemmas.Bool.{eqb-false, eqb-true}
 use Rattle.std.proofs.lemmas.Option.{same_Some}
 use Rattle.std.proofs.lemmas.List.{length-map}
-use Rattle.std.proofs.lemmas.List.Elements.{Contains-append_right}
+use Rattle.std.proofs.lemmas.List.Elements.{All-append, All-nil}
 use Rattle.xet_base.specs.declared.cas_types.FileRange.{FileRange}
-use Rattle.xet_base.specs.declared.merklehash.MerkleHash.{MerkleHash}
 use Rattle.xet_base.specs.declared.unique_id.UniqueId.{UniqueId}
 use Rattle.xet_base.specs.Lists.{first_some}
+use Rattle.xet_base.specs.Store.{Store}
+use Rattle.xet_outside.specs.declared.block.BlockAnswer.{BlockAnswer}
 use Rattle.xet_outside.specs.declared.block.BlockAnswer.TheVariants.{Bytes, Expired}
 use Rattle.xet_outside.specs.declared.block.BlockBytes.{BlockBytes}
 use Rattle.xet_outside.specs.declared.block.BlockRequest.{BlockRequest}
+use Rattle.xet_outside.specs.declared.client.ClientError.{ClientError}
+use Rattle.xet_outside.specs.declared.client.ClientError.TheVariants as client_error
 use Rattle.xet_outside.specs.declared.plan.Plan.{Plan}
 use Rattle.xet_outside.specs.declared.plan.PlanAnswer.{PlanAnswer}
 use Rattle.xet_outside.specs.declared.plan.PlanAnswer.TheVariants.{Found}
 use Rattle.xet_outside.specs.declared.said.Said.{Said}
 use Rattle.xet_outside.specs.declared.said.Said.TheVariants as said
+use Rattle.xet_outside.specs.declared.served.Served.{Served}
+use Rattle.xet_outside.specs.Answers.{AnswerTo, AnswerToQuery, bytes_in, plans_in}
 use Rattle.xet_outside.specs.Plan.{block_of, shape}
-use Rattle.xet_outside.specs.Told.{Added, BlockCall, CacheTold, ClientTold, Grew, Holds, Rose}
+use Rattle.xet_outside.specs.Told.{Added, BlockCall, CacheTold, ClientTold, Grew, Holds, IsHonest, Query, Rose, served_of}
+use Rattle.xet_outside.proofs.CallerLemmas.{added_both, added_none}
 use Rattle.xet_error.specs.declared.error.Corruption.{Corruption}
 use Rattle.xet_error.specs.declared.error.Corruption.TheVariants.{RefreshBlocks, RefreshPastEnd}
 use Rattle.xet_error.specs.declared.error.FileReconstructionError.{FileReconstructionError}
 use Rattle.xet_error.specs.declared.error.FileReconstructionError.TheVariants as error
-use Rattle.xet_error.specs.declared.error.Setting.{Setting}
 use Rattle.xet_error.specs.declared.error.Setting.TheVariants as setting
-use Rattle.xet_fetch.specs.declared.fetch_settings.FetchSettings.{FetchSettings}
+use Rattle.xet_error.specs.Errors.{of_client_error}
 use Rattle.xet_blocks.specs.declared.reconstruction_terms.retrieval_urls.RetrievalUrl.{RetrievalUrl}
 use Rattle.xet_blocks.specs.declared.reconstruction_terms.retrieval_urls.TermBlockRetrievalURLs.{TermBlockRetrievalURLs}
-use Rattle.xet_fetch.specs.declared.block_fetch.Fetched.{Fetched}
 use Rattle.xet_blocks.specs.declared.reconstruction_terms.xorb_block.XorbBlock.{XorbBlock}
-use Rattle.xet_blocks.specs.Blocks.{block_ranges, blocks_of}
-use Rattle.xet_blocks.specs.BlockCalls.{IsRequestOf}
-use Rattle.xet_blocks.specs.BlockCalls.{failed_check}
-use Rattle.xet_blocks.specs.TermBlocks.{covered}
-use Rattle.xet_fetch.specs.Refreshes.{Extent, Refresh, RefreshCall, IsRefused, blocks_test, extent_of, failed_refresh, first_difference, plan_extents, range_test, refresh_of, refusal_of, same_extent}
-use Rattle.xet_fetch.specs.CachedBlocks.{FoundIn, IsOffered, LookCall, LookedFor}
 use Rattle.xet_blocks.specs.declared.reconstruction_terms.xorb_block.XorbBlockData.{XorbBlockData}
-use Rattle.xet_fetch.specs.RetrieveData.{AskBlockCall, AskEnds, DataCall, EndsTry, Fails, FetchTold, FromCache, FetchesCall, FetchesCause, FetchesKeep, RetrieveCall, RoseBy, SomeFails, TableKeeps, TryCall, TryEnds, refreshed}
+use Rattle.xet_blocks.specs.Blocks.{block_ranges, blocks_of}
+use Rattle.xet_blocks.specs.BlockCalls.{IsRequestOf, failed_check}
 use Rattle.xet_blocks.specs.PlanChecks.{failed_test}
+use Rattle.xet_blocks.specs.Refusals.{IsRefusal}
+use Rattle.xet_blocks.specs.TermBlocks.{covered}
+use Rattle.xet_fetch.specs.declared.block_fetch.Fetched.{Fetched}
+use Rattle.xet_fetch.specs.declared.fetch_settings.FetchSettings.{FetchSettings}
+use Rattle.xet_fetch.specs.CachedBlocks.{FoundIn, IsOffered, LookCall, LookedFor}
+use Rattle.xet_fetch.specs.Fetches.{FetchesCall, FetchesFail, FetchesKeep, GaveBad, GaveBytes, GaveData, IsDishonest, Lapsed, PassesRefresh, Refused, RoseBy, TableKeeps, Tried, Unrefreshed, own_entry, refresh_queries, refresh_query, refreshed, renewed, renewed_by}
+use Rattle.xet_fetch.specs.Refreshes.{Extent, Refresh, RefreshCall, IsRefused, blocks_test, extent_of, failed_refresh, first_difference, next_id, plan_extents, range_test, refresh_of, refusal_of, same_extent}
+use Rattle.xet_fetch.specs.RetrieveData.{DataCall, FetchTold, FromCache, RetrieveCall}
+use Rattle.xet_fetch.specs.steps.Tries.{AskCall, AskFails, Requested, TryCall}
 
--- ---- lists that are told
+-- ---- tables
 
-pub added_nothing : {A : Type 0} (o : Option (List A)) → Added o o []
-added_nothing None = refl
-added_nothing (Some xs) = ap Some (sym (append_nil_of xs))
+same_refresh : (t : TermBlockRetrievalURLs) (ps : List Plan) (xs : List XorbBlock) (multi : Bool) → refresh_of (renewed multi t ps) multi xs ≡ refresh_of t multi xs
+same_refresh t [] xs multi = refl
+same_refresh t (p ∷ ps) xs multi = same_refresh (renewed_by multi t p) ps xs multi
+
+renewed_both : (multi : Bool) (t : TermBlockRetrievalURLs) (ps qs : List Plan) → renewed multi (renewed multi t ps) qs ≡ renewed multi t (ps ++ qs)
+renewed_both multi t [] qs = refl
+renewed_both multi t (p ∷ ps) qs = renewed_both multi (renewed_by multi t p) ps qs
+
+renewed_plan : (multi : Bool) (t : TermBlockRetrievalURLs) (ps : List Plan) → (renewed multi t ps).acquisition_id.plan ≡ t.acquisition_id.plan
+renewed_plan multi t [] = refl
+renewed_plan multi t (p ∷ ps) = renewed_plan multi (renewed_by multi t p) ps
+
+table_self : (r : Refresh) (t : TermBlockRetrievalURLs) → TableKeeps r t t
+table_self r t = record { file = refl; range = refl; plan = refl; in_table = λ k w h. h }
+
+table_both : (r : Refresh) (t u v : TermBlockRetrievalURLs) → TableKeeps r t u → TableKeeps r u v → TableKeeps r t v
+table_both r t u v x y = record { file = y.file ∙ x.file; range = y.range ∙ x.range; plan = y.plan ∙ x.plan; in_table = λ k w h. y.in_table k w (x.in_table k w h) }
+
+-- ---- lists of several tries
+
+queries_both : (r : Refresh) (ps qs : List Plan) (ys : List Query) → (refresh_queries r ps ++ []) ++ (refresh_queries r qs ++ ys) ≡ refresh_queries r (ps ++ qs) ++ ys
+queries_both r [] qs ys = refl
+queries_both r (p ∷ ps) qs ys = ap (λ (l : List Query). refresh_query r ∷ l) (queries_both r ps qs ys)
+
+saids_both : (ps qs : List Plan) (all : List Said) → (refreshed ps ++ []) ++ (refreshed qs ++ all) ≡ refreshed (ps ++ qs) ++ all
+saids_both [] qs all = refl
+saids_both (p ∷ ps) qs all = ap (λ (l : List Said). said.Block Expired ∷ said.Plan (Found p) ∷ l) (saids_both ps qs all)
+
+-- the first answer with bytes is the last one
+pub bytes_own : (ps : List Plan) (e : Served) (bytes : BlockBytes) → AnswerTo (e ∷ []) (refreshed ps ++ said.Block (Bytes bytes) ∷ []) e bytes
+bytes_own ps e bytes = record { place = 0; entry = refl; bytes = go ps }
   where
-    append_nil_of : {A : Type 0} (xs : List A) → xs ++ [] ≡ xs
-    append_nil_of [] = refl
-    append_nil_of (x ∷ xs) = ap (λ l. x ∷ l) (append_nil_of xs)
+    go : (ps : List Plan) → slice_get (bytes_in (refreshed ps ++ said.Block (Bytes bytes) ∷ [])) 0 ≡ Some bytes
+    go [] = refl
+    go (p ∷ ps) = go ps
 
-pub added_both : {A : Type 0} (a b c : Option (List A)) (xs ys : List A) → Added a b xs → Added b c ys → Added a c (xs ++ ys)
-added_both {A = A} a b c xs ys h k = k ∙ ap (option_map (λ zs. zs ++ ys)) h ∙ go a
+-- each answer to a query stands at its query's place
+pub query_own : (r : Refresh) (ps : List Plan) (a : PlanAnswer) → AnswerToQuery (refresh_queries r ps ++ refresh_query r ∷ []) (refreshed ps ++ said.Block Expired ∷ said.Plan a ∷ []) (refresh_query r) a
+query_own r ps a = record { place = length ps; query = asked ps; answer = said_at ps }
   where
-    go : (o : Option (List A)) → option_map (λ zs. zs ++ ys) (option_map (λ zs. zs ++ xs) o) ≡ option_map (λ zs. zs ++ (xs ++ ys)) o
-    go None = refl
-    go (Some zs) = ap Some (append_assoc zs xs ys)
+    asked : (ps : List Plan) → slice_get (refresh_queries r ps ++ refresh_query r ∷ []) (length ps) ≡ Some (refresh_query r)
+    asked [] = refl
+    asked (p ∷ ps) = asked ps
 
-same_added : {A : Type 0} (a b : Option (List A)) → b ≡ a → Added a b []
-same_added a b e = e ∙ added_nothing a
+    said_at : (ps : List Plan) → slice_get (plans_in (refreshed ps ++ said.Block Expired ∷ said.Plan a ∷ [])) (length ps) ≡ Some a
+    said_at [] = refl
+    said_at (p ∷ ps) = said_at ps
+
+pub plan_own : (r : Refresh) (ps : List Plan) (asked : List Query) (all : List Said) (k : ℕ) (p : Plan) → slice_get ps k ≡ Some p
+    → AnswerToQuery (refresh_queries r ps ++ asked) (refreshed ps ++ all) (refresh_query r) (Found p)
+plan_own r ps asked all k p h = record { place = k; query = asked_at ps k h; answer = said_at ps k h }
+  where
+    asked_at : (ps : List Plan) (k : ℕ) → slice_get ps k ≡ Some p → slice_get (refresh_queries r ps ++ asked) k ≡ Some (refresh_query r)
+    asked_at [] k h = absurd (cc)
+    asked_at (q ∷ ps) zero h = refl
+    asked_at (q ∷ ps) (suc k) h = asked_at ps k h
+
+    said_at : (ps : List Plan) (k : ℕ) → slice_get ps k ≡ Some p → slice_get (plans_in (refreshed ps ++ all)) k ≡ Some (Found p)
+    said_at [] k h = absurd (cc)
+    said_at (q ∷ ps) zero h = ap (λ (p : Plan). Some (Found p)) (same_Some q p h)
+    said_at (q ∷ ps) (suc k) h = said_at ps k h
+
+all_one : {A : Type 0} (P : A → Type 0) (x : A) → P x → All P (x ∷ [])
+all_one P x h zero d w = h
+all_one P x h (suc k) d w = absurd (omega (arith, w))
+
+-- ---- tries one after another
+
+rose_later : (a b c : ℕ) → Rose a b → b ≤ c → Rose a c
+rose_later a b c h k = omega arith
+
+rose_before : (a b c : ℕ) → a ≤ b → Rose b c → Rose a c
+rose_before a b c h k = omega arith
+
+rose_more : (k j a b c : ℕ) → RoseBy k a b → RoseBy j b c → RoseBy (k + j) a c
+rose_more k j a b c h w = omega arith
+
+keeps_self : (b : ClientTold) → FetchesKeep b b
+keeps_self b = record { store = refl; faults = omega arith; expiries = omega arith; link = refl }
 
 keeps_both : (a b c : ClientTold) → FetchesKeep a b → FetchesKeep b c → FetchesKeep a c
 keeps_both a b c x y =
     let xf = x.faults in let yf = y.faults in let xe = x.expiries in let ye = y.expiries in
     record { store = y.store ∙ x.store; faults = omega arith; expiries = omega arith; link = y.link ∙ x.link }
+
+own_same : (x : XorbBlock) (t u : TermBlockRetrievalURLs) → u.acquisition_id.plan ≡ t.acquisition_id.plan → own_entry u x ≡ own_entry t x
+own_same x t u e = ap (λ (k : ℕ). let s : Served = record { plan = k; index = x.xorb_block_index; xorb = x.xorb_hash; ranges = x.chunk_ranges } in s) e
+
+module _ (r : Refresh) (x : XorbBlock) (t u v : TermBlockRetrievalURLs) (b m n : ClientTold) (ps qs : List Plan) (base : Tried r t u b m ps [] [] []) where
+  tried_both : (asked : List Query) (all : List Said) (served : List Served) → Tried r u v m n qs asked all served → Tried r t v b n (ps ++ qs) asked all served
+  tried_both asked all served y = record {
+    keeps = keeps_both b m n base.keeps y.keeps;
+    passes = All-append (PassesRefresh r) ps qs base.passes y.passes;
+    honest = λ s told. All-append (λ (p : Plan). IsHonest s r.file r.range (Found p)) ps qs (base.honest s told) (y.honest s (base.keeps.store ∙ told));
+    table = y.table ∙ ap (λ (w : TermBlockRetrievalURLs). renewed r.multirange w qs) base.table ∙ renewed_both r.multirange t ps qs;
+    asks = subst (λ (l : List Query). Added b.asked n.asked l) (queries_both r ps qs asked) (added_both b.asked m.asked n.asked (refresh_queries r ps ++ []) (refresh_queries r qs ++ asked) base.asks y.asks);
+    says = subst (λ (l : List Said). Added b.said n.said l) (saids_both ps qs all) (added_both b.said m.said n.said (refreshed ps ++ []) (refreshed qs ++ all) base.says y.says);
+    serves = added_both b.served m.served n.served [] served base.serves y.serves;
+    rose = subst (λ (k : ℕ). RoseBy k b.expiries n.expiries) (sym (length-append ps qs)) (rose_more (length ps) (length qs) b.expiries m.expiries n.expiries base.rose y.rose);
+  }
+
+  own_both : own_entry u x ≡ own_entry t x
+  own_both = own_same x t u (ap (λ (w : TermBlockRetrievalURLs). w.acquisition_id.plan) base.table ∙ renewed_plan r.multirange t ps)
+
+  gave_both : (bytes : BlockBytes) → GaveBytes r x u v m n qs bytes → GaveBytes r x t v b n (ps ++ qs) bytes
+  gave_both bytes g = record {
+    tried = tried_both [] (said.Block (Bytes bytes) ∷ []) (own_entry t x ∷ []) (subst (λ (e : Served). Tried r u v m n qs [] (said.Block (Bytes bytes) ∷ []) (e ∷ [])) own_both g.tried);
+    answer = bytes_own (ps ++ qs) (own_entry t x) bytes;
+    honest = λ s told holds. g.honest s (base.keeps.store ∙ told) holds;
+  }
+
+  data_both : (g : Fetched) → GaveData r x u v m n qs g → GaveData r x t v b n (ps ++ qs) g
+  data_both g y = record { gave = gave_both g.bytes y.gave; passes = y.passes; made = y.made }
+
+  unrefreshed_both : (answers : List Said) → Unrefreshed r u v m n qs answers → Unrefreshed r t v b n (ps ++ qs) answers
+  unrefreshed_both answers y = record { asked = y.asked; may = y.may; tried = tried_both y.asked (said.Block Expired ∷ answers) [] y.tried }
+
+  refused_both : (e : FileReconstructionError) → Refused r u v m n qs e → Refused r t v b n (ps ++ qs) e
+  refused_both e y = record {
+    answer = y.answer;
+    tried = tried_both (refresh_query r ∷ []) (said.Block Expired ∷ said.Plan y.answer ∷ []) [] y.tried;
+    own = query_own r (ps ++ qs) y.answer;
+    honest = λ s told. y.honest s (base.keeps.store ∙ told);
+    refused = y.refused;
+  }
+
+  lapsed_both : Lapsed r u v m n qs → Lapsed r t v b n (ps ++ qs)
+  lapsed_both y =
+      let xr = base.rose in
+      let yr = y.rose in
+      let count = length-append ps qs in
+      record { tried = tried_both [] (said.Block Expired ∷ []) [] y.tried; rose = omega (arith, count) }
+
+  dishonest_both : IsDishonest r x m → IsDishonest r x b
+  dishonest_both d s told honest = d s (base.keeps.store ∙ told) honest
+
+  fail_both : (left tries : ℕ) → 0 < left → length ps + left ≡ tries → (e : FileReconstructionError) → FetchesFail r x left u v m n qs e → FetchesFail r x tries t v b n (ps ++ qs) e
+  fail_both left tries some sum error.OutOfMemory h = go h
+    where
+      go : ((length qs < left) × (Tried r u v m n qs [] [] [] ⊎ ((bytes : BlockBytes) × GaveBytes r x u v m n qs bytes)))
+          ⊎ ((length qs + 1 < left) × (Unrefreshed r u v m n qs [] ⊎ ((a : PlanAnswer) × Unrefreshed r u v m n qs (said.Plan a ∷ []))))
+          → ((length (ps ++ qs) < tries) × (Tried r t v b n (ps ++ qs) [] [] [] ⊎ ((bytes : BlockBytes) × GaveBytes r x t v b n (ps ++ qs) bytes)))
+          ⊎ ((length (ps ++ qs) + 1 < tries) × (Unrefreshed r t v b n (ps ++ qs) [] ⊎ ((a : PlanAnswer) × Unrefreshed r t v b n (ps ++ qs) (said.Plan a ∷ []))))
+      go (inl (few, inl y)) = let count = length-append ps qs in inl (omega (arith, count), inl (tried_both [] [] [] y))
+      go (inl (few, inr (bytes, y))) = let count = length-append ps qs in inl (omega (arith, count), inr (bytes, gave_both bytes y))
+      go (inr (few, inl y)) = let count = length-append ps qs in inr (omega (arith, count), inl (unrefreshed_both [] y))
+      go (inr (few, inr (a, y))) = let count = length-append ps qs in inr (omega (arith, count), inr (a, unrefreshed_both (said.Plan a ∷ []) y))
+  fail_both left tries some sum error.ClientError (rose, h) = (rose_before b.faults m.faults n.faults base.keeps.faults rose, go h)
+    where
+      go : ((length qs < left) × Tried r u v m n qs [] [] []) ⊎ ((length qs + 1 < left) × Unrefreshed r u v m n qs [])
+          → ((length (ps ++ qs) < tries) × Tried r t v b n (ps ++ qs) [] [] []) ⊎ ((length (ps ++ qs) + 1 < tries) × Unrefreshed r t v b n (ps ++ qs) [])
+      go (inl (few, y)) = let count = length-append ps qs in inl (omega (arith, count), tried_both [] [] [] y)
+      go (inr (few, y)) = let count = length-append ps qs in inr (omega (arith, count), unrefreshed_both [] y)
+  fail_both left tries some sum error.FileNotFound (d, few, y) = let count = length-append ps qs in (dishonest_both d, omega (arith, count), refused_both error.FileNotFound y)
+  fail_both left tries some sum error.UrlExpired (few, y) = let count = length-append ps qs in (omega (arith, count), lapsed_both y)
+  fail_both left tries some sum error.IoError h = h
+  fail_both left tries some sum (error.CorruptedReconstruction k) (d, h) = (dishonest_both d, go h)
+    where
+      go : ((length qs < left) × GaveBad r x u v m n qs k) ⊎ ((length qs + 1 < left) × Refused r u v m n qs (error.CorruptedReconstruction k))
+          → ((length (ps ++ qs) < tries) × GaveBad r x t v b n (ps ++ qs) k) ⊎ ((length (ps ++ qs) + 1 < tries) × Refused r t v b n (ps ++ qs) (error.CorruptedReconstruction k))
+      go (inl (few, y)) = let count = length-append ps qs in inl (omega (arith, count), record { bytes = y.bytes; gave = gave_both y.bytes y.gave; fails = y.fails })
+      go (inr (few, y)) = let count = length-append ps qs in inr (omega (arith, count), refused_both (error.CorruptedReconstruction k) y)
+  fail_both left tries some sum (error.ConfigurationError s) (e, none, same, kept) = absurd (omega (arith, none, some))
+  fail_both left tries some sum error.Cancelled h = h
+  fail_both left tries some sum (error.InternalWriterError w) h = h
 
 -- ---- requests
 
@@ -78,67 +229,107 @@ asks x urls r h = by_url (slice_get urls.retrieval_urls x.xorb_block_index) h
     by_url None h = absurd h
     by_url (Some u) h = record { xorb = ap (λ (r : BlockRequest). r.xorb) h; chunks = ap (λ (r : BlockRequest). r.chunks) h }
 
--- bytes that fail a test, or whose data found no memory
-pub ask_refused : (x : XorbBlock) (urls : TermBlockRetrievalURLs) (q : BlockRequest) (bytes : BlockBytes) (b n : ClientTold) (e : FileReconstructionError) → IsRequestOf x urls q → BlockCall b n q (Ok (Bytes bytes))
-    → (e ≡ error.OutOfMemory) ⊎ MatchOption (failed_check x bytes) ⊥ (λ k. e ≡ error.CorruptedReconstruction k) → AskBlockCall x b n (Err e)
-ask_refused x urls q bytes b n e asked call refused = record { keeps = record { store = call.store; faults = call.faults; expiries = call.expiries; link = call.link }; ends = λ r. ends r refused }
+own_of : (x : XorbBlock) (urls : TermBlockRetrievalURLs) (r : BlockRequest) → IsRequestOf x urls r → served_of r ≡ own_entry urls x
+own_of x urls r h = by_url (slice_get urls.retrieval_urls x.xorb_block_index) h
   where
-    all : List Said
-    all = said.Block (Bytes bytes) ∷ []
+    by_url : (o : Option RetrievalUrl) → MatchOption o ⊥ (λ u. r ≡ record { acquisition = urls.acquisition_id; index = x.xorb_block_index; url = u.url; xorb = x.xorb_hash; chunks = x.chunk_ranges; bytes = u.ranges }) → served_of r ≡ own_entry urls x
+    by_url None h = absurd h
+    by_url (Some u) h = ap served_of h
 
-    at : (r : Refresh) → FetchesCause r x 0 all b n e → (e ≡ error.UrlExpired → ⊥) → ((s : Setting) → e ≡ error.ConfigurationError s → ⊥) → AskEnds r x b n (Err e)
-    at r cause u c = (all, call.said, inr (bytes, refl), cause, u, c)
+module _ (r : Refresh) (x : XorbBlock) (t : TermBlockRetrievalURLs) (b n : ClientTold) where
+  nothing : n ≡ b → Tried r t t b n [] [] [] []
+  nothing same = subst (λ (n : ClientTold). Tried r t t b n [] [] [] []) (sym same) (record {
+    keeps = keeps_self b;
+    passes = All-nil (PassesRefresh r);
+    honest = λ s told. All-nil (λ (p : Plan). IsHonest s r.file r.range (Found p));
+    table = refl;
+    asks = added_none b.asked b.asked refl;
+    says = added_none b.said b.said refl;
+    serves = added_none b.served b.served refl;
+    rose = omega arith;
+  })
 
-    by_test : (r : Refresh) (o : Option Corruption) → failed_check x bytes ≡ o → MatchOption o ⊥ (λ k. e ≡ error.CorruptedReconstruction k) → AskEnds r x b n (Err e)
-    by_test r None same h = absurd h
-    by_test r (Some k) same h =
-        let fails : Fails r x all b (error.CorruptedReconstruction k) = record {
-          some = inl (bytes, k, (0, omega arith, refl), same, refl);
-          dishonest = λ s told honest.
-              let a = asks x urls q asked in
-              let holds : Holds s q.xorb q.chunks = rw (a.xorb, a.chunks) honest.holds in
-              let is : bytes ≡ block_of s x.xorb_hash x.chunk_ranges = rw (a.xorb, a.chunks) at (call.honest s told holds) in
-              let none : failed_check x bytes ≡ None = ap (failed_check x) is ∙ honest.passes in
-              cc;
-        } in
-        at r (subst (λ (e : FileReconstructionError). FetchesCause r x 0 all b n e) (sym h) fails) (λ u. cc) (λ s c. cc)
+  call_keeps : (q : BlockRequest) (a : Result BlockAnswer ClientError) → BlockCall b n q a → FetchesKeep b n
+  call_keeps q a c = record { store = c.store; faults = c.faults; expiries = c.expiries; link = c.link }
 
-    ends : (r : Refresh) → (e ≡ error.OutOfMemory) ⊎ MatchOption (failed_check x bytes) ⊥ (λ k. e ≡ error.CorruptedReconstruction k) → AskEnds r x b n (Err e)
-    ends r (inl h) = at r (subst (λ (e : FileReconstructionError). FetchesCause r x 0 all b n e) (sym h) tt) (λ u. cc) (λ s c. cc)
-    ends r (inr h) = by_test r (failed_check x bytes) refl h
+  tried_call : (q : BlockRequest) (a : Result BlockAnswer ClientError) → BlockCall b n q a → (all : List Said) (served : List Served) → Added b.said n.said all → Added b.served n.served served → Tried r t t b n [] [] all served
+  tried_call q a c all served says serves =
+      let later = c.expiries in
+      record {
+        keeps = call_keeps q a c;
+        passes = All-nil (PassesRefresh r);
+        honest = λ s told. All-nil (λ (p : Plan). IsHonest s r.file r.range (Found p));
+        table = refl;
+        asks = added_none b.asked n.asked c.asked;
+        says = says;
+        serves = serves;
+        rose = omega arith;
+      }
 
--- ---- tries
+  unanswered : (f : ClientError) → Requested x t b n (Err f) → Tried r t t b n [] [] [] []
+  unanswered f q = tried_call q.request (Err f) q.call [] [] (added_none b.said n.said q.call.unsaid) (added_none b.served n.served q.call.unserved)
 
-table_self : (x : XorbBlock) (t : TermBlockRetrievalURLs) → x.xorb_block_index < length t.retrieval_urls → TableKeeps x t t
-table_self x t h = record { file = refl; range = refl; in_table = h }
+  gave : (bytes : BlockBytes) → Requested x t b n (Ok (Bytes bytes)) → GaveBytes r x t t b n [] bytes
+  gave bytes q = record {
+    tried = tried_call q.request (Ok (Bytes bytes)) q.call (said.Block (Bytes bytes) ∷ []) (own_entry t x ∷ []) q.call.said (subst (λ (e : Served). Grew b.served n.served e) (own_of x t q.request q.own) q.call.served);
+    answer = bytes_own [] (own_entry t x) bytes;
+    honest = λ s told holds.
+        let a = asks x t q.request q.own in
+        let inside : Holds s q.request.xorb q.request.chunks = rw (a.xorb, a.chunks) holds in
+        rw (a.xorb, a.chunks) at (q.call.honest s told inside);
+  }
 
-pub try_some : (r : Refresh) (x : XorbBlock) (last : Bool) (t : TermBlockRetrievalURLs) (b n : ClientTold) (g : Fetched) → x.xorb_block_index < length t.retrieval_urls → AskBlockCall x b n (Ok (Some g)) → TryCall r x last t t b n (Ok (Some g))
-try_some r x last t b n g h c = record { keeps = c.keeps; table = table_self x t h; ends = c.ends r }
+  expired : Requested x t b n (Ok Expired) → Tried r t t b n [] [] (said.Block Expired ∷ []) []
+  expired q = tried_call q.request (Ok Expired) q.call (said.Block Expired ∷ []) [] q.call.said (added_none b.served n.served q.call.served)
 
-pub try_err : (r : Refresh) (x : XorbBlock) (last : Bool) (t : TermBlockRetrievalURLs) (b n : ClientTold) (e : FileReconstructionError) → x.xorb_block_index < length t.retrieval_urls → AskBlockCall x b n (Err e) → TryCall r x last t t b n (Err e)
-try_err r x last t b n e h c =
-    let k = c.ends r in
-    record { keeps = c.keeps; table = table_self x t h; ends = (k.0, k.1, ends k.0 k.2, cause e k.0 k.3 k.4 k.5, λ u. absurd (k.4 u)) }
-  where
-    ends : (all : List Said) → (all ≡ []) ⊎ ((bytes : BlockBytes) × (all ≡ said.Block (Bytes bytes) ∷ [])) → EndsTry all
-    ends all (inl k) = inl k
-    ends all (inr k) = inr (inr (inl k))
+  bad : (left : ℕ) → 0 < left → (bytes : BlockBytes) (e : FileReconstructionError) → GaveBytes r x t t b n [] bytes → (o : Option Corruption) → failed_check x bytes ≡ o → MatchOption o ⊥ (λ k. e ≡ error.CorruptedReconstruction k) → FetchesFail r x left t t b n [] e
+  bad left some bytes e g None same h = absurd h
+  bad left some bytes e g (Some k) same h = subst (λ (e : FileReconstructionError). FetchesFail r x left t t b n [] e) (sym h) (
+    λ s told honest.
+        let is : bytes ≡ block_of s x.xorb_hash x.chunk_ranges = g.honest s told honest.holds in
+        let none : failed_check x bytes ≡ None = ap (failed_check x) is ∙ honest.passes in
+        cc,
+    inl (some, record { bytes = bytes; gave = g; fails = same }),
+  )
 
-    cause : (e : FileReconstructionError) (all : List Said) → FetchesCause r x 0 all b n e → (e ≡ error.UrlExpired → ⊥) → ((s : Setting) → e ≡ error.ConfigurationError s → ⊥) → FetchesCause r x 1 all b n e
-    cause error.OutOfMemory all k u c = k
-    cause error.ClientError all k u c = k
-    cause error.FileNotFound all k u c = k
-    cause error.UrlExpired all k u c = absurd (u refl)
-    cause error.IoError all k u c = k
-    cause (error.CorruptedReconstruction f) all k u c = k
-    cause (error.ConfigurationError s) all k u c = absurd (c s refl)
-    cause error.Cancelled all k u c = k
-    cause (error.InternalWriterError w) all k u c = k
+  ask_fails : (left : ℕ) → 0 < left → (e : FileReconstructionError) → AskFails x t b n e → FetchesFail r x left t t b n [] e
+  ask_fails left some e (inl (memory, same)) = subst (λ (e : FileReconstructionError). FetchesFail r x left t t b n [] e) (sym memory) (inl (some, inl (nothing same)))
+  ask_fails left some e (inr (inl (f, q, same))) = subst (λ (e : FileReconstructionError). FetchesFail r x left t t b n [] e) (sym same) (go f q)
+    where
+      go : (f : ClientError) → Requested x t b n (Err f) → FetchesFail r x left t t b n [] (of_client_error f)
+      go client_error.OutOfMemory q = inl (some, inl (unanswered client_error.OutOfMemory q))
+      go client_error.Failed q = (q.call.failed refl, inl (some, unanswered client_error.Failed q))
+  ask_fails left some e (inr (inr (bytes, q, refusal))) = go refusal
+    where
+      go : IsRefusal (failed_check x bytes) e → FetchesFail r x left t t b n [] e
+      go (inl memory) = subst (λ (e : FileReconstructionError). FetchesFail r x left t t b n [] e) (sym memory) (inl (some, inr (bytes, gave bytes q)))
+      go (inr h) = bad left some bytes e (gave bytes q) (failed_check x bytes) refl h
 
-pub try_last : (r : Refresh) (x : XorbBlock) (last : Bool) (t : TermBlockRetrievalURLs) (b n : ClientTold) → x.xorb_block_index < length t.retrieval_urls → last ≡ true → AskBlockCall x b n (Ok None) → TryCall r x last t t b n (Err error.UrlExpired)
-try_last r x last t b n h l c =
-    let k = c.ends r in
-    record { keeps = c.keeps; table = table_self x t h; ends = (said.Block Expired ∷ [], k.0, inr (inl refl), k.1, λ u. (l, refl)) }
+  ask_keeps : (e : FileReconstructionError) → AskFails x t b n e → FetchesKeep b n
+  ask_keeps e (inl (memory, same)) = subst (λ (n : ClientTold). FetchesKeep b n) (sym same) (keeps_self b)
+  ask_keeps e (inr (inl (f, q, same))) = call_keeps q.request (Err f) q.call
+  ask_keeps e (inr (inr (bytes, q, refusal))) = call_keeps q.request (Ok (Bytes bytes)) q.call
+
+  -- ---- tries
+
+  pub try_some : (left : ℕ) (g : Fetched) → AskCall x t b n (Ok (Some g)) → TryCall r x left t t b n (Ok (Some g))
+  try_some left g c = record {
+    keeps = call_keeps c.0.request (Ok (Bytes g.bytes)) c.0.call;
+    table = table_self r t;
+    ends = record { gave = gave g.bytes c.0; passes = c.1; made = c.2 };
+  }
+
+  pub try_err : (left : ℕ) → 0 < left → (e : FileReconstructionError) → AskCall x t b n (Err e) → TryCall r x left t t b n (Err e)
+  try_err left some e c = record { keeps = ask_keeps e c; table = table_self r t; ends = ask_fails left some e c }
+
+  pub try_last : (left : ℕ) → left ≡ 1 → AskCall x t b n (Ok None) → TryCall r x left t t b n (Err error.UrlExpired)
+  try_last left last c =
+      let rose = c.call.expired refl in
+      record {
+        keeps = call_keeps c.request (Ok Expired) c.call;
+        table = table_self r t;
+        ends = (sym last, record { tried = expired c; rose = rose });
+      }
 
 -- ---- refreshes between tries
 
@@ -180,81 +371,112 @@ passes_blocks q multi es p h = go (nat_eq (length p.terms) 0) h
         let test = third (failed_test (shape p) q multi) (range_test q (covered (shape p) q)) (blocks_test es (plan_extents (shape p) multi)) all in
         same_length es (plan_extents (shape p) multi) (none_blocks (first_difference es (plan_extents (shape p) multi)) test) ∙ length-map (blocks_of (shape p) multi) (λ b. (b.xorb, block_ranges b))
 
-rose_later : (a b c : ℕ) → Rose a b → b ≤ c → Rose a c
-rose_later a b c h k = omega arith
-
-rose_before : (a b c : ℕ) → a ≤ b → Rose b c → Rose a c
-rose_before a b c h k = omega arith
-
-module _ (x : XorbBlock) (last : Bool) (t u : TermBlockRetrievalURLs) (b m n : ClientTold) (id : UniqueId) (xs : List XorbBlock) (multi : Bool) where
+module _ (x : XorbBlock) (left : ℕ) (t u : TermBlockRetrievalURLs) (b m n : ClientTold) (id : UniqueId) (xs : List XorbBlock) (multi : Bool) (more : 1 < left) (c : AskCall x t b m (Ok None)) where
   abbrev R : Refresh
   R = refresh_of t multi xs
 
-  asked_keeps : (answer : Result (Unit {0}) FileReconstructionError) → RefreshCall t u m n id xs multi answer → FetchesKeep b m → FetchesKeep b n
-  asked_keeps answer c k = keeps_both b m n k (record { store = c.may.store; faults = c.may.faults; expiries = c.may.expiries; link = c.may.link })
+  asked_keeps : (answer : Result (Unit {0}) FileReconstructionError) → RefreshCall t u m n id xs multi answer → FetchesKeep b n
+  asked_keeps answer h = keeps_both b m n (call_keeps R x t b m c.request (Ok Expired) c.call) (record { store = h.may.store; faults = h.may.faults; expiries = h.may.expiries; link = h.may.link })
 
-  pub try_refreshed : t.acquisition_id ≡ id → last ≡ false → x.xorb_block_index < length xs → AskBlockCall x b m (Ok None) → RefreshCall t u m n id xs multi (Ok tt) → TryCall (refresh_of t multi xs) x last t u b n (Ok None)
-  try_refreshed same l within c h =
-      let k = c.ends R in
+  told_later : (answer : Result (Unit {0}) FileReconstructionError) → RefreshCall t u m n id xs multi answer → (s : Store) → b.store ≡ Some s → m.store ≡ Some s
+  told_later answer h s told = c.call.store ∙ told
+
+  -- what was asked, said and served, where a refresh adds these
+  tried_refresh : (answer : Result (Unit {0}) FileReconstructionError) → RefreshCall t u m n id xs multi answer → (asked : List Query) (answers : List Said)
+      → Added m.asked n.asked asked → Added m.said n.said answers → Tried R t t b n [] asked (said.Block Expired ∷ answers) []
+  tried_refresh answer h asked answers asks says =
+      let before = c.call.expiries in
+      let later = h.may.expiries in
+      record {
+        keeps = asked_keeps answer h;
+        passes = All-nil (PassesRefresh R);
+        honest = λ s told. All-nil (λ (p : Plan). IsHonest s R.file R.range (Found p));
+        table = refl;
+        asks = added_both b.asked m.asked n.asked [] asked (added_none b.asked m.asked c.call.asked) asks;
+        says = added_both b.said m.said n.said (said.Block Expired ∷ []) answers c.call.said says;
+        serves = added_none b.served n.served (h.may.served ∙ c.call.served);
+        rose = omega arith;
+      }
+
+  pub try_refreshed : t.acquisition_id ≡ id → RefreshCall t u m n id xs multi (Ok tt) → TryCall (refresh_of t multi xs) x left t u b n (Ok None)
+  try_refreshed same h =
       let is = h.renewed same in
       let made = is.0 in
-      let blocks = passes_blocks t.byte_range multi (map extent_of xs) made.plan made.passes in
-      let count : length u.retrieval_urls ≡ length (blocks_of (shape made.plan) multi) = ap length made.urls ∙ length-map (blocks_of (shape made.plan) multi) _ in
-      let extents = length-map xs extent_of in
+      let p : Plan = made.plan in
+      let blocks = passes_blocks t.byte_range multi (map extent_of xs) p made.passes in
+      let count : length u.retrieval_urls ≡ length (blocks_of (shape p) multi) = ap length made.urls ∙ length-map (blocks_of (shape p) multi) _ in
+      let first = c.call.expired refl in
       let later : m.expiries ≤ n.expiries = h.may.expiries in
       record {
-        keeps = asked_keeps (Ok tt) h c.keeps;
+        keeps = asked_keeps (Ok tt) h;
         table = record {
           file = ap (λ (t : TermBlockRetrievalURLs). t.file_hash) is.1;
           range = ap (λ (t : TermBlockRetrievalURLs). t.byte_range) is.1;
-          in_table = omega arith;
+          plan = ap (λ (t : TermBlockRetrievalURLs). t.acquisition_id.plan) is.1;
+          in_table = λ k w g. omega (arith, w, count, blocks);
         };
-        ends = (l, (Found made.plan, added_both b.said m.said n.said (said.Block Expired ∷ []) (said.Plan (Found made.plan) ∷ []) k.0 made.answered.said), rose_later b.expiries m.expiries n.expiries k.1 later);
+        ends = (
+          more,
+          (
+            p,
+            record {
+              keeps = asked_keeps (Ok tt) h;
+              passes = all_one (PassesRefresh R) p made.passes;
+              honest = λ s told. all_one (λ (p : Plan). IsHonest s R.file R.range (Found p)) p (made.answered.honest s (told_later (Ok tt) h s told));
+              table = is.1 ∙ ap (λ (l : List RetrievalUrl). record t { acquisition_id = next_id t.acquisition_id; retrieval_urls = l }) made.urls;
+              asks = added_both b.asked m.asked n.asked [] (refresh_query R ∷ []) (added_none b.asked m.asked c.call.asked) made.answered.asked;
+              says = added_both b.said m.said n.said (said.Block Expired ∷ []) (said.Plan (Found p) ∷ []) c.call.said made.answered.said;
+              serves = added_none b.served n.served (h.may.served ∙ c.call.served);
+              rose = rose_later b.expiries m.expiries n.expiries first later;
+            },
+          ),
+        );
       }
 
-  pub try_unrefreshed : (e : FileReconstructionError) → x.xorb_block_index < length t.retrieval_urls → last ≡ false → AskBlockCall x b m (Ok None) → RefreshCall t u m n id xs multi (Err e) → TryCall (refresh_of t multi xs) x last t u b n (Err e)
-  try_unrefreshed e within l c h = record {
-    keeps = asked_keeps (Err e) h c.keeps;
-    table = subst (λ (u : TermBlockRetrievalURLs). TableKeeps x t u) (sym h.kept) (table_self x t within);
-    ends = ends e h;
-  }
+  unrefreshed : (answer : Result (Unit {0}) FileReconstructionError) → RefreshCall t u m n id xs multi answer → (answers : List Said) → Added m.said n.said answers → Unrefreshed R t t b n [] answers
+  unrefreshed answer h answers says = go h.may.asked
     where
-      first : Added b.said m.said (said.Block Expired ∷ [])
-      first = (c.ends R).0
+      go : (n.asked ≡ m.asked) ⊎ Grew m.asked n.asked (R.file, R.range) → Unrefreshed R t t b n [] answers
+      go (inl same) = record { asked = []; may = inl refl; tried = tried_refresh answer h [] answers (added_none m.asked n.asked same) says }
+      go (inr grew) = record { asked = refresh_query R ∷ []; may = inr refl; tried = tried_refresh answer h (refresh_query R ∷ []) answers grew says }
 
-      alone : n.said ≡ m.said → Added b.said n.said (said.Block Expired ∷ [])
-      alone same = same ∙ first
+  refused : (answer : Result (Unit {0}) FileReconstructionError) (e : FileReconstructionError) → RefreshCall t u m n id xs multi answer → IsRefused R m n e → Refused R t t b n [] e
+  refused answer e h is = record {
+    answer = is.answer;
+    tried = tried_refresh answer h (refresh_query R ∷ []) (said.Plan is.answer ∷ []) is.answered.asked is.answered.said;
+    own = query_own R [] is.answer;
+    honest = λ s told. is.answered.honest s (told_later answer h s told);
+    refused = is.refused;
+  }
 
-      with_plan : (a : PlanAnswer) → Grew m.said n.said (said.Plan a) → Added b.said n.said (said.Block Expired ∷ said.Plan a ∷ [])
-      with_plan a g = added_both b.said m.said n.said (said.Block Expired ∷ []) (said.Plan a ∷ []) first g
+  dishonest : (e : FileReconstructionError) → Refused R t t b n [] e → IsDishonest R x b
+  dishonest e y s told honest =
+      let none : refusal_of R.range R.multirange R.blocks y.answer ≡ None = honest.refreshes y.answer (y.honest s told) in
+      let some = y.refused in
+      cc
 
-      refused : (e : FileReconstructionError) → IsRefused R m n e → (a : PlanAnswer) × Added b.said n.said (said.Block Expired ∷ said.Plan a ∷ []) × Fails R x (said.Block Expired ∷ said.Plan a ∷ []) b e
-      refused e is = (
-        is.answer,
-        with_plan is.answer is.answered.said,
-        record {
-          some = inr (is.answer, (1, omega arith, refl), is.refused);
-          dishonest = λ s told honest.
-              let none : refusal_of R.range R.multirange R.blocks is.answer ≡ None = honest.refreshes is.answer (is.answered.honest s (c.keeps.store ∙ told)) in
-              let some = is.refused in
-              cc;
-        },
-      )
+  unrefreshed_ends : (e : FileReconstructionError) → RefreshCall t u m n id xs multi (Err e) → FetchesFail R x left t t b n [] e
+  unrefreshed_ends error.OutOfMemory h = inr (more, go h.may.said)
+    where
+      go : (n.said ≡ m.said) ⊎ ((a : PlanAnswer) × Grew m.said n.said (said.Plan a))
+          → Unrefreshed R t t b n [] [] ⊎ ((a : PlanAnswer) × Unrefreshed R t t b n [] (said.Plan a ∷ []))
+      go (inl same) = inl (unrefreshed (Err error.OutOfMemory) h [] (added_none m.said n.said same))
+      go (inr (a, grew)) = inr (a, unrefreshed (Err error.OutOfMemory) h (said.Plan a ∷ []) grew)
+  unrefreshed_ends error.ClientError h = (rose_before b.faults m.faults n.faults c.call.faults h.cause, inr (more, unrefreshed (Err error.ClientError) h [] (added_none m.said n.said (h.unsaid refl))))
+  unrefreshed_ends error.FileNotFound h = let y = refused (Err error.FileNotFound) error.FileNotFound h h.cause in (dishonest error.FileNotFound y, more, y)
+  unrefreshed_ends error.UrlExpired h = absurd h.cause
+  unrefreshed_ends error.IoError h = absurd h.cause
+  unrefreshed_ends (error.CorruptedReconstruction k) h = let y = refused (Err (error.CorruptedReconstruction k)) (error.CorruptedReconstruction k) h h.cause in (dishonest (error.CorruptedReconstruction k) y, inr (more, y))
+  unrefreshed_ends (error.ConfigurationError s) h = absurd h.cause
+  unrefreshed_ends error.Cancelled h = absurd h.cause
+  unrefreshed_ends (error.InternalWriterError w) h = absurd h.cause
 
-      said_by : (n.said ≡ m.said) ⊎ ((a : PlanAnswer) × Grew m.said n.said (said.Plan a)) → TryEnds R x last b n (Err error.OutOfMemory)
-      said_by (inl same) = (said.Block Expired ∷ [], alone same, inr (inl refl), tt, λ k. absurd (cc))
-      said_by (inr (a, g)) = (said.Block Expired ∷ said.Plan a ∷ [], with_plan a g, inr (inr (inr (a, refl))), tt, λ k. absurd (cc))
-
-      ends : (e : FileReconstructionError) → RefreshCall t u m n id xs multi (Err e) → TryEnds R x last b n (Err e)
-      ends error.OutOfMemory h = said_by h.may.said
-      ends error.ClientError h = (said.Block Expired ∷ [], alone (h.unsaid refl), inr (inl refl), rose_before b.faults m.faults n.faults c.keeps.faults h.cause, λ k. absurd (cc))
-      ends error.FileNotFound h = let k = refused error.FileNotFound h.cause in (said.Block Expired ∷ said.Plan k.0 ∷ [], k.1, inr (inr (inr (k.0, refl))), k.2, λ k. absurd (cc))
-      ends error.UrlExpired h = absurd h.cause
-      ends error.IoError h = absurd h.cause
-      ends (error.CorruptedReconstruction f) h = let k = refused (error.CorruptedReconstruction f) h.cause in (said.Block Expired ∷ said.Plan k.0 ∷ [], k.1, inr (inr (inr (k.0, refl))), k.2, λ k. absurd (cc))
-      ends (error.ConfigurationError s) h = absurd h.cause
-      ends error.Cancelled h = absurd h.cause
-      ends (error.InternalWriterError w) h = absurd h.cause
+  pub try_unrefreshed : (e : FileReconstructionError) → RefreshCall t u m n id xs multi (Err e) → TryCall (refresh_of t multi xs) x left t u b n (Err e)
+  try_unrefreshed e h = record {
+    keeps = asked_keeps (Err e) h;
+    table = subst (λ (u : TermBlockRetrievalURLs). TableKeeps (refresh_of t multi xs) t u) (sym h.kept) (table_self (refresh_of t multi xs) t);
+    ends = subst (λ (u : TermBlockRetrievalURLs). FetchesFail (refresh_of t multi xs) x left t u b n [] e) (sym h.kept) (unrefreshed_ends e h);
+  }
 
 -- a refresh leaves a table with a URL for each of the blocks
 pub refresh_fits : (t u : TermBlockRetrievalURLs) (b n : ClientTold) (id : UniqueId) (xs : List XorbBlock) (multi : Bool) (answer : Result (Unit {0}) FileReconstructionError) (k : ℕ)
@@ -281,122 +503,68 @@ refresh_fits t u b n id xs multi (Ok x) k c h w = go (nat_eq t.acquisition_id.pl
 -- ---- all tries
 
 pub record IsFetching (r : Refresh) (x : XorbBlock) (t u : TermBlockRetrievalURLs) (b n : ClientTold) (k tries : ℕ) : Type 0 where
-  pub before : List PlanAnswer
-  pub grew : Added b.said n.said (refreshed before)
-  pub count : length before ≡ k
-  pub rose : RoseBy k b.expiries n.expiries
-  pub keeps : FetchesKeep b n
-  pub table : TableKeeps x t u
+  pub plans : List Plan
+  pub tried : Tried r t u b n plans [] [] []
+  pub count : length plans ≡ k
+  pub table : TableKeeps r t u
+  pub in_table : x.xorb_block_index < length u.retrieval_urls
   pub some : (k ≡ 0) ⊎ (k < tries)
+  pub unmoved : k ≡ 0 → (u ≡ t) × (n ≡ b)
 
 pub fetch_start : (r : Refresh) (x : XorbBlock) (t : TermBlockRetrievalURLs) (b : ClientTold) (tries : ℕ) → x.xorb_block_index < length t.retrieval_urls → IsFetching r x t t b b 0 tries
-fetch_start r x t b tries h = record {
-  before = [];
-  grew = added_nothing b.said;
-  count = refl;
-  rose = omega arith;
-  keeps = record { store = refl; faults = omega arith; expiries = omega arith; link = refl };
-  table = table_self x t h;
-  some = inl refl;
-}
+fetch_start r x t b tries h = record { plans = []; tried = nothing r x t b b refl; count = refl; table = table_self r t; in_table = h; some = inl refl; unmoved = λ z. (refl, refl) }
 
-same_refresh : (x : XorbBlock) (t u : TermBlockRetrievalURLs) (xs : List XorbBlock) (multi : Bool) → TableKeeps x t u → refresh_of u multi xs ≡ refresh_of t multi xs
-same_refresh x t u xs multi k =
-    ap (λ (f : MerkleHash). let r : Refresh = record { file = f; range = u.byte_range; multirange = multi; blocks = map extent_of xs } in r) k.file
-    ∙ ap (λ (q : FileRange). let r : Refresh = record { file = t.file_hash; range = q; multirange = multi; blocks = map extent_of xs } in r) k.range
+module _ (x : XorbBlock) (t u v : TermBlockRetrievalURLs) (xs : List XorbBlock) (multi : Bool) (b m n : ClientTold) (k tries : ℕ) (is : IsFetching (refresh_of t multi xs) x t u b m k tries) (below : k < tries) where
+  moved : (answer : Result (Option Fetched) FileReconstructionError) → TryCall (refresh_of u multi xs) x (tries - k) u v m n answer → TryCall (refresh_of t multi xs) x (tries - k) u v m n answer
+  moved answer c = subst (λ (r : Refresh). TryCall r x (tries - k) u v m n answer) (ap (λ (w : TermBlockRetrievalURLs). refresh_of w multi xs) is.tried.table ∙ same_refresh t is.plans xs multi) c
 
-table_both : (x : XorbBlock) (t u v : TermBlockRetrievalURLs) → TableKeeps x t u → TableKeeps x u v → TableKeeps x t v
-table_both x t u v j k = record { file = k.file ∙ j.file; range = k.range ∙ j.range; in_table = k.in_table }
-
-refreshed-push : (ps : List PlanAnswer) (a : PlanAnswer) → refreshed (ps ++ a ∷ []) ≡ refreshed ps ++ said.Block Expired ∷ said.Plan a ∷ []
-refreshed-push [] a = refl
-refreshed-push (p ∷ ps) a = ap (λ l. said.Block Expired ∷ said.Plan p ∷ l) (refreshed-push ps a)
-
-module _ (x : XorbBlock) (t u v : TermBlockRetrievalURLs) (xs : List XorbBlock) (multi : Bool) (b m n : ClientTold) (k tries : ℕ) (last : Bool) (is : IsFetching (refresh_of t multi xs) x t u b m k tries) where
-  moved : (answer : Result (Option Fetched) FileReconstructionError) → TryCall (refresh_of u multi xs) x last u v m n answer → TryCall (refresh_of t multi xs) x last u v m n answer
-  moved answer c = subst (λ (r : Refresh). TryCall r x last u v m n answer) (same_refresh x t u xs multi is.table) c
-
-  pub fetch_more : last ≡ nat_eq (k + 1) tries → k < tries → TryCall (refresh_of u multi xs) x last u v m n (Ok None) → IsFetching (refresh_of t multi xs) x t v b n (k + 1) tries
-  fetch_more l below c =
-      let ends = c.ends in
-      let rose = is.rose in
-      let more = ends.2 in
-      let ne = eqb-false (k + 1) tries (sym l ∙ ends.0) in
+  pub fetch_more : x.xorb_block_index < length xs → TryCall (refresh_of u multi xs) x (tries - k) u v m n (Ok None) → IsFetching (refresh_of t multi xs) x t v b n (k + 1) tries
+  fetch_more within c' =
+      let c = moved (Ok None) c' in
+      let left = c.ends.0 in
+      let p : Plan = c.ends.1.0 in
+      let extents = length-map xs extent_of in
       record {
-        before = is.before ++ ends.1.0 ∷ [];
-        grew = subst (λ (l : List Said). Added b.said n.said l) (sym (refreshed-push is.before ends.1.0)) (added_both b.said m.said n.said (refreshed is.before) (said.Block Expired ∷ said.Plan ends.1.0 ∷ []) is.grew ends.1.1);
-        count = length-append is.before (ends.1.0 ∷ []) ∙ ap (λ (j : ℕ). j + 1) is.count;
-        rose = omega arith;
-        keeps = keeps_both b m n is.keeps c.keeps;
-        table = table_both x t u v is.table c.table;
+        plans = is.plans ++ p ∷ [];
+        tried = tried_both (refresh_of t multi xs) x t u v b m n is.plans (p ∷ []) is.tried [] [] [] c.ends.1.1;
+        count = length-append is.plans (p ∷ []) ∙ ap (λ (j : ℕ). j + 1) is.count;
+        table = table_both (refresh_of t multi xs) t u v is.table c.table;
+        in_table = c.table.in_table x.xorb_block_index (omega (arith, extents)) is.in_table;
         some = inr (omega arith);
+        unmoved = λ z. absurd (omega (arith, z));
       }
 
-  pub fetch_done : (g : Fetched) → k < tries → TryCall (refresh_of u multi xs) x last u v m n (Ok (Some g)) → FetchesCall (refresh_of t multi xs) x tries t v b n (Ok g)
-  fetch_done g below c =
-      let ends = c.ends in
+  pub fetch_done : (g : Fetched) → TryCall (refresh_of u multi xs) x (tries - k) u v m n (Ok (Some g)) → FetchesCall (refresh_of t multi xs) x tries t v b n (Ok g)
+  fetch_done g c' =
+      let c = moved (Ok (Some g)) c' in
       let count = is.count in
+      let all = length-append is.plans [] in
       record {
-        keeps = keeps_both b m n is.keeps c.keeps;
-        table = table_both x t u v is.table c.table;
-        ends = (
-          (is.before, omega arith, added_both b.said m.said n.said (refreshed is.before) (said.Block (Bytes g.bytes) ∷ []) is.grew ends.0),
-          record { passes = ends.1.passes; made = ends.1.made; honest = λ s told holds. ends.1.honest s (is.keeps.store ∙ told) holds },
-        );
+        keeps = keeps_both b m n is.tried.keeps c.keeps;
+        table = table_both (refresh_of t multi xs) t u v is.table c.table;
+        ends = (is.plans ++ [], omega (arith, all), data_both (refresh_of t multi xs) x t u v b m n is.plans [] is.tried g c.ends);
       }
 
-  pub fetch_fails : (e : FileReconstructionError) → last ≡ nat_eq (k + 1) tries → k < tries → TryCall (refresh_of u multi xs) x last u v m n (Err e) → FetchesCall (refresh_of t multi xs) x tries t v b n (Err e)
-  fetch_fails e l below c' =
+  pub fetch_fails : (e : FileReconstructionError) → TryCall (refresh_of u multi xs) x (tries - k) u v m n (Err e) → FetchesCall (refresh_of t multi xs) x tries t v b n (Err e)
+  fetch_fails e c' =
       let c = moved (Err e) c' in
-      let ends = c.ends in
       let count = is.count in
       record {
-        keeps = keeps_both b m n is.keeps c.keeps;
-        table = table_both x t u v is.table c.table;
-        ends = (is.before, ends.0, added_both b.said m.said n.said (refreshed is.before) ends.0 is.grew ends.1, ends.2, cause e ends.0 ends.3 (λ h. (ends.4 h).0), omega arith, λ h. (at_last (ends.4 h).0, (ends.4 h).1));
+        keeps = keeps_both b m n is.tried.keeps c.keeps;
+        table = table_both (refresh_of t multi xs) t u v is.table c.table;
+        ends = (is.plans ++ [], fail_both (refresh_of t multi xs) x t u v b m n is.plans [] is.tried (tries - k) tries (omega arith) (omega arith) e c.ends);
       }
-    where
-      R : Refresh
-      R = refresh_of t multi xs
-
-      at_last : last ≡ true → length is.before + 1 ≡ tries
-      at_last h = ap (λ (j : ℕ). j + 1) is.count ∙ eqb-true (k + 1) tries (sym l ∙ h)
-
-      fails : (e : FileReconstructionError) (all : List Said) → Fails R x all m e → Fails R x (refreshed is.before ++ all) b e
-      fails e all h = record { some = more h.some; dishonest = λ s told honest. h.dishonest s (is.keeps.store ∙ told) honest }
-        where
-          more : SomeFails R x all e → SomeFails R x (refreshed is.before ++ all) e
-          more (inl (bytes, f, w, failed, same)) = inl (bytes, f, Contains-append_right (refreshed is.before) all _ w, failed, same)
-          more (inr (a, w, refused)) = inr (a, Contains-append_right (refreshed is.before) all _ w, refused)
-
-      cause : (e : FileReconstructionError) (all : List Said) → FetchesCause R x 1 all m n e → (e ≡ error.UrlExpired → last ≡ true) → FetchesCause R x tries (refreshed is.before ++ all) b n e
-      cause error.OutOfMemory all h w = tt
-      cause error.ClientError all h w = rose_before b.faults m.faults n.faults is.keeps.faults h
-      cause error.FileNotFound all h w = fails error.FileNotFound all h
-      cause error.UrlExpired all h w =
-          let at = eqb-true (k + 1) tries (sym l ∙ w refl) in
-          let rose = is.rose in
-          omega arith
-      cause error.IoError all h w = h
-      cause (error.CorruptedReconstruction f) all h w = fails (error.CorruptedReconstruction f) all h
-      cause (error.ConfigurationError s) all h w = absurd (let z = h.1 in omega arith)
-      cause error.Cancelled all h w = h
-      cause (error.InternalWriterError f) all h w = h
 
 pub fetch_none : (r : Refresh) (x : XorbBlock) (t u : TermBlockRetrievalURLs) (b n : ClientTold) (k tries : ℕ) → IsFetching r x t u b n k tries → tries ≤ k → FetchesCall r x tries t u b n (Err (error.ConfigurationError setting.NoTries))
-fetch_none r x t u b n k tries is h = record {
-  keeps = is.keeps;
-  table = is.table;
-  ends = (is.before, [], added_both b.said n.said n.said (refreshed is.before) [] is.grew (added_nothing n.said), inl refl, (refl, none is.some), few is.some, λ h. absurd (cc));
-}
+fetch_none r x t u b n k tries is h = record { keeps = is.tried.keeps; table = is.table; ends = (is.plans, (refl, none is.some, (is.unmoved (first is.some)).0, (is.unmoved (first is.some)).1)) }
   where
     none : (k ≡ 0) ⊎ (k < tries) → tries ≡ 0
     none (inl e) = omega arith
     none (inr l) = absurd (omega arith)
 
-    few : (k ≡ 0) ⊎ (k < tries) → length is.before ≤ tries - 1
-    few (inl e) = let count = is.count in omega arith
-    few (inr l) = absurd (omega arith)
+    first : (k ≡ 0) ⊎ (k < tries) → k ≡ 0
+    first (inl e) = e
+    first (inr l) = absurd (omega arith)
 
 -- ---- data
 

@@ -60,10 +60,11 @@ pub record LookOk (x : XorbBlock) (before after : CacheTold) (found : Option Xor
   pub looked : LookedFor x x.chunk_ranges before after given
   pub found_in : FoundIn x given found
 
--- what became of the looks where memory was wanting: the look for a block of one range may be among them
+-- what became of the looks where memory was wanting: the look for a block of one range may be among them, with what it
+-- gave
 abbrev pub MaybeLooked : XorbBlock → List ChunkRange → CacheTold → CacheTold → Type 0
 MaybeLooked x (r ∷ []) before after =
-    (after.looked ≡ before.looked) ⊎ ((o : Option BlockBytes) × Grew before.looked after.looked (x.xorb_hash, r, o))
+    (after.looked ≡ before.looked) ⊎ ((o : Option BlockBytes) × Looked x r before after o)
 MaybeLooked x [] before after = after.looked ≡ before.looked
 MaybeLooked x (r ∷ s ∷ rs) before after = after.looked ≡ before.looked
 

@@ -1,5 +1,5 @@
 -- Laws of refreshes and cached entries.
-use Rattle.std.specs.Prelude.{ℕ, ◌≡◌, ◌<◌, Bool, true, List, length, All, None, Some, Option, slice_get}
+use Rattle.std.specs.Prelude.{ℕ, ◌≡◌, ◌<◌, Bool, true, List, ◌++◌, length, All, None, Some, Option, slice_get}
 use Rattle.xet_base.specs.declared.cas_types.ChunkRange.{ChunkRange}
 use Rattle.xet_base.specs.declared.cas_types.FileRange.{FileRange}
 use Rattle.xet_base.specs.declared.merklehash.MerkleHash.{MerkleHash}
@@ -8,7 +8,9 @@ use Rattle.xet_outside.specs.declared.block.BlockBytes.{BlockBytes}
 use Rattle.xet_outside.specs.declared.plan.Plan.{Plan}
 use Rattle.xet_outside.specs.declared.plan.PlanAnswer.TheVariants.{Found}
 use Rattle.xet_outside.specs.Plan.{Shape, block_of, plan_of}
-use Rattle.xet_outside.specs.Told.{Holds, IsHonest}
+use Rattle.xet_outside.specs.declared.said.Said.{Said}
+use Rattle.xet_outside.specs.Answers.{AnswerToQuery}
+use Rattle.xet_outside.specs.Told.{Holds, IsHonest, Query}
 use Rattle.xet_blocks.specs.declared.reconstruction_terms.file_term.FileTerm.{FileTerm}
 use Rattle.xet_blocks.specs.declared.reconstruction_terms.file_term.TermBlock.{TermBlock}
 use Rattle.xet_blocks.specs.PlanQuery.{PlanQuery}
@@ -16,8 +18,8 @@ use Rattle.xet_blocks.specs.Blocks.{PlanBlock, block_ranges, blocks_of}
 use Rattle.xet_blocks.specs.BlockChecks.{block_data}
 use Rattle.xet_fetch.specs.CachedBlocks.{entry_of, is_sound}
 use Rattle.xet_blocks.specs.Extracts.{failed_term_test}
-use Rattle.xet_fetch.specs.Refreshes.{refresh_of}
-use Rattle.xet_fetch.specs.RetrieveData.{IsHonestFor}
+use Rattle.xet_fetch.specs.Refreshes.{Refresh, refresh_of}
+use Rattle.xet_fetch.specs.Fetches.{IsHonestFor, refresh_queries, refresh_query, refreshed}
 use Rattle.xet_blocks.specs.TermBlocks.{IsTermBlock, known_size, references}
 use Rattle.xet_blocks.specs.Terms.{terms_of}
 use Rattle.xet_blocks.specs.PlanChecks.{IsAccepted}
@@ -38,8 +40,8 @@ CachedTermsPass = (p : Shape) (q : FileRange) (multi : Bool) (e : BlockBytes) �
 abbrev pub HonestEntriesPass : Type 0
 HonestEntriesPass = (s : Store) → IsValid s → (f : MerkleHash) (q : FileRange) (multi : Bool) (k : ℕ) (b : PlanBlock)
     → slice_get (blocks_of (plan_of s f q) multi) k ≡ Some b
-    → is_sound (block_ranges b) (known_size (block_ranges b) (references (plan_of s f q) multi b)) (references (plan_of s f q) multi b)
-    (block_of s b.xorb (block_ranges b)) ≡ true
+    → is_sound (block_ranges b) (known_size (block_ranges b) (references (plan_of s f q) multi b))
+    (references (plan_of s f q) multi b) (block_of s b.xorb (block_ranges b)) ≡ true
 
 -- an honest block's data is an entry again
 abbrev pub EntriesReturn : Type 0
@@ -52,3 +54,9 @@ abbrev pub HonestTables : Type 0
 HonestTables = (s : Store) → IsValid s → (p : Plan) (query : PlanQuery) (b : TermBlock)
     → IsTermBlock p query b → IsHonest s query.file query.range (Found p) → 0 < length p.terms
     → All (IsHonestFor s (refresh_of b.urls query.multirange b.blocks)) b.blocks
+
+-- each plan by which a table was refreshed was said to the query of its refresh, whatever was asked and said afterwards
+abbrev pub RefreshesAnswered : Type 0
+RefreshesAnswered = (r : Refresh) (plans : List Plan) (asked : List Query) (all : List Said) (k : ℕ) (p : Plan)
+    → slice_get plans k ≡ Some p
+    → AnswerToQuery (refresh_queries r plans ++ asked) (refreshed plans ++ all) (refresh_query r) (Found p)

@@ -19,3 +19,15 @@ pub record HandedCall (t : TermBlockRetrievalURLs) (index : ℕ) (before now : U
 abbrev pub RefreshedCall : TermBlockRetrievalURLs → TermBlockRetrievalURLs → ClientTold → ClientTold → UniqueId
     → List XorbBlock → Bool → Result (Unit {0}) FileReconstructionError → Type 0
 RefreshedCall t u before after last xs multi answer = RefreshCall t u before after last xs multi answer
+
+-- a refresh fails for want of memory, by a fault, or by an answer: there is no such file, or a test fails
+abbrev pub IsRefreshError : FileReconstructionError → Type 0
+IsRefreshError error.OutOfMemory = Unit {0}
+IsRefreshError error.ClientError = Unit {0}
+IsRefreshError error.FileNotFound = Unit {0}
+IsRefreshError error.UrlExpired = ⊥
+IsRefreshError error.IoError = ⊥
+IsRefreshError (error.CorruptedReconstruction k) = Unit {0}
+IsRefreshError (error.ConfigurationError s) = ⊥
+IsRefreshError error.Cancelled = ⊥
+IsRefreshError (error.InternalWriterError w) = ⊥

@@ -49,7 +49,8 @@ first_difference (x ∷ xs) (y ∷ ys) = cond (same_extent x y) (option_map (λ 
 
 -- a refresh covers the bytes that were asked for
 abbrev pub range_test : FileRange → FileRange → Option Corruption
-range_test q returned = cond (nat_eq returned.start q.start && nat_eq returned.end q.end) None (Some (RefreshRange returned))
+range_test q returned =
+    cond (nat_eq returned.start q.start && nat_eq returned.end q.end) None (Some (RefreshRange returned))
 
 -- a refresh has the blocks that were there before
 abbrev pub blocks_test : List Extent → List Extent → Option Corruption
@@ -104,7 +105,8 @@ RefreshCause r before after error.ClientError = Rose before.faults after.faults
 RefreshCause r before after error.FileNotFound = IsRefused r before after error.FileNotFound
 RefreshCause r before after error.UrlExpired = ⊥
 RefreshCause r before after error.IoError = ⊥
-RefreshCause r before after (error.CorruptedReconstruction k) = IsRefused r before after (error.CorruptedReconstruction k)
+RefreshCause r before after (error.CorruptedReconstruction k) =
+    IsRefused r before after (error.CorruptedReconstruction k)
 RefreshCause r before after (error.ConfigurationError s) = ⊥
 RefreshCause r before after error.Cancelled = ⊥
 RefreshCause r before after (error.InternalWriterError w) = ⊥
@@ -132,7 +134,8 @@ next_id id = record id { refresh = min (id.refresh + 1) (2 ^ 128 - 1) }
 
 -- what a table asks again, for these blocks
 abbrev pub refresh_of : TermBlockRetrievalURLs → Bool → List XorbBlock → Refresh
-refresh_of t multi xs = record { file = t.file_hash; range = t.byte_range; multirange = multi; blocks = map extent_of xs }
+refresh_of t multi xs =
+    record { file = t.file_hash; range = t.byte_range; multirange = multi; blocks = map extent_of xs }
 
 -- one call of `refresh_retrieval_urls` on a table, by an id
 pub record RefreshCall (t u : TermBlockRetrievalURLs) (before after : ClientTold) (id : UniqueId)

@@ -1,16 +1,21 @@
 //! Gets a block's data: from a cache, or from a connection by tries and refreshes.
-ghost use Rattle.std.specs.Prelude.{◌≡◌, ◌<◌, length, map, slice_get, Some};
+ghost use Rattle.std.specs.Prelude.{◌≡◌, ◌<◌, length, slice_get, Some};
 ghost use Rattle.xet_blocks.specs.declared.reconstruction_terms.xorb_block.XorbBlock.{XorbBlock};
+ghost use Rattle.xet_fetch.specs.Fetches.{FetchesCall};
 ghost use Rattle.xet_fetch.specs.Refreshes.{refresh_of};
-ghost use Rattle.xet_fetch.specs.RetrieveData.{AskBlockCall, DataCall, FetchesCall, IsFetchable, RetrieveCall, TryCall};
+ghost use Rattle.xet_fetch.specs.RetrieveData.{DataCall, IsFetchable, RetrieveCall};
+ghost use Rattle.xet_fetch.specs.steps.Tries.{AskCall, TryCall};
 
 use crate::cached_block::{look_up, offer};
 use crate::fetch_settings::FetchSettings;
 use crate::retrieval_urls::refresh_retrieval_urls;
+use crate::transfer_report::report_transfer;
 use std::alloc::Global;
+use std::sync::Wait;
 use xet_blocks::{TermBlockRetrievalURLs, XorbBlock, XorbBlockData};
 use xet_error::{FileReconstructionError, Result, Setting};
 use xet_outside::{BlockAnswer, BlockBytes, ChunkCache, Client};
+use xet_progress::ItemProgressUpdater;
 
 /// A fetched block: its bytes as they came, and its data.
 #[derive(Drop)]
@@ -24,22 +29,28 @@ pub struct Fetched {
 /// Keeps the data of the block of this number, where none is kept. The other blocks stay.
 ///
 /// A block of one range is looked for in the cache once; an entry that passes `check_cached` is kept. Else the block is
-/// asked for up to the settings' number of tries: each expired answer but the last try's is followed by a refresh of the
-/// URLs and another request. Fetched bytes that pass `check` are kept, and those of a block of one range are offered to
-/// the cache, whatever it answers.
+/// asked for up to the settings' number of tries: each expired answer but the last try's is followed by a refresh of
+/// the URLs and another request. Fetched bytes that pass `check` are kept, and those of a block of one range are
+/// offered to the cache, whatever it answers. A refused refresh ends the call, and the table is that of the refreshes
+/// before it.
 ///
 /// `UrlExpired` where all tries expired, `ConfigurationError(NoTries)` where there are none, `ClientError` where the
-/// connection's faults rose, `FileNotFound` and `CorruptedReconstruction` where an answer said so or fails a test,
-/// `OutOfMemory` where memory was refused. After an error nothing is kept, and a later call may try again.
+/// connection's faults rose, `FileNotFound` and `CorruptedReconstruction` where the last answer said so or fails a
+/// test, `OutOfMemory` where memory was refused. After an error nothing is kept, and a later call may try again.
+///
+/// With `progress` a block that this call keeps is reported to it once, as transferred, with the lengths of its byte
+/// ranges; a refused report changes nothing.
 ///
 /// In the Rust crate: `file_reconstruction::reconstruction_terms::xorb_block::XorbBlock::retrieve_data`.
-pub fn retrieve_data<C: Client, K: ChunkCache>(
+pub fn retrieve_data<R: Wait, C: Client, K: ChunkCache>(
     alloc: Global,
+    rt: &R,
     blocks: &mut [XorbBlock],
     index: usize,
     client: &mut C,
     url_info: &mut TermBlockRetrievalURLs,
     settings: &FetchSettings,
+    progress: Option<&ItemProgressUpdater>,
     cache: &mut K,
 ) -> Result<()>
     requires of_plan { IsFetchable blocks.old index url_info.old }
@@ -52,6 +63,7 @@ pub fn retrieve_data<C: Client, K: ChunkCache>(
     }
     let found = data_at(alloc, blocks, index, client, url_info, settings, cache)?;
     blocks[index].keep(found);
+    report_transfer(rt, progress, url_info, index);
     Ok(())
 }
 
@@ -63,7 +75,7 @@ fn ask<C: Client>(
     urls: &TermBlockRetrievalURLs,
 ) -> Result<Option<Fetched>>
     requires { block.now.xorb_block_index < length urls.now.retrieval_urls }
-    ensures { AskBlockCall block.now (C.told client.old) (C.told client.new) result }
+    ensures { AskCall block.now urls.now (C.told client.old) (C.told client.new) result }
 {
     let Some(request) = block.request(alloc, urls)? else {
         unreachable!()
@@ -77,8 +89,8 @@ fn ask<C: Client>(
     }
 }
 
-/// One try of a block: its bytes, or none after an expired answer and a refresh. The last try's expired answer is
-/// `UrlExpired`.
+/// One try of a block, of which so many are left: its bytes, or none after an expired answer and a refresh. The last
+/// try's expired answer is `UrlExpired`.
 fn try_once<C: Client>(
     alloc: Global,
     block: &XorbBlock,
@@ -86,17 +98,18 @@ fn try_once<C: Client>(
     client: &mut C,
     urls: &mut TermBlockRetrievalURLs,
     multirange: bool,
-    last: bool,
+    left: u32,
 ) -> Result<Option<Fetched>>
+    requires some { 0 < left }
     requires in_table { block.now.xorb_block_index < length urls.old.retrieval_urls }
     requires in_blocks { block.now.xorb_block_index < length blocks.now }
-    ensures { TryCall (refresh_of urls.old multirange blocks.now) block.now last urls.old urls.new
+    ensures { TryCall (refresh_of urls.old multirange blocks.now) block.now left urls.old urls.new
         (C.told client.old) (C.told client.new) result }
 {
     if let Some(fetched) = ask(alloc, block, client, urls)? {
         return Ok(Some(fetched));
     }
-    if last {
+    if left == 1 {
         return Err(FileReconstructionError::UrlExpired);
     }
     let id = urls.acquisition_id();
@@ -115,14 +128,14 @@ fn fetch<C: Client>(
 ) -> Result<Fetched>
     requires in_table { block.now.xorb_block_index < length urls.old.retrieval_urls }
     requires in_blocks { block.now.xorb_block_index < length blocks.now }
-    ensures { FetchesCall (refresh_of urls.old settings.now.multirange blocks.now) block.now settings.now.tries urls.old urls.new
-        (C.told client.old) (C.told client.new) result }
+    ensures { FetchesCall (refresh_of urls.old settings.now.multirange blocks.now) block.now settings.now.tries
+        urls.old urls.new (C.told client.old) (C.told client.new) result }
 {
     let tries = settings.tries;
     for attempt in 0..tries {
-        let last = attempt + 1 == tries;
+        let left = tries - attempt;
         let multirange = settings.multirange;
-        if let Some(fetched) = try_once(alloc, block, blocks, client, urls, multirange, last)? {
+        if let Some(fetched) = try_once(alloc, block, blocks, client, urls, multirange, left)? {
             return Ok(fetched);
         }
     }
@@ -141,7 +154,8 @@ fn data_of<C: Client, K: ChunkCache>(
 ) -> Result<XorbBlockData>
     requires in_table { block.now.xorb_block_index < length urls.old.retrieval_urls }
     requires in_blocks { block.now.xorb_block_index < length blocks.now }
-    ensures { DataCall (refresh_of urls.old settings.now.multirange blocks.now) block.now settings.now.tries urls.old urls.new
+    ensures { DataCall (refresh_of urls.old settings.now.multirange blocks.now) block.now settings.now.tries
+        urls.old urls.new
         (record { client = C.told client.old; cache = K.told cache.old })
         (record { client = C.told client.new; cache = K.told cache.new }) result }
 {

@@ -1,5 +1,5 @@
 //! Laws of refreshes and cached entries, over the definitions alone.
-ghost use Rattle.xet_fetch.specs.Laws.{CachedTermsPass, EntriesReturn, HonestEntriesPass, HonestTables};
+ghost use Rattle.xet_fetch.specs.Laws.{CachedTermsPass, EntriesReturn, HonestEntriesPass, HonestTables, RefreshesAnswered};
 
 /// A term of an accepted plan passes its test in any entry that passes the tests of its block.
 pub fn cached_terms_pass()
@@ -20,4 +20,9 @@ pub fn entries_return()
 /// tests, and honest blocks theirs.
 pub fn honest_tables()
     ensures { HonestTables }
+{}
+
+/// Each plan by which a table was refreshed was said to the query of its refresh.
+pub fn refreshes_answered()
+    ensures { RefreshesAnswered }
 {}

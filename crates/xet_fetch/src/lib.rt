@@ -1,4 +1,5 @@
-//! What stands around a fetch: the refresh of URLs, cached blocks, and the data of a block by cache, tries and refreshes.
+//! What stands around a fetch: the refresh of URLs, cached blocks, and the data of a block by cache, tries and
+//! refreshes.
 #![tactic(auto)]
 
 pub mod block_fetch;
@@ -6,6 +7,7 @@ pub mod cached_block;
 pub mod fetch_settings;
 pub mod laws;
 pub mod retrieval_urls;
+mod transfer_report;
 pub mod url_provider;
 
 pub use block_fetch::{Fetched, retrieve_data};

@@ -18,11 +18,11 @@ use xet_outside::Client;
 /// several expired blocks of one plan the first alone asks. `blocks` are the blocks of the plan.
 ///
 /// Exactly by the connection's answer: `FileNotFound` where it said that the file is not stored;
-/// `CorruptedReconstruction` with `RefreshPastEnd` where it said that the bytes are past the end, or gave a plan without
-/// terms, else with the first failed test of a plan, else with `RefreshRange` where the plan covers other bytes, else
-/// with `RefreshBlocks` at the first block that has another xorb or other chunk ranges, or that only one of the lists
-/// has. `ClientError` only where the connection's faults rose. `OutOfMemory` where memory was refused. After an error
-/// the table is as before.
+/// `CorruptedReconstruction` with `RefreshPastEnd` where it said that the bytes are past the end, or gave a plan
+/// without terms, else with the first failed test of a plan, else with `RefreshRange` where the plan covers other
+/// bytes, else with `RefreshBlocks` at the first block that has another xorb or other chunk ranges, or that only one of
+/// the lists has. `ClientError` only where the connection's faults rose. `OutOfMemory` where memory was refused. After
+/// an error the table is as before.
 ///
 /// In the Rust crate:
 /// `file_reconstruction::reconstruction_terms::retrieval_urls::TermBlockRetrievalURLs::refresh_retrieval_urls`.
@@ -98,7 +98,8 @@ fn failed_refresh(
     Some(Corruption::RefreshBlocks { index })
 }
 
-/// The first index at which two lists of blocks have another xorb or other chunk ranges, or at which only one has a block.
+/// The first index at which two lists of blocks have another xorb or other chunk ranges, or at which only one has a
+/// block.
 fn first_difference(before: &[XorbBlock], now: &[XorbBlock]) -> Option<usize>
     ensures { result ≡ first_difference (map extent_of before.now) (map extent_of now.now) }
 {

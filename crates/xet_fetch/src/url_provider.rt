@@ -1,6 +1,7 @@
 //! Hands out the URL of one block, and refreshes it.
-ghost use Rattle.std.specs.Prelude.{◌≡◌, ◌<◌, length};
-ghost use Rattle.xet_fetch.specs.Providers.{HandedCall, RefreshedCall};
+ghost use Rattle.std.specs.Prelude.{◌≡◌, ◌<◌, IfErr, length};
+ghost use Rattle.xet_error.specs.declared.error.FileReconstructionError.TheVariants.{OutOfMemory};
+ghost use Rattle.xet_fetch.specs.Providers.{HandedCall, IsRefreshError, RefreshedCall};
 
 use crate::retrieval_urls::refresh_retrieval_urls;
 use std::alloc::Global;
@@ -13,11 +14,14 @@ use xet_outside::Client;
 ///
 /// In the Rust crates: `cas_client::URLProvider`.
 pub trait URLProvider {
-    /// The URL, with memory of its own.
-    fn retrieve_url(&mut self, alloc: Global) -> Result<RetrievalUrl>;
+    /// The URL, with memory of its own. `OutOfMemory` where memory was refused, and no other error.
+    fn retrieve_url(&mut self, alloc: Global) -> Result<RetrievalUrl>
+        ensures error { IfErr result (λ e. e ≡ OutOfMemory) };
 
-    /// Asks for newer URLs, where those of the last `retrieve_url` are the newest.
-    fn refresh_url(&mut self, alloc: Global) -> Result<()>;
+    /// Asks for newer URLs, where those of the last `retrieve_url` are the newest. `OutOfMemory`, `ClientError`,
+    /// `FileNotFound` or `CorruptedReconstruction`, as `refresh_retrieval_urls` has them.
+    fn refresh_url(&mut self, alloc: Global) -> Result<()>
+        ensures error { IfErr result IsRefreshError };
 }
 
 /// The URL of one block of a plan.
@@ -37,8 +41,8 @@ pub struct XorbURLProvider<'a, C: Client> {
 }
 
 impl<'a, C: Client> XorbURLProvider<'a, C> {
-    /// A provider of the URL of this block. It holds the null id, so that a refresh before a retrieval does nothing where
-    /// the table's id isn't null.
+    /// A provider of the URL of this block. It holds the null id, so that a refresh before a retrieval does nothing
+    /// where the table's id isn't null.
     pub fn new(
         client: &'a mut C,
         url_info: &'a mut TermBlockRetrievalURLs,
@@ -71,9 +75,15 @@ impl<'a, C: Client> XorbURLProvider<'a, C> {
 impl<'a, C: Client> URLProvider for XorbURLProvider<'a, C> {
     /// The URL of the block in the table. `OutOfMemory` where memory was refused.
     fn retrieve_url(&mut self, alloc: Global) -> Result<RetrievalUrl>
+        ensures error { IfErr result (λ e. e ≡ OutOfMemory) }
         ensures call { HandedCall self.old.url_info.now self.old.xorb_block_index self.old.last self.new.last result }
         ensures table { self.new.url_info.now ≡ self.old.url_info.now }
         ensures client { C.told self.new.client.now ≡ C.told self.old.client.now }
+        ensures index { self.new.xorb_block_index ≡ self.old.xorb_block_index }
+        ensures multirange { self.new.multirange ≡ self.old.multirange }
+        ensures blocks { self.new.blocks.now ≡ self.old.blocks.now }
+        ensures same_table { self.new.url_info.ghost_name ≡ self.old.url_info.ghost_name }
+        ensures same_client { self.new.client.ghost_name ≡ self.old.client.ghost_name }
     {
         let Some((id, found)) = self.url_info.get_retrieval_url(self.xorb_block_index) else {
             unreachable!()
@@ -86,9 +96,15 @@ impl<'a, C: Client> URLProvider for XorbURLProvider<'a, C> {
 
     /// `refresh_retrieval_urls` with the id of the last `retrieve_url`.
     fn refresh_url(&mut self, alloc: Global) -> Result<()>
+        ensures error { IfErr result IsRefreshError }
         ensures call { RefreshedCall self.old.url_info.now self.new.url_info.now (C.told self.old.client.now)
             (C.told self.new.client.now) self.old.last self.old.blocks.now self.old.multirange result }
         ensures last { self.new.last ≡ self.old.last }
+        ensures index { self.new.xorb_block_index ≡ self.old.xorb_block_index }
+        ensures multirange { self.new.multirange ≡ self.old.multirange }
+        ensures blocks { self.new.blocks.now ≡ self.old.blocks.now }
+        ensures same_table { self.new.url_info.ghost_name ≡ self.old.url_info.ghost_name }
+        ensures same_client { self.new.client.ghost_name ≡ self.old.client.ghost_name }
     {
         refresh_retrieval_urls(
             alloc,

@@ -82,8 +82,12 @@ module _ (s : Store) (v : IsValid s) (f : MerkleHash) (multi : Bool) where
       let none : slice_range (bytes_of s f) b c ≡ [] = ap (λ (l : List ℕ). take (c - b) l) (drop_all b (bytes_of s f) h) ∙ take_all (c - b) [] (omega arith) in
       sym (append-nil (slice_range (bytes_of s f) a b)) ∙ ap (λ l. slice_range (bytes_of s f) a b ++ l) (sym none) ∙ slice_range-join (bytes_of s f) a b c p q
 
+  -- and one that starts there is empty
+  none_past : (a b : ℕ) → length (bytes_of s f) ≤ a → slice_range (bytes_of s f) a b ≡ []
+  none_past a b h = ap (λ (l : List ℕ). take (b - a) l) (drop_all a (bytes_of s f) h) ∙ take_all (b - a) [] (omega arith)
+
 pub pieces_reach : PiecesReach
-pieces_reach s v d es a t some reach =
+pieces_reach s v d es a t reach =
     let f = d.file in
     let r = d.range in
     let bound = d.greatest + d.least in
@@ -94,6 +98,8 @@ pieces_reach s v d es a t some reach =
     (λ (e : all ≡ r.end). cover ∙ ap (λ (n : ℕ). window s f (record { start = r.start; end = n })) e)
     (λ (e : SomeEndsEarly es).
     let h = early_ends s v f d.multirange [] r.start r.end bound es a t.plans t.cuts e in
-    let within : all ≤ r.end = ⊎_elim (λ (k : all ≡ r.start). omega arith) (λ (k : all ≤ r.end). k) (within_end r.start r.end bound (queries es) t.cuts) in
-    cover ∙ past_end s v f d.multirange r.start all r.end from within (omega arith))
+    ⊎_elim
+    (λ (k : all ≡ r.start). cover ∙ none_past s v f d.multirange r.start all (omega arith) ∙ sym (none_past s v f d.multirange r.start r.end (omega arith)))
+    (λ (k : all ≤ r.end). cover ∙ past_end s v f d.multirange r.start all r.end from k (omega arith))
+    (within_end r.start r.end bound (queries es) t.cuts))
     reach

@@ -28,7 +28,7 @@ PiecesArePrefix = (s : Store) → IsValid s → (d : Download) (es : List Event)
 -- where the queries reach the range's end, or a plan ends early, they are that window itself
 abbrev pub PiecesReach : Type 0
 PiecesReach = (s : Store) → IsValid s → (d : Download) (es : List Event) → IsAllowedHistory es → IsTrueHistory s d es
-    → d.range.start < d.range.end → ReachesEnd d.range es → pieces s es ≡ window_of s d
+    → ReachesEnd d.range es → pieces s es ≡ window_of s d
 
 -- no more is written than the pieces have, and the written bytes are the beginning of the window
 pub record IsWrittenPrefix (s : Store) (d : Download) (es : List Event) : Type 0 where

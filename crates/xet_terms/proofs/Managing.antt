@@ -1,7 +1,8 @@
 -- The queries of a manager cut its range.
-use Rattle.std.proofs.Common.{◌≡◌, ℕ, zero, suc, ◌+◌, ◌-◌, ◌&&◌, ◌||◌, ◌<◌, ◌≤◌, ◌⊎◌, Bool, true, false, cond, List, [], ◌∷◌, ◌++◌, length, take, drop, Some, None, Ok, Err, refl, sym, ◌∙◌, ap, inl, inr, ⊎_elim, min, max, arith, length-append}
+use Rattle.std.proofs.Common.{◌≡◌, ℕ, zero, suc, ◌+◌, ◌-◌, ◌&&◌, ◌||◌, ◌<◌, ◌≤◌, ◌⊎◌, Bool, true, false, cond, List, [], ◌∷◌, ◌++◌, length, take, drop, get_or, Some, None, Ok, Err, refl, sym, ◌∙◌, ap, inl, inr, ⊎_elim, min, max, arith, length-append}
 use Rattle.std.specs.Prelude.{nat_lt, nat_le, slice_get, filter, Option, Result, OnOk}
 use Rattle.std.specs.List.{prefix_len}
+use Rattle.std.specs.List.Sorted.{IsNonDecreasingBy, IsPartitionPoint}
 use Rattle.std.proofs.Math.Seq.{take-add}
 use Rattle.std.proofs.lemmas.List.{length-take}
 use Rattle.xet_blocks.specs.declared.reconstruction_terms.file_term.TermBlock.{TermBlock}
@@ -116,6 +117,52 @@ take-both a k xs = sym (take-add a k xs)
 pub without_is : (place end bound asked known : ℕ) (qs : List FileRange) → CutFrom place end bound qs → without_past asked known qs ≡ take (asked + prefix_len (λ q. nat_lt q.start known) (drop asked qs)) qs
 without_is place end bound asked known qs c =
     ap (λ l. take asked qs ++ l) (front_below (end_from place (take asked qs)) end bound known (drop asked qs) (cuts-drop place end bound qs asked c)) ∙ take-both asked (prefix_len (λ q. nat_lt q.start known) (drop asked qs)) qs
+
+-- queries that cut a range go forward
+starts_after : (place end bound : ℕ) (qs : List FileRange) (k : ℕ) (d : FileRange) → CutFrom place end bound qs → k < length qs → place ≤ (get_or qs k d).start
+starts_after place end bound [] k d c h = absurd (omega arith)
+starts_after place end bound (q ∷ qs) zero d c h = let from : q.start ≡ place = c.0 in omega arith
+starts_after place end bound (q ∷ qs) (suc k) d c h =
+    let from : q.start ≡ place = c.0 in
+    let some : q.start < q.end = c.1 in
+    let next = starts_after q.end end bound qs k d c.4 (omega arith) in
+    omega (arith, next)
+
+starts_go : (place end bound : ℕ) (qs : List FileRange) → CutFrom place end bound qs → IsNonDecreasingBy (λ q. q.start) qs
+starts_go place end bound [] c i j d le lt = absurd (omega arith)
+starts_go place end bound (q ∷ qs) c zero zero d le lt = omega arith
+starts_go place end bound (q ∷ qs) c zero (suc j) d le lt =
+    let some : q.start < q.end = c.1 in
+    let next = starts_after q.end end bound qs j d c.4 (omega arith) in
+    omega (arith, next)
+starts_go place end bound (q ∷ qs) c (suc i) zero d le lt = absurd (omega arith)
+starts_go place end bound (q ∷ qs) c (suc i) (suc j) d le lt = starts_go q.end end bound qs c.4 i j d (omega arith) (omega arith)
+
+pub rest_goes : (place end bound : ℕ) (qs : List FileRange) (n : ℕ) → CutFrom place end bound qs → IsNonDecreasingBy (λ q. q.start) (drop n qs)
+rest_goes place end bound qs n c = starts_go (end_from place (take n qs)) end bound (drop n qs) (cuts-drop place end bound qs n c)
+
+-- the place where those end that start below another is their number
+pub below_is : (qs : List FileRange) (known k : ℕ) → k ≤ length qs → IsPartitionPoint (λ q. nat_lt q.start known ≡ true) (λ q. nat_lt q.start known ≡ false) qs k
+    → k ≡ prefix_len (λ q. nat_lt q.start known) qs
+below_is [] known k within h = omega arith
+below_is (q ∷ qs) known zero within h =
+    let off : nat_lt q.start known ≡ false = h.1 zero q (omega arith) (omega arith) in
+    ap (λ b. cond b (1 + prefix_len (λ q. nat_lt q.start known) qs) 0) (sym off)
+below_is (q ∷ qs) known (suc k) within h =
+    let on : nat_lt q.start known ≡ true = h.0 zero q (omega arith) (omega arith) in
+    let next = below_is qs known k (omega arith) (λ i d lo hi. h.0 (suc i) d (omega arith) (omega arith), λ i d lo hi. h.1 (suc i) d (omega arith) (omega arith)) in
+    let more : suc k ≡ 1 + prefix_len (λ q. nat_lt q.start known) qs = omega (arith, next) in
+    more ∙ ap (λ b. cond b (1 + prefix_len (λ q. nat_lt q.start known) qs) 0) (sym on)
+
+-- a query that was asked keeps its place where an answer is taken
+front_stays : (n : ℕ) (qs more : List FileRange) (k : ℕ) (q : FileRange) → k < n → slice_get qs k ≡ Some q → slice_get (take n qs ++ more) k ≡ Some q
+front_stays zero qs more k q h e = absurd (omega arith)
+front_stays (suc n) [] more k q h e = absurd (cc)
+front_stays (suc n) (r ∷ rs) more zero q h e = e
+front_stays (suc n) (r ∷ rs) more (suc k) q h e = front_stays n rs more k q (omega arith) e
+
+pub asked_stays : (asked known : ℕ) (qs : List FileRange) (k : ℕ) (q : FileRange) → k < asked → slice_get qs k ≡ Some q → slice_get (without_past asked known qs) k ≡ Some q
+asked_stays asked known qs k q h e = front_stays asked qs (filter (λ q. nat_lt q.start known) (drop asked qs)) k q h e
 
 -- a manager stays one where an answer came
 pub accept_keeps : (m : Manager) (k known : ℕ) (early : Bool) (ws : List TermBlock) → IsManager m → m.answered < m.asked → (early ≡ false → known ≡ m.known_end)

@@ -35,8 +35,8 @@ bounded n = min n (2 ^ 64 - 1)
 abbrev pub scheduled_end : Manager → ℕ
 scheduled_end m = end_from m.range.start m.queries
 
--- where a query of this size, clamped, would end: cut at the known end and the range's end, and drawn to the range's end
--- where less than the least size would be left
+-- where a query of this size, clamped, would end: cut at the known end and the range's end, and drawn to the range's
+-- end where less than the least size would be left
 abbrev pub cut_at : ℕ → ℕ → FileRange → ℕ → ℕ → ℕ → ℕ
 cut_at least greatest range known start size =
     let e = min (bounded (start + max (min size greatest) least)) (min known range.end) in
@@ -141,4 +141,6 @@ settled m known early = record m {
 
 -- a manager after the answer to its oldest asked query
 abbrev pub accepted : Manager → FileRange → Option TermBlock → Manager
-accepted m q answer = settled (record m { waiting = waiting_after m.waiting answer }) (known_after m.known_end q answer) (ends_early q answer)
+accepted m q answer =
+    settled (record m { waiting = waiting_after m.waiting answer }) (known_after m.known_end q answer)
+    (ends_early q answer)

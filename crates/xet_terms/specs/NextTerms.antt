@@ -1,5 +1,5 @@
 -- What asking the due queries of a manager, and its next terms, say.
-use Rattle.std.specs.Prelude.{ℕ, zero, suc, ◌≡◌, ◌⊎◌, ◌+◌, ◌≤◌, [], ◌∷◌, Option, Some, None, Result, Ok, Err, IfOk, IfErr, OnOk, slice_get}
+use Rattle.std.specs.Prelude.{ℕ, zero, suc, ◌≡◌, ◌⊎◌, ◌+◌, ◌≤◌, List, [], ◌∷◌, ◌++◌, Option, Some, None, Result, Ok, Err, IfOk, IfErr, OnOk, slice_get}
 use Rattle.xet_base.specs.declared.cas_types.FileRange.{FileRange}
 use Rattle.xet_base.specs.declared.unique_id.UniqueId.{UniqueId}
 use Rattle.xet_outside.specs.Told.{ClientTold}
@@ -38,15 +38,16 @@ query_of m q id = record { file = m.file; range = q; multirange = m.multirange; 
 -- why a query of a manager that counts as asked gave no terms to it
 abbrev pub AskFails : Manager → ClientTold → ClientTold → FileRange → UniqueId → FileReconstructionError → Type 0
 AskFails m before after q id e =
-    (e ≡ error.OutOfMemory)
+    ((o : Option TermBlock) × TermBlockCall before after (query_of m q id) (Ok o) × (e ≡ error.OutOfMemory))
     ⊎ TermBlockCall before after (query_of m q id) (Err e)
     ⊎ ((o : Option TermBlock) × TermBlockCall before after (query_of m q id) (Ok o) × PassesKnownEnd m q o
     × (e ≡ error.CorruptedReconstruction (PastKnownEnd m.known_end q.start)))
 
--- the query of a manager that counts as asked was answered, and the answer taken
+-- the query of a manager that counts as asked was answered, and the answer, with no terms past the known end, taken
 pub record AskOk (m now : Manager) (before after : ClientTold) (q : FileRange) (id : UniqueId) : Type 0 where
   pub answer : Option TermBlock
   pub call : TermBlockCall before after (query_of m q id) (Ok answer)
+  pub within : PassesKnownEnd m q answer → ⊥
   pub taken : now ≡ accepted m q answer
 
 -- a query that counts as asked
@@ -77,8 +78,8 @@ pub record DueOk (m now : Manager) (before after : ClientTold) : Type 0 where
   pub covered : now.waiting ≡ [] → IsCovered now
   pub kept : IsManager now
 
--- a due query failed after some that were answered
-pub record DueErr (m : Manager) (before after : ClientTold) (e : FileReconstructionError) : Type 0 where
+-- a due query failed after some that were answered, and counts as asked
+pub record DueErr (m now : Manager) (before after : ClientTold) (e : FileReconstructionError) : Type 0 where
   pub policy : ℕ
   pub count : ℕ
   pub last : Manager
@@ -87,13 +88,24 @@ pub record DueErr (m : Manager) (before after : ClientTold) (e : FileReconstruct
   pub query : FileRange
   pub due : slice_get last.queries last.asked ≡ Some query
   pub fails : AskFails (with_asked last) told after query (due_id last) e
+  pub left : now ≡ with_asked last
+
+-- how asking the due queries failed, and what it left: the look at the buffer found no memory, or a query failed
+abbrev pub DueFails : Manager → Manager → ClientTold → ClientTold → FileReconstructionError → Type 0
+DueFails m now before after e =
+    ((e ≡ error.OutOfMemory) × (now ≡ reopened m) × (after ≡ before)) ⊎ DueErr m now before after e
+
+-- no plan that waits is dropped or changes its place
+abbrev pub StillWait : Manager → Manager → Type 0
+StillWait m now = (more : List TermBlock) × (now.waiting ≡ m.waiting ++ more)
 
 -- all due queries
 pub record DueCall (m now : Manager) (before after : ClientTold)
     (answer : Result (Unit {0}) FileReconstructionError) : Type 0 where
   pub keeps : QueriesKeep before after
   pub ok : OnOk answer (DueOk m now before after)
-  pub err : IfErr answer (λ e. (e ≡ error.OutOfMemory) ⊎ DueErr m before after e)
+  pub err : IfErr answer (DueFails m now before after)
+  pub waits : StillWait m now
   pub failed : now.failed ≡ m.failed
 
 -- a plan was handed out, or none waits and each byte of the range below the known end was asked
@@ -108,6 +120,13 @@ pub record NextOk (m now : Manager) (before after : ClientTold) (o : Option Term
   pub asked : DueOk m middle before after
   pub handed : HandedOut middle now o
 
+-- an error: the manager is as the due queries left it, with each plan that waited, and keeps the error
+pub record NextErr (m now : Manager) (before after : ClientTold) (e : FileReconstructionError) : Type 0 where
+  pub middle : Manager
+  pub fails : DueFails m middle before after e
+  pub waits : StillWait m middle
+  pub kept : now ≡ record middle { failed = Some e }
+
 -- one call of `next_file_terms`
 pub record NextCall (m now : Manager) (before after : ClientTold)
     (answer : Result (Option TermBlock) FileReconstructionError) : Type 0 where
@@ -115,6 +134,4 @@ pub record NextCall (m now : Manager) (before after : ClientTold)
   -- a kept error is answered again, and nothing is asked
   pub again : (e : FileReconstructionError) → m.failed ≡ Some e → (answer ≡ Err e) × (now ≡ m) × (after ≡ before)
   pub ok : IfOk answer (λ o. (m.failed ≡ None) × NextOk m now before after o)
-  -- an error is kept
-  pub err : IfErr answer (λ e. now.failed ≡ Some e)
-  pub cause : m.failed ≡ None → IfErr answer (λ e. (e ≡ error.OutOfMemory) ⊎ DueErr m before after e)
+  pub err : m.failed ≡ None → IfErr answer (NextErr m now before after)

@@ -5,6 +5,7 @@
 
 pub mod laws;
 pub mod manager;
+mod planned_bytes;
 pub mod reconstruction_config;
 
 pub use manager::{PlanDue, ReconstructionTermManager};

@@ -1,20 +1,23 @@
 //! Cuts a range of a file into queries, and hands their plans out in order.
-ghost use Rattle.std.specs.Prelude.{◌≡◌, ◌+◌, ◌<◌, ◌≤◌, ◌||◌, ◌&&◌, nat_le, ℕ, [], ◌∷◌, Bool, false, OnOk, OnErr, IfOk, IfErr, Err, Some, None, Ok, nat_lt, slice_get, length, MatchOption, IfSome, IfNone, min, ◌⊎◌};
-ghost use Rattle.std.specs.List.{prefix_len};
+ghost use Rattle.std.specs.Prelude.{◌≡◌, ◌+◌, ◌<◌, ◌≤◌, ◌||◌, ◌&&◌, nat_le, ℕ, [], ◌∷◌, Bool, false, true, OnOk, OnErr, IfOk, IfErr, Err, Some, None, Ok, nat_lt, slice_get, length, MatchOption, IfSome, IfNone, min, ◌⊎◌};
+ghost use Rattle.std.specs.List.Sorted.{IsNonDecreasingBy, IsPartitionPoint};
 ghost use Rattle.xet_outside.specs.Told.{ClientTold};
 ghost use Rattle.xet_terms.specs.Managers.{IsCovered, IsManager, Manager, PassesKnownEnd, ReachesEnd, accepted, begun, cut_at, ends_early, looked_ahead, scheduled, scheduled_end, settled};
 ghost use Rattle.xet_terms.specs.NextTerms.{AskCall, DueCall, NextCall, reopened};
 ghost use Rattle.xet_terms.specs.Queries.{CutFrom, end_from};
 ghost use Rattle.xet_terms.specs.Settings.{failing_size};
 
+use crate::planned_bytes::PlannedBytes;
 use crate::reconstruction_config::ReconstructionConfig;
 use std::alloc::Global;
 use std::collections::VecDeque;
 use std::marker::Model;
+use std::sync::Wait;
 use xet_base::{FileRange, MerkleHash, UniqueId};
 use xet_blocks::{FetchPolicy, PrefetchView, TermBlock, retrieve_file_term_block};
 use xet_error::{Corruption, FileReconstructionError, Result};
 use xet_outside::Client;
+use xet_progress::ItemProgressUpdater;
 
 /// A query that is to be asked, and the id that its plan gets: the query's number, from 1.
 #[derive(Clone, Copy, PartialEq, Eq, Debug)]
@@ -25,8 +28,8 @@ pub struct PlanDue {
     pub id: UniqueId,
 }
 
-/// Cuts a range of a file into queries, as far ahead as a policy says, and hands their plans out in order. Contracts see
-/// it as a `Manager` of `specs/Managers`.
+/// Cuts a range of a file into queries, as far ahead as a policy says, and hands their plans out in order. Contracts
+/// see it as a `Manager` of `specs/Managers`.
 ///
 /// In the Rust crate: `file_reconstruction::reconstruction_terms::manager::ReconstructionTermManager`.
 #[derive(Drop)]
@@ -47,6 +50,9 @@ pub struct ReconstructionTermManager<P: FetchPolicy> {
     handed_end: u64,
     failed: Option<FileReconstructionError>,
     policy: P,
+    progress: Option<ItemProgressUpdater>,
+    // what was reported: the bytes of the plans that were taken, and their transfer bytes, sums that stop at `u64::MAX`
+    planned: PlannedBytes,
 }
 
 impl<P: FetchPolicy> Model for ReconstructionTermManager<P> {
@@ -102,6 +108,7 @@ impl<P: FetchPolicy + Drop> ReconstructionTermManager<P> {
         file_hash: MerkleHash,
         file_byte_range: FileRange,
         policy: P,
+        progress: Option<ItemProgressUpdater>,
     ) -> Result<ReconstructionTermManager<P>>
         ensures fails { MatchOption (failing_size config.now)
             (IfErr result (λ e. e ≡ FileReconstructionError.OutOfMemory))
@@ -128,6 +135,8 @@ impl<P: FetchPolicy + Drop> ReconstructionTermManager<P> {
             handed_end: file_byte_range.start,
             failed: None,
             policy,
+            progress,
+            planned: PlannedBytes::new(),
         };
         manager.schedule(least)?;
         manager.schedule(least.saturating_mul(2))?;
@@ -174,8 +183,8 @@ impl<P: FetchPolicy> ReconstructionTermManager<P> {
         Some(block)
     }
 
-    /// Looks at the buffer and schedules at most one query: nothing where the queries reach the known end, or where a plan
-    /// waits and enough bytes are planned ahead; else one of as many bytes as are missing.
+    /// Looks at the buffer and schedules at most one query: nothing where the queries reach the known end, or where a
+    /// plan waits and enough bytes are planned ahead; else one of as many bytes as are missing.
     ///
     /// `OutOfMemory` where an allocation was refused, and then nothing is scheduled.
     pub fn look_ahead(&mut self) -> Result<()>
@@ -205,13 +214,38 @@ impl<P: FetchPolicy> ReconstructionTermManager<P> {
 
     /// Takes the answer to the oldest asked query without one: none where it was past the end, else a plan with terms.
     ///
-    /// `PastKnownEnd` exactly where there are terms and the query starts at or past the known end. `OutOfMemory` where an
-    /// allocation was refused. After an error nothing was taken.
-    pub fn accept(&mut self, due: PlanDue, answer: Option<TermBlock>) -> Result<()>
+    /// `PastKnownEnd` exactly where there are terms and the query starts at or past the known end. `OutOfMemory` where
+    /// an allocation was refused. After an error nothing was taken.
+    ///
+    /// With progress the bytes and transfer bytes of all plans that were taken are reported, as the item's size and as
+    /// what is to be transferred for it; the size is final once a query was past the end. A refused report changes
+    /// nothing.
+    ///
+    /// In the Rust crate: a step of `ReconstructionTermManager::next_file_terms`.
+    pub fn accept<R: Wait>(&mut self, rt: &R, due: PlanDue, answer: Option<TermBlock>) -> Result<()>
         requires asked { self.old.answered < self.old.asked }
         requires oldest { slice_get self.old.queries self.old.answered ≡ Some due.query }
-        ensures past { PassesKnownEnd self.old due.query answer → result ≡ Err
-            (FileReconstructionError.CorruptedReconstruction (Corruption.PastKnownEnd self.old.known_end due.query.start)) }
+        ensures past { PassesKnownEnd self.old due.query answer → result
+            ≡ Err (FileReconstructionError.CorruptedReconstruction
+            (Corruption.PastKnownEnd self.old.known_end due.query.start)) }
+        ensures other { IfErr result (λ e. (PassesKnownEnd self.old due.query answer → ⊥)
+            → e ≡ FileReconstructionError.OutOfMemory) }
+        ensures kept { OnErr result (self.new ≡ self.old) }
+        ensures ok { OnOk result (self.new ≡ accepted self.old due.query answer) }
+    {
+        let planned = self.planned.with(&answer);
+        let taken = self.take(due, answer);
+        self.report(rt, planned, taken);
+        taken
+    }
+
+    /// Takes an answer, as `accept` does, and reports nothing.
+    fn take(&mut self, due: PlanDue, answer: Option<TermBlock>) -> Result<()>
+        requires asked { self.old.answered < self.old.asked }
+        requires oldest { slice_get self.old.queries self.old.answered ≡ Some due.query }
+        ensures past { PassesKnownEnd self.old due.query answer → result
+            ≡ Err (FileReconstructionError.CorruptedReconstruction
+            (Corruption.PastKnownEnd self.old.known_end due.query.start)) }
         ensures other { IfErr result (λ e. (PassesKnownEnd self.old due.query answer → ⊥)
             → e ≡ FileReconstructionError.OutOfMemory) }
         ensures kept { OnErr result (self.new ≡ self.old) }
@@ -237,17 +271,19 @@ impl<P: FetchPolicy> ReconstructionTermManager<P> {
         Ok(())
     }
 
-    /// The oldest answered plan, once all due queries were asked on the connection. None exactly where then no answered plan
-    /// waits; each byte of the range below the known end was asked then, and the queries reach the range's end or an answer
-    /// told an earlier one. A query that was taken by `due` and has no answer is due again.
+    /// The oldest answered plan, once all due queries were asked on the connection. None exactly where then no answered
+    /// plan waits; each byte of the range below the known end was asked then, and the queries reach the range's end or
+    /// an answer told an earlier one. A query that was taken by `due` and has no answer is due again.
     ///
-    /// An error is that of `retrieve_file_term_block` or of `accept`, or want of memory; it is kept, and every later call
-    /// answers it.
+    /// An error is that of `retrieve_file_term_block` or of `accept`, or want of memory; it is kept, and every later
+    /// call answers it. The plans that were answered before it still wait.
     ///
-    /// In the Rust crate: `file_reconstruction::reconstruction_terms::manager::ReconstructionTermManager::next_file_terms`.
-    pub fn next_file_terms<C: Client>(
+    /// In the Rust crate:
+    /// `file_reconstruction::reconstruction_terms::manager::ReconstructionTermManager::next_file_terms`.
+    pub fn next_file_terms<R: Wait, C: Client>(
         &mut self,
         alloc: Global,
+        rt: &R,
         client: &mut C,
     ) -> Result<Option<TermBlock>>
         ensures { NextCall self.old self.new (C.told client.old) (C.told client.new) result }
@@ -255,12 +291,22 @@ impl<P: FetchPolicy> ReconstructionTermManager<P> {
         if let Some(error) = self.failed {
             return Err(error);
         }
-        match ask_due(alloc, self, client) {
+        match ask_due(alloc, rt, self, client) {
             Ok(()) => Ok(self.hand_out()),
             Err(error) => {
                 self.fail(error);
                 Err(error)
             }
+        }
+    }
+
+    /// Reports what is planned, once an answer was taken.
+    fn report<R: Wait>(&mut self, rt: &R, planned: PlannedBytes, taken: Result<()>)
+        ensures { self.new ≡ self.old }
+    {
+        if taken.is_ok() {
+            self.planned = planned;
+            planned.report(rt, &self.progress);
         }
     }
 
@@ -280,7 +326,13 @@ impl<P: FetchPolicy> ReconstructionTermManager<P> {
     }
 
     /// Asks a query that counts as asked, and takes its answer.
-    fn ask<C: Client>(&mut self, alloc: Global, client: &mut C, due: PlanDue) -> Result<()>
+    fn ask<R: Wait, C: Client>(
+        &mut self,
+        alloc: Global,
+        rt: &R,
+        client: &mut C,
+        due: PlanDue,
+    ) -> Result<()>
         requires one { self.old.asked ≡ self.old.answered + 1 }
         requires oldest { slice_get self.old.queries self.old.answered ≡ Some due.query }
         ensures { AskCall self.old self.new (C.told client.old) (C.told client.new) due.query due.id result }
@@ -293,7 +345,7 @@ impl<P: FetchPolicy> ReconstructionTermManager<P> {
             self.multirange,
             due.id,
         )?;
-        self.accept(due, answer)
+        self.accept(rt, due, answer)
     }
 
     /// Counts an answer after which this is the known end.
@@ -335,8 +387,9 @@ impl<P: FetchPolicy> ReconstructionTermManager<P> {
 }
 
 /// Looks at the buffer and asks all due queries in order.
-fn ask_due<P: FetchPolicy, C: Client>(
+fn ask_due<R: Wait, P: FetchPolicy, C: Client>(
     alloc: Global,
+    rt: &R,
     manager: &mut ReconstructionTermManager<P>,
     client: &mut C,
 ) -> Result<()>
@@ -345,7 +398,7 @@ fn ask_due<P: FetchPolicy, C: Client>(
     manager.reopen();
     manager.look_ahead()?;
     'due: while let Some(due) = manager.due() {
-        manager.ask(alloc, client, due)?;
+        manager.ask(alloc, rt, client, due)?;
     }
     Ok(())
 }
@@ -357,19 +410,14 @@ fn past_known_end(known: u64, start: u64) -> FileReconstructionError
     FileReconstructionError::CorruptedReconstruction(Corruption::PastKnownEnd { known, start })
 }
 
-/// How many of the queries from the front on start below a place.
+/// How many of the queries start below a place. They go forward.
 fn count_below(queries: &[FileRange], known: u64) -> usize
-    ensures value { result ≡ prefix_len (λ q. nat_lt q.start known) queries.now }
+    requires { IsNonDecreasingBy (λ q. q.start) queries.now }
+    ensures below { IsPartitionPoint (λ q. nat_lt q.start known ≡ true) (λ q. nat_lt q.start known ≡ false)
+        queries.now result }
     ensures within { result ≤ length queries.now }
 {
-    let mut count = 0;
-    for query in queries {
-        if known <= query.start {
-            return count;
-        }
-        count += 1;
-    }
-    count
+    queries.partition_point(|query| query.start < known)
 }
 
 /// Whether plans wait and enough bytes are planned ahead.

@@ -1,7 +1,6 @@
-use Rattle.std.proofs.Common.{◌≡◌, Err, Ok, Some, rules}
+use Rattle.std.proofs.Common.{◌≡◌, Err, Ok, Some, inr, rules}
 use Rattle.xet_outside.specs.declared.block.BlockAnswer.TheVariants.{Bytes}
 use Rattle.xet_error.specs.declared.error.FileReconstructionError.{FileReconstructionError}
-use Rattle.xet_fetch.proofs.Fetching.{ask_refused}
 use Rattle.xet_fetch.proofs.block_fetch.ask.Goals as goal
 
 pub returns-in_err-found-in-Bytes : goal.returns-in_err-found-in-Bytes
@@ -12,4 +11,4 @@ returns-in_err-found-in-Bytes g c =
     let e : c.from_residual-in_err-found-in-Bytes.result ≡ Err fault = search rules in
     let refused = rw c.in_err-found-in-Bytes.was at c.check.ensures in
     let request = rw asked at c.request.ensures in
-    rw e (ask_refused c.args.block.now c.args.urls.now c.in-Some.request c.in-Bytes.bytes _ _ fault request.request (rw came at c.block.ensures) refused.refused)
+    rw e (inr (inr (c.in-Bytes.bytes, record { request = c.in-Some.request; own = request.request; call = rw came at c.block.ensures }, refused.refused)))

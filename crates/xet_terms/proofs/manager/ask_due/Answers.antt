@@ -3,8 +3,14 @@ use Rattle.std.proofs.lemmas.Option.{slice_get_within}
 use Rattle.xet_error.specs.declared.error.FileReconstructionError.{FileReconstructionError}
 use Rattle.xet_terms.specs.Managers.{Manager}
 use Rattle.xet_terms.specs.NextTerms.{AskCall}
-use Rattle.xet_terms.proofs.Asking.{accepted_shorter, asking_done, asking_fails, asking_more, asking_start}
+use Rattle.xet_terms.proofs.Asking.{accepted_shorter, asking_done, asking_fails, asking_more, asking_start, due_memory}
 use Rattle.xet_terms.proofs.manager.ask_due.Goals as goal
+
+pub returns-in_err-look_ahead : goal.returns-in_err-look_ahead
+returns-in_err-look_ahead g c =
+    let fault : FileReconstructionError = c.in_err-look_ahead.field-0.0 in
+    let e : c.from_residual.result ≡ Err fault = search rules in
+    rw e (due_memory c.args.manager.now c.reopen.new.self c.look_ahead.new.self (g.C.Client.told c.args.client.now) fault c.reopen.ensures.queries c.in_err-look_ahead.ensures.kept c.in_err-look_ahead.ensures.memory)
 
 pub due-init : goal.due-init
 due-init g c =
