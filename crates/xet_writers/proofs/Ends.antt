@@ -1,5 +1,5 @@
 -- The end of the writer in order.
-use Rattle.std.proofs.Common.{◌≡◌, ℕ, zero, suc, ◌+◌, ◌≤◌, drop, List, [], ◌∷◌, ◌++◌, length, true, Option, Some, None, Ok, Err, Result, ap, sym, ◌∙◌, refl, arith, ◌⊎◌, inl, inr}
+use Rattle.std.proofs.Common.{◌≡◌, ℕ, zero, suc, ◌+◌, ◌≤◌, drop, List, [], ◌∷◌, ◌++◌, length, Bool, true, Option, Some, None, Ok, Err, Result, ap, sym, ◌∙◌, refl, arith, ◌⊎◌, inl, inr}
 use Rattle.std.specs.Prelude.{IfErr}
 use Rattle.std.specs.List.{concat}
 use Rattle.std.proofs.lemmas.List.{take_all, drop_all}
@@ -23,8 +23,8 @@ ready_all : (ts : List QueuedTerm) → wanted ts ≡ [] → length (ready ts) �
 ready_all [] w = refl
 ready_all (t ∷ ts) w = ready_one t ts t.bytes refl w (λ v. ready_all ts v)
 
-same_parts : {S : Type 0} (s : S) (q q2 : List QueuedTerm) (r r2 : List Admission) (e e2 d d2 : ℕ) (k k2 : Option FileReconstructionError) → q ≡ q2 → r ≡ r2 → e ≡ e2 → d ≡ d2 → k ≡ k2 → ◌≡◌ {A = Sequential S} (record { sink = s; queue = q; released = r; expected = e; delivered = d; kept = k; finished = true }) (record { sink = s; queue = q2; released = r2; expected = e2; delivered = d2; kept = k2; finished = true })
-same_parts s q q2 r r2 e e2 d d2 k k2 hq hr he hd hk = rw (hq, hr, he, hd, hk) refl
+same_parts : {S : Type 0} (s : S) (v v2 : Bool) (q q2 : List QueuedTerm) (r r2 : List Admission) (e e2 d d2 : ℕ) (k k2 : Option FileReconstructionError) → v ≡ v2 → q ≡ q2 → r ≡ r2 → e ≡ e2 → d ≡ d2 → k ≡ k2 → ◌≡◌ {A = Sequential S} (record { sink = s; vectored = v; queue = q; released = r; expected = e; delivered = d; kept = k; finished = true }) (record { sink = s; vectored = v2; queue = q2; released = r2; expected = e2; delivered = d2; kept = k2; finished = true })
+same_parts s v v2 q q2 r r2 e e2 d d2 k k2 hv hq hr he hd hk = rw (hv, hq, hr, he, hd, hk) refl
 
 later : (a b n : SinkTold) (e : FileReconstructionError) → a.faults ≤ b.faults → (e ≡ error.OutOfMemory) ⊎ ((e ≡ error.IoError) × Rose b.faults n.faults) → (e ≡ error.OutOfMemory) ⊎ ((e ≡ error.IoError) × Rose a.faults n.faults)
 later a b n e h (inl x) = inl x
@@ -52,7 +52,7 @@ module _ {S : Type 0} (told : S → SinkTold) (b m n : Sequential S) (k : ℕ) (
       let h = wrote.faults in
       record {
         done = record {
-          left = d.0 ∙ same_parts n.sink m.queue [] m.released (b.released ++ admissions b.queue) m.expected b.expected m.delivered j m.kept b.kept left_empty left_released p.expected (sym d.1) wrote.whole.kept;
+          left = d.0 ∙ same_parts n.sink m.vectored b.vectored m.queue [] m.released (b.released ++ admissions b.queue) m.expected b.expected m.delivered j m.kept b.kept p.vectored left_empty left_released p.expected (sym d.1) wrote.whole.kept;
           count_is = c;
           all = c ∙ room;
           took = f.took ∙ wrote.whole.took;
@@ -82,8 +82,10 @@ module _ {S : Type 0} (told : S → SinkTold) (b m n : Sequential S) (k : ℕ) (
             delivered = ap (λ v. v.delivered) x ∙ p.delivered;
             expected = ap (λ v. v.expected) x ∙ p.expected;
             finished = ap (λ v. v.finished) x ∙ p.finished;
+            vectored = ap (λ v. v.vectored) x ∙ p.vectored;
           };
           took = record { count = length (ready_bytes b.queue); above = omega arith; within = omega arith; took = rw take-length (f.took ∙ wrote.whole.took) };
+          full = λ l. absurd (omega arith);
           kept = ap (λ v. v.kept) x;
           cause = later (told b.sink) (told m.sink) (told n.sink) e h d.1;
         });

@@ -1,4 +1,6 @@
 mod Joined
+mod Each
+mod Stops
 mod Terms
 mod Passing
 mod Ends

@@ -1,8 +1,8 @@
 -- Terms that were written, one by one.
-use Rattle.std.proofs.Common.{◌≡◌, ℕ, ◌+◌, List, [], ◌∷◌, ◌++◌, length, take, drop, ap, sym, ◌∙◌, refl, arith, length-append, append_assoc}
+use Rattle.std.proofs.Common.{◌≡◌, ℕ, ◌+◌, get_or, List, [], ◌∷◌, ◌++◌, length, take, drop, ap, sym, ◌∙◌, refl, arith, length-append, append_assoc}
 use Rattle.std.specs.Prelude.{option_to_list}
 use Rattle.std.specs.List.{concat}
-use Rattle.std.proofs.lemmas.List.{append-nil}
+use Rattle.std.proofs.lemmas.List.{append-nil, drop_more}
 use Rattle.std.proofs.lemmas.List.Folds.{concat-append}
 use Rattle.xet_writers.specs.declared.queued_term.QueuedTerm.{QueuedTerm}
 use Rattle.xet_writers.specs.Queues.{admissions, ready}
@@ -23,7 +23,7 @@ pub record PassedSo {S : Type 0} (b m : Sequential S) (left count : ℕ) : Type 
 pub passed_none : {S : Type 0} (b : Sequential S) (count : ℕ) → PassedSo b b count count
 passed_none b count = record {
   terms = 0;
-  passed = record { within = omega arith; queue = refl; released = sym (append-nil b.released); delivered = omega arith; expected = refl; finished = refl };
+  passed = record { within = omega arith; queue = refl; released = sym (append-nil b.released); delivered = omega arith; expected = refl; finished = refl; vectored = refl };
   used = omega arith;
   rest = refl;
   sink = refl;
@@ -64,6 +64,7 @@ passed_more b m n left rest count s t =
         delivered = omega arith;
         expected = ap (λ w. w.expected) q ∙ p.expected;
         finished = ap (λ w. w.finished) q ∙ p.finished;
+        vectored = ap (λ w. w.vectored) q ∙ p.vectored;
       };
       used = omega arith;
       rest = sym (drop_next (ready b.queue) k t.bytes (ready n.queue) e);
@@ -83,6 +84,10 @@ passed_all b m left count s k =
       terms = s.terms;
       passed = s.passed;
       used = omega arith;
+      stuck = λ l.
+          let d = drop_more (ready b.queue) s.terms [] l in
+          let q = k (get_or (ready b.queue) s.terms []) (drop (s.terms + 1) (ready b.queue)) (s.rest ∙ d) in
+          omega arith;
       whole = λ h.
           let a = ap length (split (ready b.queue) s.terms) in
           let d = length-append (concat (take s.terms (ready b.queue))) (concat (drop s.terms (ready b.queue))) in

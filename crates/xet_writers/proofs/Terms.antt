@@ -44,6 +44,18 @@ drop_none xs k e = let a = ap length e in let b = length-drop k xs in omega arit
 pub ready_front : (ts us : List QueuedTerm) (t : QueuedTerm) (bytes : List ℕ) → ts ≡ t ∷ us → t.bytes ≡ Some bytes → ready ts ≡ bytes ∷ ready us
 ready_front ts us t bytes e f = ap ready e ∙ ap (λ o. bytes_then o (ready us)) f
 
+ready_short : (t : QueuedTerm) (ts : List QueuedTerm) (o : Option (List ℕ)) → length (ready ts) ≤ length ts → length (bytes_then o (ready ts)) ≤ length (t ∷ ts)
+ready_short t ts None h = omega arith
+ready_short t ts (Some bytes) h = omega arith
+
+-- not more terms are ready than there are
+ready_within : (ts : List QueuedTerm) → length (ready ts) ≤ length ts
+ready_within [] = omega arith
+ready_within (t ∷ ts) = ready_short t ts t.bytes (ready_within ts)
+
+pub ready_past : (ts : List QueuedTerm) (i : ℕ) → length ts ≤ i → length (ready ts) ≤ i
+ready_past ts i h = let w = ready_within ts in omega arith
+
 -- ---- tests
 
 and_both : (a b : Bool) → (a && b) ≡ true → (a ≡ true) × (b ≡ true)

@@ -1,5 +1,5 @@
 -- The writer that writes in order.
-use Rattle.std.specs.Prelude.{ℕ, ◌≡◌, ◌⊎◌, ◌+◌, ◌≤◌, ◌++◌, length, List, [], ◌∷◌, take, drop, Bool, true, Option, Some, None, option_map, Result, Err, IfOk, IfErr, OnErr}
+use Rattle.std.specs.Prelude.{ℕ, ◌≡◌, ◌⊎◌, ◌+◌, ◌<◌, ◌≤◌, ◌++◌, cond, length, List, [], ◌∷◌, take, drop, Bool, true, Option, Some, None, option_map, Result, Err, IfOk, IfErr, OnErr}
 use Rattle.std.specs.List.{concat}
 use Rattle.xet_base.specs.declared.cas_types.FileRange.{FileRange}
 use Rattle.xet_run.specs.declared.budget.Admission.{Admission}
@@ -10,13 +10,15 @@ use Rattle.xet_error.specs.declared.error.FileReconstructionError.{FileReconstru
 use Rattle.xet_error.specs.declared.error.FileReconstructionError.TheVariants as error
 use Rattle.xet_writers.specs.declared.queued_term.QueuedTerm.{QueuedTerm}
 use Rattle.xet_writers.specs.Calls.{WriterTold, Refused, Accepted, closed_by, set_fault, supply_fault, finish_fault}
-use Rattle.xet_writers.specs.Pieces.{TookAtLeast}
+use Rattle.xet_writers.specs.Pieces.{StoppedAt, TookAtLeast}
 use Rattle.xet_writers.specs.Queues.{admissions, ready, ready_bytes, supplied, wanted}
 
--- what contracts see of it: the sink; the terms that are not wholly written, in order; the admissions of written terms
--- that were not given back; the place at which the next term must start; the bytes of the written terms
+-- what contracts see of it: the sink; whether one write is handed many pieces; the terms that are not wholly written,
+-- in order; the admissions of written terms that were not given back; the place at which the next term must start; the
+-- bytes of the written terms
 pub record Sequential (S : Type 0) : Type 0 where
   pub sink : S
+  pub vectored : Bool
   pub queue : List QueuedTerm
   pub released : List Admission
   pub expected : ℕ
@@ -66,6 +68,11 @@ pub record Passed {S : Type 0} (before after : Sequential S) (terms : ℕ) : Typ
   pub delivered : after.delivered ≡ before.delivered + length (concat (take terms (ready before.queue)))
   pub expected : after.expected ≡ before.expected
   pub finished : after.finished ≡ before.finished
+  pub vectored : after.vectored ≡ before.vectored
+
+-- the most pieces that one write is handed
+abbrev pub most_pieces : {S : Type 0} → Sequential S → ℕ
+most_pieces w = cond w.vectored 24 1
 
 -- all that is ready was written, so many bytes
 pub record WroteAll {S : Type 0} (told : S → SinkTold) (before after : Sequential S) (count : ℕ) : Type 0 where
@@ -74,14 +81,17 @@ pub record WroteAll {S : Type 0} (told : S → SinkTold) (before after : Sequent
   pub took : Took (told before.sink).took (told after.sink).took (ready_bytes before.queue)
   pub kept : after.kept ≡ before.kept
 
--- the sink took no more, and the error is kept: it took the first terms wholly, and of the ready bytes none out of
--- order
+-- the sink took no more, and the error is kept. The terms that were passed are just those that were taken wholly by
+-- writes that were answered, so their admissions came back; of the ready bytes the sink took none out of order, and
+-- past these terms none but of the pieces that the write was handed which failed
 pub record WrotePart {S : Type 0} (told : S → SinkTold) (before after : Sequential S)
     (e : FileReconstructionError) : Type 0 where
   pub terms : ℕ
   pub passed : Passed before after terms
   pub took : TookAtLeast (told before.sink).took (told after.sink).took
       (length (concat (take terms (ready before.queue)))) (ready_bytes before.queue)
+  pub full : terms < length (ready before.queue)
+      → StoppedAt (most_pieces before) (ready before.queue) terms took.count (e ≡ error.OutOfMemory)
   pub kept : after.kept ≡ Some e
   pub cause : (e ≡ error.OutOfMemory) ⊎ ((e ≡ error.IoError) × Rose (told before.sink).faults (told after.sink).faults)
 

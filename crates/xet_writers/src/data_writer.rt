@@ -13,9 +13,9 @@ pub mod unordered_writer;
 
 /// A writer of terms.
 ///
-/// After bytes of a wrong length, and after an error of a sink, every later call that has a `Result` answers that error.
-/// The other faults change nothing. Nor does `OutOfMemory` where an allocation of the writer was refused; where the sink
-/// found no memory, it is kept as the sink's other errors are.
+/// After bytes of a wrong length, and after an error of a sink, every later call that has a `Result` answers that
+/// error. The other faults change nothing. Nor does `OutOfMemory` where an allocation of the writer was refused; where
+/// the sink found no memory, it is kept as the sink's other errors are.
 ///
 /// In the Rust crate: `file_reconstruction::data_writer::DataWriter`.
 pub trait DataWriter {

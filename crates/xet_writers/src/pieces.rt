@@ -1,11 +1,16 @@
 //! The two loops that write pieces into a sink.
 ghost use Rattle.std.specs.List.{concat};
-ghost use Rattle.std.specs.Prelude.{◌≡◌, ◌^◌, ◌<◌, ◌≤◌, [], drop, get_or, length, take};
+ghost use Rattle.std.specs.Prelude.{◌≡◌, ◌+◌, ◌^◌, ◌<◌, ◌≤◌, [], drop, get_or, length, take};
 ghost use Rattle.xet_outside.specs.Told.{WriteCall};
-ghost use Rattle.xet_writers.specs.Pieces.{WrotePieces};
+ghost use Rattle.xet_writers.specs.Pieces.{WrotePieces, bytes_before};
+ghost use Rattle.xet_writers.specs.Queues.{ready, ready_bytes};
+ghost use Rattle.xet_writers.specs.steps.PieceSteps.{WrotePiece};
 
+use crate::queued_term::QueuedTerm;
 use bytes::Bytes;
-use xet_outside::{Sink, SinkError, write_plainly};
+use std::collections::VecDeque;
+use std::mem;
+use xet_outside::{Sink, SinkError};
 
 /// The most pieces that one vectored write is given.
 pub(crate) const PIECES: usize = 24;
@@ -16,15 +21,38 @@ pub(crate) struct Sent {
     pub(crate) end: Result<(), SinkError>,
 }
 
-/// Writes one piece after another, each until it is taken.
-pub(crate) fn write_each<S: Sink>(sink: &mut S, pieces: &[Bytes]) -> Sent
-    requires { length (concat pieces.now) < 2 ^ 64 }
-    ensures { WrotePieces (S.told sink.old) (S.told sink.new) (concat pieces.now) result.count result.end }
+/// Where the rest of some pieces starts.
+#[derive(Clone, Copy)]
+struct Place {
+    /// The number of the first piece with bytes left.
+    piece: usize,
+    /// How many of its bytes were taken.
+    taken: usize,
+}
+
+/// Writes one piece until it is taken.
+fn write_piece<S: Sink>(sink: &mut S, piece: &[u8]) -> Result<(), SinkError>
+    ensures { WrotePiece (S.told sink.old) (S.told sink.new) piece.now result }
+{
+    let mut at = 0usize;
+    while at < piece.len() {
+        at += sink.write(&piece[at..])?;
+    }
+    Ok(())
+}
+
+/// Writes the bytes of the terms before the first wanted one, each until they are taken. They stay where they are.
+pub(crate) fn write_each<S: Sink>(sink: &mut S, queue: &VecDeque<QueuedTerm>) -> Sent
+    requires { length (ready_bytes queue.now.items) < 2 ^ 64 }
+    ensures { WrotePieces 1 (S.told sink.old) (S.told sink.new) (ready queue.now.items) result.count result.end }
 {
     let mut count = 0u64;
-    for piece in pieces {
-        match write_plainly(sink, piece.as_slice()) {
-            Ok(()) => count += piece.len() as u64,
+    for i in 0..queue.len() {
+        let Some(bytes) = &queue[i].bytes else {
+            return Sent { count, end: Ok(()) };
+        };
+        match write_piece(sink, bytes.as_slice()) {
+            Ok(()) => count += bytes.len() as u64,
             Err(error) => {
                 return Sent {
                     count,
@@ -36,15 +64,13 @@ pub(crate) fn write_each<S: Sink>(sink: &mut S, pieces: &[Bytes]) -> Sent
     Sent { count, end: Ok(()) }
 }
 
-/// Passes over the pieces from number `at` on that these first bytes fill, and cuts the piece that they end in. Answers
-/// the number of the first piece with bytes left.
-fn pass(pieces: &mut [Bytes], at: usize, taken: usize) -> usize
-    requires within { at ≤ length pieces.old }
-    requires short { taken ≤ length (concat (drop at pieces.old)) }
-    ensures within { result ≤ length pieces.new }
-    ensures size { length pieces.new ≡ length pieces.old }
-    ensures rest { concat (drop result pieces.new) ≡ drop taken (concat (drop at pieces.old)) }
-    ensures some { result < length pieces.new → 0 < length (get_or pieces.new result []) }
+/// Passes over the pieces from number `at` on that these first bytes fill.
+fn pass(pieces: &[Bytes], at: usize, taken: usize) -> Place
+    requires within { at ≤ length pieces.now }
+    requires short { taken ≤ length (concat (drop at pieces.now)) }
+    ensures within { result.piece ≤ length pieces.now }
+    ensures place { bytes_before result.piece pieces.now + result.taken ≡ bytes_before at pieces.now + taken }
+    ensures inside { result.piece < length pieces.now → result.taken < length (get_or pieces.now result.piece []) }
 {
     let mut at = at;
     let mut left = taken;
@@ -52,10 +78,10 @@ fn pass(pieces: &mut [Bytes], at: usize, taken: usize) -> usize
         left -= pieces[at].len();
         at += 1;
     }
-    if at < pieces.len() {
-        pieces[at].advance(left);
+    Place {
+        piece: at,
+        taken: left,
     }
-    at
 }
 
 /// Hands at most 24 pieces, from number `at` on, to one write.
@@ -67,18 +93,42 @@ fn write_some<S: Sink>(sink: &mut S, pieces: &[Bytes], at: usize) -> Result<usiz
     sink.write_vectored(&pieces[at..end])
 }
 
+/// Hands at most 24 pieces to one write, from a place on, the first one cut.
+fn write_rest<S: Sink>(sink: &mut S, pieces: &mut [Bytes], place: Place) -> Result<usize, SinkError>
+    requires within { place.piece < length pieces.old }
+    requires inside { place.taken < length (get_or pieces.old place.piece []) }
+    ensures call { WriteCall (S.told sink.old) (S.told sink.new)
+        (drop place.taken (concat (take 24 (drop place.piece pieces.old)))) result }
+    ensures pieces { pieces.new ≡ pieces.old }
+{
+    let Place { piece, taken } = place;
+    if taken == 0 {
+        return write_some(sink, pieces, piece);
+    }
+    let Ok(mut rest) = pieces[piece].clone() else {
+        return Err(SinkError::OutOfMemory);
+    };
+    rest.advance(taken);
+    let whole = mem::replace(&mut pieces[piece], rest);
+    let answer = write_some(sink, pieces, piece);
+    pieces[piece] = whole;
+    answer
+}
+
 /// Writes at most 24 pieces at a time. After a write the pieces that were taken are left out, and the front one is cut.
+/// At the end the pieces are as they were.
 pub(crate) fn write_together<S: Sink>(sink: &mut S, pieces: &mut [Bytes]) -> Sent
     requires { length (concat pieces.old) < 2 ^ 64 }
-    ensures { WrotePieces (S.told sink.old) (S.told sink.new) (concat pieces.old) result.count result.end }
+    ensures sent { WrotePieces 24 (S.told sink.old) (S.told sink.new) pieces.old result.count result.end }
+    ensures pieces { pieces.new ≡ pieces.old }
 {
     let mut count = 0u64;
-    let mut at = pass(pieces, 0, 0);
-    while at < pieces.len() {
-        match write_some(sink, pieces, at) {
+    let mut place = pass(pieces, 0, 0);
+    while place.piece < pieces.len() {
+        match write_rest(sink, pieces, place) {
             Ok(taken) => {
                 count += taken as u64;
-                at = pass(pieces, at, taken);
+                place = pass(pieces, place.piece, place.taken + taken);
             }
             Err(error) => {
                 return Sent {

@@ -62,11 +62,23 @@ pub(crate) fn fault(fault: WriterFault) -> Result<u64> {
     Err(FileReconstructionError::InternalWriterError(fault))
 }
 
-/// Counts the pieces and the taken bytes of its first writes.
+/// How many pieces are empty.
+fn empty_ones(pieces: &[Bytes]) -> usize {
+    let mut count = 0usize;
+    for piece in pieces {
+        if piece.is_empty() {
+            count = count.saturating_add(1);
+        }
+    }
+    count
+}
+
+/// Counts the pieces and the taken bytes of its first writes, and the empty pieces of all.
 #[derive(Drop)]
 pub(crate) struct Counting<S> {
     pub(crate) inner: S,
     pub(crate) count: usize,
+    pub(crate) empty: usize,
     pub(crate) calls: [(usize, usize); 6],
 }
 
@@ -75,6 +87,7 @@ impl<S> Counting<S> {
         Counting {
             inner,
             count: 0,
+            empty: 0,
             calls: [(0, 0); 6],
         }
     }
@@ -104,6 +117,7 @@ impl<S: Sink> Sink for Counting<S> {
 
     fn write_vectored(&mut self, pieces: &[Bytes]) -> std::result::Result<usize, SinkError> {
         let answer = self.inner.write_vectored(pieces);
+        self.empty = self.empty.saturating_add(empty_ones(pieces));
         self.note(pieces.len(), answer.unwrap_or(0));
         answer
     }

@@ -178,6 +178,7 @@ fn at_most_24_pieces_go_out_together(rt: HostRuntime) {
         sink.calls,
         [(24, 24), (6, 6), (0, 0), (0, 0), (0, 0), (0, 0)]
     );
+    assert_eq!(rt; sink.empty, 0);
     assert!(rt; sink.inner.taken() == other.into_inner().taken());
 }
 

@@ -1,12 +1,12 @@
 -- The steps of the writer in order.
-use Rattle.std.specs.Prelude.{ℕ, zero, suc, ◌≡◌, ◌⊎◌, ◌+◌, ◌<◌, ◌≤◌, ◌++◌, length, List, [], ◌∷◌, take, true, Option, Some, None, option_map, option_to_list, Result, IfOk, IfErr}
-use Rattle.std.specs.List.{concat}
+use Rattle.std.specs.Prelude.{ℕ, zero, suc, ◌≡◌, ◌⊎◌, ◌+◌, ◌<◌, ◌≤◌, ◌++◌, length, get_or, List, [], ◌∷◌, true, Option, Some, None, option_map, option_to_list, Result, IfOk, IfErr}
 use Rattle.xet_outside.specs.Told.{SinkTold, Rose}
 use Rattle.xet_error.specs.declared.error.FileReconstructionError.{FileReconstructionError}
 use Rattle.xet_error.specs.declared.error.FileReconstructionError.TheVariants as error
 use Rattle.xet_error.specs.declared.error.WriterFault.{WriterFault}
 use Rattle.xet_writers.specs.declared.queued_term.QueuedTerm.{QueuedTerm}
 use Rattle.xet_writers.specs.Calls.{supply_fault, wanted_without}
+use Rattle.xet_writers.specs.Pieces.{bytes_before}
 use Rattle.xet_writers.specs.Queues.{ready, ready_bytes, supplied, wanted}
 use Rattle.xet_writers.specs.Sequential.{Sequential, Ended, Passed, WrotePart}
 
@@ -49,7 +49,9 @@ PassedFront before after left (Some rest) = PassedTerm before after left rest
 pub record PassedAll {S : Type 0} (before after : Sequential S) (count : ℕ) : Type 0 where
   pub terms : ℕ
   pub passed : Passed before after terms
-  pub used : length (concat (take terms (ready before.queue))) ≤ count
+  pub used : bytes_before terms (ready before.queue) ≤ count
+  pub stuck : terms < length (ready before.queue)
+      → count < bytes_before terms (ready before.queue) + length (get_or (ready before.queue) terms [])
   pub whole : count ≡ length (ready_bytes before.queue) → terms ≡ length (ready before.queue)
   pub sink : after.sink ≡ before.sink
   pub kept : after.kept ≡ before.kept

@@ -1,12 +1,12 @@
 //! The writer that writes terms in order.
-ghost use Rattle.std.specs.List.{concat, position_from};
-ghost use Rattle.std.specs.Prelude.{◌≡◌, ◌+◌, ◌<◌, ◌≤◌, ◌^◌, ◌++◌, [], ◌∷◌, IfErr, IfOk, None, OnErr, OnOk, Some, false, length, option_to_list, true};
+ghost use Rattle.std.specs.List.{position_from};
+ghost use Rattle.std.specs.Prelude.{◌≡◌, ◌+◌, ◌<◌, ◌≤◌, ◌^◌, ◌++◌, [], ◌∷◌, cond, IfErr, IfOk, None, OnErr, OnOk, Some, false, length, option_to_list, true};
 ghost use Rattle.std.specs.VecDeque.{deque_capacity, deque_len};
 ghost use Rattle.xet_error.specs.declared.error.FileReconstructionError.TheVariants as error;
 ghost use Rattle.xet_error.specs.Errors.{of_sink_error};
 ghost use Rattle.xet_writers.specs.Calls.{FinishCall, SetCall, SupplyCall, closed_by, finish_fault, kept_fault};
-ghost use Rattle.xet_writers.specs.Pieces.{WrotePieces};
-ghost use Rattle.xet_writers.specs.Queues.{fits, is_wanted_at, ready_bytes, wanted};
+ghost use Rattle.xet_writers.specs.Pieces.{WrotePieces, nonempty};
+ghost use Rattle.xet_writers.specs.Queues.{fits, is_wanted_at, ready, ready_bytes, wanted};
 ghost use Rattle.xet_writers.specs.Sequential.{FinishSequential, ReadyCall, SetSequential, SupplySequential, TookReleased, WindowCall, Wrote, told_of};
 ghost use Rattle.xet_writers.specs.steps.SequentialSteps.{Flushed, GiveCall, Last, PassedAll, PassedFront, with_bytes};
 ghost use Rattle.xet_writers.specs.steps.WantedPlaces.{places_of};
@@ -65,6 +65,7 @@ impl<S> Model for SequentialWriter<S> {
 
     ghost view = { λ w. record {
       sink = w.sink;
+      vectored = w.use_vectorized;
       queue = w.queue.items;
       released = w.released.items;
       expected = w.expected;
@@ -97,7 +98,7 @@ fn note_wanted(
 
 /// Adds a piece, which shares its bytes, unless it is empty.
 fn add_copy(pieces: &mut Vec<Bytes>, bytes: &Bytes) -> std::result::Result<(), OutOfMemory>
-    ensures { OnOk result (concat pieces.new.items ≡ concat pieces.old.items ++ bytes.now) }
+    ensures { OnOk result (pieces.new.items ≡ pieces.old.items ++ nonempty (bytes.now ∷ [])) }
 {
     if bytes.is_empty() {
         return Ok(());
@@ -111,7 +112,7 @@ fn ready_pieces(
     alloc: Global,
     queue: &VecDeque<QueuedTerm>,
 ) -> std::result::Result<Vec<Bytes>, OutOfMemory>
-    ensures { IfOk result (λ pieces. concat pieces.items ≡ ready_bytes queue.now.items) }
+    ensures { IfOk result (λ pieces. pieces.items ≡ nonempty (ready queue.now.items)) }
 {
     let mut pieces = Vec::new(alloc);
     for i in 0..queue.len() {
@@ -144,16 +145,40 @@ fn give_back(released: &mut VecDeque<Admission>, admission: Option<Admission>)
     }
 }
 
-/// Writes pieces by one of the two loops.
-fn send<S: Sink>(sink: &mut S, pieces: Vec<Bytes>, use_vectorized: bool) -> Sent
-    requires { length (concat pieces.items) < 2 ^ 64 }
-    ensures { WrotePieces (S.told sink.old) (S.told sink.new) (concat pieces.items) result.count result.end }
+/// Writes the terms before the first wanted one by the loop that hands many pieces to one write.
+fn send_together<S: Sink>(
+    alloc: Global,
+    sink: &mut S,
+    queue: &VecDeque<QueuedTerm>,
+) -> std::result::Result<Sent, OutOfMemory>
+    requires { length (ready_bytes queue.now.items) < 2 ^ 64 }
+    ensures sent { IfOk result (λ sent. WrotePieces 24 (S.told sink.old) (S.told sink.new) (ready queue.now.items)
+        sent.count sent.end) }
+    ensures memory { OnErr result (sink.new ≡ sink.old) }
 {
-    let mut pieces = pieces;
+    let mut pieces = match ready_pieces(alloc, queue) {
+        Ok(pieces) => pieces,
+        Err(error) => return Err(error),
+    };
+    Ok(write_together(sink, pieces.as_mut_slice()))
+}
+
+/// Writes the terms before the first wanted one by one of the two loops.
+fn send<S: Sink>(
+    alloc: Global,
+    sink: &mut S,
+    queue: &VecDeque<QueuedTerm>,
+    use_vectorized: bool,
+) -> std::result::Result<Sent, OutOfMemory>
+    requires { length (ready_bytes queue.now.items) < 2 ^ 64 }
+    ensures sent { IfOk result (λ sent. WrotePieces (cond use_vectorized 24 1) (S.told sink.old) (S.told sink.new)
+        (ready queue.now.items) sent.count sent.end) }
+    ensures memory { OnErr result (sink.new ≡ sink.old) }
+{
     if use_vectorized {
-        return write_together(sink, pieces.as_mut_slice());
+        return send_together(alloc, sink, queue);
     }
-    write_each(sink, pieces.as_slice())
+    Ok(write_each(sink, queue))
 }
 
 impl<S> SequentialWriter<S> {
@@ -164,6 +189,7 @@ impl<S> SequentialWriter<S> {
     pub fn new(alloc: Global, sink: S, use_vectorized: bool) -> SequentialWriter<S>
         ensures { result ≡ record {
           sink = sink;
+          vectored = use_vectorized;
           queue = [];
           released = [];
           expected = 0;
@@ -345,9 +371,8 @@ impl<S: Sink> SequentialWriter<S> {
         requires { self.old.kept ≡ None }
         ensures { Wrote S.told self.old self.new result }
     {
-        let pieces = ready_pieces(alloc, &self.queue)?;
         let before = self.delivered;
-        let Sent { count, end } = send(&mut self.sink, pieces, self.use_vectorized);
+        let Sent { count, end } = send(alloc, &mut self.sink, &self.queue, self.use_vectorized)?;
         self.pass(count);
         match end {
             Ok(()) => Ok(self.delivered - before),
@@ -356,10 +381,11 @@ impl<S: Sink> SequentialWriter<S> {
     }
 
     /// Writes the queued terms in order up to the first wanted one, and answers the bytes of these. After an error the
-    /// sink took a prefix of them; the terms that it took wholly, as far as its answers told, are out of the queue.
+    /// sink took a prefix of them; the terms that it took wholly, as far as its answers told, are out of the queue, and
+    /// their admissions come back.
     ///
-    /// The kept error, or `Finished`. `IoError` where the sink failed, `OutOfMemory` where the sink found no memory or
-    /// an allocation was refused before the first write.
+    /// The kept error, or `Finished`. `IoError` where the sink failed. `OutOfMemory` where the sink found no memory, or
+    /// an allocation was refused: before the first write, which changes nothing, or for a piece that is cut.
     ///
     /// In the Rust crate the writer's own task does this.
     pub fn write_ready(&mut self, alloc: Global) -> Result<u64>

@@ -1,70 +1,79 @@
-use Rattle.std.proofs.Common.{rules, ◌≡◌, ◌<◌, ◌≤◌, [], length, take, drop, arith, ◌∙◌, ap, sym}
-use Rattle.std.specs.List.{concat}
-use Rattle.std.proofs.lemmas.List.{drop_all}
+use Rattle.std.proofs.Common.{◌≡◌, ◌<◌, ◌≤◌, length, take, arith, ◌∙◌}
 use Rattle.xet_outside.specs.Told.{Took}
-use Rattle.xet_writers.proofs.Joined.{batch_le, batch_some, together_took, together_within, together_rest, together_err, together_all}
+use Rattle.xet_writers.proofs.Joined.{handed, handed_err, handed_rest, handed_some, handed_took, handed_within}
 use Rattle.xet_writers.proofs.pieces.write_together.Goals as goal
 
 pub overflow_add-count : goal.overflow_add-count
 overflow_add-count g c =
-    let i = c.loop-at.invariant in
-    let k : c.in-Ok.taken ≤ length (concat (take 24 (drop c.loop-at.at c.loop-at.pieces))) = search rules in
-    let h = together_within c.loop-at.pieces (concat c.args.pieces.now) c.loop-at.at c.loop-at.count c.in-Ok.taken i.rest i.count k in
+    let i = c.loop-place.invariant in
+    let ps = c.args.pieces.now in
+    let h : c.loop-place.place.piece < length ps = rw i.pieces at c.loop-place-test.true in
+    let k : c.in-Ok.taken ≤ length (handed ps c.loop-place.place.piece c.loop-place.place.taken) = rw i.pieces at c.in-Ok.ensures.call.count in
+    let w = handed_within ps c.loop-place.place.piece c.loop-place.place.taken h (i.inside h) in
+    let n = i.place in
     omega (arith, c.requires)
 
-pub pass-at-requires-in-Ok-clause-short : goal.pass-at-requires-in-Ok-clause-short
-pass-at-requires-in-Ok-clause-short g c =
-    let k : c.in-Ok.taken ≤ length (concat (take 24 (drop c.loop-at.at c.loop-at.pieces))) = search rules in
-    let h = batch_le 24 (drop c.loop-at.at c.loop-at.pieces) in
+pub overflow_add-place : goal.overflow_add-place
+overflow_add-place g c =
+    let i = c.loop-place.invariant in
+    let ps = c.args.pieces.now in
+    let h : c.loop-place.place.piece < length ps = rw i.pieces at c.loop-place-test.true in
+    let k : c.in-Ok.taken ≤ length (handed ps c.loop-place.place.piece c.loop-place.place.taken) = rw i.pieces at c.in-Ok.ensures.call.count in
+    let w = handed_within ps c.loop-place.place.piece c.loop-place.place.taken h (i.inside h) in
+    omega (arith, c.requires)
+
+pub pass-place-requires-in-Ok-clause-short : goal.pass-place-requires-in-Ok-clause-short
+pass-place-requires-in-Ok-clause-short g c =
+    let i = c.loop-place.invariant in
+    let ps = c.args.pieces.now in
+    let h : c.loop-place.place.piece < length ps = rw i.pieces at c.loop-place-test.true in
+    let k : c.in-Ok.taken ≤ length (handed ps c.loop-place.place.piece c.loop-place.place.taken) = rw i.pieces at c.in-Ok.ensures.call.count in
+    let e : c.write_rest.new.pieces ≡ ps = c.in-Ok.ensures.pieces ∙ i.pieces in
+    rw e (handed_rest ps c.loop-place.place.piece c.loop-place.place.taken c.in-Ok.taken h (i.inside h) k)
+
+pub loop-place-smaller : goal.loop-place-smaller
+loop-place-smaller g c =
+    let i = c.loop-place.invariant in
+    let ps = c.args.pieces.now in
+    let h : c.loop-place.place.piece < length ps = rw i.pieces at c.loop-place-test.true in
+    let k : c.in-Ok.taken ≤ length (handed ps c.loop-place.place.piece c.loop-place.place.taken) = rw i.pieces at c.in-Ok.ensures.call.count in
+    let some : 0 < length (handed ps c.loop-place.place.piece c.loop-place.place.taken) → 0 < c.in-Ok.taken = rw i.pieces at c.in-Ok.ensures.call.some in
+    let z = some (handed_some ps c.loop-place.place.piece c.loop-place.place.taken h (i.inside h)) in
+    let w = handed_within ps c.loop-place.place.piece c.loop-place.place.taken h (i.inside h) in
+    let n = i.place in
     omega arith
 
-pub loop-at-preserved : goal.loop-at-preserved
-loop-at-preserved g c =
-    let i = c.loop-at.invariant in
-    let ps = c.loop-at.pieces in
-    let all = concat c.args.pieces.now in
-    let k : c.in-Ok.taken ≤ length (concat (take 24 (drop c.loop-at.at ps))) = search rules in
-    let w : Took (g.S.Sink.told c.loop-at.sink).took (g.S.Sink.told c.write_some.new.sink).took (take c.in-Ok.taken (concat (take 24 (drop c.loop-at.at ps)))) = search rules in
+pub loop-place-preserved : goal.loop-place-preserved
+loop-place-preserved g c =
+    let i = c.loop-place.invariant in
+    let ps = c.args.pieces.now in
+    let at = c.loop-place.place.piece in
+    let off = c.loop-place.place.taken in
+    let h : at < length ps = rw i.pieces at c.loop-place-test.true in
+    let k : c.in-Ok.taken ≤ length (handed ps at off) = rw i.pieces at c.in-Ok.ensures.call.count in
+    let t : Took (g.S.Sink.told c.loop-place.sink).took (g.S.Sink.told c.write_rest.new.sink).took (take c.in-Ok.taken (handed ps at off)) = rw i.pieces at c.in-Ok.ensures.call.took in
+    let e : c.write_rest.new.pieces ≡ ps = c.in-Ok.ensures.pieces ∙ i.pieces in
+    let q = c.pass-place-in-Ok.ensures in
+    let place = rw e at q.place in
+    let w = handed_within ps at off h (i.inside h) in
+    let n = i.place in
+    let f = c.in-Ok.ensures.call.faults in
+    let b = i.faults in
     record {
-      within = search rules;
-      some = search rules;
-      count = together_within ps all c.loop-at.at c.loop-at.count c.in-Ok.taken i.rest i.count k;
-      rest = together_rest ps c.pass-at-in-Ok.new.pieces all c.loop-at.at c.pass-at-in-Ok.result c.loop-at.count c.in-Ok.taken i.rest c.pass-at-in-Ok.ensures.rest;
-      took = together_took (g.S.Sink.told c.args.sink.now).took (g.S.Sink.told c.loop-at.sink).took (g.S.Sink.told c.write_some.new.sink).took ps all c.loop-at.at c.loop-at.count c.in-Ok.taken i.rest k i.took w;
-      flushed = search rules;
-      link = search rules;
-      faults = search rules;
+      pieces = e;
+      within = rw e at q.within;
+      place = omega arith;
+      inside = rw e at q.inside;
+      count = omega arith;
+      took = handed_took (g.S.Sink.told c.args.sink.now).took (g.S.Sink.told c.loop-place.sink).took (g.S.Sink.told c.write_rest.new.sink).took ps at off c.loop-place.count c.in-Ok.taken n h (i.inside h) k i.took t;
+      flushed = c.in-Ok.ensures.call.flushed ∙ i.flushed;
+      link = c.in-Ok.ensures.call.link ∙ i.link;
+      faults = omega arith;
     }
 
-pub loop-at-smaller : goal.loop-at-smaller
-loop-at-smaller g c =
-    let i = c.loop-at.invariant in
-    let ps = c.loop-at.pieces in
-    let all = concat c.args.pieces.now in
-    let s = batch_some ps c.loop-at.at c.loop-at-test.true (i.some c.loop-at-test.true) in
-    let k : c.in-Ok.taken ≤ length (concat (take 24 (drop c.loop-at.at ps))) = search rules in
-    let z : 0 < c.in-Ok.taken = search rules in
-    let h = together_within ps all c.loop-at.at c.loop-at.count c.in-Ok.taken i.rest i.count k in
-    omega arith
-
-pub returns-in-Err : goal.returns-in-Err
-returns-in-Err g c =
-    let i = c.loop-at.invariant in
-    together_err (g.S.Sink.told c.args.sink.now) (g.S.Sink.told c.loop-at.sink) (g.S.Sink.told c.write_some.new.sink) c.loop-at.pieces (concat c.args.pieces.now) c.loop-at.at c.loop-at.count c.in-Err.error i.rest i.count i.took i.flushed i.link i.faults (rw c.in-Err.is at c.write_some.ensures)
-
-pub returns : goal.returns
-returns g c =
-    let i = c.loop-at.invariant in
-    let ps = c.loop-at.pieces in
-    let all = concat c.args.pieces.now in
-    let e : [] ≡ drop c.loop-at.count all = sym (ap concat (drop_all c.loop-at.at ps c.loop-at-test.false)) ∙ i.rest in
-    let q = together_all all c.loop-at.count e i.count in
-    record {
-      within = i.count;
-      whole = (q.0, rw q.1 at i.took);
-      part = tt;
-      flushed = i.flushed;
-      link = i.link;
-      faults = i.faults;
-      failed = λ x. cc;
-    }
+pub returns-in-Err-clause-sent : goal.returns-in-Err-clause-sent
+returns-in-Err-clause-sent g c =
+    let i = c.loop-place.invariant in
+    let ps = c.args.pieces.now in
+    let h : c.loop-place.place.piece < length ps = rw i.pieces at c.loop-place-test.true in
+    handed_err (g.S.Sink.told c.args.sink.now) (g.S.Sink.told c.loop-place.sink) (g.S.Sink.told c.write_rest.new.sink) ps c.loop-place.place.piece c.loop-place.place.taken c.loop-place.count c.in-Err.error i.place h (i.inside h) i.took i.flushed i.link i.faults (rw i.pieces at c.in-Err.ensures.call)

@@ -1,21 +1,23 @@
-use Rattle.std.proofs.Common.{◌≡◌, ◌≤◌, ◌<◌, ◌-◌, [], length, drop, take, get_or}
+use Rattle.std.proofs.Common.{◌≡◌, ◌≤◌, ◌<◌, ◌+◌, ◌-◌, [], length, take, get_or}
 use Rattle.std.specs.List.{concat}
 use Rattle.xet_outside.specs.Told.{Took}
+use Rattle.xet_writers.specs.Pieces.{bytes_before}
 use Rattle.xet_writers.proofs.pieces.write_together.Given as goal
 
-abbrev pub invariant-loop-at : goal.invariant-loop-at
-invariant-loop-at g l =
+abbrev pub invariant-loop-place : goal.invariant-loop-place
+invariant-loop-place g l =
     let told = g.S.Sink.told in
     record {
-      within : l.at ≤ length l.pieces;
-      some : l.at < length l.pieces → 0 < length (get_or l.pieces l.at []);
+      pieces : l.pieces ≡ l.fn.pieces;
+      within : l.place.piece ≤ length l.fn.pieces;
+      place : l.count ≡ bytes_before l.place.piece l.fn.pieces + l.place.taken;
+      inside : l.place.piece < length l.fn.pieces → l.place.taken < length (get_or l.fn.pieces l.place.piece []);
       count : l.count ≤ length (concat l.fn.pieces);
-      rest : concat (drop l.at l.pieces) ≡ drop l.count (concat l.fn.pieces);
       took : Took (told l.fn.sink).took (told l.sink).took (take l.count (concat l.fn.pieces));
       flushed : (told l.sink).flushed ≡ (told l.fn.sink).flushed;
       link : (told l.sink).link ≡ (told l.fn.sink).link;
       faults : (told l.fn.sink).faults ≤ (told l.sink).faults;
     }
 
-abbrev pub decreases-loop-at : goal.decreases-loop-at
-decreases-loop-at g l = length (concat l.fn.pieces) - l.count
+abbrev pub decreases-loop-place : goal.decreases-loop-place
+decreases-loop-place g l = length (concat l.fn.pieces) - l.count

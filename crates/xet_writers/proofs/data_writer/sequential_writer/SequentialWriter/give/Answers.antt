@@ -52,6 +52,6 @@ returns g c =
     let e : position_from (is_wanted_at c.args.start) 0 c.args.self.now.queue ≡ Some c.in-Some.place = search rules in
     let there : d ≡ get_or c.args.self.now.queue c.in-Some.place d = search rules in
     let l : length_fault (get_or c.args.self.now.queue c.in-Some.place d).byte_range c.args.bytes ≡ None = ap (λ t. length_fault t.byte_range c.args.bytes) (sym there) ∙ sym c.test_length.ensures ∙ c.in_default-test_length.is in
-    let after : Sequential g.row.S.Denot = record { sink = i.sink; queue = c.put_bytes.new.queue.items; released = i.released.items; expected = i.expected; delivered = i.delivered; kept = i.kept; finished = i.finished } in
+    let after : Sequential g.row.S.Denot = record { sink = i.sink; vectored = i.use_vectorized; queue = c.put_bytes.new.queue.items; released = i.released.items; expected = i.expected; delivered = i.delivered; kept = i.kept; finished = i.finished } in
     let h : after ≡ record c.args.self.now { queue = with_bytes c.args.self.now.queue c.in-Some.place c.args.bytes } = search rules in
     give_done c.args.self.now after c.args.start c.in-Some.place c.args.bytes d e l h
