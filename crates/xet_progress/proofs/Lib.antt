@@ -21,6 +21,8 @@ mod Held
 mod Indexed
 mod Named
 mod Unfinished
+mod Marking
+mod Remembering
 mod Rooms
 mod Dependencies
 mod Joined

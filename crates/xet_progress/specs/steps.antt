@@ -3,6 +3,7 @@ pub mod Credits
 pub mod Depends
 pub mod Files
 pub mod Found
+pub mod Indexes
 pub mod Kept
 pub mod Noted
 pub mod Open

@@ -97,7 +97,8 @@ pub(crate) fn depend(
     dependency: &FileXorbDependency,
 )
     requires { CanDepend files.old.items xorbs.old completed.old dependency.now }
-    ensures step { Depended files.old.items files.new.items xorbs.old xorbs.new completed.old completed.new dependency.now }
+    ensures step { Depended files.old.items files.new.items xorbs.old xorbs.new completed.old completed.new
+        dependency.now }
     ensures count { length files.new.items ≡ length files.old.items }
     ensures kept { (d : FileXorbDependency) → has_room xorbs.old d ≡ true → has_room xorbs.new d ≡ true }
 {

@@ -1,11 +1,6 @@
 //! The registered files.
-ghost use Rattle.std.specs.Prelude.{◌≡◌, ◌+◌, ◌^◌, ◌<◌, ◌≤◌, length, slice_set, map, IfNone, IfSome};
-ghost use Rattle.std.specs.List.{enumerate_from};
-ghost use Rattle.xet_base.specs.Lists.{first_some};
+ghost use Rattle.std.specs.Prelude.{◌≡◌, ◌+◌, ◌^◌, ◌<◌, ◌≤◌, length, slice_set, IfNone, IfSome};
 ghost use Rattle.xet_progress.specs.steps.Files.{file_in, with_growth};
-ghost use Rattle.xet_progress.specs.steps.Open.{open_in};
-
-use crate::error::Incomplete;
 
 /// A registered file: whether its size is fixed, its total, the bytes of all its dependencies, and its completed bytes.
 #[derive(Clone, Copy, Drop)]
@@ -34,20 +29,4 @@ pub(crate) fn grow(files: &mut Vec<TrackedFile>, id: u64, bytes: u64)
     ensures { files.new.items ≡ slice_set files.old.items id (with_growth bytes (file_in files.old.items id)) }
 {
     files[id as usize].total += bytes;
-}
-
-/// The first file that isn't complete.
-pub(crate) fn open_file(files: &[TrackedFile]) -> Option<Incomplete>
-    ensures { result ≡ first_some (map open_in (enumerate_from 0 files.now)) }
-{
-    for (at, file) in files.iter().enumerate() {
-        if file.completed != file.total {
-            return Some(Incomplete::File {
-                id: at as u64,
-                completed: file.completed,
-                total: file.total,
-            });
-        }
-    }
-    None
 }

@@ -6,9 +6,9 @@ ghost use Rattle.xet_progress.specs.steps.Depends.{PartFits, PartsAlike, WithPar
 use crate::credit::credit_all;
 use crate::error::ProgressError;
 use crate::file::TrackedFile;
+use crate::recent::Recent;
 use std::alloc::Global;
 use std::marker::Model;
-use xet_base::KeyIndex;
 
 /// The bytes of a file that wait for a xorb, and those of them that count as completed.
 #[derive(Clone, Copy, Drop)]
@@ -22,18 +22,20 @@ pub(crate) struct Part {
 #[derive(Drop)]
 pub(crate) struct Parts {
     list: Vec<Part>,
-    places: KeyIndex<u64>,
+    places: Recent<u64>,
 }
 
 impl Model for Parts {
-    ghost use Rattle.std.specs.Prelude.{List, ◌≡◌, map};
+    ghost use Rattle.std.specs.Prelude.{List, map};
+    ghost use Rattle.std.specs.Ordering.{nat_cmp};
+    ghost use Rattle.xet_progress.specs.steps.Indexes.{Indexes};
     ghost use Rattle.xet_progress.specs.declared.part.Part.{Part};
 
     ghost Value = { List Part };
 
     ghost view = { λ s. s.list.items };
 
-    ghost invariant = { λ s. s.places ≡ map (λ p. p.file) s.list.items };
+    ghost invariant = { λ s. Indexes nat_cmp (map (λ p. p.file) s.list.items) s.places };
 }
 
 impl Parts {
@@ -43,7 +45,7 @@ impl Parts {
     {
         Parts {
             list: Vec::new(alloc),
-            places: KeyIndex::new(alloc),
+            places: Recent::new(alloc),
         }
     }
 
@@ -63,7 +65,7 @@ impl Parts {
     fn number_of(&self, file: u64) -> Option<usize>
         ensures { result ≡ position (λ p. nat_eq p.file file) self.now }
     {
-        self.places.position(&file)
+        self.places.number_of(&file)
     }
 
     /// Adds an empty part of a file, where it has none.
@@ -72,10 +74,12 @@ impl Parts {
         ensures alike { PartsAlike file self.old self.new }
         ensures memory { IfErr result (λ e. e ≡ ProgressError.OutOfMemory) }
     {
-        if self.number_of(file).is_some() {
+        self.places.remember(&file);
+        if self.places.number_of(&file).is_some() {
             return Ok(());
         }
-        if self.list.reserve(1).is_err() || self.places.push(file).is_err() {
+        let number = self.list.len();
+        if self.list.reserve(1).is_err() || self.places.push(file, number).is_err() {
             return Err(ProgressError::OutOfMemory);
         }
         let part = Part {

@@ -8,8 +8,9 @@ ghost use Rattle.xet_progress.specs.Counts.{sizes, size_of, tracker_counts, all_
 use crate::calls::Calls;
 use crate::depend::{depend, past_total, unknown_file};
 use crate::error::{Incomplete, ProgressError};
-use crate::file::{TrackedFile, file_of, grow, open_file};
-use crate::name::{add_names, least_open};
+use crate::file::{TrackedFile, file_of, grow};
+use crate::marks::Marks;
+use crate::name::Names;
 use crate::step::{FileXorbDependency, Note};
 use crate::xorb::{Found, Xorbs};
 use std::alloc::Global;
@@ -24,7 +25,8 @@ use xet_base::{Invalid, MerkleHash};
 pub struct TrackerState {
     files: Vec<TrackedFile>,
     xorbs: Xorbs,
-    names: Vec<MerkleHash>,
+    names: Names,
+    marks: Marks,
     total: u64,
     completed: u64,
     sizes: u64,
@@ -41,7 +43,7 @@ impl Model for TrackerState {
 
     ghost view = { λ s. s.calls.items };
 
-    ghost invariant = { λ s. IsState s.calls.items s.files.items s.xorbs s.names.items s.total s.completed s.sizes };
+    ghost invariant = { λ s. IsState s.calls.items s.files.items s.xorbs s.names s.marks s.total s.completed s.sizes };
 }
 
 impl TrackerState {
@@ -52,7 +54,8 @@ impl TrackerState {
         TrackerState {
             files: Vec::new(alloc),
             xorbs: Xorbs::new(alloc),
-            names: Vec::new(alloc),
+            names: Names::new(alloc),
+            marks: Marks::new(alloc),
             total: 0,
             completed: 0,
             sizes: 0,
@@ -103,15 +106,17 @@ impl TrackerState {
     /// What is missing: the first file that isn't complete, then the first xorb by its hash that isn't completed, of
     /// those that a registration or a dependency that isn't external named.
     ///
+    /// Such calls together pass each file once, and once more each time that it grew, and each name of a xorb once.
+    ///
     /// In the Rust crate: `CompletionTracker::assert_complete`.
     pub fn assert_complete(&mut self) -> Result<(), Incomplete>
         ensures answer { result ≡ complete_or (incomplete_of self.old) }
         ensures same { self.new ≡ self.old }
     {
-        if let Some(open) = open_file(self.files.as_slice()) {
+        if let Some(open) = self.marks.first_open(self.files.as_slice()) {
             return Err(open);
         }
-        if let Some(hash) = least_open(&self.xorbs, self.names.as_slice()) {
+        if let Some(hash) = self.names.least_open(&self.xorbs) {
             return Err(Incomplete::Xorb { hash });
         }
         Ok(())
@@ -151,7 +156,7 @@ impl TrackerState {
     /// Adds to the size of a file that grows. A fixed size stays.
     ///
     /// `UnknownFile` exactly where no file has this id, then, for one that grows, `SumTooGreat` exactly where the sum
-    /// of all files' totals would pass `u64::MAX`.
+    /// of all files' totals would pass `u64::MAX`, but for `OutOfMemory`.
     ///
     /// In the Rust crate: `CompletionTracker::increment_file_size`.
     pub fn increment_file_size(
@@ -174,6 +179,7 @@ impl TrackerState {
                 add: size_increment,
             }));
         };
+        self.marks.reopen(file_id)?;
         grow(&mut self.files, file_id, size_increment);
         self.total = total;
         self.calls = self.calls.and(&Note::Growth(file_id, size_increment));
@@ -195,15 +201,13 @@ impl TrackerState {
         ensures { CallOf self.old self.new (RegisterNewXorb xorb_hash xorb_size)
             (not (is_some (size_of self.old xorb_hash))) result }
     {
+        self.xorbs.remember(&xorb_hash);
         if let Some(found) = self.xorbs.find(&xorb_hash) {
             if found.size != xorb_size {
                 return Err(ProgressError::InvalidOperation(Invalid::OtherSize {
                     registered: found.size,
                     given: xorb_size,
                 }));
-            }
-            if self.names.push(xorb_hash).is_err() {
-                return Err(ProgressError::OutOfMemory);
             }
             self.calls = self.calls.and(&Note::NewXorb(xorb_hash, xorb_size));
             return Ok(false);
@@ -215,9 +219,7 @@ impl TrackerState {
             }));
         };
         let place = self.xorbs.entry(alloc, xorb_hash)?;
-        if self.names.push(xorb_hash).is_err() {
-            return Err(ProgressError::OutOfMemory);
-        }
+        self.names.add(xorb_hash)?;
         self.xorbs.register(place, xorb_size);
         self.sizes = sizes;
         self.calls = self.calls.and(&Note::NewXorb(xorb_hash, xorb_size));
@@ -246,7 +248,7 @@ impl TrackerState {
             return Err(ProgressError::InvalidOperation(why));
         }
         self.xorbs.make_rooms(alloc, count, dependencies)?;
-        add_names(&mut self.names, dependencies)?;
+        self.names.add_all(dependencies)?;
         for dependency in dependencies {
             depend(
                 &mut self.files,

@@ -11,10 +11,11 @@ ghost use Rattle.xet_progress.specs.steps.Open.{done_in};
 use crate::error::ProgressError;
 use crate::file::TrackedFile;
 use crate::part::Parts;
+use crate::recent::Recent;
 use crate::step::FileXorbDependency;
 use std::alloc::Global;
 use std::marker::Model;
-use xet_base::{KeyIndex, MerkleHash};
+use xet_base::MerkleHash;
 
 /// A xorb that a call named: its size where it is registered, the bytes sent, and the parts that wait for it.
 #[derive(Drop)]
@@ -39,18 +40,19 @@ pub(crate) struct Found {
 #[derive(Drop)]
 pub(crate) struct Xorbs {
     list: Vec<TrackedXorb>,
-    places: KeyIndex<MerkleHash>,
+    places: Recent<MerkleHash>,
 }
 
 impl Model for Xorbs {
-    ghost use Rattle.std.specs.Prelude.{List, ◌≡◌, map};
+    ghost use Rattle.std.specs.Prelude.{List, map};
+    ghost use Rattle.xet_progress.specs.steps.Indexes.{Indexes, hash_cmp};
     ghost use Rattle.xet_progress.specs.declared.xorb.TrackedXorb.{TrackedXorb};
 
     ghost Value = { List TrackedXorb };
 
     ghost view = { λ s. s.list.items };
 
-    ghost invariant = { λ s. s.places ≡ map (λ x. x.hash) s.list.items };
+    ghost invariant = { λ s. Indexes hash_cmp (map (λ x. x.hash) s.list.items) s.places };
 }
 
 impl Xorbs {
@@ -60,7 +62,7 @@ impl Xorbs {
     {
         Xorbs {
             list: Vec::new(alloc),
-            places: KeyIndex::new(alloc),
+            places: Recent::new(alloc),
         }
     }
 
@@ -69,6 +71,13 @@ impl Xorbs {
         ensures { result ≡ position (λ x. hash_eq x.hash hash.now) self.now }
     {
         self.places.number_of(hash)
+    }
+
+    /// Remembers the place of a xorb's entry, for the looks after this one.
+    pub(crate) fn remember(&mut self, hash: &MerkleHash)
+        ensures { self.new ≡ self.old }
+    {
+        self.places.remember(hash);
     }
 
     /// The entry of a registered xorb.
@@ -116,13 +125,14 @@ impl Xorbs {
         ensures list { OnOk result (Entered hash self.old self.new) }
         ensures memory { IfErr result (λ e. (e ≡ ProgressError.OutOfMemory) × (self.new ≡ self.old)) }
     {
-        if let Some(place) = self.number_of(&hash) {
+        self.places.remember(&hash);
+        if let Some(place) = self.places.number_of(&hash) {
             return Ok(place);
         }
-        if self.list.reserve(1).is_err() || self.places.add(hash).is_err() {
+        let place = self.list.len();
+        if self.list.reserve(1).is_err() || self.places.push(hash, place).is_err() {
             return Err(ProgressError::OutOfMemory);
         }
-        let place = self.list.len();
         let xorb = TrackedXorb {
             hash,
             size: None,

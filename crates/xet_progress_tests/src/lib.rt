@@ -1,5 +1,5 @@
-//! Tests of `xet_progress` and `xet_track`: worked calls of groups and trackers, and worked scripts. They stand in a crate of their own, since a crate with
-//! tests is proved twice.
+//! Tests of `xet_progress` and `xet_track`: worked calls of groups and trackers, and worked scripts. They stand in a
+//! crate of their own, since a crate with tests is proved twice.
 #![tactic(auto)]
 
 #[cfg(test)]

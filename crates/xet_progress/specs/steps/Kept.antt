@@ -1,13 +1,15 @@
 -- What the tracker keeps of a list of accepted calls.
 use Rattle.std.specs.Prelude.{ℕ, ◌≡◌, ◌<◌, ◌≤◌, false, cond, nat_eq, List, map, find, length, Option, Some, None, is_some, All, AllPairs}
-use Rattle.std.specs.List.{flat_map, sum_by, list_any}
+use Rattle.std.specs.List.{sum_by, list_any}
 use Rattle.xet_base.specs.declared.merklehash.MerkleHash.{MerkleHash}
 use Rattle.xet_base.specs.Hashes.{hash_eq}
 use Rattle.xet_progress.specs.declared.step.TrackerStep.{TrackerStep}
 use Rattle.xet_progress.specs.declared.file.TrackedFile.{TrackedFile}
 use Rattle.xet_progress.specs.declared.xorb.TrackedXorb.{TrackedXorb}
 use Rattle.xet_progress.specs.declared.part.Part.{Part}
-use Rattle.xet_progress.specs.Counts.{named, sizes, files, grown, total_of, size_of, size_or_zero, registered, part, counted, completed_of, is_completed, progress, progresses, all_total, all_completed, all_sizes}
+use Rattle.xet_progress.specs.declared.marks.Marks.{Marks}
+use Rattle.xet_progress.specs.steps.Open.{Marked, NamesStand}
+use Rattle.xet_progress.specs.Counts.{sizes, files, grown, total_of, size_of, size_or_zero, registered, part, counted, completed_of, is_completed, progress, progresses, all_total, all_completed, all_sizes}
 
 -- a file as the tracker keeps it
 abbrev pub tracked : List TrackerStep → ℕ × Option ℕ → TrackedFile
@@ -60,8 +62,9 @@ pub record IsKept (cs : List TrackerStep) (fs : List TrackedFile) (xs : List Tra
   pub within : All (λ f. f.registered ≤ f.total) fs
   pub plain : IsPlain cs
 
--- the state: what it keeps of the calls, and the xorbs that they named, in order
+-- the state: what it keeps of the calls, the names of xorbs that may be open, and which files may be
 pub record IsState (cs : List TrackerStep) (fs : List TrackedFile) (xs : List TrackedXorb) (ns : List MerkleHash)
-    (t c s : ℕ) : Type 0 where
+    (m : Marks) (t c s : ℕ) : Type 0 where
   pub kept : IsKept cs fs xs t c s
-  pub names_are : ns ≡ flat_map named cs
+  pub names : NamesStand cs ns
+  pub marked : Marked fs m

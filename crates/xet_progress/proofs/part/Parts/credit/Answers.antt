@@ -1,6 +1,7 @@
-use Rattle.std.proofs.Common.{◌≡◌, ℕ, List, [], ◌∷◌, map, refl, sym, ◌∙◌, ap}
+use Rattle.std.proofs.Common.{◌≡◌, ℕ, List, [], ◌∷◌, map, refl, ◌∙◌, ap}
 use Rattle.xet_progress.specs.declared.part.Part.{Part}
 use Rattle.xet_progress.specs.steps.Credits.{with_share}
+use Rattle.xet_progress.proofs.Remembering.{indexes_to}
 use Rattle.xet_progress.proofs.part.Parts.credit.Goals as goal
 
 -- a credited part is the same file's
@@ -10,4 +11,4 @@ same_files sent size (p ∷ ps) = ap (λ (l : List ℕ). p.file ∷ l) (same_fil
 
 pub invariant_of-self : goal.invariant_of-self
 invariant_of-self c =
-    c.self.invariant ∙ sym (ap (λ (l : List Part). map (λ (p : Part). p.file) l) c.credit_all.ensures.parts ∙ same_files c.args.sent c.args.size c.self.inside.list.items)
+    indexes_to c.self.invariant (ap (λ (l : List Part). map (λ (p : Part). p.file) l) c.credit_all.ensures.parts ∙ same_files c.args.sent c.args.size c.self.inside.list.items)

@@ -5,6 +5,7 @@ use Rattle.std.proofs.Math.Seq.{map-set_same}
 use Rattle.xet_base.proofs.CallerLemmas.{position_some, place_within}
 use Rattle.xet_progress.specs.declared.part.Part.{Part}
 use Rattle.xet_progress.proofs.Places.{find_here}
+use Rattle.xet_progress.proofs.Remembering.{indexes_to}
 use Rattle.xet_progress.proofs.part.Parts.wait.Goals as goal
 
 -- the part that was found is the file's
@@ -30,6 +31,5 @@ add_bytes-requires-clause-credited c =
 
 pub invariant_of-self : goal.invariant_of-self
 invariant_of-self c =
-    c.self.invariant
-    ∙ sym (map-set_same (λ (p : Part). p.file) c.self.inside.list.items c.in-Some.number c.add_bytes.new.part c.index_mut.result.now
+    indexes_to c.self.invariant (map-set_same (λ (p : Part). p.file) c.self.inside.list.items c.in-Some.number c.add_bytes.new.part c.index_mut.result.now
     (ap (λ (p : Part). p.file) c.add_bytes.ensures ∙ ap (λ (p : Part). p.file) c.index_mut.ensures.value))

@@ -12,6 +12,7 @@ use Rattle.xet_progress.proofs.NewFile.{kept_count, kept_to}
 use Rattle.xet_progress.proofs.Looked.{refused_by, accepted_by, too_great_no, too_great_yes}
 use Rattle.xet_progress.proofs.Growth.{get_none, total_le, size_at, fixed_at, kept_fixed, kept_grown, fixed_test, free_test}
 use Rattle.xet_progress.proofs.Moved.{total_kept}
+use Rattle.xet_progress.proofs.Marking.{same_but}
 use Rattle.xet_progress.proofs.Named.{same_names}
 use Rattle.xet_progress.proofs.state.TrackerState.increment_file_size.Goals as goal
 
@@ -43,7 +44,8 @@ invariant_of-self c =
       kept = kept_to (kept_fixed s.calls.items c.args.file_id c.args.size_increment s.files.items s.xorbs s.total s.completed s.sizes c.self.invariant.kept some.0
           (record { fixed = false; total = 0; registered = 0; completed = 0 }) (sym (ap (λ (f : TrackedFile). f.fixed) some.1) ∙ c.if-file.true))
           c.and-self-inside.ensures refl refl refl refl refl;
-      names_are = same_names s.calls.items c.and-self-inside.result.items (IncrementFileSize c.args.file_id c.args.size_increment) s.names.items c.self.invariant.names_are c.and-self-inside.ensures refl;
+      names = same_names s.calls.items c.and-self-inside.result.items (IncrementFileSize c.args.file_id c.args.size_increment) s.names c.self.invariant.names c.and-self-inside.ensures refl;
+      marked = c.self.invariant.marked;
     }
 
 pub returns-then-file : goal.returns-then-file
@@ -80,7 +82,8 @@ invariant_of-self-2 c =
       kept = kept_to (kept_grown s.calls.items c.args.file_id c.args.size_increment s.files.items s.xorbs s.total s.completed s.sizes c.self.invariant.kept some.0
           (record { fixed = false; total = 0; registered = 0; completed = 0 }) (sym (ap (λ (f : TrackedFile). f.fixed) some.1) ∙ c.if-file.false))
           c.and-self-inside-2.ensures (search rules) refl (search rules) refl refl;
-      names_are = same_names s.calls.items c.and-self-inside-2.result.items (IncrementFileSize c.args.file_id c.args.size_increment) s.names.items c.self.invariant.names_are c.and-self-inside-2.ensures refl;
+      names = same_names s.calls.items c.and-self-inside-2.result.items (IncrementFileSize c.args.file_id c.args.size_increment) s.names c.self.invariant.names c.and-self-inside-2.ensures refl;
+      marked = c.in_ok-reopen.ensures.ok s.files.items c.grow.new.files.items c.self.invariant.marked (same_but s.files.items c.grow.new.files.items c.args.file_id _ c.grow.ensures);
     }
 
 pub returns : goal.returns

@@ -10,7 +10,8 @@ use Rattle.xet_progress.proofs.NewFile.{kept_count, kept_to}
 use Rattle.xet_progress.proofs.Looked.{refused_by, accepted_by}
 use Rattle.xet_progress.proofs.Joined.{kept_joined, all_known, refused_unknown, tested_parts}
 use Rattle.xet_progress.proofs.Loop.{step_can, step_kept, step_fits}
-use Rattle.xet_progress.proofs.Named.{more_names}
+use Rattle.xet_progress.proofs.Marking.{marked_risen, marked_to, risen_on, risen_depended}
+use Rattle.xet_progress.proofs.Named.{names_depended}
 use Rattle.xet_progress.proofs.state.TrackerState.register_dependencies.Goals as goal
 
 pub returns-in-Some : goal.returns-in-Some
@@ -65,6 +66,9 @@ loop-dependency-preserved c =
           c.depend.new.files.items c.depend.new.xorbs c.depend.new.completed c.depend.ensures.step;
       total = l.invariant.total;
       names = l.invariant.names;
+      marks = l.invariant.marks;
+      risen = risen_on _ l.self-inside.files.items c.depend.new.files.items l.invariant.risen
+          (risen_depended c.depend.ensures.step.counts _ _ _ l.self-inside.files.items c.depend.new.files.items (known l.dependency-index _ c.loop-dependency-test.true) c.depend.ensures.step.files_are);
       count = c.depend.ensures.count ∙ l.invariant.count;
       same = l.invariant.same;
       room = λ k d m. c.depend.ensures.kept (get_or c.args.dependencies.now k d) (l.invariant.room k d m);
@@ -77,9 +81,10 @@ invariant_of-self-2 c =
     let k = kept_joined l.self-inside.calls.items c.args.dependencies.now l.self-inside.files.items l.self-inside.xorbs l.self-inside.total l.self-inside.completed l.self-inside.sizes (rw all at l.invariant.kept) in
     record {
       kept = kept_to k c.and-self-inside.ensures refl refl refl refl refl;
-      names_are = more_names c.self.inside.calls.items c.and-self-inside.result.items (RegisterDependencies c.args.dependencies.now) c.self.inside.names.items l.self-inside.names.items c.self.invariant.names_are
-          (c.and-self-inside.ensures ∙ ap (λ l. l ++ RegisterDependencies c.args.dependencies.now ∷ []) l.invariant.same)
-          (l.invariant.names ∙ search rules);
+      names = names_depended c.self.inside.calls.items c.and-self-inside.result.items c.args.dependencies.now c.self.inside.names l.self-inside.names c.self.invariant.names
+          (rw l.invariant.names c.in_ok-add_all.ensures.ok)
+          (c.and-self-inside.ensures ∙ ap (λ l. l ++ RegisterDependencies c.args.dependencies.now ∷ []) l.invariant.same);
+      marked = rw l.invariant.marks (marked_risen c.past_total.new.files.items l.self-inside.files.items c.self.inside.marks l.invariant.risen (marked_to c.self.invariant.marked c.past_total.ensures.same));
     }
 
 pub returns : goal.returns

@@ -1,8 +1,9 @@
-use Rattle.std.proofs.Common.{rules, ◌≡◌, ◌+◌, refl, unwrap_or, arith}
+use Rattle.std.proofs.Common.{rules, ◌≡◌, ◌+◌, refl, unwrap_or, is_some, arith}
 use Rattle.xet_progress.specs.declared.step.TrackerStep.TheVariants.{RegisterNewFile}
 use Rattle.xet_progress.specs.Counts.{all_total}
 use Rattle.xet_progress.proofs.NewFile.{kept_new_file, kept_count, kept_to}
 use Rattle.xet_progress.proofs.Passing.{too_great_fits}
+use Rattle.xet_progress.proofs.Marking.{marked_pushed, marked_to}
 use Rattle.xet_progress.proofs.Named.{same_names}
 use Rattle.xet_progress.proofs.state.TrackerState.register_new_file.Goals as goal
 
@@ -12,7 +13,8 @@ invariant_of-self-2 c =
     record {
       kept = kept_to (kept_new_file c.args.n_bytes s.calls.items s.files.items s.xorbs s.total s.completed s.sizes c.self.invariant.kept)
           c.and-self-inside.ensures (search rules) refl (search rules) refl refl;
-      names_are = same_names s.calls.items c.and-self-inside.result.items (RegisterNewFile c.args.n_bytes) s.names.items c.self.invariant.names_are c.and-self-inside.ensures refl;
+      names = same_names s.calls.items c.and-self-inside.result.items (RegisterNewFile c.args.n_bytes) s.names c.self.invariant.names c.and-self-inside.ensures refl;
+      marked = marked_to (marked_pushed s.files.items (record { fixed = is_some c.args.n_bytes; total = unwrap_or c.args.n_bytes 0; registered = 0; completed = 0 }) s.marks c.self.invariant.marked) (search rules);
     }
 
 pub returns : goal.returns

@@ -9,6 +9,7 @@ use Rattle.xet_progress.proofs.Steps.{again_step, kept_same}
 use Rattle.xet_progress.proofs.Pushed.{flat_push_none, sum_push_none}
 use Rattle.xet_progress.proofs.Advance.{completion_can, completion_at}
 use Rattle.xet_progress.proofs.NewFile.{kept_to}
+use Rattle.xet_progress.proofs.Marking.{marked_risen, risen_credited}
 use Rattle.xet_progress.proofs.Named.{same_names}
 use Rattle.xet_progress.proofs.state.TrackerState.register_xorb_upload_completion.Goals as goal
 
@@ -27,7 +28,8 @@ invariant_of-self c =
           (again_step c.args.xorb_hash s.calls.items (l.done ∙ c.if-found.true))
           (flat_push_none new_file s.calls.items (RegisterXorbUploadCompletion c.args.xorb_hash) refl) (λ f. sum_push_none (growth f) s.calls.items (RegisterXorbUploadCompletion c.args.xorb_hash) refl) c.self.invariant.kept)
           c.and-self-inside.ensures refl refl refl refl refl;
-      names_are = same_names s.calls.items c.and-self-inside.result.items (RegisterXorbUploadCompletion c.args.xorb_hash) s.names.items c.self.invariant.names_are c.and-self-inside.ensures refl;
+      names = same_names s.calls.items c.and-self-inside.result.items (RegisterXorbUploadCompletion c.args.xorb_hash) s.names c.self.invariant.names c.and-self-inside.ensures refl;
+      marked = c.self.invariant.marked;
     }
 
 pub returns-then-found : goal.returns-then-found
@@ -48,7 +50,8 @@ invariant_of-self-2 c =
       kept = kept_to (completion_at s.calls.items c.args.xorb_hash s.files.items s.xorbs s.total s.completed s.sizes c.in-Some.found c.self.invariant.kept c.in-Some.ensures.some c.if-found.false
           c.finish.new.self c.finish.new.files.items c.finish.new.completed c.finish.ensures.xorb c.finish.ensures.count c.finish.ensures.sum)
           c.and-self-inside-2.ensures refl refl refl refl refl;
-      names_are = same_names s.calls.items c.and-self-inside-2.result.items (RegisterXorbUploadCompletion c.args.xorb_hash) s.names.items c.self.invariant.names_are c.and-self-inside-2.ensures refl;
+      names = same_names s.calls.items c.and-self-inside-2.result.items (RegisterXorbUploadCompletion c.args.xorb_hash) s.names c.self.invariant.names c.and-self-inside-2.ensures refl;
+      marked = marked_risen s.files.items c.finish.new.files.items s.marks (risen_credited s.files.items c.finish.new.files.items c.finish.ensures.xorb.old.parts 1 1 c.finish.ensures.count c.finish.ensures.xorb.credited) c.self.invariant.marked;
     }
 
 pub returns : goal.returns

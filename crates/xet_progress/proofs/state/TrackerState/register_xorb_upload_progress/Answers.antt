@@ -1,4 +1,4 @@
-use Rattle.std.proofs.Common.{rules, ◌≡◌, ℕ, false, cond, List, refl, ◌∙◌, ap, Some, arith}
+use Rattle.std.proofs.Common.{rules, ◌≡◌, ℕ, ◌+◌, false, cond, List, refl, ◌∙◌, ap, Some, arith}
 use Rattle.std.specs.Prelude.{Option}
 use Rattle.xet_base.specs.declared.merklehash.MerkleHash.{MerkleHash}
 use Rattle.xet_base.specs.declared.invalid.Invalid.TheVariants.{UnknownXorb, XorbCompleted, PastTotal}
@@ -10,6 +10,7 @@ use Rattle.xet_progress.proofs.Looked.{looked, missed, refused_by, accepted_by, 
 use Rattle.xet_progress.proofs.Steps.{IsProgress}
 use Rattle.xet_progress.proofs.Advance.{progress_can, progress_at}
 use Rattle.xet_progress.proofs.NewFile.{kept_to}
+use Rattle.xet_progress.proofs.Marking.{marked_risen, risen_credited}
 use Rattle.xet_progress.proofs.Named.{same_names}
 use Rattle.xet_progress.proofs.state.TrackerState.register_xorb_upload_progress.Goals as goal
 
@@ -67,7 +68,8 @@ invariant_of-self c =
       kept = kept_to (progress_at s.calls.items c.args.xorb_hash s.files.items s.xorbs s.total s.completed s.sizes c.in-Some.found c.self.invariant.kept c.in-Some.ensures.some c.if-found.false
           c.args.new_byte_progress (RegisterXorbUploadProgress c.args.xorb_hash c.args.new_byte_progress) (reports c.args.xorb_hash c.args.new_byte_progress) (omega arith) c.advance.new.self c.advance.new.files.items c.advance.new.completed c.advance.ensures.xorb c.advance.ensures.count c.advance.ensures.sum)
           c.and-self-inside.ensures refl refl refl refl refl;
-      names_are = same_names s.calls.items c.and-self-inside.result.items (RegisterXorbUploadProgress c.args.xorb_hash c.args.new_byte_progress) s.names.items c.self.invariant.names_are c.and-self-inside.ensures refl;
+      names = same_names s.calls.items c.and-self-inside.result.items (RegisterXorbUploadProgress c.args.xorb_hash c.args.new_byte_progress) s.names c.self.invariant.names c.and-self-inside.ensures refl;
+      marked = marked_risen s.files.items c.advance.new.files.items s.marks (risen_credited s.files.items c.advance.new.files.items c.advance.ensures.xorb.old.parts (c.in-Some.found.sent + c.args.new_byte_progress) c.in-Some.found.size c.advance.ensures.count c.advance.ensures.xorb.credited) c.self.invariant.marked;
     }
 
 pub returns : goal.returns

@@ -1,9 +1,10 @@
-use Rattle.std.proofs.Common.{◌∙◌, sym, ap}
+use Rattle.std.proofs.Common.{◌∙◌, ap}
 use Rattle.std.proofs.Math.Seq.{map-set_same}
 use Rattle.xet_progress.specs.declared.xorb.TrackedXorb.{TrackedXorb}
+use Rattle.xet_progress.proofs.Remembering.{indexes_to}
 use Rattle.xet_progress.proofs.xorb.Xorbs.advance.Goals as goal
 
 pub invariant_of-self : goal.invariant_of-self
 invariant_of-self c =
-    c.self.invariant ∙ sym (map-set_same (λ (x : TrackedXorb). x.hash) c.self.inside.list.items c.args.place c.advance.new.xorb c.index_mut.result.now
+    indexes_to c.self.invariant (map-set_same (λ (x : TrackedXorb). x.hash) c.self.inside.list.items c.args.place c.advance.new.xorb c.index_mut.result.now
     (c.advance.ensures.xorb.same_hash ∙ ap (λ (x : TrackedXorb). x.hash) c.index_mut.ensures.value))

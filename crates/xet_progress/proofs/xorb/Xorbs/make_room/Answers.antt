@@ -1,15 +1,16 @@
-use Rattle.std.proofs.Common.{rules, ◌≡◌, refl, ◌∙◌, sym, ap, true, set}
+use Rattle.std.proofs.Common.{rules, ◌≡◌, refl, ap, true, set}
 use Rattle.std.specs.Prelude.{OnOk, Result, Ok, Err}
 use Rattle.std.proofs.Math.Seq.{map-set_same}
 use Rattle.xet_progress.specs.declared.error.ProgressError.{ProgressError}
 use Rattle.xet_progress.specs.declared.xorb.TrackedXorb.{TrackedXorb}
 use Rattle.xet_progress.specs.steps.Depends.{WithPart, has_room}
 use Rattle.xet_progress.proofs.Rooms.{alike, room_made, room_kept}
+use Rattle.xet_progress.proofs.Remembering.{indexes_to}
 use Rattle.xet_progress.proofs.xorb.Xorbs.make_room.Goals as goal
 
 pub invariant_of-self : goal.invariant_of-self
 invariant_of-self c =
-    c.self.invariant ∙ sym (map-set_same (λ (x : TrackedXorb). x.hash) c.self.inside.list.items c.in_ok-place.place (record c.index_mut-xorb.result.now { parts = c.add_empty.new.self }) c.index_mut-xorb.result.now
+    indexes_to c.self.invariant (map-set_same (λ (x : TrackedXorb). x.hash) c.self.inside.list.items c.in_ok-place.place (record c.index_mut-xorb.result.now { parts = c.add_empty.new.self }) c.index_mut-xorb.result.now
     (ap (λ (x : TrackedXorb). x.hash) c.index_mut-xorb.ensures.value))
 
 pub returns-clause-alike : goal.returns-clause-alike

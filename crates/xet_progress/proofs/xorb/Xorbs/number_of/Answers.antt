@@ -1,8 +1,7 @@
-use Rattle.std.proofs.Common.{◌∙◌}
-use Rattle.xet_base.specs.Hashes.{hash_eq}
+use Rattle.std.proofs.Common.{◌∙◌, map}
 use Rattle.xet_progress.specs.declared.xorb.TrackedXorb.{TrackedXorb}
-use Rattle.xet_progress.proofs.Indexed.{indexed}
+use Rattle.xet_progress.proofs.Remembering.{hash_look}
 use Rattle.xet_progress.proofs.xorb.Xorbs.number_of.Goals as goal
 
 pub returns : goal.returns
-returns c = rw (← c.self.view_is) (c.number_of.ensures ∙ indexed (λ (x : TrackedXorb). x.hash) (λ y. hash_eq y c.args.hash.now) c.self.inside.list.items c.self.inside.places c.self.invariant)
+returns c = rw (← c.self.view_is) (c.number_of.ensures (map (λ (x : TrackedXorb). x.hash) c.self.inside.list.items) c.self.invariant ∙ hash_look (λ (x : TrackedXorb). x.hash) c.self.inside.list.items c.args.hash.now)

@@ -5,6 +5,7 @@ use Rattle.xet_base.specs.Hashes.{hash_eq}
 use Rattle.xet_progress.specs.declared.xorb.TrackedXorb.{TrackedXorb}
 use Rattle.xet_progress.proofs.Places.{find_here}
 use Rattle.xet_progress.proofs.Rooms.{no_room, waited, room_waited}
+use Rattle.xet_progress.proofs.Remembering.{indexes_to}
 use Rattle.xet_progress.proofs.xorb.Xorbs.wait.Goals as goal
 
 pub returns-in_default : goal.returns-in_default
@@ -21,7 +22,7 @@ wait-requires c =
 
 pub invariant_of-self : goal.invariant_of-self
 invariant_of-self c =
-    c.self.invariant ∙ sym (map-set_same (λ (x : TrackedXorb). x.hash) c.self.inside.list.items c.in-Some.place (record c.index_mut-xorb.result.now { parts = c.wait.new.self }) c.index_mut-xorb.result.now
+    indexes_to c.self.invariant (map-set_same (λ (x : TrackedXorb). x.hash) c.self.inside.list.items c.in-Some.place (record c.index_mut-xorb.result.now { parts = c.wait.new.self }) c.index_mut-xorb.result.now
     (ap (λ (x : TrackedXorb). x.hash) c.index_mut-xorb.ensures.value))
 
 pub returns-clause-step : goal.returns-clause-step

@@ -1,0 +1,68 @@
+//! An index that remembers its last look.
+ghost use Rattle.std.specs.Prelude.{◌≡◌, ◌∷◌, ◌++◌, [], List, None, length, position, OnOk, OnErr};
+ghost use Rattle.std.specs.Ordering.{is_eq};
+ghost use Rattle.xet_progress.specs.steps.Indexes.{Indexes};
+
+use std::alloc::Global;
+use std::collections::BTreeMap;
+use xet_base::OutOfMemory;
+
+/// The numbers of keys that differ, in an ordered map, and the last key that was looked up with its number, since one
+/// call looks for a key more than once.
+#[derive(Drop)]
+pub(crate) struct Recent<K: Ord> {
+    pub(crate) numbers: BTreeMap<K, usize>,
+    pub(crate) last: Option<K>,
+    pub(crate) number: Option<usize>,
+}
+
+impl<K: Ord + Copy> Recent<K> {
+    /// No keys. It takes no memory.
+    pub(crate) fn new(alloc: Global) -> Recent<K>
+        ensures { Indexes K.cmp [] result }
+    {
+        Recent {
+            numbers: BTreeMap::new(alloc),
+            last: None,
+            number: None,
+        }
+    }
+
+    /// The number of a key, or none where it isn't there.
+    pub(crate) fn number_of(&self, key: &K) -> Option<usize>
+        ensures { (keys : List K) → Indexes K.cmp keys self.now
+            → result ≡ position (λ y. is_eq (K.cmp y key.now)) keys }
+    {
+        if let Some(last) = self.last {
+            if last.cmp(key).is_eq() {
+                return self.number;
+            }
+        }
+        self.numbers.get(key).copied()
+    }
+
+    /// Remembers the number of a key, for the looks after this one.
+    pub(crate) fn remember(&mut self, key: &K)
+        ensures { (keys : List K) → Indexes K.cmp keys self.old → Indexes K.cmp keys self.new }
+    {
+        let number = self.number_of(key);
+        self.last = Some(*key);
+        self.number = number;
+    }
+
+    /// Adds a key that isn't there, with the number of keys before it.
+    ///
+    /// `OutOfMemory` where an allocation was refused.
+    pub(crate) fn push(&mut self, key: K, number: usize) -> Result<(), OutOfMemory>
+        ensures ok { OnOk result ((keys : List K) → Indexes K.cmp keys self.old → length keys ≡ number
+            → position (λ y. is_eq (K.cmp y key)) keys ≡ None → Indexes K.cmp (keys ++ key ∷ []) self.new) }
+        ensures err { OnErr result ((keys : List K) → Indexes K.cmp keys self.old → Indexes K.cmp keys self.new) }
+    {
+        if self.numbers.insert(key, number).is_err() {
+            return Err(OutOfMemory);
+        }
+        self.last = Some(key);
+        self.number = Some(number);
+        Ok(())
+    }
+}
