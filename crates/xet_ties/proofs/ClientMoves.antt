@@ -1,0 +1,201 @@
+-- The ties after a step of the connections.
+use Rattle.std.proofs.Common.{◌≡◌, ℕ, ◌+◌, ◌≤◌, min, List, [], ◌∷◌, ◌++◌, refl, sym, subst, ◌∙◌, ap, arith, append_assoc, Some, None, Option}
+use Rattle.std.specs.Prelude.{IsSome, count_by, option_map, All}
+use Rattle.std.proofs.lemmas.List.{append-nil}
+use Rattle.xet_base.specs.Store.{Store, file_of}
+use Rattle.xet_outside.specs.Told.{ClientTold, Query}
+use Rattle.xet_outside.specs.declared.served.Served.{Served}
+use Rattle.xet_run.specs.declared.event.Event.{Event}
+use Rattle.xet_run.specs.declared.event.Event.TheVariants.{Planned}
+use Rattle.xet_run.specs.declared.event.PlannedBlock.{PlannedBlock}
+use Rattle.xet_run.specs.declared.event.PlannedTerm.{PlannedTerm}
+use Rattle.xet_history.specs.TrueHistory.{IsTrueEvent, queries}
+use Rattle.xet_base.specs.declared.cas_types.FileRange.{FileRange}
+use Rattle.xet_base.specs.declared.merklehash.MerkleHash.{MerkleHash}
+use Rattle.xet_history.specs.Queries.{CutFrom}
+use Rattle.xet_ties.specs.History.{IsOneCached, IsRenewed, asked_by, served_by, fetches, IsWithin}
+use Rattle.xet_ties.specs.steps.Moves.{EachJoined, FirstQuery, JoinStep, QueryStep, no_hidden, no_late, heard_first, heard_join}
+use Rattle.xet_ties.specs.Setup.{AllTell, ClientGoesOn, IsOver, RunTold, Setup, download_of}
+use Rattle.xet_ties.specs.Ties.{EachUnasked, all_of, is_pair, EachLane, FirstAsked, IsLane, Slack, Ties, CutsRange, IsLost, IsPlannedEntry}
+use Rattle.xet_ties.proofs.Lanes.{served_same}
+use Rattle.xet_ties.proofs.Pushes.{first_push, limited_same, looked_push, offered_push, polled_push, recorded_same, taken_push, tried_push, true_push, cuts_push}
+use Rattle.xet_ties.proofs.Telling.{each-push}
+use Rattle.std.proofs.lemmas.List.Elements.{All-push}
+use Rattle.xet_outside.specs.declared.said.Said.{Said}
+use Rattle.xet_ties.proofs.CacheMoves.{taken_heard}
+use Rattle.xet_ties.proofs.Heard.{FirstEvent, exchange_join, exchange_query, grew_first, grew_join, join_match, said_join, said_planned, said_query}
+
+-- ---- queries of the first connection
+
+then_min : (k : ℕ) (b m n l : ℕ) → min (b + l) k ≤ m → m ≤ n → min (b + l) k ≤ n
+then_min k b m n l h i = omega arith
+
+pub goes_then : (b m n : ClientTold) → ClientGoesOn b m → ClientGoesOn m n → ClientGoesOn b n
+goes_then b m n p q = record {
+  store = q.store ∙ p.store;
+  link = q.link ∙ p.link;
+  faults = let x = p.faults in let y = q.faults in omega (arith, x, y);
+  expiries = let x = p.expiries in let y = q.expiries in omega (arith, x, y);
+}
+
+lane_query : (es : List Event) (l : ℕ) (b m n : ClientTold) (h : List Served) (k : ℕ) (qs : List Query) (all : List Said) → QueryStep m n qs all → IsLane es l b m h k → IsLane es l b n h k
+lane_query es l b m n h k qs all s t = record {
+  goes_on = goes_then b m n t.goes_on s.goes_on;
+  served = s.served ∙ t.served;
+  expired = let x = t.expired in let y = s.goes_on.expiries in omega (arith, x, y);
+}
+
+lanes_query : (es : List Event) (q : List Query) (all : List Said) (bs ms ns : List ClientTold) (hs : List (List Served)) (ks : List ℕ) → FirstQuery ms ns q all → EachLane es 0 bs ms hs ks → EachLane es 0 bs ns hs ks
+lanes_query es q all [] [] ns hs ks f t = absurd f
+lanes_query es q all (b ∷ bs) [] ns hs ks f t = absurd f
+lanes_query es q all bs (m ∷ ms) [] hs ks f t = absurd f
+lanes_query es q all [] (m ∷ ms) (n ∷ ns) hs ks f t = absurd t
+lanes_query es q all (b ∷ bs) (m ∷ ms) (n ∷ ns) [] ks f t = absurd t
+lanes_query es q all (b ∷ bs) (m ∷ ms) (n ∷ ns) (h ∷ hs) [] f t = absurd t
+lanes_query es q all (b ∷ bs) (m ∷ ms) (n ∷ ns) (h ∷ hs) (k ∷ ks) f t =
+    (lane_query es 0 b m n h k q all f.0 t.0, subst (λ (l : List ClientTold). EachLane es 1 bs l hs ks) (sym f.1) t.1)
+
+asked_query : (f : MerkleHash) (es : List Event) (q : List Query) (all : List Said) (lost : List Query) (bs ms ns : List ClientTold) → FirstQuery ms ns q all → FirstAsked f es lost bs ms → FirstAsked f es (lost ++ q) bs ns
+asked_query f es q all lost bs [] ns s t = absurd s
+asked_query f es q all lost bs (m ∷ ms) [] s t = absurd s
+asked_query f es q all lost [] (m ∷ ms) (n ∷ ns) s t = absurd t
+asked_query f es q all lost (b ∷ bs) (m ∷ ms) (n ∷ ns) s t = (
+  record { asked = s.0.asked ∙ ap (λ (o : Option (List Query)). option_map (λ xs. xs ++ q) o) t.0.asked ∙ twice b.asked },
+  subst (λ (l : List ClientTold). EachUnasked bs l) (sym s.1) t.1,
+)
+  where
+    twice : (o : Option (List Query)) → option_map (λ xs. xs ++ q) (option_map (λ ys. ys ++ (asked_by f es ++ lost)) o) ≡ option_map (λ ys. ys ++ (asked_by f es ++ (lost ++ q))) o
+    twice None = refl
+    twice (Some ys) = ap (λ (z : List Query). Some z) (append_assoc ys (asked_by f es ++ lost) (q) ∙ ap (λ (z : List Query). ys ++ z) (append_assoc (asked_by f es) lost (q)))
+
+-- the first connection was asked and said something, and no event says it yet
+pub tie_query : (g : Setup) (b n : RunTold) (es : List Event) (sl : Slack) (to : List ClientTold) (qs : List Query) (all : List Said) → FirstQuery n.clients to qs all → IsLost g es (sl.lost ++ qs) → Ties g b n es None sl
+    → Ties g b (record n { clients = to }) es None (record sl { heard = heard_first qs all sl.heard; lost = sl.lost ++ qs })
+tie_query g b n es sl to qs all s l t = record {
+  heard = exchange_query b.clients n.clients to sl.heard qs all s t.heard;
+  true_of = t.true_of;
+  cuts = t.cuts;
+  within = t.within;
+  stored = t.stored;
+  served = record { lanes = lanes_query es qs all b.clients n.clients to sl.hidden sl.late s t.served.lanes; once = t.served.once; planned = t.served.planned; on_lanes = t.served.on_lanes };
+  asked = asked_query g.file es qs all sl.lost b.clients n.clients to s t.asked;
+  lost = l;
+  said = said_query g es qs all sl.heard t.said;
+  tried = t.tried;
+  renewed = t.renewed;
+  one_cached = t.one_cached;
+  looked = t.looked;
+  offered = t.offered;
+  polled = t.polled;
+  limited = t.limited;
+  taken = taken_heard g es sl.heard (heard_first qs all sl.heard) sl.looks sl.ahead b.clients b.cache b.sink n.sink (grew_first qs all sl.heard) t.taken;
+  recorded = t.recorded;
+}
+
+-- the plan of a query is recorded
+pub tie_planned : (g : Setup) (b n : RunTold) (es : List Event) (sl : Slack) (spare plan : ℕ) (query : FileRange) (terms : List PlannedTerm) (blocks : List PlannedBlock)
+    → sl.lost ≡ (g.file, query) ∷ [] → sl.spare ≡ spare + 1 → CutsRange g (queries es ++ query ∷ []) → IsWithin (Planned plan query terms blocks) → FirstEvent g sl.heard (Planned plan query terms blocks)
+    → ((s : Store) → IsOver s b.clients → IsTrueEvent s g.file g.multirange (Planned plan query terms blocks))
+    → ((s : Store) → AllTell s b.clients → IsSome (file_of s g.file))
+    → Ties g b n es None sl → Ties g b n (es ++ Planned plan query terms blocks ∷ []) None (record sl { lost = []; spare = spare })
+tie_planned g b n es sl spare plan query terms blocks lost polls cuts within said honest stored t =
+    let e : Event = Planned plan query terms blocks in
+    record {
+      heard = t.heard;
+      true_of = λ s o. true_push s (download_of g) es e cuts (honest s o) (t.true_of s o);
+      cuts = cuts_push g es e query refl cuts;
+      within = All-push IsWithin es e t.within within;
+      stored = λ s tell k. stored s tell;
+      served = served_same es e sl.hidden sl.late b.clients n.clients (λ l. refl) (λ l. refl) (λ p k. refl) (λ m. tt) t.served;
+      asked = first_push g.file es e sl.lost [] b.clients n.clients lost t.asked;
+      lost = tt;
+      said = said_planned g es e sl.heard said t.said;
+      tried = tried_push g.tries es e (λ p k. let a = t.tried.at_most p k in omega (arith, a));
+      renewed = each-push IsRenewed es e t.renewed tt;
+      one_cached = each-push IsOneCached es e t.one_cached tt;
+      looked = looked_push es e sl.pending sl.pending sl.looks b.clients b.cache n.cache refl (λ x r. omega arith) t.looked;
+      offered = offered_push es e sl.due sl.due b.cache n.cache (omega arith) t.offered;
+      polled = polled_push es e sl.spare spare b.signal n.signal (omega (arith, polls)) t.polled;
+      limited = limited_same es e b.limits n.limits refl t.limited;
+      taken = taken_push g es e sl.heard sl.looks sl.ahead sl.ahead b.clients b.cache b.sink n.sink (omega arith) t.taken;
+      recorded = recorded_same es e refl t.recorded;
+    }
+
+-- ---- joins
+
+lane_join : (es : List Event) (l : ℕ) (b m n : ClientTold) (h : List Served) (a : List Said) (k : ℕ) → JoinStep m n h a k → IsLane es l b m [] 0 → IsLane es l b n h k
+lane_join es l b m n h a k s t = record {
+  goes_on = goes_then b m n t.goes_on s.goes_on;
+  served = s.pairs.serves ∙ ap (λ (o : Option (List Served)). option_map (λ xs. xs ++ h) o) t.served ∙ twice b.served;
+  expired = let x = t.expired in let y = s.expired in omega (arith, x, y);
+}
+  where
+    twice : (o : Option (List Served)) → option_map (λ xs. xs ++ h) (option_map (λ xs. xs ++ (served_by l es ++ [])) o) ≡ option_map (λ xs. xs ++ (served_by l es ++ h)) o
+    twice None = refl
+    twice (Some ys) = ap (λ (z : List Served). Some z) (append_assoc ys (served_by l es ++ []) h ∙ ap (λ (z : List Served). ys ++ (z ++ h)) (append-nil (served_by l es)))
+
+lanes_join : (es : List Event) (l : ℕ) (bs ms ns : List ClientTold) (hs : List (List Served)) (alls : List (List Said)) (ks : List ℕ) → EachJoined ms ns hs alls ks → EachLane es l bs ms (no_hidden bs) (no_late bs) → EachLane es l bs ns hs ks
+lanes_join es l [] [] [] [] [] [] j t = tt
+lanes_join es l (b ∷ bs) (m ∷ ms) (n ∷ ns) (h ∷ hs) (a ∷ alls) (k ∷ ks) j t = (lane_join es l b m n h a k j.0 t.0, lanes_join es (l + 1) bs ms ns hs alls ks j.1 t.1)
+lanes_join es l [] [] [] [] [] (k ∷ ks) j t = absurd j
+lanes_join es l [] [] [] [] (a ∷ alls) ks j t = absurd j
+lanes_join es l [] [] [] (h ∷ hs) alls ks j t = absurd j
+lanes_join es l [] [] (n ∷ ns) hs alls ks j t = absurd j
+lanes_join es l [] (m ∷ ms) ns hs alls ks j t = absurd t
+lanes_join es l (b ∷ bs) [] ns hs alls ks j t = absurd t
+lanes_join es l (b ∷ bs) (m ∷ ms) [] hs alls ks j t = absurd j
+lanes_join es l (b ∷ bs) (m ∷ ms) (n ∷ ns) [] alls ks j t = absurd j
+lanes_join es l (b ∷ bs) (m ∷ ms) (n ∷ ns) (h ∷ hs) [] ks j t = absurd j
+lanes_join es l (b ∷ bs) (m ∷ ms) (n ∷ ns) (h ∷ hs) (a ∷ alls) [] j t = absurd j
+
+unasked_join : (bs ms ns : List ClientTold) (hs : List (List Served)) (alls : List (List Said)) (ks : List ℕ) → EachJoined ms ns hs alls ks → EachUnasked bs ms → EachUnasked bs ns
+unasked_join [] [] [] hs alls ks j t = tt
+unasked_join [] [] (n ∷ ns) hs alls ks j t = absurd j
+unasked_join [] (m ∷ ms) ns hs alls ks j t = absurd t
+unasked_join (b ∷ bs) [] ns hs alls ks j t = absurd t
+unasked_join (b ∷ bs) (m ∷ ms) [] hs alls ks j t = absurd j
+unasked_join (b ∷ bs) (m ∷ ms) (n ∷ ns) [] alls ks j t = absurd j
+unasked_join (b ∷ bs) (m ∷ ms) (n ∷ ns) (h ∷ hs) [] ks j t = absurd j
+unasked_join (b ∷ bs) (m ∷ ms) (n ∷ ns) (h ∷ hs) (a ∷ alls) [] j t = absurd j
+unasked_join (b ∷ bs) (m ∷ ms) (n ∷ ns) (h ∷ hs) (a ∷ alls) (k ∷ ks) j t = (j.0.asked ∙ t.0, unasked_join bs ms ns hs alls ks j.1 t.1)
+
+asked_join : (f : MerkleHash) (es : List Event) (lost : List Query) (bs ms ns : List ClientTold) (hs : List (List Served)) (alls : List (List Said)) (ks : List ℕ) → EachJoined ms ns hs alls ks → FirstAsked f es lost bs ms → FirstAsked f es lost bs ns
+asked_join f es lost [] ms ns hs alls ks j t = absurd t
+asked_join f es lost (b ∷ bs) [] ns hs alls ks j t = absurd t
+asked_join f es lost (b ∷ bs) (m ∷ ms) [] hs alls ks j t = absurd j
+asked_join f es lost (b ∷ bs) (m ∷ ms) (n ∷ ns) [] alls ks j t = absurd j
+asked_join f es lost (b ∷ bs) (m ∷ ms) (n ∷ ns) (h ∷ hs) [] ks j t = absurd j
+asked_join f es lost (b ∷ bs) (m ∷ ms) (n ∷ ns) (h ∷ hs) (a ∷ alls) [] j t = absurd j
+asked_join f es lost (b ∷ bs) (m ∷ ms) (n ∷ ns) (h ∷ hs) (a ∷ alls) (k ∷ ks) j t = (record { asked = j.0.asked ∙ t.0.asked }, unasked_join bs ms ns hs alls ks j.1 t.1)
+
+-- the lanes came back from a join
+pub tie_join : (g : Setup) (b n : RunTold) (es : List Event) (sl : Slack) (to : List ClientTold) (hs : List (List Served)) (alls : List (List Said)) (ks : List ℕ) → EachJoined n.clients to hs alls ks
+    → ((p k : ℕ) → count_by (fetches p k) es + count_by (is_pair p k) (all_of hs) ≤ 1) → All (IsPlannedEntry es) (all_of hs) → sl.hidden ≡ no_hidden b.clients → sl.late ≡ no_late b.clients
+    → Ties g b n es None sl → Ties g b (record n { clients = to }) es None (record sl { heard = heard_join hs alls sl.heard; hidden = hs; late = ks })
+tie_join g b n es sl to hs alls ks j once planned no_h no_k t =
+    let match = join_match b.clients n.clients to hs alls ks sl.heard j t.heard in
+    record {
+      heard = exchange_join b.clients n.clients to hs alls ks sl.heard j t.heard;
+      true_of = t.true_of;
+      cuts = t.cuts;
+      within = t.within;
+      stored = t.stored;
+      served = record {
+        lanes = lanes_join es 0 b.clients n.clients to hs alls ks j (subst (λ (l : List ℕ). EachLane es 0 b.clients n.clients (no_hidden b.clients) l) no_k (subst (λ (l : List (List Served)). EachLane es 0 b.clients n.clients l sl.late) no_h t.served.lanes));
+        once = once;
+        planned = planned;
+        on_lanes = t.served.on_lanes;
+      };
+      asked = asked_join g.file es sl.lost b.clients n.clients to hs alls ks j t.asked;
+      lost = t.lost;
+      said = said_join g es hs alls sl.heard match t.said;
+      tried = t.tried;
+      renewed = t.renewed;
+      one_cached = t.one_cached;
+      looked = t.looked;
+      offered = t.offered;
+      polled = t.polled;
+      limited = t.limited;
+      taken = taken_heard g es sl.heard (heard_join hs alls sl.heard) sl.looks sl.ahead b.clients b.cache b.sink n.sink (grew_join hs alls sl.heard match) t.taken;
+      recorded = t.recorded;
+    }

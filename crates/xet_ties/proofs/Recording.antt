@@ -1,0 +1,179 @@
+-- The ties after the events that take from the slack.
+use Rattle.std.proofs.Common.{◌≡◌, ℕ, suc, ◌+◌, ◌≤◌, ◌<◌, Bool, true, false, cond, List, [], ◌∷◌, ◌++◌, length, refl, sym, subst, ◌∙◌, ap, arith, None}
+use Rattle.std.specs.Prelude.{count_by, map}
+use Rattle.xet_base.specs.declared.cas_types.ChunkRange.{ChunkRange}
+use Rattle.xet_base.specs.declared.merklehash.MerkleHash.{MerkleHash}
+use Rattle.xet_outside.proofs.CallerLemmas.{count_by-cons}
+use Rattle.xet_outside.specs.declared.served.Served.{Served}
+use Rattle.xet_run.specs.declared.event.Event.{Event}
+use Rattle.xet_run.specs.declared.event.Event.TheVariants.{Fetched, Expired, Refreshed, Wrote}
+use Rattle.xet_run.specs.declared.event.PlannedBlock.{PlannedBlock}
+use Rattle.xet_run.specs.Events.{expires}
+use Rattle.xet_ties.specs.History.{block_at, entry_of, is_expired, range_at}
+use Rattle.xet_ties.specs.Setup.{RunTold, Setup}
+use Rattle.xet_ties.specs.Ties.{IsServed, Slack, Ties, has_one, is_one}
+use Rattle.xet_ties.proofs.Lanes.{served_expired, served_fetched, served_same}
+use Rattle.xet_ties.proofs.Moves.{tie_event}
+use Rattle.xet_run.proofs.CallerLemmas.{same_numbers}
+use Rattle.xet_base.specs.declared.cas_types.FileRange.{FileRange}
+
+-- a lane's next served entry is recorded
+pub tie_fetched : (g : Setup) (b n : RunTold) (es : List Event) (sl : Slack) (m p k : ℕ) (x : PlannedBlock) (h : List Served) (before after : List (List Served)) (rest : List PlannedBlock)
+    → block_at es p k ≡ x ∷ [] → is_expired es p k ≡ false → m ≡ length before → sl.hidden ≡ before ++ (entry_of p k x ∷ h) ∷ after → sl.pending ≡ x ∷ rest
+    → Ties g b n es None sl → Ties g b n (es ++ Fetched m p k ∷ []) None (record sl { hidden = before ++ h ∷ after; pending = rest; due = sl.due + cond (has_one x) 1 0 })
+tie_fetched g b n es sl m p k x h before after rest at fresh is hidden pending t =
+    let e : Event = Fetched m p k in
+    let to : Slack = record sl { hidden = before ++ h ∷ after; pending = rest; due = sl.due + cond (has_one x) 1 0 } in
+    tie_event g b n es e sl to
+    (record {
+      heard = refl;
+      looks = refl;
+      query = refl;
+      true_of = λ s. tt;
+      said = λ x. tt;
+      within = tt;
+      plan = refl;
+      tasks = refl;
+      served = λ bs ns v. served_fetched es m p k x h before after sl.late bs ns at is (subst (λ (l : List (List Served)). IsServed es l sl.late bs ns) hidden v);
+      asked = refl;
+      tried = λ q j. let a = t.tried.at_most q j in omega (arith, a);
+      renewed = fresh;
+      one_cached = tt;
+      cached = refl;
+      pending = λ y r.
+          let c = ap (λ (l : List PlannedBlock). count_by (is_one y r) l) at in
+          let d = ap (λ (l : List PlannedBlock). count_by (is_one y r) l) pending in
+          let u = count_by-cons (is_one y r) x [] in
+          let v = count_by-cons (is_one y r) x rest in
+          omega (arith, c, d, u, v);
+      due = let c = ap (λ (l : List PlannedBlock). count_by has_one l) at in let u = count_by-cons has_one x [] in omega (arith, c, u);
+      spare = omega arith;
+      limit = refl;
+      ahead = omega arith;
+      error = refl;
+    }) t
+
+-- a lane's next expired answer is recorded
+pub tie_expired : (g : Setup) (b n : RunTold) (es : List Event) (sl : Slack) (m p k j : ℕ) (before after : List ℕ)
+    → is_expired es p k ≡ false → count_by (expires p k) es < g.tries → m ≡ length before → sl.late ≡ before ++ suc j ∷ after
+    → Ties g b n es None sl → Ties g b n (es ++ Expired m p k ∷ []) None (record sl { late = before ++ j ∷ after })
+tie_expired g b n es sl m p k j before after fresh left is late t =
+    let e : Event = Expired m p k in
+    tie_event g b n es e sl (record sl { late = before ++ j ∷ after })
+    (record {
+      heard = refl;
+      looks = refl;
+      query = refl;
+      true_of = λ s. tt;
+      said = λ x. tt;
+      within = tt;
+      plan = refl;
+      tasks = refl;
+      served = λ bs ns v. served_expired es m p k j sl.hidden before after bs ns is (subst (λ (l : List ℕ). IsServed es sl.hidden l bs ns) late v);
+      asked = refl;
+      tried = λ q i. tried q i (expires q i e) refl;
+      renewed = fresh;
+      one_cached = tt;
+      cached = refl;
+      pending = λ y r. omega arith;
+      due = omega arith;
+      spare = omega arith;
+      limit = refl;
+      ahead = omega arith;
+      error = refl;
+    }) t
+  where
+    tried : (q i : ℕ) (v : Bool) → expires q i (Expired m p k) ≡ v → count_by (expires q i) es + cond v 1 0 ≤ g.tries
+    tried q i false h = let a = t.tried.at_most q i in omega (arith, a)
+    tried q i true h =
+        let s = same_numbers p k q i h in
+        let l : count_by (expires q i) es < g.tries = subst (λ (v : ℕ). count_by (expires v i) es < g.tries) s.0 (subst (λ (v : ℕ). count_by (expires p v) es < g.tries) s.1 left) in
+        omega (arith, l)
+
+-- the refresh of a plan is recorded
+pub tie_refreshed : (g : Setup) (b n : RunTold) (es : List Event) (sl : Slack) (p : ℕ) (r : FileRange) → range_at es p ≡ r ∷ [] → sl.lost ≡ (g.file, r) ∷ []
+    → Ties g b n es None sl → Ties g b n (es ++ Refreshed p ∷ []) None (record sl { lost = [] })
+tie_refreshed g b n es sl p r at lost t =
+    let e : Event = Refreshed p in
+    tie_event g b n es e sl (record sl { lost = [] })
+    (record {
+      heard = refl;
+      looks = refl;
+      query = refl;
+      true_of = λ s. tt;
+      said = λ x. tt;
+      within = tt;
+      plan = refl;
+      tasks = refl;
+      served = λ bs ns v. served_same es e sl.hidden sl.late bs ns (λ l. refl) (λ l. refl) (λ q k. refl) (λ m. tt) v;
+      asked = lost ∙ ap (λ (l : List FileRange). map (λ v. (g.file, v)) l ++ []) (sym at);
+      tried = λ q j. let a = t.tried.at_most q j in omega (arith, a);
+      renewed = tt;
+      one_cached = tt;
+      cached = refl;
+      pending = λ y v. omega arith;
+      due = omega arith;
+      spare = omega arith;
+      limit = refl;
+      ahead = omega arith;
+      error = refl;
+    }) t
+
+-- written bytes are recorded
+pub tie_wrote : (g : Setup) (b n : RunTold) (es : List Event) (sl : Slack) (taken rest : ℕ) → sl.ahead ≡ taken + rest → Ties g b n es None sl → Ties g b n (es ++ Wrote taken ∷ []) None (record sl { ahead = rest })
+tie_wrote g b n es sl taken rest is t =
+    let e : Event = Wrote taken in
+    tie_event g b n es e sl (record sl { ahead = rest })
+    (record {
+      heard = refl;
+      looks = refl;
+      query = refl;
+      true_of = λ s. tt;
+      said = λ x. tt;
+      within = tt;
+      plan = refl;
+      tasks = refl;
+      served = λ bs ns v. served_same es e sl.hidden sl.late bs ns (λ l. refl) (λ l. refl) (λ q k. refl) (λ m. tt) v;
+      asked = refl;
+      tried = λ q j. let a = t.tried.at_most q j in omega (arith, a);
+      renewed = tt;
+      one_cached = tt;
+      cached = refl;
+      pending = λ y v. omega arith;
+      due = omega arith;
+      spare = omega arith;
+      limit = refl;
+      ahead = is;
+      error = refl;
+    }) t
+
+-- fewer blocks may be pending, and fewer asks of the signal spare
+pub tie_rest : (g : Setup) (b n : RunTold) (es : List Event) (sl : Slack) (rest : List PlannedBlock) (spare : ℕ) → ((x : MerkleHash) (r : ChunkRange) → count_by (is_one x r) rest ≤ count_by (is_one x r) sl.pending) → spare ≤ sl.spare
+    → Ties g b n es None sl → Ties g b n es None (record sl { pending = rest; spare = spare })
+tie_rest g b n es sl rest spare fewer less t = record {
+  heard = t.heard;
+  true_of = t.true_of;
+  cuts = t.cuts;
+  within = t.within;
+  stored = t.stored;
+  served = t.served;
+  asked = t.asked;
+  lost = t.lost;
+  said = t.said;
+  tried = t.tried;
+  renewed = t.renewed;
+  one_cached = t.one_cached;
+  looked = record {
+    looked = t.looked.looked;
+    cover = λ x r.
+        let c = t.looked.cover x r in
+        let f = fewer x r in
+        let c0 = c.kept in
+        record { kept = omega (arith, c0, f); cached = c.cached; honest = λ s o. let c2 = c.honest s o in omega (arith, c2, f) };
+  };
+  offered = t.offered;
+  polled = record { polls = t.polled.polls; asks = t.polled.asks; cover = let c = t.polled.cover in omega (arith, c, less); later = t.polled.later };
+  limited = t.limited;
+  taken = t.taken;
+  recorded = t.recorded;
+}

@@ -1,0 +1,5 @@
+use Rattle.xet_ties.proofs.Expiries.{have_expired}
+use Rattle.xet_ties.proofs.laws.expiries_are_counted.Goals as goal
+
+pub returns : goal.returns
+returns c = have_expired

@@ -1,0 +1,9 @@
+use Rattle.xet_ties.proofs.Measures.{left-push, left_expired, left_fetched}
+use Rattle.xet_ties.proofs.laws.tries_fall.Goals as goal
+
+pub returns : goal.returns
+returns c = record {
+  fetched = left_fetched;
+  expired = left_expired;
+  none = left-push;
+}

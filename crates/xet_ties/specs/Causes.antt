@@ -1,0 +1,157 @@
+-- What each error of a run shows of what its arguments tell.
+use Rattle.std.specs.Prelude.{ℕ, ◌≡◌, ◌⊎◌, ◌+◌, ◌-◌, ◌^◌, ◌<◌, ◌≤◌, List, [], ◌∷◌, cond, length, nat_eq, nat_lt, Contains, Option, Some, None, IsNone, IfSome, slice_get}
+use Rattle.xet_base.specs.declared.cas_types.FileRange.{FileRange}
+use Rattle.xet_base.specs.Store.{Store, file_of}
+use Rattle.xet_outside.specs.Plan.{shape}
+use Rattle.xet_outside.specs.Told.{ClientTold, Rose}
+use Rattle.xet_outside.specs.declared.block.BlockBytes.{BlockBytes}
+use Rattle.xet_outside.specs.declared.plan.Plan.{Plan}
+use Rattle.xet_outside.specs.declared.plan.PlanAnswer.{PlanAnswer}
+use Rattle.xet_outside.specs.declared.plan.PlanAnswer.TheVariants.{Found, NoFile, PastEnd}
+use Rattle.xet_error.specs.declared.error.Corruption.{Corruption}
+use Rattle.xet_error.specs.declared.error.Corruption.TheVariants.{PastKnownEnd}
+use Rattle.xet_error.specs.declared.error.FileReconstructionError.{FileReconstructionError}
+use Rattle.xet_error.specs.declared.error.FileReconstructionError.TheVariants as error
+use Rattle.xet_error.specs.declared.error.Setting.{Setting}
+use Rattle.xet_error.specs.declared.error.Setting.TheVariants.{GreatestBelowLeast, LeastZero, NoConnection, NoTries}
+use Rattle.xet_blocks.specs.BlockCalls.{failed_check}
+use Rattle.xet_blocks.specs.BlockChecks.{block_data}
+use Rattle.xet_blocks.specs.Extracts.{failed_term_test}
+use Rattle.xet_blocks.specs.PlanChecks.{failed_test}
+use Rattle.xet_blocks.specs.TermBlocks.{covered}
+use Rattle.xet_fetch.specs.Refreshes.{plan_extents, refusal_of}
+use Rattle.xet_ties.specs.InCall.{Exchange, SomeOne, all_exchanges}
+use Rattle.xet_ties.specs.Saids.{BlockOfPlan, IsBlockAnswer, IsPlanAccepted, IsPlanSaid, IsQueryAnswer, TermOfPlan}
+use Rattle.xet_ties.specs.Setup.{AllTell, IsOver, RunTold, Setup}
+
+-- ---- settings
+
+-- of tries and fetch sizes, the setting that fails first
+abbrev pub failing_size : Setup → Option Setting
+failing_size g =
+    cond (nat_eq g.tries 0) (Some NoTries)
+    (cond (nat_eq g.least 0) (Some LeastZero)
+    (cond (nat_lt g.greatest g.least) (Some GreatestBelowLeast) None))
+
+-- of a run that is lent these connections
+abbrev pub failing_setting : Setup → List ClientTold → Option Setting
+failing_setting g [] = Some NoConnection
+failing_setting g (c ∷ cs) = failing_size g
+
+-- ---- counts
+
+-- the faults of some connection rose
+abbrev pub SomeRose : List ClientTold → List ClientTold → Type 0
+SomeRose (b ∷ bs) (n ∷ ns) = Rose b.faults n.faults ⊎ SomeRose bs ns
+SomeRose [] ns = ⊥
+SomeRose (b ∷ bs) [] = ⊥
+
+-- the expired answers of all connections
+abbrev pub total_expiries : List ClientTold → ℕ
+total_expiries [] = 0
+total_expiries (c ∷ cs) = c.expiries + total_expiries cs
+
+-- no count of expired answers stands at its last value
+abbrev pub NoneAtEnd : List ClientTold → Type 0
+NoneAtEnd [] = Unit {0}
+NoneAtEnd (c ∷ cs) = (c.expiries < 2 ^ 64 - 1) × NoneAtEnd cs
+
+-- the expired answers together grew by so many, where no count stands at its last value
+abbrev pub HaveExpired : ℕ → List ClientTold → List ClientTold → Type 0
+HaveExpired tries before after = NoneAtEnd after → total_expiries before + tries ≤ total_expiries after
+
+-- ---- failed tests
+
+-- the plan that was said in answer to a query fails this test
+pub record PlanFails (g : Setup) (xs : List Exchange) (k : Corruption) : Type 0 where
+  pub plan : Plan
+  pub query : FileRange
+  pub said : IsPlanSaid g xs plan query
+  pub fails : failed_test (shape plan) query g.multirange ≡ Some k
+
+-- the answer to a query for the bytes of an accepted plan is refused by this test as the plan's refresh
+pub record RefreshFails (g : Setup) (xs : List Exchange) (k : Corruption) : Type 0 where
+  pub plan : Plan
+  pub query : FileRange
+  pub accepted : IsPlanAccepted g xs plan query
+  pub answer : PlanAnswer
+  pub answered : IsQueryAnswer g.file xs (covered (shape plan) query) answer
+  pub fails : refusal_of (covered (shape plan) query) g.multirange (plan_extents (shape plan) g.multirange) answer
+      ≡ Some (error.CorruptedReconstruction k)
+
+-- bytes that a connection said in answer to a block's own request fail this test
+pub record BlockFailsIn (g : Setup) (xs : List Exchange) (b : BlockOfPlan g xs) (p : ℕ) (k : Corruption)
+    (x : Exchange) : Type 0 where
+  pub given : BlockBytes
+  pub answer : IsBlockAnswer x p b.number b.block given
+  pub fails : failed_check b.block given ≡ Some k
+
+-- so the bytes of a block of an accepted plan
+pub record BlockFails (g : Setup) (xs : List Exchange) (k : Corruption) : Type 0 where
+  pub place : BlockOfPlan g xs
+  pub number : ℕ
+  pub bytes : SomeOne (BlockFailsIn g xs place number k) xs
+
+-- in bytes that a connection said in answer to a block's own request, and that pass its tests, a term fails this test
+pub record TermFailsIn (g : Setup) (xs : List Exchange) (t : TermOfPlan g xs) (p : ℕ) (k : Corruption)
+    (x : Exchange) : Type 0 where
+  pub given : BlockBytes
+  pub answer : IsBlockAnswer x p t.place.number t.place.block given
+  pub passes : failed_check t.place.block given ≡ None
+  pub fails : failed_term_test t.term (block_data t.place.block.chunk_ranges given) ≡ Some k
+
+-- so a term of an accepted plan
+pub record TermFails (g : Setup) (xs : List Exchange) (k : Corruption) : Type 0 where
+  pub place : TermOfPlan g xs
+  pub number : ℕ
+  pub bytes : SomeOne (TermFailsIn g xs place number k) xs
+
+-- by this answer to a query the file ends here: it was past the end or without terms, or its terms end before the query
+abbrev pub EndsAt : FileRange → ℕ → PlanAnswer → Type 0
+EndsAt q known NoFile = ⊥
+EndsAt q known PastEnd = known ≡ q.start
+EndsAt q known (Found p) = ((p.terms ≡ []) × (known ≡ q.start))
+    ⊎ (((covered (shape p) q).end < q.end) × (known ≡ (covered (shape p) q).end))
+
+-- terms came for a query at or past the end that another answer had told
+pub record EndFails (g : Setup) (xs : List Exchange) (k : Corruption) : Type 0 where
+  pub plan : Plan
+  pub query : FileRange
+  pub accepted : IsPlanAccepted g xs plan query
+  pub known : ℕ
+  pub past : known ≤ query.start
+  pub other : FileRange
+  pub answer : PlanAnswer
+  pub answered : IsQueryAnswer g.file xs other answer
+  pub ends : EndsAt other known answer
+  pub is : k ≡ PastKnownEnd known query.start
+
+-- one of the answers failed this test, the first that it fails
+abbrev pub SomeFailed : Setup → List Exchange → Corruption → Type 0
+SomeFailed g xs k =
+    PlanFails g xs k ⊎ RefreshFails g xs k ⊎ BlockFails g xs k ⊎ TermFails g xs k ⊎ EndFails g xs k
+
+-- ---- causes
+
+-- the range has bytes, the answer to a query was that the file isn't stored, and no told store has it
+pub record IsMissingFile (g : Setup) (before after : List ClientTold) : Type 0 where
+  pub some : g.range.start < g.range.end
+  pub said : IfSome (all_exchanges before after) (λ xs. (q : FileRange) × IsQueryAnswer g.file xs q NoFile)
+  pub unstored : (s : Store) → AllTell s before → IsNone (file_of s g.file)
+
+-- an answer failed this test, and the connections don't tell one valid store
+pub record IsCorrupted (g : Setup) (before after : List ClientTold) (k : Corruption) : Type 0 where
+  pub untrue : (s : Store) → IsOver s before → ⊥
+  pub failed : IfSome (all_exchanges before after) (λ xs. SomeFailed g xs k)
+
+-- the cause of each error; want of memory is free, and a run is never at fault itself
+abbrev pub Cause : Setup → RunTold → RunTold → FileReconstructionError → Type 0
+Cause g before after error.OutOfMemory = Unit {0}
+Cause g before after error.ClientError = SomeRose before.clients after.clients
+Cause g before after error.FileNotFound = IsMissingFile g before.clients after.clients
+Cause g before after error.UrlExpired = HaveExpired g.tries before.clients after.clients
+Cause g before after error.IoError = Rose before.sink.faults after.sink.faults
+Cause g before after (error.CorruptedReconstruction k) = IsCorrupted g before.clients after.clients k
+Cause g before after (error.ConfigurationError e) = failing_setting g before.clients ≡ Some e
+Cause g before after error.Cancelled = Rose before.signal.yes after.signal.yes
+Cause g before after (error.InternalWriterError w) = ⊥

@@ -1,0 +1,275 @@
+-- Laws of ties and of runs.
+use Rattle.std.specs.Prelude.{ℕ, ◌≡◌, IfSome, ◌+◌, ◌<◌, ◌≤◌, false, true, List, [], ◌∷◌, ◌++◌, length, map, count_by, All, Some, None, Option, Result, Ok, Err, slice_get}
+use Rattle.xet_base.specs.declared.cas_types.ChunkRange.{ChunkRange}
+use Rattle.xet_base.specs.declared.cas_types.FileRange.{FileRange}
+use Rattle.xet_base.specs.declared.merklehash.MerkleHash.{MerkleHash}
+use Rattle.xet_base.specs.declared.unique_id.UniqueId.{UniqueId}
+use Rattle.xet_base.specs.Store.{Store}
+use Rattle.xet_outside.specs.Answers.{bytes_in}
+use Rattle.xet_outside.specs.Plan.{block_of}
+use Rattle.xet_outside.specs.Told.{AskCall, BlockCall, CacheTold, ClientTold, Rose, SignalTold, SinkTold, Took}
+use Rattle.xet_outside.specs.declared.block.BlockAnswer.{BlockAnswer}
+use Rattle.xet_outside.specs.declared.client.ClientError.{ClientError}
+use Rattle.xet_outside.specs.declared.plan.PlanAnswer.TheVariants.{NoFile}
+use Rattle.xet_outside.specs.declared.said.Said.{Said}
+use Rattle.xet_outside.specs.declared.served.Served.{Served}
+use Rattle.xet_error.specs.declared.error.Corruption.{Corruption}
+use Rattle.xet_error.specs.declared.error.FileReconstructionError.{FileReconstructionError}
+use Rattle.xet_error.specs.declared.error.FileReconstructionError.TheVariants as error
+use Rattle.xet_blocks.specs.declared.reconstruction_terms.file_term.TermBlock.{TermBlock}
+use Rattle.xet_blocks.specs.declared.reconstruction_terms.retrieval_urls.RetrievalUrl.{RetrievalUrl}
+use Rattle.xet_blocks.specs.declared.reconstruction_terms.xorb_block.XorbBlock.{XorbBlock}
+use Rattle.xet_blocks.specs.declared.reconstruction_terms.xorb_block.XorbBlockData.{XorbBlockData}
+use Rattle.xet_blocks.specs.TermBlockCalls.{FromSaid, TermBlockCall}
+use Rattle.xet_fetch.specs.CachedBlocks.{IsOffered, entry_of, passes_cached}
+use Rattle.xet_fetch.specs.Refreshes.{IsRefreshed, MayAsk, Refresh}
+use Rattle.xet_run.specs.declared.event.Event.{Event}
+use Rattle.xet_run.specs.declared.event.Event.TheVariants.{Admit, Expired, Fetched, Refreshed}
+use Rattle.xet_run.specs.Allowed.{AllowedAfter, IsAllowedHistory, IsRunning}
+use Rattle.xet_run.specs.Budgets.{LimitCall, LimitTold}
+use Rattle.xet_run.specs.Events.{expires, is_kept}
+use Rattle.xet_history.specs.Laws.{IsPrefix}
+use Rattle.xet_history.specs.TrueHistory.{pieces, queries}
+use Rattle.xet_ties.specs.Causes.{BlockFailsIn, HaveExpired, SomeFailed, failing_setting}
+use Rattle.xet_ties.specs.History.{block_at, fetches, range_at}
+use Rattle.xet_ties.specs.InCall.{Exchange, Look, all_exchanges, all_served, new_in}
+use Rattle.xet_ties.specs.Lanes.{AnswerStep, Ask, BytesFail, DrewApart, IsFor, IsOf, LaneDid, StepDid}
+use Rattle.xet_ties.specs.Legal.{AllPlanned, FirstAsks, IsExact, Legal, ServedOnce, TookTested}
+use Rattle.xet_ties.specs.RunCalls.{IsFinished, RunCall, TookAll}
+use Rattle.xet_ties.specs.Saids.{BlockOfPlan, InStep, IsQueryAnswer, IsServedData, IsTested, planned_of}
+use Rattle.xet_ties.specs.Setup.{CacheTells, IsOver, RunTold, Setup}
+use Rattle.xet_ties.specs.declared.lane_step.LaneStep.{LaneStep}
+use Rattle.xet_ties.specs.declared.lane_step.LaneStep.TheVariants as step
+use Rattle.xet_ties.specs.steps.Measures.{left}
+use Rattle.xet_ties.specs.steps.Moves.{no_hidden, no_late, no_slack}
+use Rattle.xet_ties.specs.steps.Parts.{AdmitsCall, LookedShort, LookedUp, OfferOneCall, plan_event, plan_query, stop_event, total}
+use Rattle.xet_ties.specs.steps.Records.{Apart, AreMissing, AreUnkept, EachMayExpire, HasTry, IsFreshAsk, HaveTries, Place, Spot, asks_for, blocks_all, expired_at, expired_on, fetched_at, fetched_on, key_of, lane_events, lane_spots, places_of, wrote_of}
+use Rattle.xet_ties.specs.Ties.{CutsRange, Slack, Stop, Ties, is_one, is_pair}
+
+-- ---- runs
+
+-- before a run all is tied
+abbrev pub StartsTied : Type 0
+StartsTied = (g : Setup) (before : RunTold) → failing_setting g before.clients ≡ None
+    → Ties g before before [] None (no_slack before.clients)
+
+-- a run whose history is allowed and that is tied, or refused by its settings, gives a legal answer
+abbrev pub RunsAreLegal : Type 0
+RunsAreLegal = (g : Setup) (before after : RunTold) (es : List Event) (answer : Result ℕ FileReconstructionError)
+    → IsAllowedHistory es → RunCall g before after es answer → Legal g before after answer
+
+-- however a tied run ended and whatever store is told or not: no block of a plan was served twice, in all lists
+-- together
+abbrev pub TiesServeOnce : Type 0
+TiesServeOnce = (g : Setup) (before after : RunTold) (es : List Event) (stop : Stop) (slack : Slack)
+    → Ties g before after es stop slack → IfSome (all_served before.clients after.clients) ServedOnce
+
+-- each served block is one of a plan that was said and passes its tests
+abbrev pub TiesServePlanned : Type 0
+TiesServePlanned = (g : Setup) (before after : RunTold) (es : List Event) (stop : Stop) (slack : Slack)
+    → Ties g before after es stop slack → IfSome (all_exchanges before.clients after.clients) (AllPlanned g)
+
+-- the queries of the first connection are short, and but for refreshes they cut the range; the others were asked none
+abbrev pub TiesAskCut : Type 0
+TiesAskCut = (g : Setup) (before after : RunTold) (es : List Event) (stop : Stop) (slack : Slack)
+    → Ties g before after es stop slack → FirstAsks g before.clients after.clients
+
+-- the writer took tested bytes alone
+abbrev pub TiesTakeTested : Type 0
+TiesTakeTested = (g : Setup) (before after : RunTold) (es : List Event) (stop : Stop) (slack : Slack)
+    → Ties g before after es stop slack → IfSome (all_exchanges before.clients after.clients) (λ xs.
+    IfSome (new_in before.cache.looked after.cache.looked) (λ ls. TookTested g xs ls before.sink after.sink))
+
+-- over one valid store and a cache that tells it, a tied run that is finished took exactly the window
+abbrev pub FinishedIsExact : Type 0
+FinishedIsExact = (g : Setup) (before after : RunTold) (es : List Event) (k : ℕ) (slack : Slack)
+    → IsAllowedHistory es → Ties g before after es None slack → slack.ahead ≡ 0 → IsFinished g es k
+    → (s : Store) → IsOver s before.clients → CacheTells s before.cache → IsExact s g before.sink after.sink k
+
+-- whatever store is told or not, it took the tested pieces of all planned terms
+abbrev pub FinishedIsWhole : Type 0
+FinishedIsWhole = (g : Setup) (before after : RunTold) (es : List Event) (k : ℕ) (slack : Slack)
+    → Ties g before after es None slack → slack.ahead ≡ 0 → IsFinished g es k
+    → TookAll g es slack before.sink after.sink k
+
+-- where a block has as many Expired events as tries, the expired answers of all connections grew by so many
+abbrev pub ExpiriesCounted : Type 0
+ExpiriesCounted = (g : Setup) (before after : RunTold) (es : List Event) (stop : Stop) (slack : Slack) (p k : ℕ)
+    → count_by (expires p k) es ≡ g.tries → Ties g before after es stop slack
+    → HaveExpired g.tries before.clients after.clients
+
+-- a tied run that goes on stays tied where an error is recorded, or memory is wanting
+abbrev pub StopsTied : Type 0
+StopsTied = (g : Setup) (b n : RunTold) (es : List Event) (sl : Slack) (x : FileReconstructionError)
+    → (x ≡ error.UrlExpired → (p : ℕ) × (k : ℕ) × (count_by (expires p k) es ≡ g.tries))
+    → Ties g b n es None sl
+    → Ties g b n (es ++ stop_event x ∷ []) (Some x) sl × Ties g b n es (Some error.OutOfMemory) sl
+
+-- ---- lanes
+
+-- the answer to a fetch's own request makes a step
+abbrev pub AnswersStep : Type 0
+AnswersStep = (a : Ask) (before after : ClientTold) (answer : Result BlockAnswer ClientError) (s : LaneStep) → IsFor a
+    → BlockCall before after a.request answer → AnswerStep a answer s → StepDid before after a s
+
+-- a lane that hides nothing goes on with one more step
+abbrev pub LanesGoOn : Type 0
+LanesGoOn = (b m n : ClientTold) (qs : List Ask) (xs : List LaneStep) (a : Ask) (s : LaneStep)
+    → (d : LaneDid b m qs xs) → length qs ≡ length xs → d.hidden ≡ [] → StepDid m n a s
+    → LaneDid b n (qs ++ a ∷ []) (xs ++ s ∷ [])
+
+-- a Served step's data is of the answer to the block's own request, among all that its connection said
+abbrev pub StepsServe : Type 0
+StepsServe = (b n : ClientTold) (x : Exchange) (h : List Served) (more : List Said) (a : Ask) (p k : ℕ)
+    (d : XorbBlockData) → length x.served ≡ length (bytes_in x.said) → IsFor a → IsOf b n h more a (step.Served p k d)
+    → IsServedData (record { asked = x.asked; served = x.served ++ h; said = x.said ++ more }) p k a.block d
+
+-- the fetches of missing blocks, of which no two are of one, are of new pairs
+abbrev pub PairsAreNew : Type 0
+PairsAreNew = (es : List Event) (fs : List Ask) → AreUnkept es fs
+    → ((p k : ℕ) → count_by (is_pair p k) (map asks_for fs) ≤ 1) → ((p k : ℕ) → count_by (fetches p k) es ≤ 1)
+    → (p k : ℕ) → count_by (fetches p k) es + count_by (is_pair p k) (map asks_for fs) ≤ 1
+
+-- where each fetch of a round has tries left and no two are of one block, the expired answers may be recorded after the
+-- served ones
+abbrev pub RoundsMayExpire : Type 0
+RoundsMayExpire = (tries : ℕ) (es : List Event) (fs : List Ask) (bs ns : List ClientTold) (ls : List (List LaneStep))
+    → DrewApart fs bs ns ls → All (HasTry tries es) fs
+    → ((p k : ℕ) → count_by (is_pair p k) (map asks_for fs) ≤ 1)
+    → EachMayExpire tries 0 (es ++ lane_events fetched_on 0 ls) (map places_of ls)
+
+-- after a round of such fetches, each of a fresh block, all that the lanes did may be recorded, and it is tied
+abbrev pub RoundsTied : Type 0
+RoundsTied = (g : Setup) (b at : RunTold) (es : List Event) (sl : Slack) (fs : List Ask) (ns : List ClientTold)
+    (ls : List (List LaneStep)) → DrewApart fs at.clients ns ls
+    → ((p k : ℕ) → count_by (fetches p k) es + count_by (is_pair p k) (map asks_for fs) ≤ 1)
+    → All (IsFreshAsk es) fs
+    → ((x : MerkleHash) (r : ChunkRange)
+    → count_by (is_one x r) (blocks_all (map key_of fs)) ≤ count_by (is_one x r) sl.pending)
+    → sl.hidden ≡ no_hidden b.clients → sl.late ≡ no_late b.clients
+    → EachMayExpire g.tries 0 (es ++ lane_events fetched_on 0 ls) (map places_of ls) → Ties g b at es None sl
+    → (to : Slack) × Ties g b (record at { clients = ns })
+    ((es ++ lane_events fetched_on 0 ls) ++ lane_events expired_on 0 ls) None to
+    × (to.late ≡ no_late b.clients) × (to.pending ≡ []) × (to.lost ≡ sl.lost) × (to.ahead ≡ sl.ahead)
+
+-- missing blocks of which no two are one may be recorded as fetched, in any order, and as expired
+abbrev pub MissingFetched : Type 0
+MissingFetched = (es : List Event) (ts : List Spot) → IsRunning es → AreMissing es ts → Apart ts
+    → AllowedAfter es (fetched_at ts)
+
+abbrev pub MissingExpired : Type 0
+MissingExpired = (es : List Event) (ts : List Spot) → IsRunning es → AreMissing es ts → AllowedAfter es (expired_at ts)
+
+-- and those with tries left may expire, lane by lane
+abbrev pub TriesLeft : Type 0
+TriesLeft = (tries lane : ℕ) (es : List Event) (css : List (List Place)) → HaveTries tries es (lane_spots lane css)
+    → Apart (lane_spots lane css) → EachMayExpire tries lane es css
+
+-- a fetch of a missing block leaves fewer tries, and so does one more expired answer
+abbrev pub FetchesFall : Type 0
+FetchesFall = (tries : ℕ) (es : List Event) (lane : ℕ) (cs : List Place) (i : ℕ) (c : Place)
+    → slice_get cs i ≡ Some c → is_kept es c.0 c.1 ≡ false
+    → left tries (es ++ Fetched lane c.0 c.1 ∷ []) cs < left tries es cs
+
+abbrev pub ExpiriesFall : Type 0
+ExpiriesFall = (tries : ℕ) (es : List Event) (lane : ℕ) (cs : List Place) (i : ℕ) (c : Place)
+    → slice_get cs i ≡ Some c → is_kept es c.0 c.1 ≡ false → count_by (expires c.0 c.1) es < tries
+    → left tries (es ++ Expired lane c.0 c.1 ∷ []) cs < left tries es cs
+
+-- no event leaves more
+abbrev pub NoneRises : Type 0
+NoneRises = (tries : ℕ) (es : List Event) (e : Event) (cs : List Place)
+    → left tries (es ++ e ∷ []) cs ≤ left tries es cs
+
+-- ---- the parts of a turn
+
+-- the signal was asked and said no
+abbrev pub PollsTied : Type 0
+PollsTied = (g : Setup) (b at : RunTold) (es : List Event) (sl : Slack) (after : SignalTold)
+    → AskCall at.signal after false → Ties g b at es None sl
+    → Ties g b (record at { signal = after }) es None (record sl { spare = sl.spare + 1 })
+
+-- it said yes
+abbrev pub CancelsTied : Type 0
+CancelsTied = (g : Setup) (b at : RunTold) (es : List Event) (sl : Slack) (after : SignalTold)
+    → AskCall at.signal after true → Ties g b at es None sl
+    → Ties g b (record at { signal = after }) es None sl × Rose b.signal.yes after.yes
+
+-- a plan was asked for and recorded
+abbrev pub AsksTied : Type 0
+AsksTied = (g : Setup) (b at : RunTold) (es : List Event) (sl : Slack) (spare : ℕ) (c n : ClientTold)
+    (cs : List ClientTold) (q : FileRange) (id : UniqueId) (o : Option TermBlock)
+    → at.clients ≡ c ∷ cs → TermBlockCall c n (plan_query g q id) (Ok o) → sl.lost ≡ [] → sl.spare ≡ spare + 1
+    → InStep sl.heard → CutsRange g (queries es ++ q ∷ [])
+    → Ties g b at es None sl
+    → (heard : List Exchange) × Ties g b (record at { clients = n ∷ cs }) (es ++ plan_event es q o ∷ []) None
+    (record sl { heard = heard; lost = []; spare = spare }) × InStep heard
+
+-- the URLs of a plan were asked for again, and that is recorded
+abbrev pub RefreshesTied : Type 0
+RefreshesTied = (g : Setup) (b at : RunTold) (es : List Event) (sl : Slack) (p : ℕ) (r : Refresh)
+    (us : List RetrievalUrl) (c n : ClientTold) (cs : List ClientTold)
+    → at.clients ≡ c ∷ cs → MayAsk r c n → IsRefreshed r c n us → sl.lost ≡ [] → InStep sl.heard
+    → range_at es p ≡ r.range ∷ [] → r.file ≡ g.file → Ties g b at es None sl
+    → (heard : List Exchange) × Ties g b (record at { clients = n ∷ cs }) (es ++ Refreshed p ∷ []) None
+    (record sl { heard = heard; lost = [] }) × InStep heard
+
+-- the source of limits was asked, and a term admitted
+abbrev pub AdmitsTied : Type 0
+AdmitsTied = (m n k : LimitTold) (es fs : List Event) (l : ℕ) → AdmitsCall m n es fs → LimitCall n k l
+    → AdmitsCall m k es (fs ++ Admit l ∷ []) × AdmitsCall m k es fs
+
+-- a block of a plan was looked for in the cache, and recorded as cached where it was found
+abbrev pub LooksTied : Type 0
+LooksTied = (g : Setup) (b at : RunTold) (es fs : List Event) (sl : Slack) (after : CacheTold) (x y : XorbBlock) (p : ℕ)
+    → LookedUp x y p at.cache after es fs → block_at es p x.xorb_block_index ≡ planned_of x ∷ []
+    → ((s : Store) → IsOver s b.clients → passes_cached x (block_of s x.xorb_hash x.chunk_ranges) ≡ true)
+    → Ties g b at es None sl → (to : Slack) × Ties g b (record at { cache = after }) fs None to
+
+-- memory was wanting for a look
+abbrev pub ShortLooksTied : Type 0
+ShortLooksTied = (g : Setup) (b at : RunTold) (es fs : List Event) (sl : Slack) (after : CacheTold) (x : XorbBlock)
+    → LookedShort x at.cache after es fs → Ties g b at es None sl
+    → (more : List Look) × Ties g b (record at { cache = after }) fs None (record sl { looks = sl.looks ++ more })
+
+-- the data of a block was offered to the cache
+abbrev pub OffersTied : Type 0
+OffersTied = (x : XorbBlock) (before after : CacheTold) (d : XorbBlockData) → x.kept ≡ Some d
+    → IsOffered x x.chunk_ranges before after (entry_of d) → OfferOneCall before after x (Ok tt)
+
+-- bytes of a window were taken that go on the pieces and are tested
+abbrev pub TakesTied : Type 0
+TakesTied = (g : Setup) (b n : RunTold) (es : List Event) (sl : Slack) (after : SinkTold) (bytes : List ℕ)
+    → Took n.sink.took after.took bytes → n.sink.faults ≤ after.faults → after.link ≡ n.sink.link
+    → (t : Ties g b n es None sl)
+    → ((s : Store) → IsOver s b.clients → CacheTells s b.cache → IsPrefix (t.taken.taken ++ bytes) (pieces s es))
+    → IsTested g sl.heard sl.looks es (t.taken.taken ++ bytes)
+    → Ties g b (record n { sink = after }) es None (record sl { ahead = sl.ahead + length bytes })
+
+-- written terms are recorded
+abbrev pub WritesTied : Type 0
+WritesTied = (g : Setup) (b n : RunTold) (es : List Event) (sl : Slack) (ns : List ℕ) (rest : ℕ)
+    → sl.ahead ≡ total ns + rest → Ties g b n es None sl
+    → Ties g b n (es ++ wrote_of ns) None (record sl { ahead = rest })
+
+-- ---- causes
+
+-- a query in the range was answered with a plan that fails a test
+abbrev pub PlansFail : Type 0
+PlansFail = (g : Setup) (xs : List Exchange) (q : FileRange) (id : UniqueId) (k : Corruption) (b n : ClientTold)
+    → g.range.start ≤ q.start → q.end ≤ g.range.end
+    → (from : FromSaid b n (plan_query g q id) (Err (error.CorruptedReconstruction k)))
+    → IsQueryAnswer g.file xs q from.plan → SomeFailed g xs k
+
+-- a file is missing only by an answer that says so
+abbrev pub FilesMissing : Type 0
+FilesMissing = (g : Setup) (q : FileRange) (id : UniqueId) (b n : ClientTold)
+    → (from : FromSaid b n (plan_query g q id) (Err error.FileNotFound)) → from.plan ≡ NoFile
+
+-- a failed step's bytes fail as those of a block of an accepted plan, by the answer to the block's own request
+abbrev pub StepsFail : Type 0
+StepsFail = (g : Setup) (xs : List Exchange) (place : BlockOfPlan g xs) (b : ClientTold) (x : Exchange)
+    (h : List Served) (more : List Said) (a : Ask) (k : Corruption)
+    → length x.served ≡ length (bytes_in x.said) → IsFor a → place.block ≡ a.block → place.number ≡ a.request.index
+    → BytesFail b h more a k → BlockFailsIn g xs place a.request.acquisition.plan k
+    (record { asked = x.asked; served = x.served ++ h; said = x.said ++ more })

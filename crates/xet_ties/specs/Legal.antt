@@ -1,0 +1,123 @@
+-- Which answers of a run are legal, by what its arguments tell before and after.
+use Rattle.std.specs.Prelude.{ℕ, ◌≡◌, ◌⊎◌, ◌+◌, ◌-◌, ◌<◌, ◌≤◌, List, [], ◌∷◌, length, All, Contains, Option, Some, None, IsSome, IfSome, OnOk, option_map, slice_get, count_by, Result, Err, IfOk, IfErr}
+use Rattle.std.specs.List.{concat}
+use Rattle.xet_base.specs.declared.cas_types.FileRange.{FileRange}
+use Rattle.xet_base.specs.Store.{Store, file_of, window}
+use Rattle.xet_outside.specs.declared.served.Served.{Served}
+use Rattle.xet_outside.specs.Told.{Added, CacheTold, ClientTold, Query, SinkTold, Took, TookPrefix}
+use Rattle.xet_error.specs.declared.error.FileReconstructionError.{FileReconstructionError}
+use Rattle.xet_error.specs.declared.error.FileReconstructionError.TheVariants as error
+use Rattle.xet_error.specs.declared.error.Setting.{Setting}
+use Rattle.xet_ties.specs.Causes.{Cause, failing_setting}
+use Rattle.xet_ties.specs.History.{entry_of}
+use Rattle.xet_ties.specs.InCall.{Exchange, Look, all_exchanges, all_served, new_in}
+use Rattle.xet_ties.specs.RunCalls.{IsUntouched}
+use Rattle.xet_ties.specs.Saids.{BlockOfPlan, IsPiece, TermOfPlan, planned_of}
+use Rattle.xet_ties.specs.Setup.{AllTell, CacheTells, EachGoesOn, IsEmptyRange, IsOver, RunTold, Setup}
+use Rattle.xet_ties.specs.Ties.{CutsRange, EachUnasked, is_pair}
+
+-- ---- bytes
+
+-- over a valid store: the file is stored or the range empty, and the writer took exactly the window, which was counted
+pub record IsExact (s : Store) (g : Setup) (before after : SinkTold) (k : ℕ) : Type 0 where
+  pub stored : IsSome (file_of s g.file) ⊎ IsEmptyRange g.range
+  pub took : Took before.took after.took (window s g.file g.range)
+  pub total : k ≡ length (window s g.file g.range)
+
+-- a term's bytes in tested data of its block
+pub record SomePiece (g : Setup) (xs : List Exchange) (looks : List Look) (piece : List ℕ) : Type 0 where
+  pub number : ℕ
+  pub of_plan : TermOfPlan g xs
+  pub piece_of : IsPiece g xs looks number of_plan piece
+
+-- nothing but tested bytes: a prefix of joined pieces
+pub record TookTested (g : Setup) (xs : List Exchange) (looks : List Look) (before after : SinkTold) : Type 0 where
+  pub pieces : List (List ℕ)
+  pub each : All (SomePiece g xs looks) pieces
+  pub took : TookPrefix before.took after.took (concat pieces)
+
+-- ---- queries
+
+-- a query is shorter than the greatest and the least size together
+abbrev pub IsShort : Setup → Query → Type 0
+IsShort g q = (q.0 ≡ g.file) × (q.1.end - q.1.start < g.greatest + g.least)
+
+-- a query lies in one of these
+abbrev pub LiesInSome : List FileRange → Query → Type 0
+LiesInSome qs q = (p : FileRange) × Contains qs p × (p.start ≤ q.1.start) × (q.1.end ≤ p.end)
+
+-- the queries that cut a range stand in order among those that were asked, and each other one lies in one of those
+-- before it
+abbrev pub AskedCut : List FileRange → List Query → List FileRange → Type 0
+AskedCut before [] cut = cut ≡ []
+AskedCut before (q ∷ qs) [] = LiesInSome before q × AskedCut before qs []
+AskedCut before (q ∷ qs) (c ∷ cs) =
+    ((q.1 ≡ c) × AskedCut (c ∷ before) qs cs) ⊎ (LiesInSome before q × AskedCut before qs (c ∷ cs))
+
+-- the queries are for the file, each is short, and but for refreshes they cut the range
+pub record AsksCut (g : Setup) (qs : List Query) : Type 0 where
+  pub short : All (IsShort g) qs
+  pub cut : List FileRange
+  pub cuts : CutsRange g cut
+  pub asked : AskedCut [] qs cut
+
+-- the first connection was asked so, and the others were asked nothing
+abbrev pub FirstAsks : Setup → List ClientTold → List ClientTold → Type 0
+FirstAsks g [] [] = Unit {0}
+FirstAsks g [] (n ∷ ns) = ⊥
+FirstAsks g (b ∷ bs) [] = ⊥
+FirstAsks g (b ∷ bs) (n ∷ ns) = IfSome (new_in b.asked n.asked) (AsksCut g) × EachUnasked bs ns
+
+-- ---- served blocks
+
+-- no block of a plan was served twice
+abbrev pub ServedOnce : List Served → Type 0
+ServedOnce es = (p k : ℕ) → count_by (is_pair p k) es ≤ 1
+
+-- this is the entry of a block of a plan that was said and passes its tests
+pub record IsPlannedServed (g : Setup) (xs : List Exchange) (e : Served) : Type 0 where
+  pub of_plan : BlockOfPlan g xs
+  pub is : e ≡ entry_of e.plan of_plan.number (planned_of of_plan.block)
+
+-- so is each that was served
+abbrev pub AllPlanned : Setup → List Exchange → Type 0
+AllPlanned g xs = All (λ x. All (IsPlannedServed g xs) x.served) xs
+
+-- ---- a legal answer
+
+pub record Legal (g : Setup) (before after : RunTold) (answer : Result ℕ FileReconstructionError) : Type 0 where
+  -- over connections and a cache that tell one valid store, Ok is exact
+  pub exact : (s : Store) → IsOver s before.clients → CacheTells s before.cache
+      → IfOk answer (IsExact s g before.sink after.sink)
+  -- and whatever the answer, the writer took a prefix of the window
+  pub prefix : (s : Store) → IsOver s before.clients → CacheTells s before.cache
+      → TookPrefix before.sink.took after.sink.took (window s g.file g.range)
+  -- over connections that tell one store, valid or not, Ok means that the file is stored or the range empty
+  pub stored : (s : Store) → AllTell s before.clients
+      → IfOk answer (λ _. IsSome (file_of s g.file) ⊎ IsEmptyRange g.range)
+  -- over connections and a cache that tell their lists, the writer took tested bytes and no others, whatever the answer
+  pub tested : IfSome (all_exchanges before.clients after.clients) (λ xs.
+      IfSome (new_in before.cache.looked after.cache.looked) (λ ls. TookTested g xs ls before.sink after.sink))
+  -- on Ok all that the writer took is flushed
+  pub flushed : OnOk answer (after.sink.flushed ≡ option_map length after.sink.took)
+  -- where the signal said yes the answer isn't Ok
+  pub cancelled : before.signal.yes < after.signal.yes → OnOk answer ⊥
+  -- each error has its cause
+  pub cause : IfErr answer (Cause g before after)
+  -- a failing setting is always told, before all else
+  pub settings : (e : Setting) → failing_setting g before.clients ≡ Some e
+      → (answer ≡ Err (error.ConfigurationError e)) × (after ≡ before)
+  -- an empty range asks nothing of the connections, the cache and the signal
+  pub unasked : IsEmptyRange g.range → IsUntouched before after
+  -- whatever the first connection tells of a store, the queries that it was asked are short, and but for refreshes they
+  -- cut the range
+  pub asked : FirstAsks g before.clients after.clients
+  -- no block of a plan was served twice
+  pub served : IfSome (all_served before.clients after.clients) ServedOnce
+  -- and each is a block of a plan that was said and passes its tests
+  pub planned : IfSome (all_exchanges before.clients after.clients) (AllPlanned g)
+  -- connections go on telling what they told, as does a cache that told the store, and the writer what it works through
+  pub goes_on : EachGoesOn before.clients after.clients
+  pub cache_later : (s : Store) → IsOver s before.clients → CacheTells s before.cache → CacheTells s after.cache
+  pub sink_later : before.sink.faults ≤ after.sink.faults
+  pub link : after.sink.link ≡ before.sink.link

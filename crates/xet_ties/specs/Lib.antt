@@ -1,0 +1,11 @@
+pub mod Causes
+pub mod History
+pub mod InCall
+pub mod Lanes
+pub mod Laws
+pub mod Legal
+pub mod RunCalls
+pub mod Saids
+pub mod Setup
+pub mod steps
+pub mod Ties

@@ -1,0 +1,67 @@
+-- What a run says: its answer, and how its history is tied to what its arguments tell.
+use Rattle.std.specs.Prelude.{ℕ, ◌≡◌, ◌<◌, List, [], length, take, drop, count_by, Some, None, OnOk, option_map, Result, Ok, Err, IfOk, IfErr}
+use Rattle.std.specs.List.{AllZip, concat, sum_by}
+use Rattle.xet_base.specs.Store.{Store}
+use Rattle.xet_outside.specs.Told.{SinkTold, Took}
+use Rattle.xet_error.specs.declared.error.FileReconstructionError.{FileReconstructionError}
+use Rattle.xet_error.specs.declared.error.FileReconstructionError.TheVariants as error
+use Rattle.xet_error.specs.declared.error.Setting.{Setting}
+use Rattle.xet_run.specs.declared.event.Event.{Event}
+use Rattle.xet_run.specs.Events.{is_admit, planned, size, unwritten, written}
+use Rattle.xet_history.specs.TrueHistory.{ReachesEnd}
+use Rattle.xet_ties.specs.Causes.{Cause, failing_setting}
+use Rattle.xet_ties.specs.Saids.{IsTaskPiece}
+use Rattle.xet_ties.specs.Setup.{CacheTells, IsEmptyRange, IsOver, RunTold, Setup}
+use Rattle.xet_ties.specs.Ties.{MayLeave, Slack, Stop, Ties}
+
+-- what an answer makes of a run
+abbrev pub stop_of : Result ℕ FileReconstructionError → Stop
+stop_of (Ok k) = None
+stop_of (Err e) = Some e
+
+-- all that was planned is admitted and written, and the range was planned to its end or the file's
+pub record IsFinished (g : Setup) (es : List Event) (k : ℕ) : Type 0 where
+  pub count : k ≡ written es
+  pub admitted : count_by is_admit es ≡ length (planned es)
+  pub unwritten : unwritten es ≡ 0
+  pub reaches : g.range.start < g.range.end → ReachesEnd g.range es
+  pub empty : IsEmptyRange g.range → es ≡ []
+
+-- the writer took the pieces of all planned terms, but for some last ones without bytes, and they were counted
+pub record TookAll (g : Setup) (es : List Event) (slack : Slack) (before after : SinkTold) (k : ℕ) : Type 0 where
+  pub pieces : List (List ℕ)
+  pub each : AllZip (IsTaskPiece g slack.heard slack.looks) (take (length pieces) (planned es)) pieces
+  pub rest : sum_by size (drop (length pieces) (planned es)) ≡ 0
+  pub took : Took before.took after.took (concat pieces)
+  pub total : k ≡ length (concat pieces)
+
+-- the arguments that aren't asked over an empty range are as before
+pub record IsUntouched (before after : RunTold) : Type 0 where
+  pub clients : after.clients ≡ before.clients
+  pub cache : after.cache ≡ before.cache
+  pub signal : after.signal ≡ before.signal
+
+-- the ties at the end of a run, with what it left that no event says
+pub record RunTies (g : Setup) (before after : RunTold) (es : List Event) (stop : Stop) : Type 0 where
+  pub slack : Slack
+  pub ties : Ties g before after es stop slack
+  pub left : MayLeave stop before.clients slack
+
+-- a failing setting is told before all else
+pub record IsRefused (before after : RunTold) (es : List Event) (answer : Result ℕ FileReconstructionError)
+    (e : Setting) : Type 0 where
+  pub answered : answer ≡ Err (error.ConfigurationError e)
+  pub events : es ≡ []
+  pub same : after ≡ before
+
+-- one call of a run over a core that had no events
+pub record RunCall (g : Setup) (before after : RunTold) (es : List Event)
+    (answer : Result ℕ FileReconstructionError) : Type 0 where
+  pub settings : (e : Setting) → failing_setting g before.clients ≡ Some e → IsRefused before after es answer e
+  pub tied : failing_setting g before.clients ≡ None → RunTies g before after es (stop_of answer)
+  pub finished : IfOk answer (IsFinished g es)
+  pub flushed : OnOk answer (after.sink.flushed ≡ option_map length after.sink.took)
+  pub cancelled : before.signal.yes < after.signal.yes → OnOk answer ⊥
+  pub cause : IfErr answer (Cause g before after)
+  pub unasked : IsEmptyRange g.range → IsUntouched before after
+  pub cache_later : (s : Store) → IsOver s before.clients → CacheTells s before.cache → CacheTells s after.cache

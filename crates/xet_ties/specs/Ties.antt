@@ -1,0 +1,290 @@
+-- How a run's history is tied to what the run's arguments tell before and after.
+use Rattle.std.specs.Prelude.{ℕ, ◌≡◌, ◌⊎◌, ◌+◌, ◌-◌, ◌^◌, ◌<◌, ◌≤◌, ◌==◌, ◌&&◌, ◌≢◌, min, Bool, true, false, not, List, [], ◌∷◌, ◌++◌, length, count_by, nat_eq, Option, Some, None, IfSome, IsSome, All}
+use Rattle.std.specs.List.{flat_map}
+use lib.Pointwise.{pointwise}
+use Rattle.xet_base.specs.declared.cas_types.ChunkRange.{ChunkRange}
+use Rattle.xet_base.specs.declared.cas_types.FileRange.{FileRange}
+use Rattle.xet_base.specs.declared.merklehash.MerkleHash.{MerkleHash}
+use Rattle.xet_base.specs.Hashes.{hash_eq}
+use Rattle.xet_base.specs.Store.{Store, file_of}
+use Rattle.xet_outside.specs.declared.block.BlockBytes.{BlockBytes}
+use Rattle.xet_outside.specs.declared.served.Served.{Served}
+use Rattle.xet_outside.specs.Plan.{block_of}
+use Rattle.xet_outside.specs.Told.{Added, CacheTold, ClientTold, Query, SignalTold, SinkTold, Took}
+use Rattle.xet_error.specs.declared.error.FileReconstructionError.{FileReconstructionError}
+use Rattle.xet_error.specs.declared.error.FileReconstructionError.TheVariants as error
+use Rattle.xet_blocks.specs.Blocks.{range_eq}
+use Rattle.xet_run.specs.declared.event.Event.{Event}
+use Rattle.xet_run.specs.declared.event.PlannedBlock.{PlannedBlock}
+use Rattle.xet_run.specs.Budgets.{LimitTold}
+use Rattle.xet_run.specs.Events.{expires, first_error, plan_count, written}
+use Rattle.xet_history.specs.Laws.{IsPrefix}
+use Rattle.xet_history.specs.Queries.{CutFrom}
+use Rattle.xet_history.specs.TrueHistory.{IsTrueHistory, pieces, queries}
+use Rattle.xet_ties.specs.History.{EachAfter, IsOnLane, IsOneCached, IsRenewed, IsWithin, asked_by, block_at, cached_in, entry_of, expired_by, fetched_in, fetches, kept_in, limits_of, range_at, served_by, telling}
+use Rattle.xet_ties.specs.InCall.{EachExchange, Exchange, Look}
+use Rattle.xet_ties.specs.Saids.{FirstSaid, IsTested}
+use Rattle.xet_ties.specs.Setup.{AllTell, CacheTells, ClientGoesOn, IsOver, RunTold, Setup, download_of}
+
+-- where a run stands: none while it goes on and where it answered Ok, else the error that it answered
+abbrev pub Stop : Type 0
+Stop = Option FileReconstructionError
+
+-- what was told since the start, and what of it no event says yet
+pub record Slack : Type 0 where
+  -- what each connection was asked, served and said, and the looks into the cache
+  pub heard : List Exchange
+  pub looks : List Look
+  -- by lane, the entries that were served, and how many answers were expired
+  pub hidden : List (List Served)
+  pub late : List ℕ
+  -- the blocks of one range that the cache was asked for in vain, and that are to be fetched
+  pub pending : List PlannedBlock
+  -- how many fetched blocks of one range are to be offered to the cache
+  pub due : ℕ
+  -- how often the signal was asked for a plan that isn't planned yet
+  pub spare : ℕ
+  -- the query whose answer isn't recorded
+  pub lost : List Query
+  -- the bytes that were taken
+  pub ahead : ℕ
+
+-- ---- connections
+
+-- what one lane's connection tells: the entries of its Fetched events, then those that no event says yet
+pub record IsLane (es : List Event) (lane : ℕ) (before after : ClientTold) (hidden : List Served)
+    (late : ℕ) : Type 0 where
+  pub goes_on : ClientGoesOn before after
+  pub served : Added before.served after.served (served_by lane es ++ hidden)
+  -- its expired answers are at least its Expired events, unless their count stands at its last value
+  pub expired : min (before.expiries + (expired_by lane es + late)) (2 ^ 64 - 1) ≤ after.expiries
+
+-- the same of each lane from a number on
+abbrev pub EachLane : List Event → ℕ → List ClientTold → List ClientTold → List (List Served) → List ℕ → Type 0
+EachLane es lane [] [] [] [] = Unit {0}
+EachLane es lane (b ∷ bs) (n ∷ ns) (h ∷ hs) (l ∷ ls) = IsLane es lane b n h l × EachLane es (lane + 1) bs ns hs ls
+EachLane es lane bs ns hs ls = ⊥
+
+-- the entry is of this block of this plan
+abbrev pub is_pair : ℕ → ℕ → Served → Bool
+is_pair p k e = e.plan == p && e.index == k
+
+-- the entries of all lanes
+abbrev pub all_of : List (List Served) → List Served
+all_of hs = flat_map (λ h. h) hs
+
+-- the entry is that of a planned block
+abbrev pub IsPlannedEntry : List Event → Served → Type 0
+IsPlannedEntry es e = (x : PlannedBlock) × (block_at es e.plan e.index ≡ x ∷ []) × (e ≡ entry_of e.plan e.index x)
+
+pub record IsServed (es : List Event) (hidden : List (List Served)) (late : List ℕ)
+    (before after : List ClientTold) : Type 0 where
+  pub lanes : EachLane es 0 before after hidden late
+  -- no block of a plan was served twice
+  pub once : (p k : ℕ) → count_by (fetches p k) es + count_by (is_pair p k) (all_of hidden) ≤ 1
+  -- each hidden entry is of a planned block
+  pub planned : All (IsPlannedEntry es) (all_of hidden)
+  -- each event is of one of the lanes
+  pub on_lanes : All (IsOnLane (length before)) es
+
+-- what the first connection was asked: the queries of the Planned events and the actual ranges of the refreshed plans,
+-- then those whose answer isn't recorded
+pub record IsAsked (f : MerkleHash) (es : List Event) (lost : List Query) (before after : ClientTold) : Type 0 where
+  pub asked : Added before.asked after.asked (asked_by f es ++ lost)
+
+-- the others are asked nothing
+abbrev pub EachUnasked : List ClientTold → List ClientTold → Type 0
+EachUnasked [] [] = Unit {0}
+EachUnasked (b ∷ bs) (n ∷ ns) = (n.asked ≡ b.asked) × EachUnasked bs ns
+EachUnasked [] (n ∷ ns) = ⊥
+EachUnasked (b ∷ bs) [] = ⊥
+
+-- both together
+abbrev pub FirstAsked : MerkleHash → List Event → List Query → List ClientTold → List ClientTold → Type 0
+FirstAsked f es lost (b ∷ bs) (n ∷ ns) = IsAsked f es lost b n × EachUnasked bs ns
+FirstAsked f es lost [] ns = ⊥
+FirstAsked f es lost (b ∷ bs) [] = ⊥
+
+-- the queries cut the range from its start on, each shorter than the greatest and the least size together
+abbrev pub CutsRange : Setup → List FileRange → Type 0
+CutsRange g qs = CutFrom g.range.start g.range.end (g.greatest + g.least) qs
+
+-- a query that may be asked: the next one of the cut, or the actual range of a plan
+abbrev pub MayBeAsked : Setup → List Event → FileRange → Type 0
+MayBeAsked g es q = CutsRange g (queries es ++ q ∷ []) ⊎ ((p : ℕ) × (range_at es p ≡ q ∷ []))
+
+-- at most one query's answer isn't recorded, and that query may be asked
+abbrev pub IsLost : Setup → List Event → List Query → Type 0
+IsLost g es [] = Unit {0}
+IsLost g es (q ∷ []) = (q.0 ≡ g.file) × MayBeAsked g es q.1
+IsLost g es (q ∷ r ∷ qs) = ⊥
+
+-- ---- the cache
+
+-- the look was for this key
+abbrev pub is_look : MerkleHash → ChunkRange → Look → Bool
+is_look x r l = hash_eq l.0 x && range_eq l.1 r
+
+abbrev pub gives : Option BlockBytes → Bool
+gives None = false
+gives (Some e) = true
+
+-- and gave an entry
+abbrev pub gave : MerkleHash → ChunkRange → Look → Bool
+gave x r l = is_look x r l && gives l.2
+
+abbrev pub same_bytes : BlockBytes → BlockBytes → Bool
+same_bytes a b = pointwise nat_eq a.offsets b.offsets && pointwise nat_eq a.bytes b.bytes
+
+abbrev pub lacks : BlockBytes → Option BlockBytes → Bool
+lacks b None = true
+lacks b (Some e) = not (same_bytes e b)
+
+-- the look was for this key and gave nothing, or another entry than the store's block
+abbrev pub missed : Store → MerkleHash → ChunkRange → Look → Bool
+missed s x r l = is_look x r l && lacks (block_of s x (r ∷ [])) l.2
+
+abbrev pub is_range : ChunkRange → List ChunkRange → Bool
+is_range r [] = false
+is_range r (s ∷ []) = range_eq s r
+is_range r (s ∷ q ∷ rs) = false
+
+-- the block is this one range of this xorb
+abbrev pub is_one : MerkleHash → ChunkRange → PlannedBlock → Bool
+is_one x r b = hash_eq b.xorb x && is_range r b.ranges
+
+-- by these looks, of each block of one range: as many looks as Fetched and Cached events, besides those of blocks that
+-- are still to be fetched; as many that gave an entry as Cached ones; over a store as many that didn't give its block
+-- as Fetched ones
+pub record LooksCover (es : List Event) (pending : List PlannedBlock) (clients : List ClientTold) (looks : List Look)
+    (x : MerkleHash) (r : ChunkRange) : Type 0 where
+  pub kept : count_by (is_one x r) (telling kept_in [] es) + count_by (is_one x r) pending
+      ≤ count_by (is_look x r) looks
+  pub cached : count_by (is_one x r) (telling cached_in [] es) ≤ count_by (gave x r) looks
+  pub honest : (s : Store) → IsOver s clients
+      → count_by (is_one x r) (telling fetched_in [] es) + count_by (is_one x r) pending
+      ≤ count_by (missed s x r) looks
+
+pub record IsLooked (es : List Event) (pending : List PlannedBlock) (looks : List Look) (clients : List ClientTold)
+    (before after : CacheTold) : Type 0 where
+  pub looked : Added before.looked after.looked looks
+  pub cover : (x : MerkleHash) (r : ChunkRange) → LooksCover es pending clients looks x r
+
+-- the block is one range of a xorb, as a test that computes
+abbrev pub has_one : PlannedBlock → Bool
+has_one b = nat_eq (length b.ranges) 1
+
+-- a number that was told has grown by so much, or stands at its last value
+abbrev pub Reaches : Option ℕ → Option ℕ → ℕ → Type 0
+Reaches None after more = Unit {0}
+Reaches (Some k) None more = ⊥
+Reaches (Some k) (Some n) more = min (k + more) (2 ^ 64 - 1) ≤ n
+
+-- so many entries were offered, as many at least as blocks of one range were fetched, but for those that are still to
+-- be offered
+pub record IsOffered (es : List Event) (due : ℕ) (before after : CacheTold) : Type 0 where
+  pub puts : ℕ
+  pub offers : Reaches before.offers after.offers puts
+  pub cover : count_by has_one (telling fetched_in [] es) ≤ puts + due
+
+-- ---- signal and limits
+
+-- the signal was asked so often, once at least for each plan
+pub record IsPolled (es : List Event) (spare : ℕ) (before after : SignalTold) : Type 0 where
+  pub polls : ℕ
+  pub asks : Reaches before.asks after.asks polls
+  pub cover : plan_count es + spare ≤ polls
+  pub later : before.yes ≤ after.yes
+
+-- the first ones stand, in order, among the others
+abbrev pub IsAmong : List ℕ → List ℕ → Type 0
+IsAmong [] ys = Unit {0}
+IsAmong (x ∷ xs) [] = ⊥
+IsAmong (x ∷ xs) (y ∷ ys) = ((x ≡ y) × IsAmong xs ys) ⊎ IsAmong (x ∷ xs) ys
+
+abbrev pub AllAre : ℕ → List ℕ → Type 0
+AllAre n [] = Unit {0}
+AllAre n (x ∷ xs) = (x ≡ n) × AllAre n xs
+
+-- the limits of the Admit events are, in order, among the answers of the source, and its one answer where that is told
+pub record IsLimited (es : List Event) (before after : LimitTold) : Type 0 where
+  pub answers : List ℕ
+  pub listed : Added before.limits after.limits answers
+  pub among : IsAmong (limits_of es) answers
+  pub fixed : IfSome before.fixed (λ k. AllAre k (limits_of es))
+  pub same : after.fixed ≡ before.fixed
+
+-- ---- the writer
+
+-- the writer took the written bytes, and those that no event says yet
+pub record IsTaken (g : Setup) (es : List Event) (heard : List Exchange) (looks : List Look) (ahead : ℕ)
+    (clients : List ClientTold) (cache : CacheTold) (before after : SinkTold) : Type 0 where
+  pub taken : List ℕ
+  pub took : Took before.took after.took taken
+  pub counted : written es + ahead ≡ length taken
+  -- over a valid store and a cache that tells it they are those of the pieces
+  pub pieces : (s : Store) → IsOver s clients → CacheTells s cache → IsPrefix taken (pieces s es)
+  -- whether or not a store is told, they are tested bytes
+  pub tested : IsTested g heard looks es taken
+  pub faults : before.faults ≤ after.faults
+  pub link : after.link ≡ before.link
+
+-- ---- errors
+
+-- a recorded error is the answer, and the answer is recorded but for want of memory
+pub record IsRecorded (es : List Event) (stop : Stop) : Type 0 where
+  pub answered : (e : FileReconstructionError) → first_error es ≡ Some e → stop ≡ Some e
+  pub recorded : (e : FileReconstructionError) → stop ≡ Some e → (e ≡ error.OutOfMemory) ⊎ (first_error es ≡ Some e)
+
+-- no block has more expired answers than tries, and one has so many where the run stopped for that
+pub record IsTried (tries : ℕ) (es : List Event) (stop : Stop) : Type 0 where
+  pub at_most : (p k : ℕ) → count_by (expires p k) es ≤ tries
+  pub spent : stop ≡ Some error.UrlExpired → (p : ℕ) × (k : ℕ) × (count_by (expires p k) es ≡ tries)
+
+-- ---- all of them
+
+pub record Ties (g : Setup) (before after : RunTold) (es : List Event) (stop : Stop) (slack : Slack) : Type 0 where
+  -- what each connection was asked, served and said
+  pub heard : EachExchange before.clients after.clients slack.heard
+  -- over connections that tell one valid store the history is true of it
+  pub true_of : (s : Store) → IsOver s before.clients → IsTrueHistory s (download_of g) es
+  -- whatever they tell, the queries cut the range, and a plan's terms end within its query
+  pub cuts : CutsRange g (queries es)
+  pub within : All IsWithin es
+  -- over connections that tell a store, valid or not, a plan is of a stored file
+  pub stored : (s : Store) → AllTell s before.clients → 0 < plan_count es → IsSome (file_of s g.file)
+  pub served : IsServed es slack.hidden slack.late before.clients after.clients
+  pub asked : FirstAsked g.file es slack.lost before.clients after.clients
+  pub lost : IsLost g es slack.lost
+  pub said : FirstSaid g es slack.heard
+  pub tried : IsTried g.tries es stop
+  pub renewed : EachAfter IsRenewed [] es
+  pub one_cached : EachAfter IsOneCached [] es
+  pub looked : IsLooked es slack.pending slack.looks before.clients before.cache after.cache
+  pub offered : IsOffered es slack.due before.cache after.cache
+  pub polled : IsPolled es slack.spare before.signal after.signal
+  pub limited : IsLimited es before.limits after.limits
+  pub taken : IsTaken g es slack.heard slack.looks slack.ahead before.clients before.cache before.sink after.sink
+  pub recorded : IsRecorded es stop
+
+-- ---- what a run may leave
+
+-- the error isn't want of memory
+abbrev pub IsOther : Stop → Type 0
+IsOther stop = stop ≢ Some error.OutOfMemory
+
+-- the events say all
+pub record LeavesNothing (slack : Slack) : Type 0 where
+  pub hidden : all_of slack.hidden ≡ []
+  pub due : slack.due ≡ 0
+  pub lost : slack.lost ≡ []
+  pub ahead : slack.ahead ≡ 0
+
+-- what a run may leave that no event says
+pub record MayLeave (stop : Stop) (clients : List ClientTold) (slack : Slack) : Type 0 where
+  -- nothing on Ok
+  pub none : stop ≡ None → LeavesNothing slack
+  -- over one valid store a served block for want of memory alone
+  pub honest : (s : Store) → IsOver s clients → IsOther stop → all_of slack.hidden ≡ []
+  -- bytes that were taken for want of memory and after the writer's failure alone
+  pub counted : IsOther stop → stop ≢ Some error.IoError → slack.ahead ≡ 0

@@ -1,0 +1,128 @@
+-- What one step of a run's leader may do to what its arguments tell.
+use Rattle.std.specs.Prelude.{ℕ, ◌≡◌, ◌+◌, ◌≤◌, ◌^◌, ◌-◌, min, map, false, cond, List, [], ◌∷◌, ◌++◌, count_by, All, Option, None}
+use Rattle.xet_base.specs.declared.cas_types.ChunkRange.{ChunkRange}
+use Rattle.xet_base.specs.declared.merklehash.MerkleHash.{MerkleHash}
+use Rattle.xet_base.specs.Store.{Store}
+use Rattle.xet_outside.specs.declared.block.BlockBytes.{BlockBytes}
+use Rattle.xet_outside.specs.declared.said.Said.{Said}
+use Rattle.xet_outside.specs.declared.served.Served.{Served}
+use Rattle.xet_outside.specs.Answers.{IsPaired, bytes_in, plans_in}
+use Rattle.xet_outside.specs.Told.{Added, CacheTold, ClientTold, Counted, Grew, Query}
+use Rattle.xet_run.specs.declared.event.Event.{Event}
+use Rattle.xet_run.specs.declared.event.PlannedBlock.{PlannedBlock}
+use Rattle.xet_run.specs.Events.{error_in, expires, is_plan, taken_in, tasks_in}
+use Rattle.xet_history.specs.TrueHistory.{IsTrueEvent, queries_in}
+use Rattle.xet_ties.specs.History.{IsOneCached, IsRenewed, IsWithin, asked_in, cached_in, fetched_in, limit_in}
+use Rattle.xet_ties.specs.InCall.{Exchange}
+use Rattle.xet_ties.specs.Saids.{IsEventSaid}
+use Rattle.xet_ties.specs.Setup.{ClientGoesOn, Setup}
+use Rattle.xet_ties.specs.Ties.{IsServed, Slack, has_one, is_one}
+
+-- ---- queries
+
+-- a connection was asked these queries and said this, and served nothing
+pub record QueryStep (before after : ClientTold) (qs : List Query) (all : List Said) : Type 0 where
+  pub goes_on : ClientGoesOn before after
+  pub asked : Added before.asked after.asked qs
+  pub said : Added before.said after.said all
+  pub quiet : bytes_in all ≡ []
+  pub served : after.served ≡ before.served
+
+-- so the first connection of some, and the others are as before
+abbrev pub FirstQuery : List ClientTold → List ClientTold → List Query → List Said → Type 0
+FirstQuery [] ns qs all = ⊥
+FirstQuery (b ∷ bs) [] qs all = ⊥
+FirstQuery (b ∷ bs) (n ∷ ns) qs all = QueryStep b n qs all × (ns ≡ bs)
+
+-- what was heard with this of the first connection
+abbrev pub heard_first : List Query → List Said → List Exchange → List Exchange
+heard_first qs all [] = []
+heard_first qs all (x ∷ xs) = record { asked = x.asked ++ qs; served = x.served; said = x.said ++ all } ∷ xs
+
+-- ---- the cache
+
+-- a look for a block of one range
+pub record LookStep (before after : CacheTold) (x : PlannedBlock) (r : ChunkRange)
+    (given : Option BlockBytes) : Type 0 where
+  pub one : x.ranges ≡ r ∷ []
+  pub looked : Grew before.looked after.looked (x.xorb, r, given)
+  pub offers : after.offers ≡ before.offers
+
+-- a put
+pub record PutStep (before after : CacheTold) : Type 0 where
+  pub looked : after.looked ≡ before.looked
+  pub offers : Counted before.offers after.offers
+
+-- ---- events
+
+-- an event that plans, caches and admits nothing, and what it takes from the slack
+pub record Fits (g : Setup) (es : List Event) (e : Event) (sl to : Slack) : Type 0 where
+  pub heard : to.heard ≡ sl.heard
+  pub looks : to.looks ≡ sl.looks
+  pub query : queries_in e ≡ []
+  pub true_of : (s : Store) → IsTrueEvent s g.file g.multirange e
+  pub said : (x : Exchange) → IsEventSaid g x e
+  pub within : IsWithin e
+  pub plan : is_plan e ≡ false
+  pub tasks : tasks_in e ≡ []
+  pub served : (bs ns : List ClientTold) → IsServed es sl.hidden sl.late bs ns
+      → IsServed (es ++ e ∷ []) to.hidden to.late bs ns
+  pub asked : sl.lost ≡ asked_in g.file es e ++ to.lost
+  pub tried : (p k : ℕ) → count_by (expires p k) es + cond (expires p k e) 1 0 ≤ g.tries
+  pub renewed : IsRenewed es e
+  pub one_cached : IsOneCached es e
+  pub cached : cached_in es e ≡ []
+  pub pending : (x : MerkleHash) (r : ChunkRange) → count_by (is_one x r) (fetched_in es e)
+      + count_by (is_one x r) to.pending ≤ count_by (is_one x r) sl.pending
+  pub due : sl.due + count_by has_one (fetched_in es e) ≤ to.due
+  pub spare : to.spare ≤ sl.spare
+  pub limit : limit_in e ≡ []
+  pub ahead : sl.ahead ≡ taken_in e + to.ahead
+  pub error : error_in e ≡ None
+
+-- ---- joins
+
+-- what a join does to one connection: it served these entries, said this and gave so many expired answers
+pub record JoinStep (before after : ClientTold) (hidden : List Served) (all : List Said) (late : ℕ) : Type 0 where
+  pub goes_on : ClientGoesOn before after
+  pub asked : after.asked ≡ before.asked
+  pub quiet : plans_in all ≡ []
+  pub pairs : IsPaired before after hidden all
+  pub expired : min (before.expiries + late) (2 ^ 64 - 1) ≤ after.expiries
+
+-- so of each connection
+abbrev pub EachJoined : List ClientTold → List ClientTold → List (List Served) → List (List Said) → List ℕ → Type 0
+EachJoined [] [] [] [] [] = Unit {0}
+EachJoined (b ∷ bs) (n ∷ ns) (h ∷ hs) (a ∷ alls) (l ∷ ls) = JoinStep b n h a l × EachJoined bs ns hs alls ls
+EachJoined bs ns hs alls ls = ⊥
+
+-- what was heard with this of each connection
+abbrev pub heard_join : List (List Served) → List (List Said) → List Exchange → List Exchange
+heard_join (h ∷ hs) (a ∷ alls) (x ∷ xs) =
+    record { asked = x.asked; served = x.served ++ h; said = x.said ++ a } ∷ heard_join hs alls xs
+heard_join hs alls xs = []
+
+-- ---- of connections that hide nothing
+
+abbrev pub no_hidden : List ClientTold → List (List Served)
+no_hidden bs = map (λ _. []) bs
+
+abbrev pub no_late : List ClientTold → List ℕ
+no_late bs = map (λ _. 0) bs
+
+abbrev pub no_exchange : List ClientTold → List Exchange
+no_exchange bs = map (λ _. record { asked = []; served = []; said = [] }) bs
+
+-- all that is told is in the history
+abbrev pub no_slack : List ClientTold → Slack
+no_slack bs = record {
+  heard = no_exchange bs;
+  looks = [];
+  hidden = no_hidden bs;
+  late = no_late bs;
+  pending = [];
+  due = 0;
+  spare = 0;
+  lost = [];
+  ahead = 0;
+}

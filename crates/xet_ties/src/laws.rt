@@ -1,0 +1,99 @@
+//! Laws of ties and of runs, as functions whose contracts state them.
+ghost use Rattle.xet_ties.specs.Laws.{AdmitsTied, AnswersStep, AsksTied, CancelsTied, ExpiriesCounted, ExpiriesFall, FetchesFall, FilesMissing, FinishedIsExact, FinishedIsWhole, LanesGoOn, LooksTied, MissingExpired, MissingFetched, NoneRises, OffersTied, PairsAreNew, PlansFail, PollsTied, RefreshesTied, RoundsMayExpire, RoundsTied, RunsAreLegal, ShortLooksTied, StartsTied, StepsFail, StepsServe, StopsTied, TakesTied, TiesAskCut, TiesServeOnce, TiesServePlanned, TiesTakeTested, TriesLeft, WritesTied};
+
+/// Before a run all is tied; after an error that is recorded, or want of memory, it stays so.
+pub fn starts_and_stops()
+    ensures start { StartsTied }
+    ensures stop { StopsTied }
+{}
+
+/// A run whose history is allowed and that is tied gives a legal answer: over one valid store and a cache that tells
+/// it the window exactly, and over connections that tell their lists, whatever store they tell, no block of a plan
+/// served twice, each served block one of a plan that was said and passes its tests, and short queries that, but for
+/// refreshes, cut the range.
+pub fn runs_are_legal()
+    ensures { RunsAreLegal }
+{}
+
+/// However a tied run ended, and whatever store its connections tell or don't: no block of a plan was served twice in
+/// all lists together, each is one of a plan that was said and passes its tests, the queries are short and but for
+/// refreshes cut the range, and the writer took tested bytes alone.
+pub fn ties_are_told()
+    ensures once { TiesServeOnce }
+    ensures planned { TiesServePlanned }
+    ensures cut { TiesAskCut }
+    ensures tested { TiesTakeTested }
+{}
+
+/// A tied run that is finished took exactly the window over one valid store and a cache that tells it, and over any
+/// connections the tested pieces of all planned terms.
+pub fn finished_is_exact()
+    ensures exact { FinishedIsExact }
+    ensures whole { FinishedIsWhole }
+{}
+
+/// Where one block has as many Expired events as tries, the expired answers of all connections grew by so many.
+pub fn expiries_are_counted()
+    ensures { ExpiriesCounted }
+{}
+
+/// The answer to a fetch's own request makes a step, and a lane goes on with it; its data is of that answer.
+pub fn lanes_go_on()
+    ensures step { AnswersStep }
+    ensures more { LanesGoOn }
+    ensures serve { StepsServe }
+{}
+
+/// After a round of fetches of fresh blocks that weren't served, what the lanes did is recorded, and it is tied.
+pub fn rounds_are_tied()
+    ensures new { PairsAreNew }
+    ensures tries { RoundsMayExpire }
+    ensures round { RoundsTied }
+{}
+
+/// What the lanes of a round did may be recorded: missing blocks of which no two are one, in any order.
+pub fn missing_blocks_may_be_recorded()
+    ensures fetched { MissingFetched }
+    ensures expired { MissingExpired }
+    ensures tries { TriesLeft }
+{}
+
+/// A fetch that was served, and an expired answer, leave fewer tries of the wanted blocks; no event leaves more.
+pub fn tries_fall()
+    ensures fetched { FetchesFall }
+    ensures expired { ExpiriesFall }
+    ensures none { NoneRises }
+{}
+
+/// After the signal was asked it is tied.
+pub fn polls_are_tied()
+    ensures calm { PollsTied }
+    ensures stop { CancelsTied }
+{}
+
+/// After the first connection was asked for a plan, or for a plan's URLs again, and that is recorded, it is tied.
+pub fn queries_are_tied()
+    ensures plan { AsksTied }
+    ensures refresh { RefreshesTied }
+{}
+
+/// After the cache was asked for a block, or offered one, it is tied.
+pub fn looks_are_tied()
+    ensures look { LooksTied }
+    ensures short { ShortLooksTied }
+    ensures offer { OffersTied }
+{}
+
+/// After a limit was asked for, bytes were taken and terms recorded as written, it is tied.
+pub fn writes_are_tied()
+    ensures admit { AdmitsTied }
+    ensures take { TakesTied }
+    ensures write { WritesTied }
+{}
+
+/// What was said gives the causes of errors.
+pub fn answers_are_causes()
+    ensures plan { PlansFail }
+    ensures file { FilesMissing }
+    ensures block { StepsFail }
+{}
