@@ -1,0 +1,8 @@
+mod BothHalves
+mod Draws
+mod ErrorCauses
+mod FirstErrors
+mod LaneSteps
+mod NewJobs
+mod RoundEnds
+pub mod CallerLemmas

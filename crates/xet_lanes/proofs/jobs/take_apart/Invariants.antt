@@ -1,0 +1,13 @@
+use Rattle.std.proofs.Common.{◌≡◌, ◌+◌, length, map}
+use Rattle.std.specs.Prelude.{vec_capacity}
+use Rattle.xet_lanes.specs.Rounds.{ended}
+use Rattle.xet_lanes.specs.steps.Drawn.{claims_of, ends_of, work}
+use Rattle.xet_lanes.proofs.jobs.take_apart.Given as goal
+
+abbrev pub invariant-loop-job : goal.invariant-loop-job
+invariant-loop-job g l = record {
+  passes : l.passes.items ≡ claims_of (map (λ j. work j.claim j.run.share.parts j.steps.items j.short) l.yielded);
+  ends : map ended l.ends.items ≡ ends_of (map (λ j. work j.claim j.run.share.parts j.steps.items j.short) l.yielded);
+  room : (vec_capacity l.passes ≡ vec_capacity l.fn.passes) × (vec_capacity l.ends ≡ vec_capacity l.fn.ends);
+  parts : l.pass.share.parts ≡ l.fn.pass.share.parts + length l.yielded;
+}

@@ -1,0 +1,60 @@
+-- The fetches of a round, and the calls of a lane.
+use Rattle.std.specs.Prelude.{◌≡◌, ◌-◌, List, [], ◌∷◌, ◌++◌, length, Option, Some, None, Result, OnOk, OnErr, slice_get}
+use Rattle.xet_base.specs.declared.error.OutOfMemory.{OutOfMemory}
+use Rattle.xet_outside.specs.Told.{ClientTold}
+use Rattle.xet_outside.specs.declared.block.BlockRequest.{BlockRequest}
+use Rattle.xet_error.specs.declared.error.FileReconstructionError.{FileReconstructionError}
+use Rattle.xet_blocks.specs.declared.reconstruction_terms.xorb_block.XorbBlock.{XorbBlock}
+use Rattle.xet_ties.specs.declared.lane_step.LaneStep.{LaneStep}
+use Rattle.xet_ties.specs.declared.lane_step.LaneStep.TheVariants as step
+use Rattle.xet_ties.specs.Lanes.{Ask, StepDid}
+use Rattle.xet_lanes.specs.declared.lane.Fetch.{Fetch}
+
+-- ---- fetches
+
+abbrev pub ask : XorbBlock → BlockRequest → Ask
+ask x q = record { block = x; request = q }
+
+-- what a fetch asks
+abbrev pub ask_of : Fetch → Ask
+ask_of f = ask f.block.now f.request
+
+-- ---- failed steps
+
+-- the error of a step, where it failed
+abbrev pub error_in : LaneStep → Option FileReconstructionError
+error_in (step.Served p k d) = None
+error_in (step.Expired p k) = None
+error_in (step.Failed e) = Some e
+
+abbrev pub NoneFailed : List LaneStep → Type 0
+NoneFailed [] = Unit {0}
+NoneFailed (s ∷ ss) = (error_in s ≡ None) × NoneFailed ss
+
+-- no step but the last one failed
+abbrev pub NoneFailedBefore : List LaneStep → Type 0
+NoneFailedBefore [] = Unit {0}
+NoneFailedBefore (s ∷ []) = Unit {0}
+NoneFailedBefore (s ∷ t ∷ ss) = (error_in s ≡ None) × NoneFailedBefore (t ∷ ss)
+
+abbrev pub error_at : Option LaneStep → Option FileReconstructionError
+error_at None = None
+error_at (Some s) = error_in s
+
+-- the error of the last step, where it failed
+abbrev pub last_error : List LaneStep → Option FileReconstructionError
+last_error ss = error_at (slice_get ss (length ss - 1))
+
+-- ---- one call
+
+-- a step was added, which the connection made by one request
+pub record OneStep (before after : ClientTold) (xs ys : List LaneStep) (a : Ask) : Type 0 where
+  pub step : LaneStep
+  pub added : ys ≡ xs ++ step ∷ []
+  pub did : StepDid before after a step
+
+-- one call of `Lane::fetch`, by what the connection tells and the steps of the lane before and after it
+pub record LaneCall (before after : ClientTold) (xs ys : List LaneStep) (a : Ask)
+    (answer : Result (Unit {0}) OutOfMemory) : Type 0 where
+  pub added : OnOk answer (OneStep before after xs ys a)
+  pub refused : OnErr answer ((after ≡ before) × (ys ≡ xs))

@@ -1,0 +1,4 @@
+pub mod Fetches
+pub mod JoinErrors
+pub mod Rounds
+pub mod steps

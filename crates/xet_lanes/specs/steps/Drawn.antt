@@ -1,0 +1,79 @@
+-- What the lanes of a round hold before and after.
+use Rattle.std.specs.Prelude.{ℕ, ◌≡◌, ◌⊎◌, ◌<◌, Bool, true, false, IsSome, List, [], ◌∷◌, length, map, None}
+use Rattle.xet_outside.specs.Told.{ClientTold}
+use Rattle.xet_claims.specs.declared.claim_rule.View.{View}
+use Rattle.xet_claims.specs.declared.claims.ClaimPass.{ClaimPass}
+use Rattle.xet_claims.specs.declared.claims.Claims.{Claims}
+use Rattle.xet_claims.specs.ClaimPasses.{IsPassOf, pass_view}
+use Rattle.xet_claims.specs.ClaimViews.{gained, missed, newcomer, saw}
+use Rattle.xet_ties.specs.declared.lane_step.LaneStep.{LaneStep}
+use Rattle.xet_ties.specs.Lanes.{Ask, LaneDrew}
+use Rattle.xet_lanes.specs.declared.drawing.Next.{Next}
+use Rattle.xet_lanes.specs.declared.drawing.Next.TheVariants as next
+use Rattle.xet_lanes.specs.Fetches.{NoneFailed, NoneFailedBefore, last_error}
+use Rattle.xet_lanes.specs.Rounds.{End}
+
+-- ---- one lane
+
+-- what a look for the next number leaves of what the pass knows
+abbrev pub IsNext : ℕ → View → View → Next → Type 0
+IsNext count v w (next.Number n) = (n < count) × (w ≡ gained v n)
+IsNext count v w next.Over = (w ≡ missed v) ⊎ (w ≡ saw v)
+IsNext count v w next.Short = w ≡ v
+
+-- it stopped no other; and where it saw no stop, it drew until there was nothing left, and made a step for each number
+abbrev pub IsCalm : View → List LaneStep → Type 0
+IsCalm v ss = (v.raised ≡ false) × (v.stopped ≡ false → (0 < v.misses) × (length v.drawn ≡ length ss))
+
+-- a lane that neither failed nor ran out of memory is calm
+abbrev pub HasEnded : Bool → View → List LaneStep → Type 0
+HasEnded short v ss = short ≡ false → last_error ss ≡ None → IsCalm v ss × NoneFailed ss
+
+-- a lane that failed or ran out of memory stopped the others
+abbrev pub HasStopped : Bool → View → List LaneStep → Type 0
+HasStopped short v ss = (short ≡ true → v.raised ≡ true) × (IsSome (last_error ss) → v.raised ≡ true)
+
+-- ---- all lanes
+
+-- a lane of a round: its claim, the parts of its run pass, its steps, and whether memory ran out besides
+pub record Work : Type 0 where
+  pub claim : ClaimPass
+  pub parts : ℕ
+  pub steps : List LaneStep
+  pub short : Bool
+
+abbrev pub work : ClaimPass → ℕ → List LaneStep → Bool → Work
+work c p ss short = record { claim = c; parts = p; steps = ss; short = short }
+
+-- a lane has a fresh claim and one part, and no steps
+abbrev pub IsReady : Claims → Work → Type 0
+IsReady c w = IsPassOf c w.claim × (pass_view w.claim ≡ newcomer 1 c.count) × (w.parts ≡ 1) × (w.steps ≡ [])
+
+abbrev pub AllReady : Claims → List Work → Type 0
+AllReady c [] = Unit {0}
+AllReady c (w ∷ ws) = IsReady c w × AllReady c ws
+
+-- what a lane did to its connection, and what it holds then
+pub record Drew (c : Claims) (fs : List Ask) (before after : ClientTold) (w : Work) : Type 0 where
+  pub of : IsPassOf c w.claim
+  pub weight : (pass_view w.claim).weight ≡ 1
+  pub parts : w.parts ≡ 1
+  pub drew : LaneDrew fs before after (pass_view w.claim).drawn w.steps
+  pub ended : HasEnded w.short (pass_view w.claim) w.steps
+  pub last : NoneFailedBefore w.steps
+
+abbrev pub AllDrew : Claims → List Ask → List ClientTold → List ClientTold → List Work → Type 0
+AllDrew c fs [] [] [] = Unit {0}
+AllDrew c fs (b ∷ bs) (n ∷ ns) (w ∷ ws) = Drew c fs b n w × AllDrew c fs bs ns ws
+AllDrew c fs [] (n ∷ ns) ws = ⊥
+AllDrew c fs [] [] (w ∷ ws) = ⊥
+AllDrew c fs (b ∷ bs) [] ws = ⊥
+AllDrew c fs (b ∷ bs) (n ∷ ns) [] = ⊥
+
+-- ---- what they hand back
+
+abbrev pub claims_of : List Work → List ClaimPass
+claims_of ws = map (λ (w : Work). w.claim) ws
+
+abbrev pub ends_of : List Work → List End
+ends_of ws = map (λ (w : Work). record { steps = w.steps; short = w.short }) ws

@@ -1,0 +1,64 @@
+//! A connection that answers at once.
+use bytes::Bytes;
+use std::alloc::Global;
+use xet_base::{FileRange, List, MerkleHash};
+use xet_outside::{BlockAnswer, BlockBytes, BlockRequest, Client, ClientError, PlanAnswer};
+
+/// Answers every request with one chunk of one byte, or fails at each.
+#[derive(Drop)]
+pub(crate) struct OneByte {
+    fails: bool,
+    pub(crate) calls: u64,
+    faults: u64,
+}
+
+impl OneByte {
+    pub(crate) fn new(fails: bool) -> OneByte {
+        OneByte {
+            fails,
+            calls: 0,
+            faults: 0,
+        }
+    }
+}
+
+impl Client for OneByte {
+    ghost use Rattle.std.specs.Prelude.{[], None};
+
+    ghost told = { λ c. record {
+      store = None;
+      asked = None;
+      said = None;
+      served = None;
+      faults = c.faults;
+      expiries = 0;
+      link = [];
+    } };
+
+    fn plan(
+        &mut self,
+        _alloc: Global,
+        _file: &MerkleHash,
+        _range: FileRange,
+    ) -> Result<PlanAnswer, ClientError> {
+        Ok(PlanAnswer::NoFile)
+    }
+
+    fn block(
+        &mut self,
+        alloc: Global,
+        _request: &BlockRequest,
+    ) -> Result<BlockAnswer, ClientError> {
+        self.calls = self.calls.saturating_add(1);
+        if self.fails {
+            self.faults = self.faults.saturating_add(1);
+            return Err(ClientError::Failed);
+        }
+        let mut offsets = List::new(alloc);
+        offsets.push(0)?;
+        Ok(BlockAnswer::Bytes(BlockBytes {
+            offsets,
+            bytes: Bytes::from_static(b"x"),
+        }))
+    }
+}
