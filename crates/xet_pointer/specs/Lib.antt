@@ -1,0 +1,4 @@
+pub mod Endpoints
+pub mod Pointers
+pub mod steps
+pub mod Worked
