@@ -1,0 +1,11 @@
+pub mod CallerLemmas
+pub mod FileDatas
+pub mod Kept
+pub mod Named
+pub mod Orders
+pub mod Parts
+pub mod Resolved
+pub mod Rooms
+pub mod SameHashes
+pub mod Standing
+pub mod Steps

@@ -1,0 +1,14 @@
+//! Tests of `xet_upload`, and of the uploader in memory and of `xet_shards`. They stand in a crate of their own, since
+//! a crate with tests is proved twice.
+#![tactic(auto)]
+
+#[cfg(test)]
+mod errors;
+#[cfg(test)]
+mod made;
+#[cfg(test)]
+mod parts;
+#[cfg(test)]
+mod shards;
+#[cfg(test)]
+mod uploads;
