@@ -22,7 +22,7 @@ use Rattle.xet_tool.specs.declared.status.Status.TheVariants.{Done, BadWords, Ba
 use Rattle.xet_tool.specs.AnyBytes.{AnyCut, AnyGet, IsOfRun, counted, last_line}
 use Rattle.xet_tool.specs.Document.{HasStore, NoStore, OfNoDocument}
 use Rattle.xet_tool.specs.Ends.{Told, WasReadToEnd}
-use Rattle.xet_tool.specs.Get.{GetOutcome, IsCut, IsCutGet, OverStore, memory_text}
+use Rattle.xet_tool.specs.commands.Get.{GetOutcome, IsCut, IsCutGet, OverStore, memory_text}
 use Rattle.xet_tool.specs.Outcome.{Finished}
 use Rattle.xet_tool.specs.steps.PrintedDigits.{DigitsBehind, DigitsOf}
 use Rattle.xet_tool.specs.steps.Printing.{GetFrom, GotFrom, status_of}
@@ -301,12 +301,8 @@ got_from limit q b n text s status w d g = by_status status g
       honest = λ all. record { printed = g.honest all; passed = g.chunks all refl };
       any = g.any;
     }
-    by_status BadWords g = absurd g.any
-    by_status BadStore g = absurd g.any
-    by_status BadScript g = absurd g.any
     by_status NotFound g = record { store = s; over = over; honest = g.honest; any = g.any }
-    by_status ReadFault g = absurd g.any
     by_status WriteFault g = (g.any.0, cut (λ all. (g.honest all).1) g.any.1)
     by_status NoMemory g = cut g.honest g.any
-    by_status TooLong g = absurd g.any
     by_status (BadBlock k) g = record { store = s; over = over; dishonest = g.honest; any = g.any }
+    by_status _ g = absurd g.any

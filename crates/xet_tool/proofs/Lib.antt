@@ -5,6 +5,7 @@ mod DocumentMembers
 mod DocumentTerms
 mod GetNumbers
 mod GetOutcomes
+mod HashDigits
 mod PrintedDigits
 mod StoreRefusals
 mod TapRuns

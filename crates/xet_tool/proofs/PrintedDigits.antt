@@ -120,15 +120,10 @@ from_memory s q t u status bytes h = by_lists (new_in t.passed u.passed) (new_in
         by_from : (HasNoTerms (setup_of q) (x ∷ []) × (m.pieces ≡ [])) ⊎ AllPieces (setup_of q) (x ∷ []) m.pieces → (m.pieces ≡ []) ⊎ FirstPieces (setup_of q) (x ∷ []) m.pieces
         by_from (inl e) = inl e.1
         by_from (inr all) = inr all.first
-    by_status x BadWords m = absurd m
-    by_status x BadStore m = absurd m
-    by_status x BadScript m = absurd m
     by_status x NotFound m = record { pieces = []; from = inl refl; count = 0; is = m.1 }
-    by_status x ReadFault m = absurd m
-    by_status x WriteFault m = absurd m
     by_status x NoMemory m = m
-    by_status x TooLong m = absurd m
     by_status x (BadBlock k) m = m.0
+    by_status x _ m = absurd m
 
     by_lists : (o : Option (List Served)) (p : Option (List BlockBytes))
         → IfSome o (λ served. IfSome p (λ blocks. (x : Exchange) × IsPassed s served blocks x × IsMade s q x status bytes))

@@ -16,7 +16,7 @@ use Rattle.xet_tool.specs.Ends.{Told}
 use Rattle.xet_tool.specs.Outcome.{Finished}
 use Rattle.xet_tool.specs.steps.Printing.{status_of}
 use Rattle.xet_tool.specs.Texts.{line}
-use Rattle.xet_tool.specs.Track.{FirstLines, IsCutScript, IsCutTrack, OverScript, ScriptFrom, TrackStatus}
+use Rattle.xet_tool.specs.commands.Track.{FirstLines, IsCutScript, IsCutTrack, OverScript, ScriptFrom, TrackStatus}
 use Rattle.xet_tool.proofs.GetOutcomes.{IsWhole, finished_more, read_to_end}
 
 -- the lines that were printed of a script, and what is left of it
@@ -135,12 +135,7 @@ tracked_from limit b n text status w f = by_status status f
 
     by_status : (status : Status) → ScriptFrom text b.sink n.sink status → TrackStatus limit b n status
     by_status Done f = record { script = text; over = over; from = f }
-    by_status BadWords f = absurd f
-    by_status BadStore f = absurd f
     by_status BadScript f = record { script = text; over = over; from = f }
-    by_status NotFound f = absurd f
-    by_status ReadFault f = absurd f
     by_status WriteFault f = (f.0, cut f.1)
     by_status NoMemory f = cut f
-    by_status TooLong f = absurd f
-    by_status (BadBlock k) f = absurd f
+    by_status _ f = absurd f

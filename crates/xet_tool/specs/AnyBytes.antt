@@ -12,28 +12,16 @@ counted bytes = min (length bytes) (2 ^ 64 - 1)
 -- the last line after these bytes
 abbrev pub last_line : Status → List ℕ → List ℕ
 last_line Done bytes = ok_line (counted bytes)
-last_line BadWords bytes = line BadWords
-last_line BadStore bytes = line BadStore
-last_line BadScript bytes = line BadScript
-last_line NotFound bytes = line NotFound
-last_line ReadFault bytes = line ReadFault
-last_line WriteFault bytes = line WriteFault
-last_line NoMemory bytes = line NoMemory
-last_line TooLong bytes = line TooLong
 last_line (BadBlock number) bytes = block_line number
+last_line status bytes = line status
 
 -- a run can end with this status after some digits
 abbrev pub IsOfRun : Status → Type 0
 IsOfRun Done = Unit {0}
-IsOfRun BadWords = ⊥
-IsOfRun BadStore = ⊥
-IsOfRun BadScript = ⊥
 IsOfRun NotFound = Unit {0}
-IsOfRun ReadFault = ⊥
-IsOfRun WriteFault = ⊥
 IsOfRun NoMemory = Unit {0}
-IsOfRun TooLong = ⊥
 IsOfRun (BadBlock number) = Unit {0}
+IsOfRun _ = ⊥
 
 -- some bytes of which this holds at a status
 pub record BytesOf (P : Status → List ℕ → Type 0) (status : Status) : Type 0 where
@@ -54,12 +42,8 @@ pub record AnyCut (P : Status → List ℕ → Type 0) (before after : SinkTold)
 -- what was printed, by the status
 abbrev pub AnyGet : (Status → List ℕ → Type 0) → SinkTold → SinkTold → Status → Type 0
 AnyGet P before after Done = (b : BytesOf P Done) × Took before.took after.took (text_of Done b)
-AnyGet P before after BadWords = ⊥
-AnyGet P before after BadStore = ⊥
-AnyGet P before after BadScript = ⊥
 AnyGet P before after NotFound = (b : BytesOf P NotFound) × Took before.took after.took (text_of NotFound b)
-AnyGet P before after ReadFault = ⊥
 AnyGet P before after WriteFault = Rose before.faults after.faults × AnyCut P before after
 AnyGet P before after NoMemory = AnyCut P before after
-AnyGet P before after TooLong = ⊥
 AnyGet P before after (BadBlock k) = (b : BytesOf P (BadBlock k)) × Took before.took after.took (text_of (BadBlock k) b)
+AnyGet P before after _ = ⊥

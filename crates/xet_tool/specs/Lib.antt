@@ -1,12 +1,10 @@
 pub mod AnyBytes
 pub mod Document
 pub mod Ends
-pub mod Get
 pub mod GetWords
 pub mod Outcome
 pub mod Taps
 pub mod Texts
-pub mod Track
 pub mod Wanted
-pub mod Words
+pub mod commands
 pub mod steps

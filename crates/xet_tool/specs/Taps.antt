@@ -65,15 +65,11 @@ pub record BlockFailed (setup : Setup) (x : Exchange) (number : ℕ) : Type 0 wh
 -- the bytes of a run with this status, over this store and these blocks
 abbrev pub IsMade : Store → Wanted → Exchange → Status → List ℕ → Type 0
 IsMade store wanted x Done bytes = AllBytes (setup_of wanted) x bytes
-IsMade store wanted x BadWords bytes = ⊥
-IsMade store wanted x BadStore bytes = ⊥
-IsMade store wanted x BadScript bytes = ⊥
 IsMade store wanted x NotFound bytes = IsMissing store wanted × (bytes ≡ [])
-IsMade store wanted x ReadFault bytes = ⊥
-IsMade store wanted x WriteFault bytes = ⊥
 IsMade store wanted x NoMemory bytes = FirstBytes (setup_of wanted) x bytes
-IsMade store wanted x TooLong bytes = ⊥
-IsMade store wanted x (BadBlock number) bytes = FirstBytes (setup_of wanted) x bytes × BlockFailed (setup_of wanted) x number
+IsMade store wanted x (BadBlock number) bytes =
+    FirstBytes (setup_of wanted) x bytes × BlockFailed (setup_of wanted) x number
+IsMade store wanted x _ bytes = ⊥
 
 -- the same, of the blocks that a tap told in a call, where it tells what passed and what it handed on
 abbrev pub FromTap : Store → Wanted → TapTold → TapTold → Status → List ℕ → Type 0

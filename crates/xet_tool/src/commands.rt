@@ -1,4 +1,80 @@
-//! The commands, a module each: its words, what it reads, what it does, and its contract.
+//! The commands: the words of each, and what it does. Each has a room of its own below.
+ghost use Rattle.std.specs.Prelude.{◌≡◌, length, map, string_bytes};
+ghost use Rattle.xet_tool.specs.Ends.{input_limit};
+ghost use Rattle.xet_tool.specs.Outcome.{IsFlushed};
+ghost use Rattle.xet_tool.specs.commands.{Outcome, command_of, command_of_one};
 
 pub mod get;
 pub mod track;
+
+use crate::commands::get::wanted::{Wanted, read_wanted};
+use crate::printing::{print_text, say};
+use crate::status::Status;
+use crate::texts::{HELP, VERSION};
+use std::alloc::Global;
+use xet_store::{Sink, Source, Tap};
+
+/// What the words ask for.
+#[derive(Clone, Copy, PartialEq, Eq, Debug)]
+pub enum Command {
+    /// `--help`
+    Help,
+    /// `--version`
+    Version,
+    /// `get` with its words.
+    Get(Wanted),
+    /// `track`
+    Track,
+}
+
+// The command of one word.
+fn read_one(word: &str) -> Option<Command>
+    ensures { result ≡ command_of_one word.now }
+{
+    match word {
+        "--help" => Some(Command::Help),
+        "--version" => Some(Command::Version),
+        "track" => Some(Command::Track),
+        _ => None,
+    }
+}
+
+/// The command that the words spell, or none where they don't read.
+pub fn read_words(words: &[String]) -> Option<Command>
+    ensures { result ≡ command_of (map string_bytes words.now) }
+{
+    match words {
+        [] => None,
+        [word] => read_one(word.as_str()),
+        [word, rest @ ..] => {
+            if word.as_str() != "get" {
+                return None;
+            }
+            let wanted = read_wanted(rest)?;
+            Some(Command::Get(wanted))
+        }
+    }
+}
+
+/// Does what the words ask for.
+pub fn run_words<I: Source, O: Sink + Send, T: Tap + Send>(
+    alloc: Global,
+    words: &[String],
+    input: &mut I,
+    out: &mut O,
+    taps: &mut [T],
+) -> Status
+    requires { length taps.old ≡ 64 }
+    ensures outcome { Outcome input_limit (command_of (map string_bytes words.now))
+        (record { source = I.told input.old; sink = O.told out.old; taps = map T.told taps.old })
+        (record { source = I.told input.new; sink = O.told out.new; taps = map T.told taps.new }) result }
+    ensures flushed { IsFlushed result (O.told out.new) }
+{
+    match read_words(words) {
+        Some(Command::Get(wanted)) => get::get(alloc, wanted, input, out, taps),
+        Some(Command::Track) => track::track(alloc, input, out),
+        Some(Command::Help) => print_text(out, Status::Done, HELP),
+        Some(Command::Version) => print_text(out, Status::Done, VERSION),
+        None => say(out, Status::BadWords),
+    }
+}

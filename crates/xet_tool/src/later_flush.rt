@@ -5,8 +5,8 @@ ghost use Rattle.xet_tool.specs.steps.LaterFlushes.{later_told};
 use std::snapshot::Snapshot;
 use xet_store::{Sink, SinkError};
 
-/// A sink that hands each piece on to the sink below, and only notes each flush: who has the sink below flushes it once,
-/// at the end.
+/// A sink that hands each piece on to the sink below, and only notes each flush: who has the sink below flushes it
+/// once, at the end.
 #[derive(Drop)]
 pub struct LaterFlush<O: Sink> {
     inner: O,

@@ -1,40 +1,11 @@
 //! The top call.
 ghost use Rattle.std.specs.Prelude.{◌≡◌, length, map, string_bytes};
 ghost use Rattle.xet_tool.specs.Ends.{input_limit};
-ghost use Rattle.xet_tool.specs.Outcome.{Answers, IsFlushed, Outcome};
-ghost use Rattle.xet_tool.specs.Words.{command_of};
+ghost use Rattle.xet_tool.specs.commands.{Answers};
 
-use crate::commands::get::get;
-use crate::commands::track::track;
-use crate::printing::{print_text, say};
-use crate::status::Status;
-use crate::texts::{HELP, VERSION};
-use crate::words::{Command, read_words};
+use crate::commands::run_words;
 use std::alloc::Global;
 use xet_store::{Sink, Source, Tap};
-
-// Does what the words ask for.
-fn run_words<I: Source, O: Sink + Send, T: Tap + Send>(
-    alloc: Global,
-    words: &[String],
-    input: &mut I,
-    out: &mut O,
-    taps: &mut [T],
-) -> Status
-    requires { length taps.old ≡ 64 }
-    ensures outcome { Outcome input_limit (command_of (map string_bytes words.now))
-        (record { source = I.told input.old; sink = O.told out.old; taps = map T.told taps.old })
-        (record { source = I.told input.new; sink = O.told out.new; taps = map T.told taps.new }) result }
-    ensures flushed { IsFlushed result (O.told out.new) }
-{
-    match read_words(words) {
-        Some(Command::Get(wanted)) => get(alloc, wanted, input, out, taps),
-        Some(Command::Track) => track(alloc, input, out),
-        Some(Command::Help) => print_text(out, Status::Done, HELP),
-        Some(Command::Version) => print_text(out, Status::Done, VERSION),
-        None => say(out, Status::BadWords),
-    }
-}
 
 /// The whole program, over the words after its name, an input and an output. Answers the exit status.
 ///
@@ -57,14 +28,14 @@ fn run_words<I: Source, O: Sink + Send, T: Tap + Send>(
 ///
 /// "Exactly" yields to 5 and 6, and for 2, 3 and 8 to 4 too: a read may fail first. What is said of the bytes of a
 /// store's file is said over taps that hand each block on as it came. Over such taps that tell what passed, each chunk
-/// with a byte in the range passed with status 0. Over a first tap of any kind that tells what passed and what it handed
-/// on, the digits of status 0 are those of all terms of the store's own plan in these blocks, which pass their tests,
-/// and with another status those of some first bytes. There are 64 taps, of which only the first is asked, and with 1,
-/// 2, 4 and 8 and for `track` none.
+/// with a byte in the range passed with status 0. Over a first tap of any kind that tells what passed and what it
+/// handed on, the digits of status 0 are those of all terms of the store's own plan in these blocks, which pass their
+/// tests, and with another status those of some first bytes. There are 64 taps, of which only the first is asked, and
+/// with 1, 2, 4 and 8 and for `track` none.
 ///
 /// With 1, 2, 4 and 8, but 2 of `track`, that line and nothing else was printed. With 5 and 6 a prefix of one text was
-/// printed: of the text of another status, of which all that is said here holds; or of `error memory`, for `get` with no
-/// digits, or with the digits of some first bytes of the range and a line end before it, and for `track` after some
+/// printed: of the text of another status, of which all that is said here holds; or of `error memory`, for `get` with
+/// no digits, or with the digits of some first bytes of the range and a line end before it, and for `track` after some
 /// first lines. With all others what was printed is flushed.
 pub fn run_tool<I: Source, O: Sink + Send, T: Tap + Send>(
     alloc: Global,

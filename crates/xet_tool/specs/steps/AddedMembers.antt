@@ -23,7 +23,8 @@ with_files_of s ms = option_map (with_files s) (files_of_members ms)
 -- the listed xorbs were added, and the store is valid; or there is no valid store with them, whatever its files are
 abbrev pub AddsXorbs : Store → Members → Bool → Store → Type 0
 AddsXorbs s ms true t = (with_xorbs_of s ms ≡ Some t) × IsValid t
-AddsXorbs s ms false t = (u : Store) → with_xorbs_of s ms ≡ Some u → (fs : List StoredFile) → IsValid (record u { files = fs }) → ⊥
+AddsXorbs s ms false t = (u : Store) → with_xorbs_of s ms ≡ Some u
+    → (fs : List StoredFile) → IsValid (record u { files = fs }) → ⊥
 
 -- the same of files
 abbrev pub AddsFiles : Store → Members → Bool → Store → Type 0

@@ -58,14 +58,16 @@ status_of_answer (Err error.Cancelled) = status.NoMemory
 status_of_answer (Err (error.InternalWriterError w)) = status.NoMemory
 
 -- what a run wrote over any tap
-pub record Wrote (s : Store) (q : Wanted) (t u : TapTold) (b n : SinkTold) (answer : Result ℕ FileReconstructionError) : Type 0 where
+pub record Wrote (s : Store) (q : Wanted) (t u : TapTold) (b n : SinkTold)
+    (answer : Result ℕ FileReconstructionError) : Type 0 where
   pub bytes : List ℕ
   pub took : Took b.took n.took bytes
   pub total : IfOk answer (λ k. k ≡ counted bytes)
   pub from : FromTap s q t u (status_of_answer answer) bytes
 
 -- a run over one connection to a valid store behind a tap
-pub record Tapped (s : Store) (q : Wanted) (t u : TapTold) (b n : SinkTold) (answer : Result ℕ FileReconstructionError) : Type 0 where
+pub record Tapped (s : Store) (q : Wanted) (t u : TapTold) (b n : SinkTold)
+    (answer : Result ℕ FileReconstructionError) : Type 0 where
   pub exact : t.honest ≡ true → IfOk answer (IsExact s (setup_of q) b n)
   pub prefix : t.honest ≡ true → TookPrefix b.took n.took (wanted_bytes s q)
   pub cause : IfErr answer (TapCause s q t.honest b n)
@@ -141,7 +143,8 @@ WholeText start inner took (Stopped e) = Unit {0}
 WholeText start inner took (BadBlock k) = HexText start inner took
 
 -- a run through a sink of digits, and a flush
-pub record Driven (s : Store) (q : Wanted) (t u : TapTold) (b n : SinkTold) (start inner : Option (List ℕ)) (answer : Printed) : Type 0 where
+pub record Driven (s : Store) (q : Wanted) (t u : TapTold) (b n : SinkTold)
+    (start inner : Option (List ℕ)) (answer : Printed) : Type 0 where
   pub ran : Ran s q t u b n answer
   pub text : WholeText start inner n.took answer
 
@@ -154,10 +157,12 @@ pub record TookDigits (before now : Option (List ℕ)) (bytes : List ℕ) : Type
 
 -- the digits that were printed, where the tap is honest
 abbrev pub DigitsAs : Store → Wanted → SinkTold → SinkTold → Printed → Type 0
-DigitsAs s q b n (All k) = IsFound s q × Took b.took n.took (encode_lower (wanted_bytes s q)) × (k ≡ length (wanted_bytes s q))
+DigitsAs s q b n (All k) =
+    IsFound s q × Took b.took n.took (encode_lower (wanted_bytes s q)) × (k ≡ length (wanted_bytes s q))
 DigitsAs s q b n NoFile = IsMissing s q × Took b.took n.took []
 DigitsAs s q b n Part = TookDigits b.took n.took (wanted_bytes s q)
-DigitsAs s q b n (Stopped e) = (e ≡ Failed → Rose b.faults n.faults) × TookPrefix b.took n.took (encode_lower (wanted_bytes s q))
+DigitsAs s q b n (Stopped e) =
+    (e ≡ Failed → Rose b.faults n.faults) × TookPrefix b.took n.took (encode_lower (wanted_bytes s q))
 DigitsAs s q b n (BadBlock k) = ⊥
 
 -- and that the count of faults doesn't fall

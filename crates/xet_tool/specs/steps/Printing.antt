@@ -13,7 +13,7 @@ use Rattle.xet_tool.specs.declared.status.Status.TheVariants.{Done, BadWords, Ba
 use Rattle.xet_tool.specs.declared.commands.get.wanted.Wanted.{Wanted}
 use Rattle.xet_tool.specs.Document.{Reads}
 use Rattle.xet_tool.specs.AnyBytes.{AnyGet}
-use Rattle.xet_tool.specs.Get.{IsCutGet, IsPrinted, IsRefused}
+use Rattle.xet_tool.specs.commands.Get.{IsCutGet, IsPrinted, IsRefused}
 use Rattle.xet_tool.specs.Taps.{FromTap}
 
 -- the text does not read as a JSON value
@@ -28,15 +28,10 @@ status_of sink_error.Failed = WriteFault
 -- what was printed of a store, by the status
 abbrev pub GetFrom : Store → Wanted → SinkTold → SinkTold → Status → Type 0
 GetFrom s q b n Done = IsPrinted s q b n
-GetFrom s q b n BadWords = ⊥
-GetFrom s q b n BadStore = ⊥
-GetFrom s q b n BadScript = ⊥
 GetFrom s q b n NotFound = IsRefused s q b n
-GetFrom s q b n ReadFault = ⊥
 GetFrom s q b n WriteFault = Rose b.faults n.faults × IsCutGet s q b n
 GetFrom s q b n NoMemory = IsCutGet s q b n
-GetFrom s q b n TooLong = ⊥
-GetFrom s q b n (BadBlock k) = ⊥
+GetFrom s q b n _ = ⊥
 
 -- what was done over a store and one tap, by the status
 pub record GotFrom (s : Store) (q : Wanted) (t u : TapTold) (b n : SinkTold) (status : Status) : Type 0 where

@@ -3,7 +3,7 @@ ghost use Rattle.std.specs.Prelude.{◌≡◌, IfOk, MatchOption, length, map};
 ghost use Rattle.serde_json.specs.View.{view};
 ghost use Rattle.xet_tool.specs.Document.{HasStore, NoStore, Reads};
 ghost use Rattle.xet_tool.specs.Ends.{input_limit};
-ghost use Rattle.xet_tool.specs.Get.{GetOutcome};
+ghost use Rattle.xet_tool.specs.commands.Get.{GetOutcome};
 ghost use Rattle.xet_tool.specs.Outcome.{IsFlushed};
 ghost use Rattle.xet_tool.specs.steps.Printing.{GotFrom, NoData};
 
@@ -56,7 +56,8 @@ fn print<T: Tap + Send, O: Sink + Send>(
     tap: &mut T,
     out: &mut O,
 ) -> Status
-    ensures printed { GotFrom store.now wanted (T.told tap.old) (T.told tap.new) (O.told out.old) (O.told out.new) result }
+    ensures printed { GotFrom store.now wanted (T.told tap.old) (T.told tap.new)
+        (O.told out.old) (O.told out.new) result }
     ensures flushed { IsFlushed result (O.told out.new) }
 {
     match print_digits(alloc, wanted, store, tap, out) {

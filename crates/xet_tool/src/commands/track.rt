@@ -3,7 +3,7 @@ ghost use Rattle.std.specs.Prelude.{List};
 ghost use Rattle.xet_store.specs.Taps.{TapTold};
 ghost use Rattle.xet_tool.specs.Ends.{input_limit};
 ghost use Rattle.xet_tool.specs.Outcome.{IsFlushed};
-ghost use Rattle.xet_tool.specs.Track.{ScriptFrom, TrackOutcome};
+ghost use Rattle.xet_tool.specs.commands.Track.{ScriptFrom, TrackOutcome};
 
 use crate::printing::{print_text, say, stopped};
 use crate::reading::{LIMIT, ReadError, read_to_end};

@@ -39,8 +39,10 @@ fn run_on_one<C: Client + Send, O: Sink + Send>(
 ) -> Result<u64, FileReconstructionError>
     requires { FitsInMemory C.row }
     ensures { Legal (setup_of wanted)
-        (told_of_one (C.told client.old) (⟦<NoCache as ChunkCache>⟧.told (record {})) (⟦<NeverCancel as CancelSignal>⟧.told (record {})) (O.told out.old))
-        (told_of_one (C.told client.new) (⟦<NoCache as ChunkCache>⟧.told (record {})) (⟦<NeverCancel as CancelSignal>⟧.told (record {})) (O.told out.new)) result }
+        (told_of_one (C.told client.old) (⟦<NoCache as ChunkCache>⟧.told (record {}))
+        (⟦<NeverCancel as CancelSignal>⟧.told (record {})) (O.told out.old))
+        (told_of_one (C.told client.new) (⟦<NoCache as ChunkCache>⟧.told (record {}))
+        (⟦<NeverCancel as CancelSignal>⟧.told (record {})) (O.told out.new)) result }
 {
     FileReconstructor::new(wanted.file, Steady { size: 0 })
         .with_byte_range(wanted.range)

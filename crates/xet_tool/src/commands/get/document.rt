@@ -1,5 +1,5 @@
 //! Reads a store from a JSON document.
-ghost use Rattle.std.specs.Prelude.{◌≡◌, ◌≢◌, IfOk, MatchOption, cond, length, map, option_and_then, option_map};
+ghost use Rattle.std.specs.Prelude.{◌≡◌, ◌≢◌, [], IfOk, MatchOption, cond, length, map, option_and_then, option_map};
 ghost use Rattle.serde_json.specs.Find.{as_array};
 ghost use Rattle.serde_json.specs.View.{items_view, members_view, view};
 ghost use Rattle.serde_json.specs.Written.{has_float};
@@ -10,7 +10,7 @@ ghost use Rattle.xet_tool.specs.steps.AddedMembers.{AddsFiles, AddsXorbs};
 ghost use Rattle.xet_tool.specs.steps.ChunkEnds.{AddsChunk, AreEnds};
 ghost use Rattle.xet_tool.specs.Document.{IsDocumentOf, IsNoDocument, chunk_of, chunk_of_text, chunks_of_items, number_of_data, term_of_items, terms_of_items, xorb_of_member};
 
-use crate::commands::get::hex_digits::decode_digits;
+use crate::commands::get::hex_digits::{decode_digits, hash_of};
 use bytes::Bytes;
 use serde_json::{Map, Value};
 use std::alloc::Global;
@@ -68,12 +68,19 @@ fn add_chunk(value: &Value, bytes: &mut Vec<u8>) -> Result<bool, OutOfMemory>
     }
 }
 
+// An empty list with room for so many items.
+fn with_room<T>(alloc: Global, count: usize) -> Result<List<T>, OutOfMemory>
+    ensures { IfOk result (λ made. made ≡ []) }
+{
+    Ok(List::from_vec(Vec::with_capacity(alloc, count)?))
+}
+
 // Cuts the bytes at the ends of the chunks.
 fn cut(alloc: Global, bytes: &Bytes, ends: &[usize]) -> Result<List<Bytes>, OutOfMemory>
     requires { AreEnds 0 ends.now (length bytes.now) }
     ensures { IfOk result (λ chunks. chunks ≡ parts bytes.now 0 ends.now) }
 {
-    let mut chunks = List::new(alloc);
+    let mut chunks = with_room(alloc, ends.len())?;
     let mut start = 0;
     for end in ends {
         chunks.push(bytes.slice(start..*end)?)?;
@@ -87,7 +94,7 @@ fn chunks_of(alloc: Global, items: &[Value]) -> Result<Option<List<Bytes>>, OutO
     ensures { IfOk result (λ o. o ≡ chunks_of_items (items_view items.now)) }
 {
     let mut joined = Vec::new(alloc);
-    let mut ends = Vec::new(alloc);
+    let mut ends = Vec::with_capacity(alloc, items.len())?;
     for item in items {
         if !add_chunk(item, &mut joined)? {
             return Ok(None);
@@ -102,7 +109,7 @@ fn chunks_of(alloc: Global, items: &[Value]) -> Result<Option<List<Bytes>>, OutO
 fn xorb_of(alloc: Global, key: &str, value: &Value) -> Result<Option<Xorb>, OutOfMemory>
     ensures { IfOk result (λ o. o ≡ xorb_of_member key.now (view value.now)) }
 {
-    let Ok(hash) = MerkleHash::from_hex(key) else {
+    let Some(hash) = hash_of(key) else {
         return Ok(None);
     };
     let Some(items) = value.as_array() else {
@@ -129,7 +136,7 @@ fn term_of(value: &Value) -> Option<FileDataSequenceEntry>
     let items = value.as_array()?;
     match items.as_slice() {
         [xorb, from, to] => Some(FileDataSequenceEntry {
-            xorb: MerkleHash::from_hex(xorb.as_str()?).ok()?,
+            xorb: hash_of(xorb.as_str()?)?,
             from: number(from)?,
             to: number(to)?,
             bytes: 0,
@@ -143,12 +150,13 @@ fn terms_of(
     alloc: Global,
     value: &Value,
 ) -> Result<Option<List<FileDataSequenceEntry>>, OutOfMemory>
-    ensures { IfOk result (λ o. option_map (map stored_term) o ≡ option_and_then terms_of_items (as_array (view value.now))) }
+    ensures { IfOk result (λ o. option_map (map stored_term) o
+        ≡ option_and_then terms_of_items (as_array (view value.now))) }
 {
     let Some(items) = value.as_array() else {
         return Ok(None);
     };
-    let mut terms = List::new(alloc);
+    let mut terms = with_room(alloc, items.as_slice().len())?;
     for item in items {
         let Some(term) = term_of(item) else {
             return Ok(None);
@@ -160,7 +168,8 @@ fn terms_of(
 
 // Whether the store took what was added to it.
 fn was_added(answer: Result<(), StoreRefused>) -> Result<bool, OutOfMemory>
-    ensures { IfOk result (λ added. cond added (answer ≡ Ok tt) ((refused : StoreRefused) × (answer ≡ Err refused) × (refused ≢ StoreRefused.OutOfMemory))) }
+    ensures { IfOk result (λ added. cond added (answer ≡ Ok tt)
+        ((refused : StoreRefused) × (answer ≡ Err refused) × (refused ≢ StoreRefused.OutOfMemory))) }
 {
     match answer {
         Ok(()) => Ok(true),

@@ -1,10 +1,13 @@
-//! Bytes that hexadecimal digits spell.
+//! Bytes and hashes that hexadecimal digits spell.
 //!
 //! The crate `hex` gives the meaning. Its decoding branches on each digit, which takes most of the time of a large
 //! document; the pass here looks each digit up in a table, and has no branch.
 ghost use Rattle.std.specs.Prelude.{◌≡◌, ◌*◌, MatchOption, false, length, true, unwrap_or};
 ghost use Rattle.std.specs.Result.{result_ok};
 ghost use Rattle.hex.specs.Hex.{decode_of, hex_digit_value};
+ghost use Rattle.xet_base.specs.HashText.{hash_of_text};
+
+use xet_base::MerkleHash;
 
 // The value of each byte as a digit of either case, and 255 where it is none.
 const VALUES: [u8; 256] = [
@@ -34,7 +37,8 @@ fn value(digit: u8) -> u8
 /// Writes the bytes that the digits spell, two digits of either case for each byte, and answers whether all are digits.
 pub fn decode_digits(text: &[u8], bytes: &mut [u8]) -> bool
     requires { length text.now ≡ 2 * length bytes.old }
-    ensures { MatchOption (result_ok (decode_of text.now)) (result ≡ false) (λ found. (result ≡ true) × (bytes.new ≡ found)) }
+    ensures { MatchOption (result_ok (decode_of text.now)) (result ≡ false)
+        (λ found. (result ≡ true) × (bytes.new ≡ found)) }
 {
     let mut all = true;
     'bytes: for i in 0..bytes.len() {
@@ -44,4 +48,19 @@ pub fn decode_digits(text: &[u8], bytes: &mut [u8]) -> bool
         bytes[i] = high.wrapping_mul(16).wrapping_add(low);
     }
     all
+}
+
+/// The hash that a text spells, or none where it isn't 64 digits.
+pub fn hash_of(text: &str) -> Option<MerkleHash>
+    ensures { result ≡ hash_of_text text.now }
+{
+    if text.len() != 64 {
+        return None;
+    }
+    let mut bytes = [0; 32];
+    if decode_digits(text.as_bytes(), bytes.as_mut_slice()) {
+        Some(MerkleHash(bytes))
+    } else {
+        None
+    }
 }

@@ -24,15 +24,11 @@ IsCutScript script before after =
 -- by the status: the whole text with 0 and 2
 abbrev pub ScriptFrom : List ℕ → SinkTold → SinkTold → Status → Type 0
 ScriptFrom script before after Done = (track_reads script ≡ true) × Took before.took after.took (track_text script)
-ScriptFrom script before after BadWords = ⊥
-ScriptFrom script before after BadStore = ⊥
-ScriptFrom script before after BadScript = (track_reads script ≡ false) × Took before.took after.took (track_text script)
-ScriptFrom script before after NotFound = ⊥
-ScriptFrom script before after ReadFault = ⊥
+ScriptFrom script before after BadScript =
+    (track_reads script ≡ false) × Took before.took after.took (track_text script)
 ScriptFrom script before after WriteFault = Rose before.faults after.faults × IsCutScript script before after
 ScriptFrom script before after NoMemory = IsCutScript script before after
-ScriptFrom script before after TooLong = ⊥
-ScriptFrom script before after (BadBlock number) = ⊥
+ScriptFrom script before after _ = ⊥
 
 -- ---- the statuses
 
@@ -73,15 +69,12 @@ IsCutTrack limit before after =
 
 abbrev pub TrackStatus : ℕ → Told → Told → Status → Type 0
 TrackStatus limit before after Done = TrackRun limit before after Done
-TrackStatus limit before after BadWords = ⊥
-TrackStatus limit before after BadStore = ⊥
 TrackStatus limit before after BadScript = TrackRun limit before after BadScript
-TrackStatus limit before after NotFound = ⊥
 TrackStatus limit before after ReadFault = TrackReadFault before after
 TrackStatus limit before after WriteFault = Rose before.sink.faults after.sink.faults × IsCutTrack limit before after
 TrackStatus limit before after NoMemory = IsCutTrack limit before after
 TrackStatus limit before after TooLong = TrackTooLong limit before after
-TrackStatus limit before after (BadBlock number) = ⊥
+TrackStatus limit before after _ = ⊥
 
 -- `track` over an input, by its status; no tap is asked
 pub record TrackOutcome (limit : ℕ) (before after : Told) (status : Status) : Type 0 where

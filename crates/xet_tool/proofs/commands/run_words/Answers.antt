@@ -1,8 +1,8 @@
 use Rattle.std.proofs.Common.{map, rules, ◌≡◌}
 use Rattle.std.specs.Prelude.{Some, string_bytes}
-use Rattle.xet_tool.specs.declared.words.Command.TheVariants.{Track}
-use Rattle.xet_tool.specs.Words.{command_of}
-use Rattle.xet_tool.proofs.tool.run_words.Goals as goal
+use Rattle.xet_tool.specs.declared.commands.Command.TheVariants.{Track}
+use Rattle.xet_tool.specs.commands.{command_of}
+use Rattle.xet_tool.proofs.commands.run_words.Goals as goal
 
 pub returns-in-Some-Track-clause-outcome : goal.returns-in-Some-Track-clause-outcome
 returns-in-Some-Track-clause-outcome g c =

@@ -123,12 +123,12 @@ IsCut limit wanted before after =
 -- `get` over an input, by its status
 abbrev pub GetOutcome : ℕ → Wanted → Told → Told → Status → Type 0
 GetOutcome limit wanted before after Done = GetDone limit wanted before after
-GetOutcome limit wanted before after BadWords = ⊥
 GetOutcome limit wanted before after BadStore = GetBadStore limit before after
-GetOutcome limit wanted before after BadScript = ⊥
 GetOutcome limit wanted before after NotFound = GetNotFound limit wanted before after
 GetOutcome limit wanted before after ReadFault = GetReadFault before after
-GetOutcome limit wanted before after WriteFault = Rose before.sink.faults after.sink.faults × IsCut limit wanted before after
+GetOutcome limit wanted before after WriteFault =
+    Rose before.sink.faults after.sink.faults × IsCut limit wanted before after
 GetOutcome limit wanted before after NoMemory = IsCut limit wanted before after
 GetOutcome limit wanted before after TooLong = GetTooLong limit before after
 GetOutcome limit wanted before after (BadBlock number) = GetBadBlock limit wanted before after number
+GetOutcome limit wanted before after _ = ⊥
