@@ -11,9 +11,9 @@ use Rattle.xet_base.specs.declared.mdb_shard.FileDataSequenceEntry.{FileDataSequ
 use Rattle.xet_base.specs.declared.mdb_shard.MDBXorbInfo.{MDBXorbInfo}
 use Rattle.xet_base.specs.Hashes.{hash_eq}
 use Rattle.xet_base.proofs.CallerLemmas.{hash_eq-true}
-use Rattle.xet_store.specs.declared.xorb_records.ChunkPlace.{ChunkPlace}
-use Rattle.xet_store.specs.XorbRecords.{first_with}
-use Rattle.xet_store.proofs.CallerLemmas.{IsFirstIn, first_with-is}
+use Rattle.xet_uploader.specs.declared.xorb_records.ChunkPlace.{ChunkPlace}
+use Rattle.xet_uploader.specs.XorbRecords.{first_with}
+use Rattle.xet_uploader.proofs.CallerLemmas.{IsFirstIn, first_with-is}
 use Rattle.xet_shards.specs.Runs.{counted, run_of, term_at, run_at, find_run, find_in, IsRun}
 
 pub length-counted : (x : MDBXorbInfo) → length (counted x) < 2 ^ 32

@@ -6,7 +6,7 @@ use Rattle.xet_base.specs.declared.mdb_shard.ChunkInfo.{ChunkInfo}
 use Rattle.xet_base.specs.declared.mdb_shard.FileDataSequenceEntry.{FileDataSequenceEntry}
 use Rattle.xet_base.specs.declared.mdb_shard.MDBXorbInfo.{MDBXorbInfo}
 use Rattle.xet_base.specs.Hashes.{hash_eq}
-use Rattle.xet_store.specs.XorbRecords.{first_with}
+use Rattle.xet_uploader.specs.XorbRecords.{first_with}
 
 -- the chunks that a term can name
 unfoldable pub counted : MDBXorbInfo → List ChunkInfo

@@ -1,5 +1,5 @@
 -- What a store of records tells, and what one call of it may change.
-use Rattle.std.specs.Prelude.{ℕ, ◌≡◌, ◌≤◌, List, [], ◌++◌, Option, IfSome, option_map, Result, IfOk, OnOk, OnErr, IsErrOf}
+use Rattle.std.specs.Prelude.{ℕ, ◌≡◌, ◌↔◌, ◌≤◌, ◌+◌, ◌-◌, ◌^◌, min, List, [], ◌++◌, Contains, Option, IfSome, option_map, Result, Ok, Err, IfOk, OnOk, OnErr, IsErrOf}
 use Rattle.xet_base.specs.declared.merklehash.MerkleHash.{MerkleHash}
 use Rattle.xet_base.specs.declared.mdb_shard.FileDataSequenceEntry.{FileDataSequenceEntry}
 use Rattle.xet_base.specs.declared.mdb_shard.MDBFileInfo.{MDBFileInfo}
@@ -8,6 +8,7 @@ use Rattle.xet_outside.specs.Told.{Rose}
 use Rattle.xet_shards.specs.declared.shard_store.ShardError.{ShardError}
 use Rattle.xet_shards.specs.declared.shard_store.ShardError.TheVariants as shard_error
 use Rattle.xet_shards.specs.Runs.{IsRun, find_in}
+use Rattle.xet_uploader.specs.declared.fault_script.FaultScript.{FaultScript}
 
 pub record ShardsTold : Type 0 where
   pub records : Option ShardRecord
@@ -52,3 +53,17 @@ pub record ClearCall (before after : ShardsTold) (answer : Result (Unit {0}) Sha
   pub kept : OnErr answer (after.records ≡ before.records)
   pub faults : before.faults ≤ after.faults
   pub failed : IsErrOf answer shard_error.Failed → Rose before.faults after.faults
+
+-- a count of faults after a call: one that failed makes it one more, or leaves it at its last value, and every other
+-- answer leaves it
+abbrev pub CountsFailed : {A : Type 0} → ℕ → ℕ → Result A ShardError → Type 0
+CountsFailed before after (Err shard_error.Failed) = after ≡ min (before + 1) (2 ^ 64 - 1)
+CountsFailed before after (Err shard_error.OutOfMemory) = after ≡ before
+CountsFailed before after (Ok a) = after ≡ before
+
+-- one call of a store that fails by a script
+pub record FollowsScript {A : Type 0} (before after : FaultScript) (answer : Result A ShardError) : Type 0 where
+  pub failed : IsErrOf answer shard_error.Failed ↔ Contains before.fails.items before.calls
+  pub faults : CountsFailed before.faults after.faults answer
+  pub calls : after.calls ≡ min (before.calls + 1) (2 ^ 64 - 1)
+  pub fails : after.fails ≡ before.fails

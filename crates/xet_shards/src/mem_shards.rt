@@ -10,7 +10,7 @@ use xet_base::{
     ChunkInfo, FileDataSequenceEntry, List, MDBFileInfo, MDBXorbInfo, MerkleHash, OutOfMemory,
     ShardRecord,
 };
-use xet_store::XorbRecords;
+use xet_uploader::XorbRecords;
 
 /// Records in memory, in which chunks are found through an ordered map. It never fails.
 #[derive(Drop)]

@@ -5,8 +5,5 @@ pub mod MemUrls
 pub mod Parts
 pub mod Refusals
 pub mod Scripts
-pub mod StoresAfter
 pub mod Taps
-pub mod Uploads
-pub mod XorbRecords
 pub mod steps

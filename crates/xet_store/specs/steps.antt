@@ -1,4 +1,3 @@
-pub mod ChunkPlaces
 pub mod Joined
 pub mod MemPlans
 pub mod TermRefusals

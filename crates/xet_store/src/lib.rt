@@ -2,6 +2,7 @@
 #![tactic(auto)]
 
 pub mod client_log;
+pub mod joined_xorb;
 pub mod laws;
 mod look_log;
 pub mod map_cache;
@@ -11,7 +12,6 @@ mod mem_cut;
 mod mem_fetch;
 mod mem_plan;
 pub mod mem_store;
-pub mod mem_uploader;
 pub mod script_client;
 pub mod script_signal;
 mod stored_xorb;
@@ -19,19 +19,16 @@ pub mod tap;
 pub mod tap_client;
 mod tap_log;
 mod touched_chunks;
-pub mod uploader;
 pub mod worked;
-pub mod xorb_records;
 
+pub use joined_xorb::JoinedXorb;
 pub use map_cache::MapCache;
 pub use mem_client::MemClient;
 pub use mem_store::{MemStore, StoreRefused};
-pub use mem_uploader::MemUploader;
 pub use script_client::{ClientStep, ScriptClient};
 pub use script_signal::ScriptSignal;
 pub use tap::{MemTap, NoTap, ScriptTap, Tap};
 pub use tap_client::TapClient;
-pub use uploader::{Put, Uploader};
 pub use xet_outside::{
     BlockAnswer, BlockBytes, BlockRequest, CacheError, CancelSignal, ChunkCache, Client,
     ClientError, FetchEntry, FetchRange, NeverCancel, NoCache, PlaceSink, Plan, PlanAnswer,
@@ -42,4 +39,3 @@ pub use xet_sinks::{
     BufferedSink, FileSink, HexSink, MemFile, ReadSource, ScriptSink, ScriptSource, SinkStep,
     SourceStep, VecSink, VecSource, WriteSink,
 };
-pub use xorb_records::{ChunkPlace, XorbRecords};

@@ -8,8 +8,6 @@ use xet_outside::CancelSignal;
 #[derive(Drop)]
 pub struct ScriptSignal {
     answers: Vec<bool>,
-    // how many answers were given
-    given: usize,
     asks: u64,
     yes: u64,
 }
@@ -19,11 +17,9 @@ impl ScriptSignal {
     pub fn new(answers: Vec<bool>) -> ScriptSignal
         ensures told { ⟦<ScriptSignal as CancelSignal>⟧.told result ≡ record { asks = Some 0; yes = 0 } }
         ensures answers { result.answers.items ≡ answers.items }
-        ensures given { result.given ≡ 0 }
     {
         ScriptSignal {
             answers,
-            given: 0,
             asks: 0,
             yes: 0,
         }
@@ -33,20 +29,25 @@ impl ScriptSignal {
 impl CancelSignal for ScriptSignal {
     ghost told = { λ s. record { asks = Some s.asks; yes = s.yes } };
 
-    /// The next answer, and no after the last.
+    /// The answer that stands in the list at the number of earlier asks, and no after the last. The list stays.
     fn asked(&mut self) -> bool
         ensures call { AskCall (⟦<ScriptSignal as CancelSignal>⟧.told self.old)
             (⟦<ScriptSignal as CancelSignal>⟧.told self.new) result }
-        ensures answer { result ≡ unwrap_or (slice_get self.old.answers.items self.old.given) false }
+        ensures answer { result ≡ unwrap_or (slice_get self.old.answers.items self.old.asks) false }
+        ensures same { self.new.answers ≡ self.old.answers }
     {
+        let answer = answer_at(self.answers.as_slice(), self.asks);
         self.asks = self.asks.saturating_add(1);
-        let Some(answer) = self.answers.as_slice().get(self.given).copied() else {
-            return false;
-        };
-        self.given += 1;
         if answer {
             self.yes = self.yes.saturating_add(1);
         }
         answer
     }
+}
+
+// The answer with this number, and no after the last.
+fn answer_at(answers: &[bool], number: u64) -> bool
+    ensures { result ≡ unwrap_or (slice_get answers.now number) false }
+{
+    answers.get(number as usize).copied().unwrap_or(false)
 }

@@ -1,6 +1,0 @@
-use Rattle.std.proofs.Common.{◌≡◌, drop}
-use Rattle.xet_store.specs.StoresAfter.{with_files}
-use Rattle.xet_store.proofs.mem_uploader.add_files.Given as goal
-
-abbrev pub invariant-loop-file : goal.invariant-loop-file
-invariant-loop-file l = with_files l.fn.store l.files ≡ with_files l.store (drop l.file-index l.files)

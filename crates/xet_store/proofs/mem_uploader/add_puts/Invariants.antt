@@ -1,6 +1,0 @@
-use Rattle.std.proofs.Common.{◌≡◌, drop}
-use Rattle.xet_store.specs.StoresAfter.{store_after}
-use Rattle.xet_store.proofs.mem_uploader.add_puts.Given as goal
-
-abbrev pub invariant-loop-put : goal.invariant-loop-put
-invariant-loop-put l = store_after l.fn.store l.puts ≡ store_after l.store (drop l.put-index l.puts)

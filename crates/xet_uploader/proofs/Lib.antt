@@ -1,0 +1,4 @@
+pub mod AfterLogs
+pub mod CallerLemmas
+pub mod ChunkFinds
+pub mod NotedChunks

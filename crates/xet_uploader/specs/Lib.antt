@@ -1,0 +1,4 @@
+pub mod StoresAfter
+pub mod Uploads
+pub mod XorbRecords
+pub mod steps
