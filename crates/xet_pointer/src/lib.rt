@@ -2,9 +2,11 @@
 #![tactic(auto)]
 
 pub mod laws;
+mod optional_text_field;
 pub mod pointer_error;
 mod read_fields;
 pub mod session_context;
+mod text_field;
 pub mod translator_config;
 mod written_fields;
 pub mod xet_file_info;

@@ -9,6 +9,7 @@ ghost use Rattle.xet_pointer.specs.Pointers.{pointer_of, pointer_text};
 use crate::pointer_error::PointerError;
 use crate::read_fields::{hash_in, refusal, sha256_in, size_in};
 use crate::written_fields::{push_quoted, push_sha256, push_size};
+use serde::{Deserialize, Serialize};
 use serde_json::Value;
 use std::alloc::Global;
 use xet_base::{DataHashHexParseError, MerkleHash, OutOfMemory, Text};
@@ -16,14 +17,19 @@ use xet_base::{DataHashHexParseError, MerkleHash, OutOfMemory, Text};
 /// What a pointer file says of a file: the text of its hash, and, where they are known, how many bytes it has and the
 /// text of its SHA-256. The texts are as they were given: `merkle_hash` is the test of the first.
 ///
+/// serde writes it as an object with the keys `hash`, `file_size` and `sha256`, and leaves out what is not known.
+///
 /// In the Rust crate xet-data: `processing::XetFileInfo`.
-#[derive(PartialEq, Eq, Debug, Drop)]
+#[derive(PartialEq, Eq, Debug, Drop, Serialize, Deserialize)]
 pub struct XetFileInfo {
     /// The text of the file's hash.
+    #[serde(with = "crate::text_field")]
     pub hash: Text,
     /// The number of the file's bytes.
+    #[serde(default, skip_serializing_if = "Option::is_none")]
     pub file_size: Option<u64>,
     /// The text of the SHA-256 of the file's bytes.
+    #[serde(default, skip_serializing_if = "Option::is_none", with = "crate::optional_text_field")]
     pub sha256: Option<Text>,
 }
 

@@ -4,4 +4,6 @@
 #[cfg(test)]
 mod pointer_tests;
 #[cfg(test)]
+mod serde_tests;
+#[cfg(test)]
 mod setting_tests;

@@ -7,10 +7,10 @@ use Rattle.std.proofs.lemmas.List.Elements.{All-weaker, Contains-append_left, Co
 use Rattle.xet_base.specs.declared.merklehash.MerkleHash.{MerkleHash}
 use Rattle.xet_base.specs.declared.mdb_shard.Xorb.{Xorb}
 use Rattle.xet_base.specs.declared.mdb_shard.ShardRecord.{ShardRecord}
-use Rattle.xet_store.specs.declared.uploader.Put.{Put}
-use Rattle.xet_store.specs.declared.uploader.Put.TheVariants as put
-use Rattle.xet_store.specs.Uploads.{xorbs_in}
-use Rattle.xet_store.proofs.CallerLemmas.{xorbs_in-append}
+use Rattle.xet_uploader.specs.declared.uploader.Put.{Put}
+use Rattle.xet_uploader.specs.declared.uploader.Put.TheVariants as put
+use Rattle.xet_uploader.specs.Uploads.{xorbs_in}
+use Rattle.xet_uploader.proofs.CallerLemmas.{xorbs_in-append}
 use Rattle.xet_base.specs.declared.mdb_shard.MDBXorbInfo.{MDBXorbInfo}
 use Rattle.xet_upload.specs.Laws.{BackedWithKnown, BackedWithMore, PutIsThere, ThereWithMore}
 use Rattle.xet_upload.specs.Orders.{put_hashes, names_of, IsThere, IsOrdered}

@@ -15,11 +15,11 @@ use Rattle.xet_base.specs.declared.stored.StoredFile.{StoredFile}
 use Rattle.xet_base.specs.Hashes.{hash_eq}
 use Rattle.xet_base.specs.Store.{Store, xorb_of, chunks_of, file_of, chunks_of_term, bytes_of}
 use Rattle.xet_store.specs.Refusals.{stored_term}
-use Rattle.xet_store.specs.declared.uploader.Put.{Put}
-use Rattle.xet_store.specs.declared.uploader.Put.TheVariants as put
-use Rattle.xet_store.specs.Uploads.{xorbs_in}
-use Rattle.xet_store.specs.StoresAfter.{file_of_record, files_in, store_after}
-use Rattle.xet_store.proofs.CallerLemmas.{after_finds_files, after_finds_xorbs, xorbs_in-append}
+use Rattle.xet_uploader.specs.declared.uploader.Put.{Put}
+use Rattle.xet_uploader.specs.declared.uploader.Put.TheVariants as put
+use Rattle.xet_uploader.specs.Uploads.{xorbs_in}
+use Rattle.xet_uploader.specs.StoresAfter.{file_of_record, files_in, store_after}
+use Rattle.xet_uploader.proofs.CallerLemmas.{after_finds_files, after_finds_xorbs, xorbs_in-append}
 use Rattle.xet_base.proofs.CallerLemmas.{hash_eq-true, eq-hash_eq}
 use Rattle.xet_upload.specs.declared.waiting.WaitingTerm.{WaitingTerm}
 use Rattle.xet_base.specs.Digests.{infos_of, xorb_hash_of}

@@ -10,9 +10,9 @@ use Rattle.xet_base.specs.declared.mdb_shard.Xorb.{Xorb}
 use Rattle.xet_base.specs.Digests.{chunk_hash_of, file_hash_of, info_of, infos_of, xorb_hash_of}
 use Rattle.xet_base.specs.Hashes.{hash_eq}
 use Rattle.xet_base.specs.Store.{Store, bytes_of, chunks_of, file_of}
-use Rattle.xet_store.specs.declared.uploader.Put.{Put}
-use Rattle.xet_store.specs.declared.uploader.Put.TheVariants as put
-use Rattle.xet_store.specs.StoresAfter.{files_in, store_after}
+use Rattle.xet_uploader.specs.declared.uploader.Put.{Put}
+use Rattle.xet_uploader.specs.declared.uploader.Put.TheVariants as put
+use Rattle.xet_uploader.specs.StoresAfter.{files_in, store_after}
 use Rattle.xet_upload.specs.declared.waiting.WaitingTerm.{WaitingTerm}
 use Rattle.xet_upload.specs.FileDatas.{FoundAdded, OwnAdded, Parts, PartsStand, cut_parts, no_parts}
 use Rattle.xet_upload.specs.Orders.{IsBacked, IsOrdered, IsThere, names_of}

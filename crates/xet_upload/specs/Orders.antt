@@ -4,9 +4,9 @@ use Rattle.std.specs.List.{flat_map}
 use Rattle.xet_base.specs.declared.merklehash.MerkleHash.{MerkleHash}
 use Rattle.xet_base.specs.declared.mdb_shard.MDBFileInfo.{MDBFileInfo}
 use Rattle.xet_base.specs.declared.mdb_shard.ShardRecord.{ShardRecord}
-use Rattle.xet_store.specs.declared.uploader.Put.{Put}
-use Rattle.xet_store.specs.declared.uploader.Put.TheVariants as put
-use Rattle.xet_store.specs.Uploads.{xorbs_in}
+use Rattle.xet_uploader.specs.declared.uploader.Put.{Put}
+use Rattle.xet_uploader.specs.declared.uploader.Put.TheVariants as put
+use Rattle.xet_uploader.specs.Uploads.{xorbs_in}
 
 -- the hashes of the xorbs that were put
 abbrev pub put_hashes : List Put → List MerkleHash

@@ -7,8 +7,8 @@ use Rattle.xet_base.specs.declared.mdb_shard.FileDataSequenceEntry.{FileDataSequ
 use Rattle.xet_base.specs.declared.mdb_shard.MDBXorbInfo.{MDBXorbInfo}
 use Rattle.xet_base.specs.Digests.{chunk_hash_of, infos_of}
 use Rattle.xet_base.specs.Store.{Store, xorb_of, chunks_of}
-use Rattle.xet_store.specs.declared.uploader.Put.{Put}
-use Rattle.xet_store.specs.Uploads.{xorbs_in}
+use Rattle.xet_uploader.specs.declared.uploader.Put.{Put}
+use Rattle.xet_uploader.specs.Uploads.{xorbs_in}
 use Rattle.xet_upload.specs.declared.waiting.TermXorb.{TermXorb}
 use Rattle.xet_upload.specs.declared.waiting.TermXorb.TheVariants.{Own, Stored}
 use Rattle.xet_upload.specs.declared.waiting.WaitingTerm.{WaitingTerm}

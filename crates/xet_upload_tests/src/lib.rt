@@ -5,6 +5,8 @@
 #[cfg(test)]
 mod errors;
 #[cfg(test)]
+mod failing;
+#[cfg(test)]
 mod made;
 #[cfg(test)]
 mod parts;

@@ -36,6 +36,15 @@ fn cuts_by_size_within_the_limits(rt: HostRuntime) -> Result<(), Fail> {
     Ok(())
 }
 
+#[test]
+fn a_cutter_cuts_behind_a_reference(rt: HostRuntime) -> Result<(), Fail> {
+    let mut cutter = FixedCutter { size: 2 };
+    let mut behind = &mut cutter;
+    assert_eq!(rt; next_cut(&mut behind, b"abc", false), Some(2));
+    assert_eq!(rt; cutter.size, 2);
+    Ok(())
+}
+
 /// Adds a chunk that was not found, where it has a byte and fits.
 fn add(alloc: Global, parts: &mut FileParts, text: &str) -> Result<(), OutOfMemory> {
     let bytes = chunk(alloc, text)?;

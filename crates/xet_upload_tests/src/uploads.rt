@@ -4,7 +4,8 @@ use std::alloc::Global;
 use std::test::Fail;
 use xet_base::{FileRange, MerkleHash, OutOfMemory};
 use xet_outside::{Client, ClientError, PlanAnswer};
-use xet_store::{MemClient, MemStore, MemUploader, Put, Uploader};
+use xet_store::{MemClient, MemStore};
+use xet_uploader::{MemUploader, Put, Uploader};
 
 fn uploader(alloc: Global, fails: &[u64]) -> Result<MemUploader, OutOfMemory> {
     let fails = Vec::from_slice(alloc, fails)?;
