@@ -10,7 +10,7 @@ use Rattle.xet_progress.specs.declared.error.ProgressError.{ProgressError}
 use Rattle.xet_progress.specs.declared.error.ProgressError.TheVariants.{OutOfMemory, InvalidOperation}
 use Rattle.xet_progress.specs.declared.item.ItemProgress.{ItemProgress}
 use Rattle.xet_progress.specs.declared.item.ItemProgressReport.{ItemProgressReport}
-use Rattle.xet_progress.specs.Group.{Change, Group, ItemAnswer, ItemCall, item_of, more_completed, more_transferred, refusal_at, sized, transfer_sized}
+use Rattle.xet_progress.specs.Group.{Change, Group, IsSound, ItemAnswer, ItemCall, item_of, more_completed, more_transferred, refusal_at, sized, transfer_sized}
 use Rattle.xet_progress.specs.Items.{blank_item, report_of}
 use Rattle.xet_progress.specs.Held.{Held, UpdaterCall, known_answer, said_or}
 
@@ -78,9 +78,9 @@ said_else before now id f other (Err OutOfMemory) c m = absurd (m refl)
 said_else before now id f other (Err (InvalidOperation why)) c m = said_none before now id f other why c
 
 -- a reading call that answered Ok
-pub held_ok : {A E : Type 0} (P : A → Group → Type 0) (before now : Group) (answer : Result A E) → IfOk answer (λ a. P a before) → now ≡ before → IfOk answer (λ a. Held (λ b n. P a b × (n ≡ b)))
-held_ok P before now (Ok a) p same = record { before = before; now = now; call = (p, same) }
-held_ok P before now (Err e) p same = tt
+pub held_ok : {A E : Type 0} (P : A → Group → Type 0) (before now : Group) → IsSound before → (answer : Result A E) → IfOk answer (λ a. P a before) → now ≡ before → IfOk answer (λ a. Held (λ b n. P a b × (n ≡ b)))
+held_ok P before now sound (Ok a) p same = record { before = before; now = now; sound = sound; call = (p, same) }
+held_ok P before now sound (Err e) p same = tt
 
 report_same : (id : UniqueID) (o : Option ItemProgress) → report_of (unwrap_or (option_map (λ (i : ItemProgress). record i { id = id }) o) (blank_item id [])) ≡ unwrap_or (option_map report_of o) (report_of (blank_item id []))
 report_same id None = refl
@@ -89,5 +89,5 @@ report_same id (Some i) = refl
 -- the report of what an item said
 pub reported : {E : Type 0} (id : UniqueID) (x : ItemProgress) (answer : Result ItemProgressReport E) → Held (λ b n. (x ≡ said_or b id (λ i. record i { id = id }) (blank_item id [])) × (n ≡ b))
     → IfOk answer (λ r. r ≡ report_of x) → IfOk answer (λ r. Held (λ b n. (r ≡ said_or b id report_of (report_of (blank_item id []))) × (n ≡ b)))
-reported id x (Ok r) h e = record { before = h.before; now = h.now; call = (e ∙ ap report_of h.call.0 ∙ report_same id (item_of h.before id), h.call.1) }
+reported id x (Ok r) h e = record { before = h.before; now = h.now; sound = h.sound; call = (e ∙ ap report_of h.call.0 ∙ report_same id (item_of h.before id), h.call.1) }
 reported id x (Err z) h e = tt

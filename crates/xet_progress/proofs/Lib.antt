@@ -18,6 +18,7 @@ mod Sums
 mod Groups
 mod Growth
 mod Held
+mod Nothing
 mod Indexed
 mod Named
 mod Unfinished

@@ -5,7 +5,7 @@ use Rattle.std.specs.declared.cmp.Ordering.{Ordering}
 use Rattle.std.specs.declared.cmp.Ordering.TheVariants.{Less, Equal, Greater}
 use Rattle.std.specs.Ordering.{is_eq}
 use Rattle.std.specs.Cmp.{IsTotalOrder}
-use Rattle.std.specs.BTreeMap.{get}
+use Rattle.std.specs.BTreeMap.{BTreeMap, get}
 use Rattle.std.proofs.lemmas.Bool.{false≢true}
 use Rattle.std.proofs.lemmas.Bool.Decides.{nat_tests}
 use Rattle.std.proofs.lemmas.Cmp.{alike_right, tied_itself}
@@ -15,7 +15,7 @@ use Rattle.std.proofs.lemmas.List.Sums.{prefix_len-le-length}
 use Rattle.xet_base.specs.declared.merklehash.MerkleHash.{MerkleHash}
 use Rattle.xet_base.specs.Hashes.{hash_eq}
 use Rattle.xet_progress.specs.declared.recent.Recent.{Recent}
-use Rattle.xet_progress.specs.steps.Indexes.{Indexes, hash_cmp}
+use Rattle.xet_progress.specs.steps.Indexes.{Indexes, first_at, hash_cmp, number_at}
 use Rattle.xet_progress.proofs.Indexed.{position-map}
 use Rattle.xet_progress.proofs.Places.{position_push}
 use Rattle.xet_progress.proofs.Unfinished.{hashes_tied}
@@ -45,18 +45,72 @@ module _ {K : Type 0} {R : K → K → Ordering} (o : IsTotalOrder R) where
   pub remembered : (keys : List K) (r : Recent K) (last key : K) → Indexes R keys r → r.last ≡ Some last → is_eq (R last key) ≡ true → r.number ≡ position (λ z. is_eq (R z key)) keys
   remembered keys r last key ix e h = subst (λ (l : Option K). IfSome l (λ k. r.number ≡ position (λ y. is_eq (R y k)) keys)) e ix.remembered ∙ same_look keys last key h
 
-  -- the index after a key that was not there
-  pub indexes_push : (keys : List K) (r s : Recent K) (key : K) (number : ℕ) → Indexes R keys r → length keys ≡ number → position (λ y. is_eq (R y key)) keys ≡ None
-      → ((q : K) → get R s.numbers q ≡ cond (is_eq (R key q)) (Some number) (get R r.numbers q)) → s.last ≡ Some key → s.number ≡ Some number → Indexes R (keys ++ key ∷ []) s
-  indexes_push keys r s key number ix len none gets last num = record {
+  -- a look by the first key: it is the key, it is another, or there is none
+  pub first_is : (keys : List K) (r : Recent K) (f key : K) → Indexes R keys r → r.first ≡ Some f → is_eq (R f key) ≡ true → Some 0 ≡ position (λ y. is_eq (R y key)) keys
+  first_is keys r f key ix e h = sym (ap (λ (t : Option K). first_at R (get R r.numbers key) key t) e ∙ ap (λ t. cond t (Some 0) (get R r.numbers key)) h) ∙ ix.numbers key
+
+  pub other_is : (keys : List K) (r : Recent K) (f key : K) → Indexes R keys r → r.first ≡ Some f → is_eq (R f key) ≡ false → get R r.numbers key ≡ position (λ y. is_eq (R y key)) keys
+  other_is keys r f key ix e h = sym (ap (λ (t : Option K). first_at R (get R r.numbers key) key t) e ∙ ap (λ t. cond t (Some 0) (get R r.numbers key)) h) ∙ ix.numbers key
+
+  pub none_is : (keys : List K) (r : Recent K) (key : K) → Indexes R keys r → r.first ≡ None → get R r.numbers key ≡ position (λ y. is_eq (R y key)) keys
+  none_is keys r key ix e = sym (ap (λ (t : Option K). first_at R (get R r.numbers key) key t) e) ∙ ix.numbers key
+
+  -- the number of a key in an index after one more key, given the first key
+  grown_at : (first : Option K) (key q : K) (number : ℕ) (a b c : Option ℕ) → first_at R c key first ≡ None → a ≡ cond (is_eq (R key q)) (Some number) b
+      → first_at R a q first ≡ cond (is_eq (R key q)) (Some number) (first_at R b q first)
+  grown_at None key q number a b c absent e = e
+  grown_at (Some f) key q number a b c absent e = go (is_eq (R f q)) refl (is_eq (R key q)) refl
+    where
+      go : (x : Bool) → is_eq (R f q) ≡ x → (y : Bool) → is_eq (R key q) ≡ y → cond x (Some 0) a ≡ cond y (Some number) (cond x (Some 0) b)
+      go true m true n =
+          let h : is_eq (R f key) ≡ true = is_eq-same key q f n ∙ m in
+          let bad : ◌≡◌ {A = Option ℕ} (Some 0) None = sym (ap (λ t. cond t (Some 0) c) h) ∙ absent in
+          absurd (cc)
+      go true m false n = refl
+      go false m true n = e ∙ ap (λ t. cond t (Some number) b) n
+      go false m false n = e ∙ ap (λ t. cond t (Some number) b) n
+
+  pushed : (keys : List K) (r s : Recent K) (key : K) (number : ℕ) → Indexes R keys r → length keys ≡ number → position (λ y. is_eq (R y key)) keys ≡ None
+      → ((q : K) → number_at R s q ≡ cond (is_eq (R key q)) (Some number) (number_at R r q)) → s.last ≡ Some key → s.number ≡ Some number → Indexes R (keys ++ key ∷ []) s
+  pushed keys r s key number ix len none gets last num = record {
     numbers = λ q. gets q ∙ go q (is_eq (R key q)) refl;
     remembered = subst (λ (l : Option K). IfSome l (λ k. s.number ≡ position (λ y. is_eq (R y k)) (keys ++ key ∷ []))) (sym last)
         (num ∙ ap Some (sym len) ∙ sym (position_push (λ y. is_eq (R y key)) keys key none (ap is_eq (tied_itself o key))));
   }
     where
-      go : (q : K) (b : Bool) → is_eq (R key q) ≡ b → cond b (Some number) (get R r.numbers q) ≡ position (λ y. is_eq (R y q)) (keys ++ key ∷ [])
+      go : (q : K) (b : Bool) → is_eq (R key q) ≡ b → cond b (Some number) (number_at R r q) ≡ position (λ y. is_eq (R y q)) (keys ++ key ∷ [])
       go q true e = ap Some (sym len) ∙ sym (position_push (λ y. is_eq (R y q)) keys key (sym (same_look keys key q e) ∙ none) e)
       go q false e = ix.numbers q ∙ sym (position_apart (λ y. is_eq (R y q)) keys key e)
+
+  -- the index after a key that was not there, which the map took
+  pub indexes_push : (keys : List K) (r s : Recent K) (key : K) (number : ℕ) → Indexes R keys r → length keys ≡ number → position (λ y. is_eq (R y key)) keys ≡ None → s.first ≡ r.first
+      → ((q : K) → get R s.numbers q ≡ cond (is_eq (R key q)) (Some number) (get R r.numbers q)) → s.last ≡ Some key → s.number ≡ Some number → Indexes R (keys ++ key ∷ []) s
+  indexes_push keys r s key number ix len none first gets last num =
+      pushed keys r s key number ix len none
+      (λ q. ap (λ (t : Option K). first_at R (get R s.numbers q) q t) first ∙ grown_at r.first key q number (get R s.numbers q) (get R r.numbers q) (get R r.numbers key) (ix.numbers key ∙ none) (gets q))
+      last num
+
+  -- an index of no keys has nothing beside its map, nor in it
+  bare : (first : Option K) (r : Recent K) → r.first ≡ first → Indexes R [] r → (q : K) → get R r.numbers q ≡ None
+  bare None r e ix q = sym (ap (λ (t : Option K). first_at R (get R r.numbers q) q t) e) ∙ ix.numbers q
+  bare (Some f) r e ix q =
+      let here : number_at R r f ≡ Some 0 = ap (λ (t : Option K). first_at R (get R r.numbers f) f t) e ∙ ap (λ t. cond t (Some 0) (get R r.numbers f)) (ap is_eq (tied_itself o f)) in
+      let none : number_at R r f ≡ None = ix.numbers f in
+      absurd (cc)
+
+  -- the index of one key
+  pub indexes_first : (keys : List K) (r s : Recent K) (key : K) (number : ℕ) → number ≡ 0 → Indexes R keys r → length keys ≡ number → s.first ≡ Some key → s.numbers ≡ r.numbers → s.last ≡ Some key → s.number ≡ Some 0
+      → Indexes R (keys ++ key ∷ []) s
+  indexes_first [] r s key number zero_is ix len first same last num = record {
+    numbers = λ q. ap (λ (t : Option K). first_at R (get R s.numbers q) q t) first ∙ ap (λ t. cond (is_eq (R key q)) (Some 0) t) (ap (λ (m : BTreeMap K ℕ). get R m q) same ∙ bare r.first r refl ix q) ∙ go q (is_eq (R key q)) refl;
+    remembered = subst (λ (l : Option K). IfSome l (λ k. s.number ≡ position (λ y. is_eq (R y k)) (key ∷ []))) (sym last)
+        (num ∙ sym (position_push (λ y. is_eq (R y key)) [] key refl (ap is_eq (tied_itself o key))));
+  }
+    where
+      go : (q : K) (b : Bool) → is_eq (R key q) ≡ b → cond b (Some 0) None ≡ position (λ y. is_eq (R y q)) (key ∷ [])
+      go q true e = sym (position_push (λ y. is_eq (R y q)) [] key refl e)
+      go q false e = sym (position_apart (λ y. is_eq (R y q)) [] key e)
+  indexes_first (x ∷ xs) r s key number zero_is ix len first same last num = absurd (omega (arith, len, zero_is))
 
 -- the same index under other terms
 pub indexes_to : {K : Type 0} {R : K → K → Ordering} {keys also : List K} {r : Recent K} → Indexes R keys r → also ≡ keys → Indexes R also r

@@ -1,7 +1,8 @@
 -- What a group counts.
-use Rattle.std.specs.Prelude.{ℕ, ◌≡◌, ◌+◌, ◌-◌, ◌≤◌, max, cond, nat_eq, Bool, List, map, Option, Some, None, IsSome, option_map, Result, IfOk, IfErr, All}
+use Rattle.std.specs.Prelude.{ℕ, ◌≡◌, ◌+◌, ◌-◌, ◌≤◌, ◌<◌, ◌^◌, max, cond, nat_eq, Bool, List, map, Option, Some, None, IsSome, option_map, Result, IfOk, IfErr, All}
 use Rattle.std.specs.List.{sum_by}
-use Rattle.std.specs.Map.{lookup, set_value, values_of}
+use Rattle.std.specs.List.Sorted.{IsStrictlySortedBy}
+use Rattle.std.specs.Map.{keys_of, lookup, set_value, values_of}
 use Rattle.std.specs.BTreeMap.{insert_entry}
 use Rattle.std.specs.Ordering.{nat_cmp, is_eq}
 use Rattle.std.specs.declared.cmp.Ordering.{Ordering}
@@ -25,6 +26,10 @@ pub record Group : Type 0 where
   pub items : List (UniqueID × ItemProgress)
   pub added : ℕ
   pub finished : ℕ
+
+-- the order of the items
+abbrev pub id_cmp : UniqueID → UniqueID → Ordering
+id_cmp a b = nat_cmp a.0 b.0
 
 -- the two ids are the same
 abbrev pub is_id : UniqueID → UniqueID → Bool
@@ -60,6 +65,13 @@ pub record IsWithinItem (i : ItemProgress) : Type 0 where
 pub record IsWithin (g : Group) : Type 0 where
   pub each : All IsWithinItem (values_of g.items)
   pub added_is : g.finished ≤ g.added
+
+-- what is true of every group: completed is at most total, the totals fit 64 bits, and each id stands once, in order
+pub record IsSound (g : Group) : Type 0 where
+  pub within : IsWithin g
+  pub bytes : (group_sums g).total_bytes < 2 ^ 64
+  pub transfer : (group_sums g).total_transfer_bytes < 2 ^ 64
+  pub ordered : IsStrictlySortedBy id_cmp (keys_of g.items)
 
 -- what a call that names an item does: its test, and the item after it
 pub record Change : Type 0 where
@@ -134,10 +146,6 @@ pub record IsGroup (items : List (UniqueID × ItemProgress)) (added finished : �
     (sums : GroupProgressReport) : Type 0 where
   pub sums_are : sums ≡ group_sums (record { items = items; added = added; finished = finished })
   pub within : IsWithin (record { items = items; added = added; finished = finished })
-
--- the order of the items
-abbrev pub id_cmp : UniqueID → UniqueID → Ordering
-id_cmp a b = nat_cmp a.0 b.0
 
 -- a new item, where its id isn't there
 pub record NewItemCall (before now : Group) (id : UniqueID) (name : List ℕ)

@@ -5,12 +5,13 @@ use Rattle.xet_base.specs.declared.invalid.Invalid.TheVariants.{UnknownItem}
 use Rattle.xet_progress.specs.declared.error.ProgressError.{ProgressError}
 use Rattle.xet_progress.specs.declared.error.ProgressError.TheVariants.{InvalidOperation}
 use Rattle.xet_progress.specs.declared.item.ItemProgress.{ItemProgress}
-use Rattle.xet_progress.specs.Group.{Change, Group, ItemCall, item_of}
+use Rattle.xet_progress.specs.Group.{Change, Group, IsSound, ItemCall, item_of}
 
--- on some group the call has this answer; which group it is isn't said
+-- on some group, of which what is true of every group is true, the call has this answer; which group it is isn't said
 pub record Held (P : Group → Group → Type 0) : Type 0 where
   pub before : Group
   pub now : Group
+  pub sound : IsSound before
   pub call : P before now
 
 -- a call on an item, which changes nothing and answers Ok where the item isn't there

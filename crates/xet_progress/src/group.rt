@@ -1,7 +1,7 @@
 //! The plain state of a progress group.
 ghost use Rattle.std.specs.Prelude.{◌≡◌, ◌≢◌, ◌+◌, ◌<◌, ◌≤◌, ◌^◌, [], max, IfSome, IfOk, MatchOption, option_map};
 ghost use Rattle.std.specs.Map.{lookup, set_value};
-ghost use Rattle.xet_progress.specs.Group.{Group, IsWithin, ItemAnswer, ItemCall, NewItemCall, TransferCall, group_completeness, group_sums, is_id, item_of, more_completed, more_transferred, reports_of, sized, sums_completeness, transfer_sized};
+ghost use Rattle.xet_progress.specs.Group.{Group, IsSound, IsWithin, ItemAnswer, ItemCall, NewItemCall, TransferCall, group_completeness, group_sums, is_id, item_of, more_completed, more_transferred, reports_of, sized, sums_completeness, transfer_sized};
 ghost use Rattle.xet_progress.specs.Items.{item_completeness, report_of};
 
 use crate::error::{Incomplete, ProgressError};
@@ -46,6 +46,14 @@ impl GroupState {
             added: 0,
             finished: 0,
         }
+    }
+
+    /// Does nothing. It says of the group what is true of every group.
+    pub(crate) fn sound(&mut self)
+        ensures sound { IsSound self.old }
+        ensures same { self.new ≡ self.old }
+    {
+        let _ = self.items.len();
     }
 
     /// The sums of the group. What is completed is at most the total, of each item, of what was added and of the sums.

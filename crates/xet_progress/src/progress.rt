@@ -76,7 +76,9 @@ impl GroupProgress {
             → Held (λ before now. NewItemCall before now id name.now (Err e))) }
     {
         let updater = GroupProgress::updater(group, id)?;
-        group.state.lock(rt).new_item(alloc, id, name)?;
+        let mut state = group.state.lock(rt);
+        state.sound();
+        state.new_item(alloc, id, name)?;
         Ok(updater)
     }
 
@@ -122,13 +124,15 @@ impl GroupProgress {
         ensures bytes { result.total_bytes_completed ≤ result.total_bytes }
         ensures transfer { result.total_transfer_bytes_completed ≤ result.total_transfer_bytes }
     {
-        self.state.lock(rt).report()
+        let mut state = self.state.lock(rt);
+        state.sound();
+        state.report()
     }
 
     /// Adds to the sums of the bytes to be transferred and of those transferred.
     ///
     /// `SumTooGreat` where the first would pass `u64::MAX`, else `PastTotal` where more would be transferred than was
-    /// added.
+    /// added. Nothing at all is never refused.
     ///
     /// The Rust crate has no such call.
     pub fn add_transfer<R: Wait>(
@@ -137,9 +141,12 @@ impl GroupProgress {
         total: u64,
         completed: u64,
     ) -> Result<(), ProgressError>
-        ensures { Held (λ before now. TransferCall before now total completed result) }
+        ensures call { Held (λ before now. TransferCall before now total completed result) }
+        ensures nothing { total ≡ 0 → completed ≡ 0 → result ≡ Ok tt }
     {
-        self.state.lock(rt).add_transfer(total, completed)
+        let mut state = self.state.lock(rt);
+        state.sound();
+        state.add_transfer(total, completed)
     }
 
     /// The report of an item, or none where no item has this id.
@@ -155,7 +162,9 @@ impl GroupProgress {
         ensures { IfOk result (λ report. Held
             (λ before now. (report ≡ option_map report_of (item_of before id)) × (now ≡ before))) }
     {
-        self.state.lock(rt).item_report(id)
+        let mut state = self.state.lock(rt);
+        state.sound();
+        state.item_report(id)
     }
 
     /// The reports of all items, by id.
@@ -170,7 +179,9 @@ impl GroupProgress {
     ) -> Result<BTreeMap<UniqueID, ItemProgressReport>, OutOfMemory>
         ensures { IfOk result (λ reports. Held (λ before now. (reports.entries ≡ reports_of before) × (now ≡ before))) }
     {
-        self.state.lock(rt).item_reports(alloc)
+        let mut state = self.state.lock(rt);
+        state.sound();
+        state.item_reports(alloc)
     }
 
     /// Whether all is completed: the first pair that differs of the bytes, the transferred bytes, and then of each item
@@ -180,6 +191,8 @@ impl GroupProgress {
     pub fn assert_complete<R: Wait>(&self, rt: &R) -> Result<(), Incomplete>
         ensures { Held (λ before now. (result ≡ group_completeness before) × (now ≡ before)) }
     {
-        self.state.lock(rt).assert_complete()
+        let mut state = self.state.lock(rt);
+        state.sound();
+        state.assert_complete()
     }
 }

@@ -7,10 +7,11 @@ use std::alloc::Global;
 use std::collections::BTreeMap;
 use xet_base::OutOfMemory;
 
-/// The numbers of keys that differ, in an ordered map, and the last key that was looked up with its number, since one
-/// call looks for a key more than once.
+/// The numbers of keys that differ: the first key, whose number is 0, the others in an ordered map, and the last key
+/// that was looked up with its number, since one call looks for a key more than once. An index of one key has no map.
 #[derive(Drop)]
 pub(crate) struct Recent<K: Ord> {
+    pub(crate) first: Option<K>,
     pub(crate) numbers: BTreeMap<K, usize>,
     pub(crate) last: Option<K>,
     pub(crate) number: Option<usize>,
@@ -22,10 +23,25 @@ impl<K: Ord + Copy> Recent<K> {
         ensures { Indexes K.cmp [] result }
     {
         Recent {
+            first: None,
             numbers: BTreeMap::new(alloc),
             last: None,
             number: None,
         }
+    }
+
+    /// The number of a key, or none where it isn't there, without what is remembered.
+    fn look(&self, key: &K) -> Option<usize>
+        ensures { (keys : List K) → Indexes K.cmp keys self.now
+            → result ≡ position (λ y. is_eq (K.cmp y key.now)) keys }
+    {
+        let Some(first) = self.first else {
+            return self.numbers.get(key).copied();
+        };
+        if first.cmp(key).is_eq() {
+            return Some(0);
+        }
+        self.numbers.get(key).copied()
     }
 
     /// The number of a key, or none where it isn't there.
@@ -38,7 +54,7 @@ impl<K: Ord + Copy> Recent<K> {
                 return self.number;
             }
         }
-        self.numbers.get(key).copied()
+        self.look(key)
     }
 
     /// Remembers the number of a key, for the looks after this one.
@@ -58,6 +74,12 @@ impl<K: Ord + Copy> Recent<K> {
             → position (λ y. is_eq (K.cmp y key)) keys ≡ None → Indexes K.cmp (keys ++ key ∷ []) self.new) }
         ensures err { OnErr result ((keys : List K) → Indexes K.cmp keys self.old → Indexes K.cmp keys self.new) }
     {
+        if number == 0 {
+            self.first = Some(key);
+            self.last = Some(key);
+            self.number = Some(0);
+            return Ok(());
+        }
         if self.numbers.insert(key, number).is_err() {
             return Err(OutOfMemory);
         }

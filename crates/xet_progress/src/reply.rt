@@ -1,11 +1,12 @@
 //! Any call of the tracker as a value, and its reply.
 ghost use Rattle.std.specs.Prelude.{◌≡◌};
 ghost use Rattle.xet_progress.specs.declared.step.TrackerReply.TheVariants.{Done, FileId, Flag};
+ghost use Rattle.xet_progress.specs.declared.step.TrackerStep.TheVariants.{RegisterDependencies};
 ghost use Rattle.xet_progress.specs.Replies.{StepOf, said, said_complete};
 
 use crate::error::{Incomplete, ProgressError};
 use crate::state::TrackerState;
-use crate::step::{TrackerReply, TrackerStep};
+use crate::step::{FileXorbDependency, TrackerReply, TrackerStep};
 use std::alloc::Global;
 use xet_base::OutOfMemory;
 
@@ -53,6 +54,22 @@ fn complete_reply(answer: &Result<(), Incomplete>) -> TrackerReply
 }
 
 impl TrackerState {
+    /// Registers dependencies, which are lent, and gives the reply, as `step` does.
+    ///
+    /// `OutOfMemory` where an allocation was refused, and then no call was made.
+    ///
+    /// The Rust crate has no such call.
+    pub fn step_dependencies(
+        &mut self,
+        alloc: Global,
+        dependencies: &[FileXorbDependency],
+    ) -> Result<TrackerReply, OutOfMemory>
+        ensures { StepOf self.old self.new (RegisterDependencies dependencies.now) result }
+    {
+        let answer = self.register_dependencies(alloc, dependencies);
+        done_reply(&answer)
+    }
+
     /// Makes any call, and gives its reply. A refusal is a reply too.
     ///
     /// `OutOfMemory` where an allocation was refused, and then no call was made.
@@ -81,8 +98,7 @@ impl TrackerState {
                 flag_reply(&answer)
             }
             TrackerStep::RegisterDependencies { dependencies } => {
-                let answer = self.register_dependencies(alloc, dependencies.as_slice());
-                done_reply(&answer)
+                self.step_dependencies(alloc, dependencies.as_slice())
             }
             TrackerStep::RegisterXorbUploadCompletion { xorb_hash } => {
                 let answer = self.register_xorb_upload_completion(*xorb_hash);

@@ -154,6 +154,7 @@ impl<L: Ledger> Kept<L> {
     /// What was asked, in order.
     fn into_history(mut self, pass: TrackerPass<L>) -> Vec<TrackerCall>
         ensures count { pass.parts ≡ L.parts → length result.items ≡ pass.calls }
+        ensures least { pass.calls ≤ length result.items }
         ensures replied { map (λ c. c.reply) result.items ≡ replies_of [] (steps_of result.items) }
     {
         let mut pass = pass;
@@ -516,12 +517,13 @@ impl<L: Ledger> CompletionTracker<L> {
         Ok(whole_answer(&reply))
     }
 
-    /// What the tracker was asked, in order, and what it answered. Once all split passes were gathered it has as many
-    /// calls as the pass counts.
+    /// What the tracker was asked, in order, and what it answered. It has at least as many calls as the pass counts, and
+    /// just as many once all split passes were gathered.
     ///
     /// The Rust crate has no such call.
     pub fn close(self, pass: TrackerPass<L>) -> List<TrackerCall>
         ensures count { pass.parts ≡ L.parts → length result ≡ pass.calls }
+        ensures least { pass.calls ≤ length result }
         ensures replied { map (λ c. c.reply) result ≡ replies_of [] (steps_of result) }
     {
         List::from_vec(self.kept.into_inner().into_history(pass))

@@ -76,7 +76,7 @@ impl ItemProgressUpdater {
 
     /// Makes the item's total, in bytes, the greater of it and this one, until it is final; `is_final` makes it so.
     ///
-    /// `SumTooGreat` where the group's total would pass `u64::MAX`.
+    /// `SumTooGreat` where the group's total would pass `u64::MAX`. 0 is never refused.
     ///
     /// In the Rust crate: `ItemProgressUpdater::update_item_size`.
     pub fn update_item_size<R: Wait>(
@@ -85,29 +85,33 @@ impl ItemProgressUpdater {
         total: u64,
         is_final: bool,
     ) -> Result<(), ProgressError>
-        ensures { Held (λ before now. UpdaterCall before now self.now
+        ensures call { Held (λ before now. UpdaterCall before now self.now
             (sized (group_sums before).total_bytes total is_final) result) }
+        ensures nothing { total ≡ 0 → result ≡ Ok tt }
     {
         let mut group = self.group.state().lock(rt);
+        group.sound();
         known(group.update_item_size(self.id, total, is_final))
     }
 
     /// Makes the bytes to be transferred for the item the greater of them and these.
     ///
-    /// `SumTooGreat` where the group's sum would pass `u64::MAX`.
+    /// `SumTooGreat` where the group's sum would pass `u64::MAX`. 0 is never refused.
     ///
     /// In the Rust crate: `ItemProgressUpdater::update_transfer_size`.
     pub fn update_transfer_size<R: Wait>(&self, rt: &R, total: u64) -> Result<(), ProgressError>
-        ensures { Held (λ before now. UpdaterCall before now self.now
+        ensures call { Held (λ before now. UpdaterCall before now self.now
             (transfer_sized (group_sums before).total_transfer_bytes total) result) }
+        ensures nothing { total ≡ 0 → result ≡ Ok tt }
     {
         let mut group = self.group.state().lock(rt);
+        group.sound();
         known(group.update_transfer_size(self.id, total))
     }
 
     /// Counts bytes of the item as completed.
     ///
-    /// `PastTotal` where they would pass the item's total.
+    /// `PastTotal` where they would pass the item's total. 0 is never refused.
     ///
     /// In the Rust crate: `ItemProgressUpdater::report_bytes_completed`.
     pub fn report_bytes_completed<R: Wait>(
@@ -115,9 +119,11 @@ impl ItemProgressUpdater {
         rt: &R,
         increment: u64,
     ) -> Result<(), ProgressError>
-        ensures { Held (λ before now. UpdaterCall before now self.now (more_completed increment) result) }
+        ensures call { Held (λ before now. UpdaterCall before now self.now (more_completed increment) result) }
+        ensures nothing { increment ≡ 0 → result ≡ Ok tt }
     {
         let mut group = self.group.state().lock(rt);
+        group.sound();
         known(group.report_bytes_completed(self.id, increment))
     }
 
@@ -125,15 +131,17 @@ impl ItemProgressUpdater {
     ///
     /// In the Rust crate: `ItemProgressUpdater::report_bytes_written`.
     pub fn report_bytes_written<R: Wait>(&self, rt: &R, increment: u64) -> Result<(), ProgressError>
-        ensures { Held (λ before now. UpdaterCall before now self.now (more_completed increment) result) }
+        ensures call { Held (λ before now. UpdaterCall before now self.now (more_completed increment) result) }
+        ensures nothing { increment ≡ 0 → result ≡ Ok tt }
     {
         let mut group = self.group.state().lock(rt);
+        group.sound();
         known(group.report_bytes_written(self.id, increment))
     }
 
     /// Counts bytes as transferred for the item.
     ///
-    /// `PastTotal` where they would pass those to be transferred for it.
+    /// `PastTotal` where they would pass those to be transferred for it. 0 is never refused.
     ///
     /// In the Rust crate: `ItemProgressUpdater::report_transfer_bytes_completed`.
     pub fn report_transfer_bytes_completed<R: Wait>(
@@ -141,9 +149,11 @@ impl ItemProgressUpdater {
         rt: &R,
         increment: u64,
     ) -> Result<(), ProgressError>
-        ensures { Held (λ before now. UpdaterCall before now self.now (more_transferred increment) result) }
+        ensures call { Held (λ before now. UpdaterCall before now self.now (more_transferred increment) result) }
+        ensures nothing { increment ≡ 0 → result ≡ Ok tt }
     {
         let mut group = self.group.state().lock(rt);
+        group.sound();
         known(group.report_transfer_bytes_completed(self.id, increment))
     }
 
@@ -151,9 +161,11 @@ impl ItemProgressUpdater {
     ///
     /// In the Rust crate: `ItemProgressUpdater::report_transfer_progress`.
     pub fn report_transfer_progress<R: Wait>(&self, rt: &R, delta: u64) -> Result<(), ProgressError>
-        ensures { Held (λ before now. UpdaterCall before now self.now (more_transferred delta) result) }
+        ensures call { Held (λ before now. UpdaterCall before now self.now (more_transferred delta) result) }
+        ensures nothing { delta ≡ 0 → result ≡ Ok tt }
     {
         let mut group = self.group.state().lock(rt);
+        group.sound();
         known(group.report_transfer_progress(self.id, delta))
     }
 
@@ -164,6 +176,7 @@ impl ItemProgressUpdater {
         ensures { Held (λ before now. (result ≡ said_or before self.now (λ i. i.bytes_completed) 0) × (now ≡ before)) }
     {
         let mut group = self.group.state().lock(rt);
+        group.sound();
         group.total_bytes_completed(self.id).unwrap_or(0)
     }
 
@@ -175,6 +188,7 @@ impl ItemProgressUpdater {
         ensures { Held (λ before now. (result ≡ said_or before self.now item_completeness (Ok tt)) × (now ≡ before)) }
     {
         let mut group = self.group.state().lock(rt);
+        group.sound();
         group.assert_item_complete(self.id).unwrap_or(Ok(()))
     }
 
@@ -189,6 +203,7 @@ impl ItemProgressUpdater {
             (blank_item self.now [])) × (now ≡ before))) }
     {
         let mut group = self.group.state().lock(rt);
+        group.sound();
         match group.item(self.id) {
             Ok(item) => Ok(item),
             Err(ProgressError::OutOfMemory) => Err(OutOfMemory),

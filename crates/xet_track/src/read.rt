@@ -1,12 +1,18 @@
 //! The calls that lines spell.
-ghost use Rattle.std.specs.Prelude.{◌≡◌, IfOk};
+ghost use Rattle.std.specs.Prelude.{◌≡◌, option_map};
 ghost use Rattle.xet_track.specs.Script.{dependency_call, four_words, one_word, step_of_line, three_words, two_words};
+ghost use Rattle.xet_track.specs.steps.Spelling.{call_of};
 
 use crate::line::cut;
 use crate::word::{name, number, spells};
-use std::alloc::Global;
-use xet_base::{List, OutOfMemory};
 use xet_progress::{FileXorbDependency, TrackerStep};
+
+/// A call that a line spells. A line has at most one dependency, which takes no list.
+#[derive(Drop)]
+pub(crate) enum Spelled {
+    Step(TrackerStep),
+    Dependency(FileXorbDependency),
+}
 
 /// The call that a line of one word spells.
 fn read_one(word: &[u8]) -> Option<TrackerStep>
@@ -81,76 +87,62 @@ fn read_three(word: &[u8], a: &[u8], b: &[u8]) -> Option<TrackerStep>
 }
 
 /// The call that registers one dependency.
-fn read_dependency(
-    alloc: Global,
-    is_external: bool,
-    a: &[u8],
-    b: &[u8],
-    c: &[u8],
-) -> Result<Option<TrackerStep>, OutOfMemory>
-    ensures { IfOk result (λ s. s ≡ dependency_call is_external a.now b.now c.now) }
+fn read_dependency(is_external: bool, a: &[u8], b: &[u8], c: &[u8]) -> Option<Spelled>
+    ensures { option_map call_of result ≡ dependency_call is_external a.now b.now c.now }
 {
-    let Some(file_id) = number(a) else {
-        return Ok(None);
-    };
-    let Some(xorb_hash) = name(b) else {
-        return Ok(None);
-    };
-    let Some(n_bytes) = number(c) else {
-        return Ok(None);
-    };
-    let dependency = FileXorbDependency {
+    let file_id = number(a)?;
+    let xorb_hash = name(b)?;
+    let n_bytes = number(c)?;
+    Some(Spelled::Dependency(FileXorbDependency {
         file_id,
         xorb_hash,
         n_bytes,
         is_external,
-    };
-    let Ok(list) = Vec::from_slice(alloc, &[dependency]) else {
-        return Err(OutOfMemory);
-    };
-    Ok(Some(TrackerStep::RegisterDependencies {
-        dependencies: List::from_vec(list),
     }))
 }
 
 /// The call that a line of four words spells.
-fn read_four(
-    alloc: Global,
-    word: &[u8],
-    a: &[u8],
-    b: &[u8],
-    c: &[u8],
-) -> Result<Option<TrackerStep>, OutOfMemory>
-    ensures { IfOk result (λ s. s ≡ four_words word.now a.now b.now c.now) }
+fn read_four(word: &[u8], a: &[u8], b: &[u8], c: &[u8]) -> Option<Spelled>
+    ensures { option_map call_of result ≡ four_words word.now a.now b.now c.now }
 {
     if spells(word, "dep") {
-        return read_dependency(alloc, false, a, b, c);
+        return read_dependency(false, a, b, c);
     }
     if spells(word, "ext") {
-        return read_dependency(alloc, true, a, b, c);
+        return read_dependency(true, a, b, c);
     }
-    Ok(None)
+    None
+}
+
+/// A call by itself.
+fn alone(step: Option<TrackerStep>) -> Option<Spelled>
+    ensures { option_map call_of result ≡ step }
+{
+    match step {
+        Some(step) => Some(Spelled::Step(step)),
+        None => None,
+    }
 }
 
 /// The call that a line spells.
-pub(crate) fn read_line(alloc: Global, line: &[u8]) -> Result<Option<TrackerStep>, OutOfMemory>
-    ensures { IfOk result (λ s. s ≡ step_of_line line.now) }
+pub(crate) fn read_line(line: &[u8]) -> Option<Spelled>
+    ensures { option_map call_of result ≡ step_of_line line.now }
 {
     let (word, rest) = cut(line, b' ');
     let Some(rest) = rest else {
-        return Ok(read_one(word));
+        return alone(read_one(word));
     };
     let (a, rest) = cut(rest, b' ');
     let Some(rest) = rest else {
-        return Ok(read_two(word, a));
+        return alone(read_two(word, a));
     };
     let (b, rest) = cut(rest, b' ');
     let Some(rest) = rest else {
-        return Ok(read_three(word, a, b));
+        return alone(read_three(word, a, b));
     };
     let (c, rest) = cut(rest, b' ');
     if let Some(_more) = rest {
-        return Ok(None);
+        return None;
     }
-    read_four(alloc, word, a, b, c)
+    read_four(word, a, b, c)
 }

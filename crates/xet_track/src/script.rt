@@ -1,15 +1,17 @@
 //! Runs a script of calls.
 ghost use Rattle.std.specs.Prelude.{◌≡◌, ◌++◌, [], IfOk, OnErr, OnOk, option_map, unwrap_or};
+ghost use Rattle.xet_progress.specs.Replies.{StepOf};
 ghost use Rattle.xet_track.specs.Texts.{LineOf, PrintedPart, track_reads, track_text};
 ghost use Rattle.xet_track.specs.Turns.{TurnOf};
+ghost use Rattle.xet_track.specs.steps.Spelling.{call_of};
 
 use crate::line::cut;
 use crate::print::{add, add_bytes, add_reply};
-use crate::read::read_line;
+use crate::read::{Spelled, read_line};
 use std::alloc::Global;
 use std::marker::Model;
 use xet_base::OutOfMemory;
-use xet_progress::TrackerState;
+use xet_progress::{TrackerReply, TrackerState};
 
 /// What the next line of a script did.
 #[derive(Clone, Copy, PartialEq, Eq, Drop, Debug)]
@@ -39,6 +41,20 @@ impl<'a> Model for Script<'a> {
     ghost view = { λ s. record { calls = s.state; rest = s.rest.now } };
 }
 
+/// Makes a call, and gives its reply.
+fn make_call(
+    alloc: Global,
+    state: &mut TrackerState,
+    call: &Spelled,
+) -> Result<TrackerReply, OutOfMemory>
+    ensures { StepOf state.old state.new (call_of call.now) result }
+{
+    match call {
+        Spelled::Step(step) => state.step(alloc, step),
+        Spelled::Dependency(dependency) => state.step_dependencies(alloc, &[*dependency]),
+    }
+}
+
 /// Makes the call of a line, and prints the line for it, whole or not at all: false where it doesn't read.
 fn make_line(
     alloc: Global,
@@ -50,11 +66,11 @@ fn make_line(
     ensures line { IfOk result (λ read. LineOf state.old state.new line.now out.old.items out.new.items read) }
     ensures memory { OnErr result (out.new.items ≡ out.old.items) }
 {
-    let Some(step) = read_line(alloc, line)? else {
+    let Some(call) = read_line(line) else {
         add(out, "error script\n")?;
         return Ok(false);
     };
-    let reply = state.step(alloc, &step)?;
+    let reply = make_call(alloc, state, &call)?;
     printed.clear();
     add_reply(printed, &reply)?;
     add_bytes(out, printed.as_slice())?;

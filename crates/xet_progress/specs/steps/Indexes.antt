@@ -1,5 +1,5 @@
 -- What an index that remembers its last look keeps.
-use Rattle.std.specs.Prelude.{◌≡◌, List, IfSome, position}
+use Rattle.std.specs.Prelude.{ℕ, ◌≡◌, cond, List, Option, None, Some, IfSome, position}
 use Rattle.std.specs.Ordering.{is_eq, nat_cmp}
 use Rattle.std.specs.Cmp.Lexicographic.{slice_cmp}
 use Rattle.std.specs.declared.cmp.Ordering.{Ordering}
@@ -11,7 +11,16 @@ use Rattle.xet_progress.specs.declared.recent.Recent.{Recent}
 abbrev pub hash_cmp : MerkleHash → MerkleHash → Ordering
 hash_cmp a b = slice_cmp nat_cmp a.0 b.0
 
--- the map has the number of each key, and nothing else; what is remembered is the number of a key, or that it has none
+-- the number of a key, given the first key, whose number is 0, and the number that the map has
+abbrev pub first_at : {K : Type 0} → (K → K → Ordering) → Option ℕ → K → Option K → Option ℕ
+first_at cmp other k None = other
+first_at cmp other k (Some f) = cond (is_eq (cmp f k)) (Some 0) other
+
+-- the number that an index has for a key
+abbrev pub number_at : {K : Type 0} → (K → K → Ordering) → Recent K → K → Option ℕ
+number_at cmp r k = first_at cmp (get cmp r.numbers k) k r.first
+
+-- the index has the number of each key, and nothing else; what is remembered is the number of a key, or that it has none
 pub record Indexes {K : Type 0} (cmp : K → K → Ordering) (keys : List K) (r : Recent K) : Type 0 where
-  pub numbers : (k : K) → get cmp r.numbers k ≡ position (λ y. is_eq (cmp y k)) keys
+  pub numbers : (k : K) → number_at cmp r k ≡ position (λ y. is_eq (cmp y k)) keys
   pub remembered : IfSome r.last (λ k. r.number ≡ position (λ y. is_eq (cmp y k)) keys)
