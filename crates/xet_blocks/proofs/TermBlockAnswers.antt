@@ -226,8 +226,7 @@ module _ (before now : ClientTold) (query : PlanQuery) where
     made = record { plan = a; asked = c.asked; said = c.said; honest = λ s e. c.honest s e; from = h.made };
     cause = tt;
     store = c.store;
-    asked = inr c.asked;
-    said = inr (a, c.said);
+    asks = inl (a, record { asked = c.asked; said = c.said; honest = λ s e. c.honest s e });
     unsaid = λ none. cc;
     served = c.served;
     faults = c.faults;
@@ -238,8 +237,7 @@ module _ (before now : ClientTold) (query : PlanQuery) where
     made = tt;
     cause = go h.refused;
     store = c.store;
-    asked = inr c.asked;
-    said = inr (a, c.said);
+    asks = inl (a, record { asked = c.asked; said = c.said; honest = λ s e. c.honest s e });
     unsaid = λ none. let same : e ≡ error.ClientError = cc in absurd (not_client h.refused same);
     served = c.served;
     faults = c.faults;

@@ -7,7 +7,7 @@ use Rattle.xet_outside.specs.declared.plan.PlanAnswer.TheVariants.{Found, PastEn
 use Rattle.xet_outside.specs.declared.plan.PlanTerm.{PlanTerm}
 use Rattle.xet_outside.specs.declared.said.Said.TheVariants as said
 use Rattle.xet_outside.specs.Plan.{shape}
-use Rattle.xet_outside.specs.Told.{ClientTold, Grew, IsHonest, Rose}
+use Rattle.xet_outside.specs.Told.{ClientTold, Grew, IsHonest, Query, Rose}
 use Rattle.xet_error.specs.declared.error.Corruption.{Corruption}
 use Rattle.xet_error.specs.declared.error.FileReconstructionError.{FileReconstructionError}
 use Rattle.xet_error.specs.declared.error.FileReconstructionError.TheVariants as error
@@ -45,6 +45,19 @@ pub record FromSaid (before after : ClientTold) (query : PlanQuery) (answer : An
   pub honest : (s : Store) → before.store ≡ Some s → IsHonest s query.file query.range plan
   pub from : FromAnswer query plan answer
 
+-- this was said in answer to a query that was asked, and it is the answer of the store that is told
+pub record QueryAnswered (before after : ClientTold) (query : Query) (answer : PlanAnswer) : Type 0 where
+  pub asked : Grew before.asked after.asked query
+  pub said : Grew before.said after.said (said.Plan answer)
+  pub honest : (s : Store) → before.store ≡ Some s → IsHonest s query.0 query.1 answer
+
+-- a query was asked at most once: it was asked and one answer said to it, or asked and nothing said, or not asked
+abbrev pub AskedAtMostOnce : ClientTold → ClientTold → Query → Type 0
+AskedAtMostOnce before after query =
+    ((answer : PlanAnswer) × QueryAnswered before after query answer)
+    ⊎ (Grew before.asked after.asked query × (after.said ≡ before.said))
+    ⊎ ((after.asked ≡ before.asked) × (after.said ≡ before.said))
+
 -- the cause of each error: want of memory is free, and no others come
 abbrev pub TermBlockCause : ClientTold → ClientTold → PlanQuery → FileReconstructionError → Type 0
 TermBlockCause before after query error.OutOfMemory = Unit {0}
@@ -59,8 +72,7 @@ pub record TermBlockCall (before after : ClientTold) (query : PlanQuery) (answer
   pub made : IfOk answer (λ o. FromSaid before after query (Ok o))
   pub cause : IfErr answer (TermBlockCause before after query)
   pub store : after.store ≡ before.store
-  pub asked : (after.asked ≡ before.asked) ⊎ Grew before.asked after.asked (query.file, query.range)
-  pub said : (after.said ≡ before.said) ⊎ ((plan : PlanAnswer) × Grew before.said after.said (said.Plan plan))
+  pub asks : AskedAtMostOnce before after (query.file, query.range)
   pub unsaid : IsErrOf answer error.ClientError → after.said ≡ before.said
   pub served : after.served ≡ before.served
   pub faults : before.faults ≤ after.faults

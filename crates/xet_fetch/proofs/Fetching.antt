@@ -39,11 +39,12 @@ use Rattle.xet_blocks.specs.Blocks.{block_ranges, blocks_of}
 use Rattle.xet_blocks.specs.BlockCalls.{IsRequestOf, failed_check}
 use Rattle.xet_blocks.specs.PlanChecks.{failed_test}
 use Rattle.xet_blocks.specs.Refusals.{IsRefusal}
+use Rattle.xet_blocks.specs.TermBlockCalls.{AskedAtMostOnce, QueryAnswered}
 use Rattle.xet_blocks.specs.TermBlocks.{covered}
 use Rattle.xet_fetch.specs.declared.block_fetch.Fetched.{Fetched}
 use Rattle.xet_fetch.specs.declared.fetch_settings.FetchSettings.{FetchSettings}
 use Rattle.xet_fetch.specs.CachedBlocks.{FoundIn, IsOffered, LookCall, LookedFor}
-use Rattle.xet_fetch.specs.Fetches.{FetchesCall, FetchesFail, FetchesKeep, GaveBad, GaveBytes, GaveData, IsDishonest, Lapsed, PassesRefresh, Refused, RoseBy, TableKeeps, Tried, Unrefreshed, own_entry, refresh_queries, refresh_query, refreshed, renewed, renewed_by}
+use Rattle.xet_fetch.specs.Fetches.{FetchesCall, FetchesFail, FetchesKeep, GaveBad, GaveBytes, GaveData, IsDishonest, Lapsed, PassesRefresh, Refused, Replied, RoseBy, TableKeeps, Tried, Unrefreshed, own_entry, refresh_queries, refresh_query, refreshed, renewed, renewed_by}
 use Rattle.xet_fetch.specs.Refreshes.{Extent, Refresh, RefreshCall, IsRefused, blocks_test, extent_of, failed_refresh, first_difference, next_id, plan_extents, range_test, refresh_of, refusal_of, same_extent}
 use Rattle.xet_fetch.specs.RetrieveData.{DataCall, FetchTold, FromCache, RetrieveCall}
 use Rattle.xet_fetch.specs.steps.Tries.{AskCall, AskFails, Requested, TryCall}
@@ -164,17 +165,18 @@ module _ (r : Refresh) (x : XorbBlock) (t u v : TermBlockRetrievalURLs) (b m n :
   data_both : (g : Fetched) → GaveData r x u v m n qs g → GaveData r x t v b n (ps ++ qs) g
   data_both g y = record { gave = gave_both g.bytes y.gave; passes = y.passes; made = y.made }
 
-  unrefreshed_both : (answers : List Said) → Unrefreshed r u v m n qs answers → Unrefreshed r t v b n (ps ++ qs) answers
-  unrefreshed_both answers y = record { asked = y.asked; may = y.may; tried = tried_both y.asked (said.Block Expired ∷ answers) [] y.tried }
+  unrefreshed_both : Unrefreshed r u v m n qs → Unrefreshed r t v b n (ps ++ qs)
+  unrefreshed_both y = record { asked = y.asked; may = y.may; tried = tried_both y.asked (said.Block Expired ∷ []) [] y.tried }
+
+  replied_both : (a : PlanAnswer) → Replied r u v m n qs a → Replied r t v b n (ps ++ qs) a
+  replied_both a y = record {
+    tried = tried_both (refresh_query r ∷ []) (said.Block Expired ∷ said.Plan a ∷ []) [] y.tried;
+    own = query_own r (ps ++ qs) a;
+    honest = λ s told. y.honest s (base.keeps.store ∙ told);
+  }
 
   refused_both : (e : FileReconstructionError) → Refused r u v m n qs e → Refused r t v b n (ps ++ qs) e
-  refused_both e y = record {
-    answer = y.answer;
-    tried = tried_both (refresh_query r ∷ []) (said.Block Expired ∷ said.Plan y.answer ∷ []) [] y.tried;
-    own = query_own r (ps ++ qs) y.answer;
-    honest = λ s told. y.honest s (base.keeps.store ∙ told);
-    refused = y.refused;
-  }
+  refused_both e y = record { answer = y.answer; replied = replied_both y.answer y.replied; refused = y.refused }
 
   lapsed_both : Lapsed r u v m n qs → Lapsed r t v b n (ps ++ qs)
   lapsed_both y =
@@ -190,19 +192,19 @@ module _ (r : Refresh) (x : XorbBlock) (t u v : TermBlockRetrievalURLs) (b m n :
   fail_both left tries some sum error.OutOfMemory h = go h
     where
       go : ((length qs < left) × (Tried r u v m n qs [] [] [] ⊎ ((bytes : BlockBytes) × GaveBytes r x u v m n qs bytes)))
-          ⊎ ((length qs + 1 < left) × (Unrefreshed r u v m n qs [] ⊎ ((a : PlanAnswer) × Unrefreshed r u v m n qs (said.Plan a ∷ []))))
+          ⊎ ((length qs + 1 < left) × (Unrefreshed r u v m n qs ⊎ ((a : PlanAnswer) × Replied r u v m n qs a)))
           → ((length (ps ++ qs) < tries) × (Tried r t v b n (ps ++ qs) [] [] [] ⊎ ((bytes : BlockBytes) × GaveBytes r x t v b n (ps ++ qs) bytes)))
-          ⊎ ((length (ps ++ qs) + 1 < tries) × (Unrefreshed r t v b n (ps ++ qs) [] ⊎ ((a : PlanAnswer) × Unrefreshed r t v b n (ps ++ qs) (said.Plan a ∷ []))))
+          ⊎ ((length (ps ++ qs) + 1 < tries) × (Unrefreshed r t v b n (ps ++ qs) ⊎ ((a : PlanAnswer) × Replied r t v b n (ps ++ qs) a)))
       go (inl (few, inl y)) = let count = length-append ps qs in inl (omega (arith, count), inl (tried_both [] [] [] y))
       go (inl (few, inr (bytes, y))) = let count = length-append ps qs in inl (omega (arith, count), inr (bytes, gave_both bytes y))
-      go (inr (few, inl y)) = let count = length-append ps qs in inr (omega (arith, count), inl (unrefreshed_both [] y))
-      go (inr (few, inr (a, y))) = let count = length-append ps qs in inr (omega (arith, count), inr (a, unrefreshed_both (said.Plan a ∷ []) y))
+      go (inr (few, inl y)) = let count = length-append ps qs in inr (omega (arith, count), inl (unrefreshed_both y))
+      go (inr (few, inr (a, y))) = let count = length-append ps qs in inr (omega (arith, count), inr (a, replied_both a y))
   fail_both left tries some sum error.ClientError (rose, h) = (rose_before b.faults m.faults n.faults base.keeps.faults rose, go h)
     where
-      go : ((length qs < left) × Tried r u v m n qs [] [] []) ⊎ ((length qs + 1 < left) × Unrefreshed r u v m n qs [])
-          → ((length (ps ++ qs) < tries) × Tried r t v b n (ps ++ qs) [] [] []) ⊎ ((length (ps ++ qs) + 1 < tries) × Unrefreshed r t v b n (ps ++ qs) [])
+      go : ((length qs < left) × Tried r u v m n qs [] [] []) ⊎ ((length qs + 1 < left) × Unrefreshed r u v m n qs)
+          → ((length (ps ++ qs) < tries) × Tried r t v b n (ps ++ qs) [] [] []) ⊎ ((length (ps ++ qs) + 1 < tries) × Unrefreshed r t v b n (ps ++ qs))
       go (inl (few, y)) = let count = length-append ps qs in inl (omega (arith, count), tried_both [] [] [] y)
-      go (inr (few, y)) = let count = length-append ps qs in inr (omega (arith, count), unrefreshed_both [] y)
+      go (inr (few, y)) = let count = length-append ps qs in inr (omega (arith, count), unrefreshed_both y)
   fail_both left tries some sum error.FileNotFound (d, few, y) = let count = length-append ps qs in (dishonest_both d, omega (arith, count), refused_both error.FileNotFound y)
   fail_both left tries some sum error.UrlExpired (few, y) = let count = length-append ps qs in (omega (arith, count), lapsed_both y)
   fail_both left tries some sum error.IoError h = h
@@ -433,36 +435,45 @@ module _ (x : XorbBlock) (left : ℕ) (t u : TermBlockRetrievalURLs) (b m n : Cl
         );
       }
 
-  unrefreshed : (answer : Result (Unit {0}) FileReconstructionError) → RefreshCall t u m n id xs multi answer → (answers : List Said) → Added m.said n.said answers → Unrefreshed R t t b n [] answers
-  unrefreshed answer h answers says = go h.may.asked
+  asked_alone : (answer : Result (Unit {0}) FileReconstructionError) → RefreshCall t u m n id xs multi answer → Grew m.asked n.asked (refresh_query R) → n.said ≡ m.said → Unrefreshed R t t b n []
+  asked_alone answer h grew same = record { asked = refresh_query R ∷ []; may = inr refl; tried = tried_refresh answer h (refresh_query R ∷ []) [] grew (added_none m.said n.said same) }
+
+  unasked : (answer : Result (Unit {0}) FileReconstructionError) → RefreshCall t u m n id xs multi answer → n.asked ≡ m.asked → n.said ≡ m.said → Unrefreshed R t t b n []
+  unasked answer h none same = record { asked = []; may = inl refl; tried = tried_refresh answer h [] [] (added_none m.asked n.asked none) (added_none m.said n.said same) }
+
+  -- nothing was said
+  unsaid : (answer : Result (Unit {0}) FileReconstructionError) → RefreshCall t u m n id xs multi answer → n.said ≡ m.said → Unrefreshed R t t b n []
+  unsaid answer h same = go h.may.asks
     where
-      go : (n.asked ≡ m.asked) ⊎ Grew m.asked n.asked (R.file, R.range) → Unrefreshed R t t b n [] answers
-      go (inl same) = record { asked = []; may = inl refl; tried = tried_refresh answer h [] answers (added_none m.asked n.asked same) says }
-      go (inr grew) = record { asked = refresh_query R ∷ []; may = inr refl; tried = tried_refresh answer h (refresh_query R ∷ []) answers grew says }
+      go : AskedAtMostOnce m n (refresh_query R) → Unrefreshed R t t b n []
+      go (inl (a, y)) = asked_alone answer h y.asked same
+      go (inr (inl (grew, none))) = asked_alone answer h grew same
+      go (inr (inr (none, also))) = unasked answer h none same
+
+  replied : (answer : Result (Unit {0}) FileReconstructionError) → RefreshCall t u m n id xs multi answer → (a : PlanAnswer) → QueryAnswered m n (refresh_query R) a → Replied R t t b n [] a
+  replied answer h a y = record {
+    tried = tried_refresh answer h (refresh_query R ∷ []) (said.Plan a ∷ []) y.asked y.said;
+    own = query_own R [] a;
+    honest = λ s told. y.honest s (told_later answer h s told);
+  }
 
   refused : (answer : Result (Unit {0}) FileReconstructionError) (e : FileReconstructionError) → RefreshCall t u m n id xs multi answer → IsRefused R m n e → Refused R t t b n [] e
-  refused answer e h is = record {
-    answer = is.answer;
-    tried = tried_refresh answer h (refresh_query R ∷ []) (said.Plan is.answer ∷ []) is.answered.asked is.answered.said;
-    own = query_own R [] is.answer;
-    honest = λ s told. is.answered.honest s (told_later answer h s told);
-    refused = is.refused;
-  }
+  refused answer e h is = record { answer = is.answer; replied = replied answer h is.answer is.answered; refused = is.refused }
 
   dishonest : (e : FileReconstructionError) → Refused R t t b n [] e → IsDishonest R x b
   dishonest e y s told honest =
-      let none : refusal_of R.range R.multirange R.blocks y.answer ≡ None = honest.refreshes y.answer (y.honest s told) in
+      let none : refusal_of R.range R.multirange R.blocks y.answer ≡ None = honest.refreshes y.answer (y.replied.honest s told) in
       let some = y.refused in
       cc
 
   unrefreshed_ends : (e : FileReconstructionError) → RefreshCall t u m n id xs multi (Err e) → FetchesFail R x left t t b n [] e
-  unrefreshed_ends error.OutOfMemory h = inr (more, go h.may.said)
+  unrefreshed_ends error.OutOfMemory h = inr (more, go h.may.asks)
     where
-      go : (n.said ≡ m.said) ⊎ ((a : PlanAnswer) × Grew m.said n.said (said.Plan a))
-          → Unrefreshed R t t b n [] [] ⊎ ((a : PlanAnswer) × Unrefreshed R t t b n [] (said.Plan a ∷ []))
-      go (inl same) = inl (unrefreshed (Err error.OutOfMemory) h [] (added_none m.said n.said same))
-      go (inr (a, grew)) = inr (a, unrefreshed (Err error.OutOfMemory) h (said.Plan a ∷ []) grew)
-  unrefreshed_ends error.ClientError h = (rose_before b.faults m.faults n.faults c.call.faults h.cause, inr (more, unrefreshed (Err error.ClientError) h [] (added_none m.said n.said (h.unsaid refl))))
+      go : AskedAtMostOnce m n (refresh_query R) → Unrefreshed R t t b n [] ⊎ ((a : PlanAnswer) × Replied R t t b n [] a)
+      go (inl (a, y)) = inr (a, replied (Err error.OutOfMemory) h a y)
+      go (inr (inl (grew, same))) = inl (asked_alone (Err error.OutOfMemory) h grew same)
+      go (inr (inr (none, same))) = inl (unasked (Err error.OutOfMemory) h none same)
+  unrefreshed_ends error.ClientError h = (rose_before b.faults m.faults n.faults c.call.faults h.cause, inr (more, unsaid (Err error.ClientError) h (h.unsaid refl)))
   unrefreshed_ends error.FileNotFound h = let y = refused (Err error.FileNotFound) error.FileNotFound h h.cause in (dishonest error.FileNotFound y, more, y)
   unrefreshed_ends error.UrlExpired h = absurd h.cause
   unrefreshed_ends error.IoError h = absurd h.cause

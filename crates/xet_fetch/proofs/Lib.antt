@@ -6,4 +6,5 @@ mod Fetching
 mod HonestEntries
 mod HonestRefreshes
 mod Refreshing
+mod Requestable
 mod TermRows

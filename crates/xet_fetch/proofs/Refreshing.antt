@@ -61,7 +61,7 @@ module _ (b n : ClientTold) (r : Refresh) (id : UniqueId) where
   answered_by a s = record { asked = s.asked; said = s.said; honest = λ t e. s.honest t e }
 
   may_ask : (a : Result (Option TermBlock) FileReconstructionError) → TermBlockCall b n Q a → MayAsk r b n
-  may_ask a c = record { store = c.store; asked = c.asked; said = c.said; served = c.served; faults = c.faults; expiries = c.expiries; link = c.link }
+  may_ask a c = record { store = c.store; asks = c.asks; served = c.served; faults = c.faults; expiries = c.expiries; link = c.link }
 
   -- an error of the query
   refused_answer : (e : FileReconstructionError) (a : PlanAnswer) → FromAnswer Q a (Err e) → refusal_of r.range r.multirange r.blocks a ≡ Some e

@@ -128,23 +128,27 @@ pub record Lapsed (r : Refresh) (t u : TermBlockRetrievalURLs) (before after : C
   pub tried : Tried r t u before after plans [] (said.Block Expired ∷ []) []
   pub rose : RoseBy (length plans + 1) before.expiries after.expiries
 
--- the last answer expired, and these, if any, were said to a refresh that found no memory or met a fault: its query may
--- have been asked, and the table is that of the refreshes before
+-- the last answer expired, and its refresh, which found no memory or met a fault, was told nothing: its query may have
+-- been asked, and the table is that of the refreshes before
 pub record Unrefreshed (r : Refresh) (t u : TermBlockRetrievalURLs) (before after : ClientTold)
-    (plans : List Plan) (answers : List Said) : Type 0 where
+    (plans : List Plan) : Type 0 where
   pub asked : List Query
   pub may : (asked ≡ []) ⊎ (asked ≡ refresh_query r ∷ [])
-  pub tried : Tried r t u before after plans asked (said.Block Expired ∷ answers) []
+  pub tried : Tried r t u before after plans asked (said.Block Expired ∷ []) []
 
--- the last answer expired, and the answer that was said to the query of its refresh is refused with this error: the
--- table is that of the refreshes before
-pub record Refused (r : Refresh) (t u : TermBlockRetrievalURLs) (before after : ClientTold)
-    (plans : List Plan) (e : FileReconstructionError) : Type 0 where
-  pub answer : PlanAnswer
+-- the last answer expired, and this was said to the query of its refresh: the table is that of the refreshes before
+pub record Replied (r : Refresh) (t u : TermBlockRetrievalURLs) (before after : ClientTold)
+    (plans : List Plan) (answer : PlanAnswer) : Type 0 where
   pub tried : Tried r t u before after plans (refresh_query r ∷ []) (said.Block Expired ∷ said.Plan answer ∷ []) []
   pub own : AnswerToQuery (refresh_queries r plans ++ refresh_query r ∷ [])
       (refreshed plans ++ said.Block Expired ∷ said.Plan answer ∷ []) (refresh_query r) answer
   pub honest : (s : Store) → before.store ≡ Some s → IsHonest s r.file r.range answer
+
+-- what was said to the query of the last refresh is refused with this error
+pub record Refused (r : Refresh) (t u : TermBlockRetrievalURLs) (before after : ClientTold)
+    (plans : List Plan) (e : FileReconstructionError) : Type 0 where
+  pub answer : PlanAnswer
+  pub replied : Replied r t u before after plans answer
   pub refused : refusal_of r.range r.multirange r.blocks answer ≡ Some e
 
 -- ---- errors
@@ -159,15 +163,15 @@ pub record IsHonestFor (s : Store) (r : Refresh) (x : XorbBlock) : Type 0 where
 abbrev pub IsDishonest : Refresh → XorbBlock → ClientTold → Type 0
 IsDishonest r x before = (s : Store) → before.store ≡ Some s → IsHonestFor s r x → ⊥
 
--- how fetches with so many tries ended for want of memory: at a request or its answer, or at a refresh, which one more
--- try could follow
+-- how fetches with so many tries ended for want of memory: at a request or its answer, or at a refresh or its answer,
+-- which one more try could follow
 abbrev pub FoundNoMemory : Refresh → XorbBlock → ℕ → TermBlockRetrievalURLs → TermBlockRetrievalURLs → ClientTold
     → ClientTold → List Plan → Type 0
 FoundNoMemory r x tries t u before after plans =
     ((length plans < tries) × (Unanswered r t u before after plans
     ⊎ ((bytes : BlockBytes) × GaveBytes r x t u before after plans bytes)))
-    ⊎ ((length plans + 1 < tries) × (Unrefreshed r t u before after plans []
-    ⊎ ((a : PlanAnswer) × Unrefreshed r t u before after plans (said.Plan a ∷ []))))
+    ⊎ ((length plans + 1 < tries) × (Unrefreshed r t u before after plans
+    ⊎ ((answer : PlanAnswer) × Replied r t u before after plans answer)))
 
 -- how fetches with so many tries ended in an error, after tries that expired and were refreshed by these plans
 abbrev pub FetchesFail : Refresh → XorbBlock → ℕ → TermBlockRetrievalURLs → TermBlockRetrievalURLs → ClientTold
@@ -175,7 +179,7 @@ abbrev pub FetchesFail : Refresh → XorbBlock → ℕ → TermBlockRetrievalURL
 FetchesFail r x tries t u before after plans error.OutOfMemory = FoundNoMemory r x tries t u before after plans
 FetchesFail r x tries t u before after plans error.ClientError =
     Rose before.faults after.faults × (((length plans < tries) × Unanswered r t u before after plans)
-    ⊎ ((length plans + 1 < tries) × Unrefreshed r t u before after plans []))
+    ⊎ ((length plans + 1 < tries) × Unrefreshed r t u before after plans))
 FetchesFail r x tries t u before after plans error.FileNotFound =
     IsDishonest r x before × (length plans + 1 < tries) × Refused r t u before after plans error.FileNotFound
 FetchesFail r x tries t u before after plans error.UrlExpired =

@@ -1,5 +1,5 @@
 -- Laws of refreshes and cached entries.
-use Rattle.std.specs.Prelude.{ℕ, ◌≡◌, ◌<◌, Bool, true, List, ◌++◌, length, All, None, Some, Option, slice_get}
+use Rattle.std.specs.Prelude.{ℕ, ◌≡◌, ◌<◌, Bool, true, List, ◌++◌, length, All, None, Some, Option, IfOk, IsSome, slice_get}
 use Rattle.xet_base.specs.declared.cas_types.ChunkRange.{ChunkRange}
 use Rattle.xet_base.specs.declared.cas_types.FileRange.{FileRange}
 use Rattle.xet_base.specs.declared.merklehash.MerkleHash.{MerkleHash}
@@ -13,13 +13,16 @@ use Rattle.xet_outside.specs.Answers.{AnswerToQuery}
 use Rattle.xet_outside.specs.Told.{Holds, IsHonest, Query}
 use Rattle.xet_blocks.specs.declared.reconstruction_terms.file_term.FileTerm.{FileTerm}
 use Rattle.xet_blocks.specs.declared.reconstruction_terms.file_term.TermBlock.{TermBlock}
+use Rattle.xet_blocks.specs.declared.reconstruction_terms.retrieval_urls.TermBlockRetrievalURLs.{TermBlockRetrievalURLs}
+use Rattle.xet_blocks.specs.declared.reconstruction_terms.xorb_block.XorbBlock.{XorbBlock}
 use Rattle.xet_blocks.specs.PlanQuery.{PlanQuery}
 use Rattle.xet_blocks.specs.Blocks.{PlanBlock, block_ranges, blocks_of}
+use Rattle.xet_blocks.specs.BlockCalls.{RequestCall, Requested}
 use Rattle.xet_blocks.specs.BlockChecks.{block_data}
 use Rattle.xet_fetch.specs.CachedBlocks.{entry_of, is_sound}
 use Rattle.xet_blocks.specs.Extracts.{failed_term_test}
 use Rattle.xet_fetch.specs.Refreshes.{Refresh, refresh_of}
-use Rattle.xet_fetch.specs.Fetches.{IsHonestFor, refresh_queries, refresh_query, refreshed}
+use Rattle.xet_fetch.specs.Fetches.{IsHonestFor, TableKeeps, refresh_queries, refresh_query, refreshed}
 use Rattle.xet_blocks.specs.TermBlocks.{IsTermBlock, known_size, references}
 use Rattle.xet_blocks.specs.Terms.{terms_of}
 use Rattle.xet_blocks.specs.PlanChecks.{IsAccepted}
@@ -60,3 +63,14 @@ abbrev pub RefreshesAnswered : Type 0
 RefreshesAnswered = (r : Refresh) (plans : List Plan) (asked : List Query) (all : List Said) (k : ℕ) (p : Plan)
     → slice_get plans k ≡ Some p
     → AnswerToQuery (refresh_queries r plans ++ asked) (refreshed plans ++ all) (refresh_query r) (Found p)
+
+-- a call of `request` for the block by this table never answers that there is none
+abbrev pub CanBeRequested : TermBlockRetrievalURLs → XorbBlock → Type 0
+CanBeRequested t x = (answer : Requested) → RequestCall x t answer → IfOk answer IsSome
+
+-- each block of a plan that was accepted can be requested, by the plan's table and by what refreshes leave of it
+abbrev pub FetchableBlocks : Type 0
+FetchableBlocks = (p : Plan) (query : PlanQuery) (b : TermBlock) → IsTermBlock p query b
+    → All (CanBeRequested b.urls) b.blocks
+    × ((u : TermBlockRetrievalURLs) → TableKeeps (refresh_of b.urls query.multirange b.blocks) b.urls u
+    → All (CanBeRequested u) b.blocks)

@@ -1,5 +1,5 @@
 -- Refreshes of a table of URLs: their tests, and what one may do.
-use Rattle.std.specs.Prelude.{ℕ, suc, ◌≡◌, ◌⊎◌, ◌+◌, ◌-◌, ◌^◌, ◌≤◌, Bool, ◌&&◌, cond, List, [], ◌∷◌, length, map, min, nat_eq, Option, Some, None, option_map, Result, Ok, IfOk, IfErr, OnOk, OnErr, IsErrOf}
+use Rattle.std.specs.Prelude.{ℕ, suc, ◌≡◌, ◌+◌, ◌-◌, ◌^◌, ◌≤◌, Bool, ◌&&◌, cond, List, [], ◌∷◌, length, map, min, nat_eq, Option, Some, None, option_map, Result, Ok, IfOk, IfErr, OnOk, OnErr, IsErrOf}
 use lib.Pointwise.{pointwise}
 use Rattle.xet_base.specs.declared.cas_types.ChunkRange.{ChunkRange}
 use Rattle.xet_base.specs.declared.cas_types.FileRange.{FileRange}
@@ -7,13 +7,11 @@ use Rattle.xet_base.specs.declared.merklehash.MerkleHash.{MerkleHash}
 use Rattle.xet_base.specs.declared.unique_id.UniqueId.{UniqueId}
 use Rattle.xet_base.specs.Hashes.{hash_eq}
 use Rattle.xet_base.specs.Lists.{first_some}
-use Rattle.xet_base.specs.Store.{Store}
 use Rattle.xet_outside.specs.declared.plan.Plan.{Plan}
 use Rattle.xet_outside.specs.declared.plan.PlanAnswer.{PlanAnswer}
 use Rattle.xet_outside.specs.declared.plan.PlanAnswer.TheVariants.{Found, PastEnd, NoFile}
-use Rattle.xet_outside.specs.declared.said.Said.TheVariants as said
 use Rattle.xet_outside.specs.Plan.{Shape, shape}
-use Rattle.xet_outside.specs.Told.{ClientTold, Grew, IsHonest, Rose}
+use Rattle.xet_outside.specs.Told.{ClientTold, Rose}
 use Rattle.xet_error.specs.declared.error.Corruption.{Corruption}
 use Rattle.xet_error.specs.declared.error.Corruption.TheVariants.{RefreshPastEnd, RefreshRange, RefreshBlocks}
 use Rattle.xet_error.specs.declared.error.FileReconstructionError.{FileReconstructionError}
@@ -24,6 +22,7 @@ use Rattle.xet_blocks.specs.declared.reconstruction_terms.xorb_block.XorbBlock.{
 use Rattle.xet_blocks.specs.Blocks.{block_ranges, blocks_of, range_eq}
 use Rattle.xet_blocks.specs.TermBlocks.{covered, urls_of}
 use Rattle.xet_blocks.specs.PlanChecks.{failed_test}
+use Rattle.xet_blocks.specs.TermBlockCalls.{AskedAtMostOnce, QueryAnswered}
 
 -- ---- tests
 
@@ -80,10 +79,8 @@ pub record Refresh : Type 0 where
   pub blocks : List Extent
 
 -- a connection was asked and gave this answer, which is what it said and that of the store that it tells
-pub record Answered (r : Refresh) (before after : ClientTold) (a : PlanAnswer) : Type 0 where
-  pub asked : Grew before.asked after.asked (r.file, r.range)
-  pub said : Grew before.said after.said (said.Plan a)
-  pub honest : (s : Store) → before.store ≡ Some s → IsHonest s r.file r.range a
+abbrev pub Answered : Refresh → ClientTold → ClientTold → PlanAnswer → Type 0
+Answered r before after answer = QueryAnswered before after (r.file, r.range) answer
 
 -- URLs came with a plan that passes all tests
 pub record IsRefreshed (r : Refresh) (before after : ClientTold) (us : List RetrievalUrl) : Type 0 where
@@ -114,8 +111,7 @@ RefreshCause r before after (error.InternalWriterError w) = ⊥
 -- what a query may do to a connection, whatever it answers
 pub record MayAsk (r : Refresh) (before after : ClientTold) : Type 0 where
   pub store : after.store ≡ before.store
-  pub asked : (after.asked ≡ before.asked) ⊎ Grew before.asked after.asked (r.file, r.range)
-  pub said : (after.said ≡ before.said) ⊎ ((a : PlanAnswer) × Grew before.said after.said (said.Plan a))
+  pub asks : AskedAtMostOnce before after (r.file, r.range)
   pub served : after.served ≡ before.served
   pub faults : before.faults ≤ after.faults
   pub expiries : before.expiries ≤ after.expiries

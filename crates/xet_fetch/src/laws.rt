@@ -1,5 +1,5 @@
 //! Laws of refreshes and cached entries, over the definitions alone.
-ghost use Rattle.xet_fetch.specs.Laws.{CachedTermsPass, EntriesReturn, HonestEntriesPass, HonestTables, RefreshesAnswered};
+ghost use Rattle.xet_fetch.specs.Laws.{CachedTermsPass, EntriesReturn, FetchableBlocks, HonestEntriesPass, HonestTables, RefreshesAnswered};
 
 /// A term of an accepted plan passes its test in any entry that passes the tests of its block.
 pub fn cached_terms_pass()
@@ -25,4 +25,9 @@ pub fn honest_tables()
 /// Each plan by which a table was refreshed was said to the query of its refresh.
 pub fn refreshes_answered()
     ensures { RefreshesAnswered }
+{}
+
+/// Each block of a plan that was accepted can be requested, by the plan's table and by what refreshes leave of it.
+pub fn fetchable_blocks()
+    ensures { FetchableBlocks }
 {}

@@ -7,11 +7,12 @@ pub mod cached_block;
 pub mod fetch_settings;
 pub mod laws;
 pub mod retrieval_urls;
-mod transfer_report;
+pub mod transfer_report;
 pub mod url_provider;
 
 pub use block_fetch::{Fetched, retrieve_data};
 pub use cached_block::{check_cached, entry, look_up, offer, offer_data};
 pub use fetch_settings::FetchSettings;
 pub use retrieval_urls::refresh_retrieval_urls;
+pub use transfer_report::report_transfer;
 pub use url_provider::{URLProvider, XorbURLProvider};

@@ -7,8 +7,13 @@ use xet_base::HttpRange;
 use xet_blocks::TermBlockRetrievalURLs;
 use xet_progress::ItemProgressUpdater;
 
-/// Reports a block of a plan as transferred, with the lengths of its byte ranges. A refused report changes nothing.
-pub(crate) fn report_transfer<R: Wait>(
+/// Reports a block of a plan as transferred to the item of a progress, if there is one: the block's number in its table
+/// of URLs names the half-open ranges of the xorb's bytes, and what is reported is the sum of their lengths in bytes,
+/// which stops at `u64::MAX`. No block of that number reports nothing, and a refused report changes nothing.
+///
+/// In the Rust crate: `ItemProgressUpdater::report_transfer_progress`, called where
+/// `file_reconstruction::reconstruction_terms::xorb_block::XorbBlock::retrieve_data` has fetched a block.
+pub fn report_transfer<R: Wait>(
     rt: &R,
     progress: Option<&ItemProgressUpdater>,
     urls: &TermBlockRetrievalURLs,

@@ -1,7 +1,7 @@
 -- Legal answers of a run over one connection by the answer to its query: no plan, a plan that fails a test, no terms.
 use Rattle.std.proofs.Common.{◌≡◌, ℕ, ◌<◌, List, [], ◌∷◌, length, Option, Some, None, Ok, Err, refl, ap, sym}
 use Rattle.std.proofs.Common.{arith, inl, inr, subst}
-use Rattle.std.specs.Prelude.{◌⊎◌, IfSome, Result}
+use Rattle.std.specs.Prelude.{IfSome, Result}
 use Rattle.xet_base.specs.Store.{Store, IsValid, window}
 use Rattle.xet_outside.specs.declared.plan.Plan.{Plan}
 use Rattle.xet_outside.specs.declared.plan.PlanAnswer.{PlanAnswer}
@@ -9,14 +9,14 @@ use Rattle.xet_outside.specs.declared.plan.PlanAnswer.TheVariants.{Found, NoFile
 use Rattle.xet_outside.specs.declared.said.Said.{Said}
 use Rattle.xet_outside.specs.declared.said.Said.TheVariants as said
 use Rattle.xet_outside.specs.declared.served.Served.{Served}
-use Rattle.xet_outside.specs.Told.{Added, CacheTold, ClientTold, Grew, IsHonest, Query, SignalTold, SinkTold}
+use Rattle.xet_outside.specs.Told.{Added, CacheTold, ClientTold, IsHonest, Query, SignalTold, SinkTold}
 use Rattle.xet_outside.proofs.CallerLemmas.{added_none}
 use Rattle.xet_error.specs.declared.error.Corruption.{Corruption}
 use Rattle.xet_error.specs.declared.error.FileReconstructionError.{FileReconstructionError}
 use Rattle.xet_error.specs.declared.error.FileReconstructionError.TheVariants as error
 use Rattle.xet_blocks.specs.declared.reconstruction_terms.file_term.TermBlock.{TermBlock}
 use Rattle.xet_blocks.specs.ServedChunks.{AllServed}
-use Rattle.xet_blocks.specs.TermBlockCalls.{FromSaid, TermBlockCall, TermBlockCause}
+use Rattle.xet_blocks.specs.TermBlockCalls.{AskedAtMostOnce, FromSaid, TermBlockCall, TermBlockCause}
 use Rattle.xet_blocks.proofs.CallerLemmas.{none_wanted}
 use Rattle.xet_reconstruct.specs.Causes.{Cause, IsCorrupted, IsMissing}
 use Rattle.xet_reconstruct.specs.Failures.{IsPlanSaid, IsQueryAnswer, PlanFails, SomeFailed}
@@ -59,29 +59,37 @@ asked_only g c0 c s answer h = record {
   link = refl;
 }
 
--- the queries that it added
-queries : (g : Setup) (c0 c : ClientTold) → (c.asked ≡ c0.asked) ⊎ Grew c0.asked c.asked (g.file, g.range)
-    → (qs : List Query) × AskedOnce g qs × Added c0.asked c.asked qs
-queries g c0 c (inl e) = ([], inl refl, added_none c0.asked c.asked e)
-queries g c0 c (inr e) = ((g.file, g.range) ∷ [], inr refl, e)
+-- the queries that it added, and the answers
+record NewOfPlan (g : Setup) (c0 c : ClientTold) : Type 0 where
+  queries : List Query
+  once : AskedOnce g queries
+  asks : Added c0.asked c.asked queries
+  answers : List Said
+  says : Added c0.said c.said answers
 
--- the answers that it added
-answers : (c0 c : ClientTold) → (c.said ≡ c0.said) ⊎ ((plan : PlanAnswer) × Grew c0.said c.said (said.Plan plan))
-    → (all : List Said) × Added c0.said c.said all
-answers c0 c (inl e) = ([], added_none c0.said c.said e)
-answers c0 c (inr (a, e)) = (said.Plan a ∷ [], e)
+new_of_plan : (g : Setup) (c0 c : ClientTold) → AskedAtMostOnce c0 c (g.file, g.range) → NewOfPlan g c0 c
+new_of_plan g c0 c (inl (a, e)) =
+    record { queries = (g.file, g.range) ∷ []; once = inr refl; asks = e.asked; answers = said.Plan a ∷ []; says = e.said }
+new_of_plan g c0 c (inr (inl (e, none))) =
+    record { queries = (g.file, g.range) ∷ []; once = inr refl; asks = e; answers = []; says = added_none c0.said c.said none }
+new_of_plan g c0 c (inr (inr (e, none))) = record {
+  queries = [];
+  once = inl refl;
+  asks = added_none c0.asked c.asked e;
+  answers = [];
+  says = added_none c0.said c.said none;
+}
 
 -- nothing was served
 did_plan : (g : Setup) (c0 c : ClientTold)
     (answer : Result (Option TermBlock) FileReconstructionError)
     → TermBlockCall c0 c (query_of g) answer → Did g c0 c
 did_plan g c0 c answer h =
-    let qs = queries g c0 c h.asked in
-    let all = answers c0 c h.said in
+    let t = new_of_plan g c0 c h.asks in
     record {
-      asked = one_new (λ c. c.asked) c0 c qs.0 (AskedOnce g) qs.2 qs.1;
+      asked = one_new (λ c. c.asked) c0 c t.queries (AskedOnce g) t.asks t.once;
       served = one_new (λ c. c.served) c0 c [] Apart (added_none c0.served c.served h.served) no_pairs;
-      planned = planned_none g c0 c qs.0 all.0 qs.2 h.served all.1;
+      planned = planned_none g c0 c t.queries t.answers t.asks h.served t.says;
     }
 
 -- what was said in answer to the query

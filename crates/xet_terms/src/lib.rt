@@ -17,5 +17,5 @@ pub use xet_blocks::{
 };
 pub use xet_fetch::{
     FetchSettings, Fetched, URLProvider, XorbURLProvider, check_cached, entry, look_up, offer,
-    offer_data, refresh_retrieval_urls, retrieve_data,
+    offer_data, refresh_retrieval_urls, report_transfer, retrieve_data,
 };
