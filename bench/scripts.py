@@ -27,7 +27,9 @@ def scripts():
     parts = ["file 1000000"] * FILES + ["xorb 1 1000000000"]
     yield "parts", parts + [f"dep {number} 1 10" for number in chance.sample(range(FILES), FILES)]
     yield "descending", parts + [f"dep {number} 1 10" for number in reversed(range(FILES))]
-    yield "progress", parts + [f"dep {number} 1 10" for number in range(FILES)] + ["progress 1 7"] * 1000
+    ascending = parts + [f"dep {number} 1 10" for number in range(FILES)]
+    yield "progress", ascending + ["progress 1 7"] * 1000
+    yield "long", ascending + ["progress 1 7"] * 10_000
 
 
 def main():

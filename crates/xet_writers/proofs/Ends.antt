@@ -59,6 +59,7 @@ module _ {S : Type 0} (told : S → SinkTold) (b m n : Sequential S) (k : ℕ) (
           flushed = d.2;
         };
         part = tt;
+        unflushed = tt;
         link = f.link ∙ wrote.link;
         faults = omega arith;
       }
@@ -89,6 +90,7 @@ module _ {S : Type 0} (told : S → SinkTold) (b m n : Sequential S) (k : ℕ) (
           kept = ap (λ v. v.kept) x;
           cause = later (told b.sink) (told m.sink) (told n.sink) e h d.1;
         });
+        unflushed = f.unflushed ∙ wrote.flushed;
         link = f.link ∙ wrote.link;
         faults = omega arith;
       }

@@ -1,4 +1,6 @@
+mod Batches
 mod Joined
+mod Lent
 mod Each
 mod Stops
 mod Terms

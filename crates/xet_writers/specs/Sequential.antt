@@ -143,6 +143,7 @@ pub record FinishSequential {S : Type 0} (told : S → SinkTold) (before after :
       → IfOk answer (Ended told before after)
   pub part : closed_by (told_of before) ≡ None → finish_fault (wanted before.queue) ≡ None
       → IfErr answer (λ e. ((e ≡ error.OutOfMemory) × (after ≡ before)) ⊎ WrotePart told before after e)
+  pub unflushed : OnErr answer ((told after.sink).flushed ≡ (told before.sink).flushed)
   pub link : (told after.sink).link ≡ (told before.sink).link
   pub faults : (told before.sink).faults ≤ (told after.sink).faults
 

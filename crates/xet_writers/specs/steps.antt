@@ -1,5 +1,6 @@
 -- Working words of private functions.
 pub mod Indexed
+pub mod Lending
 pub mod PieceSteps
 pub mod SequentialSteps
 pub mod WantedPlaces

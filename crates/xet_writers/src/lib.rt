@@ -5,6 +5,7 @@ pub mod completed_term;
 pub mod data_writer;
 mod faults;
 pub mod laws;
+mod lending;
 mod pieces;
 pub mod queued_term;
 mod waiting;

@@ -16,6 +16,7 @@ use xet_outside::{Sink, SinkError};
 pub(crate) const PIECES: usize = 24;
 
 /// How many bytes were written for sure, and how it ended.
+#[derive(Drop)]
 pub(crate) struct Sent {
     pub(crate) count: u64,
     pub(crate) end: Result<(), SinkError>,

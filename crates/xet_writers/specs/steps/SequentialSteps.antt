@@ -1,5 +1,5 @@
 -- The steps of the writer in order.
-use Rattle.std.specs.Prelude.{ℕ, zero, suc, ◌≡◌, ◌⊎◌, ◌+◌, ◌<◌, ◌≤◌, ◌++◌, length, get_or, List, [], ◌∷◌, true, Option, Some, None, option_map, option_to_list, Result, IfOk, IfErr}
+use Rattle.std.specs.Prelude.{ℕ, zero, suc, ◌≡◌, ◌⊎◌, ◌+◌, ◌<◌, ◌≤◌, ◌++◌, length, get_or, List, [], ◌∷◌, true, Option, Some, None, option_map, option_to_list, Result, IfOk, IfErr, OnErr}
 use Rattle.xet_outside.specs.Told.{SinkTold, Rose}
 use Rattle.xet_error.specs.declared.error.FileReconstructionError.{FileReconstructionError}
 use Rattle.xet_error.specs.declared.error.FileReconstructionError.TheVariants as error
@@ -64,6 +64,7 @@ pub record Flushed {S : Type 0} (told : S → SinkTold) (before after : Sequenti
       × ((told after.sink).flushed ≡ option_map length (told after.sink).took))
   pub failed : IfErr answer (λ e. (after ≡ record before { sink = after.sink; kept = Some e })
       × ((e ≡ error.OutOfMemory) ⊎ ((e ≡ error.IoError) × Rose (told before.sink).faults (told after.sink).faults)))
+  pub unflushed : OnErr answer ((told after.sink).flushed ≡ (told before.sink).flushed)
   pub link : (told after.sink).link ≡ (told before.sink).link
   pub faults : (told before.sink).faults ≤ (told after.sink).faults
 
@@ -72,5 +73,6 @@ pub record Last {S : Type 0} (told : S → SinkTold) (before after : Sequential 
     (answer : Result ℕ FileReconstructionError) : Type 0 where
   pub done : IfOk answer (Ended told before after)
   pub part : IfErr answer (λ e. ((e ≡ error.OutOfMemory) × (after ≡ before)) ⊎ WrotePart told before after e)
+  pub unflushed : OnErr answer ((told after.sink).flushed ≡ (told before.sink).flushed)
   pub link : (told after.sink).link ≡ (told before.sink).link
   pub faults : (told before.sink).faults ≤ (told after.sink).faults

@@ -13,7 +13,8 @@ ghost use Rattle.xet_writers.specs.steps.WantedPlaces.{places_of};
 
 use crate::data_writer::DataWriter;
 use crate::faults::{error_to_keep, test_length, test_term};
-use crate::pieces::{Sent, write_each, write_together};
+use crate::lending::{put_bytes, write_batches};
+use crate::pieces::{PIECES, Sent, write_each};
 use crate::queued_term::{QueuedTerm, WantedPlace};
 use crate::waiting::Waiting;
 use bytes::Bytes;
@@ -96,43 +97,6 @@ fn note_wanted(
     waiting.add(WantedPlace { start, number })
 }
 
-/// Adds a piece, which shares its bytes, unless it is empty.
-fn add_copy(pieces: &mut Vec<Bytes>, bytes: &Bytes) -> std::result::Result<(), OutOfMemory>
-    ensures { OnOk result (pieces.new.items ≡ pieces.old.items ++ nonempty (bytes.now ∷ [])) }
-{
-    if bytes.is_empty() {
-        return Ok(());
-    }
-    pieces.push(bytes.clone()?)?;
-    Ok(())
-}
-
-/// The bytes of the terms before the first wanted one, without the empty ones.
-fn ready_pieces(
-    alloc: Global,
-    queue: &VecDeque<QueuedTerm>,
-) -> std::result::Result<Vec<Bytes>, OutOfMemory>
-    ensures { IfOk result (λ pieces. pieces.items ≡ nonempty (ready queue.now.items)) }
-{
-    let mut pieces = Vec::new(alloc);
-    for i in 0..queue.len() {
-        let Some(bytes) = &queue[i].bytes else {
-            return Ok(pieces);
-        };
-        add_copy(&mut pieces, bytes)?;
-    }
-    Ok(pieces)
-}
-
-/// Gives a term of the queue its bytes.
-fn put_bytes(queue: &mut VecDeque<QueuedTerm>, place: usize, bytes: Bytes)
-    requires { place < length queue.old.items }
-    ensures items { queue.new.items ≡ with_bytes queue.old.items place bytes }
-    ensures len { deque_len queue.new ≡ deque_len queue.old }
-{
-    queue[place].bytes = Some(bytes);
-}
-
 /// Adds the admission of a written term, for which there is room.
 fn give_back(released: &mut VecDeque<Admission>, admission: Option<Admission>)
     requires { deque_len released.old < deque_capacity released.old }
@@ -149,31 +113,34 @@ fn give_back(released: &mut VecDeque<Admission>, admission: Option<Admission>)
 fn send_together<S: Sink>(
     alloc: Global,
     sink: &mut S,
-    queue: &VecDeque<QueuedTerm>,
+    queue: &mut VecDeque<QueuedTerm>,
 ) -> std::result::Result<Sent, OutOfMemory>
-    requires { length (ready_bytes queue.now.items) < 2 ^ 64 }
-    ensures sent { IfOk result (λ sent. WrotePieces 24 (S.told sink.old) (S.told sink.new) (ready queue.now.items)
+    requires { length (ready_bytes queue.old.items) < 2 ^ 64 }
+    ensures sent { IfOk result (λ sent. WrotePieces 24 (S.told sink.old) (S.told sink.new) (ready queue.old.items)
         sent.count sent.end) }
     ensures memory { OnErr result (sink.new ≡ sink.old) }
+    ensures queue { queue.new.items ≡ queue.old.items }
+    ensures len { deque_len queue.new ≡ deque_len queue.old }
 {
-    let mut pieces = match ready_pieces(alloc, queue) {
-        Ok(pieces) => pieces,
-        Err(error) => return Err(error),
+    let Ok(mut pieces) = Vec::with_capacity(alloc, PIECES) else {
+        return Err(OutOfMemory);
     };
-    Ok(write_together(sink, pieces.as_mut_slice()))
+    Ok(write_batches(sink, queue, &mut pieces))
 }
 
 /// Writes the terms before the first wanted one by one of the two loops.
 fn send<S: Sink>(
     alloc: Global,
     sink: &mut S,
-    queue: &VecDeque<QueuedTerm>,
+    queue: &mut VecDeque<QueuedTerm>,
     use_vectorized: bool,
 ) -> std::result::Result<Sent, OutOfMemory>
-    requires { length (ready_bytes queue.now.items) < 2 ^ 64 }
+    requires { length (ready_bytes queue.old.items) < 2 ^ 64 }
     ensures sent { IfOk result (λ sent. WrotePieces (cond use_vectorized 24 1) (S.told sink.old) (S.told sink.new)
-        (ready queue.now.items) sent.count sent.end) }
+        (ready queue.old.items) sent.count sent.end) }
     ensures memory { OnErr result (sink.new ≡ sink.old) }
+    ensures queue { queue.new.items ≡ queue.old.items }
+    ensures len { deque_len queue.new ≡ deque_len queue.old }
 {
     if use_vectorized {
         return send_together(alloc, sink, queue);
@@ -372,7 +339,12 @@ impl<S: Sink> SequentialWriter<S> {
         ensures { Wrote S.told self.old self.new result }
     {
         let before = self.delivered;
-        let Sent { count, end } = send(alloc, &mut self.sink, &self.queue, self.use_vectorized)?;
+        let Sent { count, end } = send(
+            alloc,
+            &mut self.sink,
+            &mut self.queue,
+            self.use_vectorized,
+        )?;
         self.pass(count);
         match end {
             Ok(()) => Ok(self.delivered - before),
