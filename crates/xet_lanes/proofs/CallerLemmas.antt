@@ -1,7 +1,7 @@
 -- What proofs of the crates above may cite of this crate's words.
 
 -- one more step of a lane, and fetches that it didn't make
-pub use Rattle.xet_lanes.proofs.LaneSteps.{more_drawn, none_yet, one_more, step_did}
+pub use Rattle.xet_lanes.proofs.LaneSteps.{more_drawn, none_yet, one_more}
 -- a list of fetches with one more
 pub use Rattle.xet_lanes.proofs.Draws.{asks_more}
 -- where the error of a join comes from, and what holds where it has none

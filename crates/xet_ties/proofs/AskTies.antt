@@ -1,6 +1,6 @@
 -- The ties after a plan was asked for, or its URLs asked for again, and that is recorded.
-use Rattle.std.proofs.Common.{◌≡◌, ◌⊎◌, ℕ, ◌+◌, ◌-◌, ◌<◌, ◌≤◌, min, Bool, List, [], ◌∷◌, ◌++◌, length, refl, sym, subst, ◌∙◌, ap, arith, inl, inr, ⊎_elim, Some, None, Option, length-append}
-use Rattle.std.specs.Prelude.{IsSome, map, Result, Ok, Err, slice_get}
+use Rattle.std.proofs.Common.{◌≡◌, ℕ, ◌+◌, ◌-◌, ◌<◌, ◌≤◌, min, Bool, List, [], ◌∷◌, ◌++◌, length, refl, sym, subst, ◌∙◌, ap, arith, inl, inr, ⊎_elim, Some, None, Option}
+use Rattle.std.specs.Prelude.{IsSome, map, Result, Ok}
 use Rattle.std.specs.List.{enumerate_from}
 use Rattle.xet_base.specs.declared.cas_types.FileRange.{FileRange}
 use Rattle.xet_base.specs.declared.merklehash.MerkleHash.{MerkleHash}
@@ -20,16 +20,15 @@ use Rattle.xet_outside.specs.Told.{ClientTold, Grew, IsHonest, Query}
 use Rattle.xet_outside.proofs.CallerLemmas.{query_after}
 use Rattle.xet_error.specs.declared.error.Corruption.{Corruption}
 use Rattle.xet_error.specs.declared.error.FileReconstructionError.{FileReconstructionError}
-use Rattle.xet_blocks.specs.declared.reconstruction_terms.file_term.FileTerm.{FileTerm}
 use Rattle.xet_blocks.specs.declared.reconstruction_terms.file_term.TermBlock.{TermBlock}
 use Rattle.xet_blocks.specs.declared.reconstruction_terms.retrieval_urls.RetrievalUrl.{RetrievalUrl}
 use Rattle.xet_blocks.specs.declared.reconstruction_terms.xorb_block.XorbBlock.{XorbBlock}
 use Rattle.xet_blocks.specs.Blocks.{PlanBlock, blocks_of, same_block, term_block}
 use Rattle.xet_blocks.specs.PlanChecks.{failed_test}
 use Rattle.xet_blocks.specs.PlanQuery.{PlanQuery}
-use Rattle.xet_blocks.specs.TermBlockCalls.{FromAnswer, FromSaid, FromTerms, FromTested, TermBlockCall}
+use Rattle.xet_blocks.specs.TermBlockCalls.{FromAnswer, FromTerms, FromTested, TermBlockCall}
 use Rattle.xet_blocks.specs.TermBlocks.{IsTermBlock, xorb_block}
-use Rattle.xet_blocks.specs.Terms.{file_term, terms_from, terms_of}
+use Rattle.xet_blocks.specs.Terms.{terms_from, terms_of}
 use Rattle.xet_fetch.specs.Refreshes.{IsRefreshed, MayAsk, Refresh}
 use Rattle.xet_run.specs.declared.event.Event.{Event}
 use Rattle.xet_run.specs.declared.event.Event.TheVariants.{Planned, Refreshed}
@@ -40,7 +39,7 @@ use Rattle.xet_history.specs.TrueHistory.{IsTrueEvent, planned_block, planned_te
 use Rattle.xet_ties.specs.History.{actual_range, range_at}
 use Rattle.xet_ties.specs.InCall.{Exchange}
 use Rattle.xet_ties.specs.Saids.{InStep, IsMadeOf, IsMadeOfPlan, planned_of}
-use Rattle.xet_ties.specs.Setup.{AllTell, IsOver, RunTold, Setup}
+use Rattle.xet_ties.specs.Setup.{AllTell, RunTold, Setup}
 use Rattle.xet_ties.specs.steps.Moves.{QueryStep, heard_first}
 use Rattle.xet_ties.specs.steps.Parts.{blocks_of_answer, plan_event, plan_query, terms_in}
 use Rattle.xet_ties.specs.Ties.{CutsRange, EachLane, IsLost, Slack, Ties}
@@ -172,7 +171,7 @@ ask_ties g b at es fs sl spare c n cs q id o is call recorded none polls step cu
     let all : List Said = said.Plan a ∷ [] in
     let heard = heard_first qs all sl.heard in
     let made = answer_makes g q id a o from.from in
-    let asked : QueryStep c n qs all = record { goes_on = record { store = call.store; link = call.link; faults = call.faults; expiries = call.expiries }; asked = from.asked; said = from.said; quiet = refl; served = call.served } in
+    let asked : QueryStep c n qs all = record { goes_on = record { store = call.store; link = call.link; faults = call.faults; expiries = call.expiries }; asked = from.asked; said = from.said; quiet = refl; late = refl; served = call.served } in
     let tells : (s : Store) → AllTell s b.clients → c.store ≡ Some s = (λ s h. first_tells s es b.clients c cs sl.hidden sl.late (subst (λ (l : List ClientTold). EachLane es 0 b.clients l sl.hidden sl.late) is t.served.lanes) h) in
     let first : Ties g b (record at { clients = c ∷ cs }) es None sl = subst (λ (l : List ClientTold). Ties g b (record at { clients = l }) es None sl) is t in
     let lost : sl.lost ++ qs ≡ qs = ap (λ (l : List Query). l ++ qs) none in
@@ -197,7 +196,7 @@ refresh_ties g b at es fs sl p r us c n cs is may new recorded none step at_rang
     let all : List Said = said.Plan (Found new.plan) ∷ [] in
     let heard = heard_first qs all sl.heard in
     let grew : Grew c.asked n.asked (g.file, r.range) = subst (λ (x : MerkleHash). Grew c.asked n.asked (x, r.range)) file new.answered.asked in
-    let asked : QueryStep c n qs all = record { goes_on = record { store = may.store; link = may.link; faults = may.faults; expiries = may.expiries }; asked = grew; said = new.answered.said; quiet = refl; served = may.served } in
+    let asked : QueryStep c n qs all = record { goes_on = record { store = may.store; link = may.link; faults = may.faults; expiries = may.expiries }; asked = grew; said = new.answered.said; quiet = refl; late = refl; served = may.served } in
     let first : Ties g b (record at { clients = c ∷ cs }) es None sl = subst (λ (v : List ClientTold). Ties g b (record at { clients = v }) es None sl) is t in
     let lost : sl.lost ++ qs ≡ qs = ap (λ (l : List Query). l ++ qs) none in
     let told = tie_query g b (record at { clients = c ∷ cs }) es sl (n ∷ cs) qs all (asked, refl) (subst (λ (l : List Query). IsLost g es l) (sym lost) (refl, inr (p, at_range))) first in (

@@ -1,6 +1,6 @@
 -- The queries that a run asks are short, and but for refreshes they cut the range.
-use Rattle.std.proofs.Common.{◌≡◌, ◌⊎◌, ℕ, ◌+◌, ◌-◌, ◌<◌, ◌≤◌, ◌==◌, Bool, true, false, cond, List, [], ◌∷◌, ◌++◌, length, refl, sym, subst, ◌∙◌, ap, arith, append_assoc, inl, inr, ⊎_elim, Some, None, Option}
-use Rattle.std.specs.Prelude.{All, Contains, IfSome, map, option_to_list}
+use Rattle.std.proofs.Common.{◌≡◌, ℕ, ◌+◌, ◌-◌, ◌<◌, ◌≤◌, ◌==◌, Bool, true, false, cond, List, [], ◌∷◌, ◌++◌, length, refl, sym, subst, ◌∙◌, ap, arith, append_assoc, inl, inr, ⊎_elim, Some, None, Option}
+use Rattle.std.specs.Prelude.{All, map, option_to_list}
 use Rattle.std.specs.Option.{option_or}
 use Rattle.std.proofs.lemmas.List.{append-nil}
 use Rattle.std.proofs.lemmas.List.Elements.{All-append, All-cons, All-contains, All-head, All-nil, All-tail, Contains-append_right}
@@ -18,14 +18,14 @@ use Rattle.xet_history.specs.TrueHistory.{queries}
 use Rattle.xet_ties.specs.History.{IsWithin, actual_range, asked_by, asked_in, range_at, range_in, telling}
 use Rattle.xet_ties.specs.InCall.{new_in}
 use Rattle.xet_ties.specs.Legal.{AskedCut, AsksCut, FirstAsks, IsShort, LiesInSome}
-use Rattle.xet_ties.specs.Setup.{RunTold, Setup}
-use Rattle.xet_ties.specs.Ties.{CutsRange, FirstAsked, IsLost, MayBeAsked, Slack, Stop, Ties}
+use Rattle.xet_ties.specs.Setup.{Setup}
+use Rattle.xet_ties.specs.Ties.{CutsRange, FirstAsked, IsLost}
 use Rattle.xet_ties.proofs.Told.{if_some, told_new}
 
 -- ---- the actual range of a plan lies in its query
 
 -- so does each range of a plan of these events
-abbrev AreIn : MerkleHash → List Event → List FileRange → Type 0
+abbrev pub AreIn : MerkleHash → List Event → List FileRange → Type 0
 AreIn f es seen = (p : ℕ) (r : FileRange) → range_at es p ≡ r ∷ [] → LiesInSome seen (f, r)
 
 or_none : (o : Option FileRange) → option_or o None ≡ o
@@ -81,7 +81,7 @@ refreshed_cut seen q qs [] l a = (l, a)
 refreshed_cut seen q qs (c ∷ cs) l a = inr (l, a)
 
 -- the events' queries, then others
-asked_cut : (f : MerkleHash) (before es : List Event) (seen : List FileRange) (tail : List Query) (cut : List FileRange) → AreIn f before seen → All IsWithin es
+pub asked_cut : (f : MerkleHash) (before es : List Event) (seen : List FileRange) (tail : List Query) (cut : List FileRange) → AreIn f before seen → All IsWithin es
     → ((now : List FileRange) → AreIn f (before ++ es) now → AskedCut now tail cut) → AskedCut seen (telling (asked_in f) before es ++ tail) (queries es ++ cut)
 asked_cut f before [] seen tail cut h w rest = rest seen (subst (λ (l : List Event). AreIn f l seen) (sym (append-nil before)) h)
 asked_cut f before (e ∷ es) seen tail cut h w rest = by (λ b now k r. asked_cut f b es now tail cut k (All-tail IsWithin e es w) r) e refl
@@ -168,7 +168,7 @@ both g (q ∷ qs) a b = All-cons (IsShort g) q qs (All-head (λ (x : Query). x.0
 
 -- ---- together
 
-none_in : (f : MerkleHash) → AreIn f [] []
+pub none_in : (f : MerkleHash) → AreIn f [] []
 none_in f p r at = absurd (cc)
 
 -- with a tail that is a query of the cut, or lies in one, or is none

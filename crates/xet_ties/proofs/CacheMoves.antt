@@ -1,6 +1,6 @@
 -- The ties after a step of the cache.
 use Rattle.std.proofs.Common.{◌≡◌, ℕ, ◌+◌, ◌≤◌, ◌==◌, ◌&&◌, Bool, true, false, cond, List, [], ◌∷◌, ◌++◌, length, refl, sym, subst, ◌∙◌, ap, arith, append_assoc, Some, None, Option}
-use Rattle.std.specs.Prelude.{count_by, option_map, All}
+use Rattle.std.specs.Prelude.{count_by, option_map}
 use Rattle.std.proofs.lemmas.Bool.{and_parts, eqb-true}
 use Rattle.xet_base.specs.declared.cas_types.ChunkRange.{ChunkRange}
 use Rattle.xet_base.specs.declared.merklehash.MerkleHash.{MerkleHash}
@@ -22,6 +22,7 @@ use Rattle.xet_ties.specs.Setup.{IsOver, RunTold, Setup, download_of}
 use Rattle.xet_ties.specs.InCall.{Look, EachGrew, Exchange}
 use Rattle.xet_ties.specs.Ties.{Reaches, Slack, Ties, gave, is_look, is_one, is_range, lacks, missed, IsTaken}
 use Rattle.xet_ties.proofs.Lanes.{served_same}
+use Rattle.xet_ties.proofs.Lates.{expired_same}
 use Rattle.xet_ties.proofs.Pushes.{first_push, limited_same, offered_push, polled_push, reaches_more, recorded_same, stored_same, taken_push, tried_push, true_same, cuts_same, lost_push}
 use Rattle.xet_ties.proofs.Telling.{each-push, telling-push, telling-same}
 use Rattle.std.proofs.lemmas.List.{append-nil}
@@ -87,6 +88,7 @@ tie_missed g b n es sl to x r given l miss t = record {
   within = t.within;
   stored = t.stored;
   served = t.served;
+  expired = t.expired;
   asked = t.asked;
   lost = t.lost;
   said = t.said;
@@ -132,6 +134,7 @@ tie_cached g b n es sl to p k x r entry l at t =
       within = All-push IsWithin es e t.within tt;
       stored = stored_same g.file es e b.clients refl t.stored;
       served = served_same es e sl.hidden sl.late b.clients n.clients (λ l. refl) (λ l. refl) (λ p k. refl) (λ m. tt) t.served;
+      expired = expired_same es e 0 sl.heard sl.late (λ l w. refl) t.expired;
       asked = first_push g.file es e sl.lost sl.lost b.clients n.clients refl t.asked;
       lost = lost_push g es e sl.lost [] sl.lost refl refl t.lost;
       said = said_push g es e sl.heard (λ x. tt) t.said;
@@ -178,6 +181,7 @@ tie_put g b n es sl to due p d t = record {
   within = t.within;
   stored = t.stored;
   served = t.served;
+  expired = t.expired;
   asked = t.asked;
   lost = t.lost;
   said = t.said;

@@ -7,6 +7,8 @@ pub use Rattle.xet_ties.proofs.Telling.{first_stays, block_at-push, range_at-pus
 pub use Rattle.xet_ties.proofs.Starts.{tie_start, runs, tie_stop, tie_cancel, tie_flush, same_list}
 pub use Rattle.xet_ties.proofs.Starts.{none_hidden, short_leaves, steady_leaves, steady_ends, setup_of, settings_are}
 pub use Rattle.xet_ties.proofs.Starts.{admits_none, admits_one, admits_asked}
+-- what connections said of expired URLs
+pub use Rattle.xet_ties.proofs.Lates.{none_late, expired_same, expired_query}
 -- the ties after one step
 pub use Rattle.xet_ties.proofs.Moves.{tie_event, tie_poll, tie_limit, tie_admit, tie_window, tie_fail, tie_short}
 pub use Rattle.xet_ties.proofs.CacheMoves.{tie_missed, tie_cached, tie_put}
@@ -17,14 +19,22 @@ pub use Rattle.xet_ties.proofs.PartTies.{poll_ties, stop_ties, look_up_ties, loo
 pub use Rattle.xet_ties.proofs.PartTies.{offers_none, offers_more, offers_one, offered_block, offered_more}
 pub use Rattle.xet_ties.proofs.AskTies.{answer_makes, made_true, made_stored, made_within, query_now, first_tells}
 pub use Rattle.xet_ties.proofs.AskTies.{ask_ties, refresh_ties}
+pub use Rattle.xet_ties.proofs.FailedQueries.{ask_short, ask_said, refresh_short, refresh_said}
 pub use Rattle.xet_ties.proofs.PastEnds.{past_none}
 pub use Rattle.xet_ties.proofs.WindowTies.{tie_written}
+-- the terms from the first unfinished one on, and a window of them
+pub use Rattle.xet_ties.proofs.Windows.{unfinished_is, wanted_is, wrote_allowed}
+pub use Rattle.xet_ties.proofs.WindowTests.{window_tested}
+pub use Rattle.xet_ties.proofs.Wholes.{tasks_sized, some_sum}
 -- lanes and rounds
 pub use Rattle.xet_ties.proofs.LaneMore.{step_did, one_more, goes_both}
-pub use Rattle.xet_ties.proofs.LaneJoins.{AreJoined, are_joined, served_among, served_apart, fetched_among}
+pub use Rattle.xet_ties.proofs.LaneJoins.{AreJoined, are_joined, joined_among, served_among, served_apart, fetched_among}
 pub use Rattle.xet_ties.proofs.LaneTies.{tie_lanes_fetched, tie_lanes_expired, fresh-push, fresh-all}
 pub use Rattle.xet_ties.proofs.NewPairs.{none_fetched, new_pairs}
-pub use Rattle.xet_ties.proofs.RoundTies.{round_ties, round_tied}
+pub use Rattle.xet_ties.proofs.RoundTies.{round_joined, round_fetched, round_tied}
+pub use Rattle.xet_ties.proofs.RoundShorts.{round_short, written_short}
+pub use Rattle.xet_ties.proofs.RoundData.{ArePaired, are_paired, tells_now}
+pub use Rattle.xet_ties.proofs.RoundAllowed.{round_allowed}
 pub use Rattle.xet_ties.proofs.RoundTries.{round_may_expire}
 -- missing blocks, and events that are recorded one after another
 pub use Rattle.xet_ties.proofs.Missing.{IsStill, unfinished-push, missing-push, running-push, missing_after}
@@ -38,9 +48,11 @@ pub use Rattle.xet_ties.proofs.Heard.{FirstEvent, query_answer_more, accepted_mo
 pub use Rattle.xet_ties.proofs.SaidTies.{fetch_entry, step_data, SaidBlock, block_said}
 pub use Rattle.xet_ties.proofs.SaidCauses.{accepted_said, step_fails, block_fails, term_fails, end_fails, plan_fails}
 pub use Rattle.xet_ties.proofs.SaidCauses.{file_missing, refresh_fails}
+pub use Rattle.xet_ties.proofs.FileCauses.{missing_file}
 pub use Rattle.xet_ties.proofs.Told.{told_new, if_some, all_told}
 -- the answer and the measure
 pub use Rattle.xet_ties.proofs.Headline.{exact, is_stored, prefix}
 pub use Rattle.xet_ties.proofs.Expiries.{have_expired}
+pub use Rattle.xet_ties.proofs.Renewals.{refreshes_few}
 pub use Rattle.xet_ties.proofs.Legals.{legal_of}
-pub use Rattle.xet_ties.proofs.Measures.{left-push, left_fetched, left_expired}
+pub use Rattle.xet_ties.proofs.Measures.{left-push, left_fetched, left_cached, left_expired}

@@ -12,12 +12,13 @@ use Rattle.xet_run.specs.declared.event.PlannedTerm.{PlannedTerm}
 use Rattle.xet_history.specs.TrueHistory.{IsTrueEvent, queries}
 use Rattle.xet_base.specs.declared.cas_types.FileRange.{FileRange}
 use Rattle.xet_base.specs.declared.merklehash.MerkleHash.{MerkleHash}
-use Rattle.xet_history.specs.Queries.{CutFrom}
 use Rattle.xet_ties.specs.History.{IsOneCached, IsRenewed, asked_by, served_by, fetches, IsWithin}
 use Rattle.xet_ties.specs.steps.Moves.{EachJoined, FirstQuery, JoinStep, QueryStep, no_hidden, no_late, heard_first, heard_join}
 use Rattle.xet_ties.specs.Setup.{AllTell, ClientGoesOn, IsOver, RunTold, Setup, download_of}
-use Rattle.xet_ties.specs.Ties.{EachUnasked, all_of, is_pair, EachLane, FirstAsked, IsLane, Slack, Ties, CutsRange, IsLost, IsPlannedEntry}
+use Rattle.xet_ties.specs.Ties.{AllAre, EachUnasked, all_of, is_pair, EachLane, FirstAsked, IsLane, Slack, Ties, CutsRange, IsLost, IsPlannedEntry}
 use Rattle.xet_ties.proofs.Lanes.{served_same}
+use Rattle.xet_ties.specs.InCall.{expired_said}
+use Rattle.xet_ties.proofs.Lates.{expired_join, expired_query, expired_same, joined_late, none_late}
 use Rattle.xet_ties.proofs.Pushes.{first_push, limited_same, looked_push, offered_push, polled_push, recorded_same, taken_push, tried_push, true_push, cuts_push}
 use Rattle.xet_ties.proofs.Telling.{each-push}
 use Rattle.std.proofs.lemmas.List.Elements.{All-push}
@@ -68,6 +69,11 @@ asked_query f es q all lost (b ∷ bs) (m ∷ ms) (n ∷ ns) s t = (
     twice None = refl
     twice (Some ys) = ap (λ (z : List Query). Some z) (append_assoc ys (asked_by f es ++ lost) (q) ∙ ap (λ (z : List Query). ys ++ z) (append_assoc (asked_by f es) lost (q)))
 
+first_late : (ms ns : List ClientTold) (qs : List Query) (all : List Said) → FirstQuery ms ns qs all → count_by expired_said all ≡ 0
+first_late [] ns qs all f = absurd f
+first_late (m ∷ ms) [] qs all f = absurd f
+first_late (m ∷ ms) (n ∷ ns) qs all f = f.0.late
+
 -- the first connection was asked and said something, and no event says it yet
 pub tie_query : (g : Setup) (b n : RunTold) (es : List Event) (sl : Slack) (to : List ClientTold) (qs : List Query) (all : List Said) → FirstQuery n.clients to qs all → IsLost g es (sl.lost ++ qs) → Ties g b n es None sl
     → Ties g b (record n { clients = to }) es None (record sl { heard = heard_first qs all sl.heard; lost = sl.lost ++ qs })
@@ -78,6 +84,7 @@ tie_query g b n es sl to qs all s l t = record {
   within = t.within;
   stored = t.stored;
   served = record { lanes = lanes_query es qs all b.clients n.clients to sl.hidden sl.late s t.served.lanes; once = t.served.once; planned = t.served.planned; on_lanes = t.served.on_lanes };
+  expired = expired_query es qs all sl.heard sl.late (first_late n.clients to qs all s) t.expired;
   asked = asked_query g.file es qs all sl.lost b.clients n.clients to s t.asked;
   lost = l;
   said = said_query g es qs all sl.heard t.said;
@@ -107,6 +114,7 @@ tie_planned g b n es sl spare plan query terms blocks lost polls cuts within sai
       within = All-push IsWithin es e t.within within;
       stored = λ s tell k. stored s tell;
       served = served_same es e sl.hidden sl.late b.clients n.clients (λ l. refl) (λ l. refl) (λ p k. refl) (λ m. tt) t.served;
+      expired = expired_same es e 0 sl.heard sl.late (λ l w. refl) t.expired;
       asked = first_push g.file es e sl.lost [] b.clients n.clients lost t.asked;
       lost = tt;
       said = said_planned g es e sl.heard said t.said;
@@ -186,6 +194,7 @@ tie_join g b n es sl to hs alls ks j once planned no_h no_k t =
         planned = planned;
         on_lanes = t.served.on_lanes;
       };
+      expired = expired_join es 0 hs alls ks sl.late sl.heard match (joined_late n.clients to hs alls ks j) (subst (λ (l : List ℕ). AllAre 0 l) (sym no_k) (none_late b.clients)) t.expired;
       asked = asked_join g.file es sl.lost b.clients n.clients to hs alls ks j t.asked;
       lost = t.lost;
       said = said_join g es hs alls sl.heard match t.said;

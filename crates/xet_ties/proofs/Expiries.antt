@@ -1,19 +1,20 @@
 -- The Expired events of a block are expired answers of the connections together.
-use Rattle.std.proofs.Common.{◌≡◌, ℕ, ◌+◌, ◌-◌, ◌^◌, ◌<◌, ◌≤◌, ◌==◌, ◌&&◌, Bool, true, false, cond, List, [], ◌∷◌, length, refl, sym, subst, ◌∙◌, ap, arith, ◌⊎◌, inl, inr}
+use Rattle.std.proofs.Common.{◌≡◌, ℕ, ◌+◌, ◌<◌, ◌≤◌, ◌==◌, ◌&&◌, Bool, true, false, cond, List, [], ◌∷◌, length, refl, sym, subst, ap, arith, ◌⊎◌, inl, inr}
 use Rattle.std.specs.Prelude.{All, count_by}
 use Rattle.std.proofs.lemmas.Bool.{eq-eqb, eqb-true}
 use Rattle.std.proofs.lemmas.List.Elements.{All-head, All-tail}
 use Rattle.xet_outside.specs.declared.served.Served.{Served}
 use Rattle.xet_outside.specs.Told.{ClientTold}
 use Rattle.xet_outside.proofs.CallerLemmas.{count_by-cons}
-use Rattle.xet_error.specs.declared.error.FileReconstructionError.TheVariants as error
 use Rattle.xet_run.specs.declared.event.Event.{Event}
 use Rattle.xet_run.specs.declared.event.Event.TheVariants.{Planned, Admit, Fetched, Cached, Expired, Refreshed, Wrote, Fail, Cancel}
 use Rattle.xet_run.specs.Events.{expires}
-use Rattle.xet_ties.specs.Causes.{HaveExpired, NoneAtEnd, total_expiries}
-use Rattle.xet_ties.specs.History.{IsOnLane, expired_by, expires_on}
+use Rattle.xet_ties.specs.Causes.{HaveExpired, NoneAtEnd, expired_answers, total_expiries}
+use Rattle.xet_ties.specs.History.{IsOnLane, expired_by, expires_on, is_expiry}
 use Rattle.xet_ties.specs.Setup.{RunTold, Setup}
-use Rattle.xet_ties.specs.Ties.{EachLane, Slack, Stop, Ties}
+use Rattle.xet_ties.specs.InCall.{EachExchange, Exchange, all_exchanges}
+use Rattle.xet_ties.specs.Ties.{EachExpired, EachLane, Slack, Stop, Ties}
+use Rattle.xet_ties.proofs.Told.{all_told, if_some}
 
 -- the Expired events of the lanes from a number on, as many as connections
 abbrev on_lanes : ℕ → List Event → List ClientTold → ℕ
@@ -66,6 +67,17 @@ expires_event l p k (Wrote taken) bs on low = omega arith
 expires_event l p k (Fail error) bs on low = omega arith
 expires_event l p k Cancel bs on low = omega arith
 
+expiry_event : (l : ℕ) (e : Event) (bs : List ClientTold) → IsOnLane (l + length bs) e → ((m a c : ℕ) → e ≡ Expired m a c → l ≤ m) → cond {A = ℕ} (is_expiry e) 1 0 ≤ by_event l e bs
+expiry_event l (Expired m a c) bs on low = one_lane l m a c bs (low m a c refl) on
+expiry_event l (Planned plan query terms blocks) bs on low = omega arith
+expiry_event l (Admit limit) bs on low = omega arith
+expiry_event l (Fetched lane plan block) bs on low = omega arith
+expiry_event l (Cached plan block) bs on low = omega arith
+expiry_event l (Refreshed plan) bs on low = omega arith
+expiry_event l (Wrote taken) bs on low = omega arith
+expiry_event l (Fail error) bs on low = omega arith
+expiry_event l Cancel bs on low = omega arith
+
 none_more : (l : ℕ) (bs : List ClientTold) → 0 ≤ on_lanes l [] bs
 none_more l bs = omega arith
 
@@ -80,6 +92,17 @@ expires_most p k (e ∷ es) bs a =
     let c = count_by-cons (expires p k) e es in
     omega (arith, one, r, s, c)
 
+-- all Expired events are the lanes' together
+expiry_most : (es : List Event) (bs : List ClientTold) → All (IsOnLane (length bs)) es → count_by is_expiry es ≤ on_lanes 0 es bs
+expiry_most [] bs a = none_more 0 bs
+expiry_most (e ∷ es) bs a =
+    let n : length bs ≡ 0 + length bs = omega arith in
+    let one = expiry_event 0 e bs (subst (λ (i : ℕ). IsOnLane i e) n (All-head (IsOnLane (length bs)) e es a)) (λ m x c h. omega arith) in
+    let r = expiry_most es bs (All-tail (IsOnLane (length bs)) e es a) in
+    let s = split_event 0 e es bs in
+    let c = count_by-cons is_expiry e es in
+    omega (arith, one, r, s, c)
+
 lanes_total : (es : List Event) (l : ℕ) (bs ns : List ClientTold) (hs : List (List Served)) (ks : List ℕ) → EachLane es l bs ns hs ks → NoneAtEnd ns → total_expiries bs + on_lanes l es bs ≤ total_expiries ns
 lanes_total es l [] [] hs ks t h = omega arith
 lanes_total es l [] (n ∷ ns) hs ks t h = absurd t
@@ -92,9 +115,32 @@ lanes_total es l (b ∷ bs) (n ∷ ns) (x ∷ hs) (k ∷ ks) t h =
     let f = h.0 in
     omega (arith, r, e, f)
 
--- where one block has as many as tries, the connections' expired answers grew by so many
+-- and of what was heard
+said_total : (es : List Event) (l : ℕ) (bs ns : List ClientTold) (xs : List Exchange) (ks : List ℕ) → EachExchange bs ns xs → EachExpired es l xs ks → on_lanes l es bs ≤ expired_answers xs
+said_total es l [] [] [] ks h t = omega arith
+said_total es l [] [] (x ∷ xs) ks h t = absurd h
+said_total es l [] (n ∷ ns) xs ks h t = absurd h
+said_total es l (b ∷ bs) [] xs ks h t = absurd h
+said_total es l (b ∷ bs) (n ∷ ns) [] ks h t = absurd h
+said_total es l (b ∷ bs) (n ∷ ns) (x ∷ xs) [] h t = absurd t
+said_total es l (b ∷ bs) (n ∷ ns) (x ∷ xs) (k ∷ ks) h t = let r = said_total es (l + 1) bs ns xs ks h.1 t.1 in let e = t.0 in omega (arith, r, e)
+
+-- so all Expired events are answers that were heard
+pub all_expired : (g : Setup) (b n : RunTold) (es : List Event) (stop : Stop) (sl : Slack) → Ties g b n es stop sl → count_by is_expiry es ≤ expired_answers sl.heard
+all_expired g b n es stop sl t =
+    let m = expiry_most es b.clients t.served.on_lanes in
+    let heard = said_total es 0 b.clients n.clients sl.heard sl.late t.heard t.expired in
+    omega (arith, m, heard)
+
+-- where one block has as many as tries, the connections gave so many expired answers together
 pub have_expired : (g : Setup) (b n : RunTold) (es : List Event) (stop : Stop) (sl : Slack) (p k : ℕ) → count_by (expires p k) es ≡ g.tries → Ties g b n es stop sl → HaveExpired g.tries b.clients n.clients
-have_expired g b n es stop sl p k spent t none =
+have_expired g b n es stop sl p k spent t =
     let m = expires_most p k es b.clients t.served.on_lanes in
-    let s = lanes_total es 0 b.clients n.clients sl.hidden sl.late t.served.lanes none in
-    omega (arith, m, s, spent)
+    let heard = said_total es 0 b.clients n.clients sl.heard sl.late t.heard t.expired in
+    let few : g.tries ≤ expired_answers sl.heard = omega (arith, m, heard, spent) in
+    record {
+      counted = λ none. let s = lanes_total es 0 b.clients n.clients sl.hidden sl.late t.served.lanes none in omega (arith, m, s, spent);
+      said =
+          if_some (all_exchanges b.clients n.clients) (λ xs. xs ≡ sl.heard) (λ xs. g.tries ≤ expired_answers xs)
+          (λ xs e. subst (λ (l : List Exchange). g.tries ≤ expired_answers l) (sym e) few) (all_told b.clients n.clients sl.heard t.heard);
+    }

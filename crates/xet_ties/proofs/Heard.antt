@@ -1,6 +1,6 @@
 -- What was heard of the connections, after one more step of them: the lists stay in step, and what was said stays said.
-use Rattle.std.proofs.Common.{◌≡◌, ℕ, ◌+◌, List, [], ◌∷◌, ◌++◌, length, refl, sym, subst, ◌∙◌, ap, arith, length-append, inl, inr, ⊎_elim, Some}
-use Rattle.std.specs.Prelude.{All, Contains, IfSome, take}
+use Rattle.std.proofs.Common.{◌≡◌, ℕ, List, [], ◌∷◌, ◌++◌, length, refl, sym, subst, ◌∙◌, ap, arith, length-append, inl, inr, ⊎_elim}
+use Rattle.std.specs.Prelude.{All, take}
 use Rattle.std.specs.List.{AllZip}
 use Rattle.std.proofs.lemmas.List.{append-nil}
 use Rattle.std.proofs.lemmas.List.Elements.{All-cons, All-head, All-nil, All-push, All-tail, All-weaker, Contains-append_left}
@@ -18,10 +18,10 @@ use Rattle.xet_blocks.specs.declared.reconstruction_terms.xorb_block.XorbBlock.{
 use Rattle.xet_blocks.specs.declared.reconstruction_terms.xorb_block.XorbBlockData.{XorbBlockData}
 use Rattle.xet_run.specs.declared.event.Event.{Event}
 use Rattle.xet_run.specs.declared.event.Event.TheVariants.{Planned, Admit, Fetched, Cached, Expired, Refreshed, Wrote, Fail, Cancel}
-use Rattle.xet_run.specs.Events.{Task, planned}
+use Rattle.xet_run.specs.Events.{Task}
 use Rattle.xet_ties.specs.History.{entry_of}
 use Rattle.xet_ties.specs.InCall.{EachExchange, EachGrew, Exchange, ExchangeGrew, IsExchange, Look, SomeOne}
-use Rattle.xet_ties.specs.Saids.{BlockOfPlan, FirstSaid, InStep, IsEventSaid, IsLookedData, IsPiece, IsPlanAccepted, IsPlanSaid, IsPlannedBy, IsQueryAnswer, IsServedData, IsTaskPiece, IsTested, IsTestedData, IsUnasked, TermOfPlan, planned_of}
+use Rattle.xet_ties.specs.Saids.{BlockOfPlan, FirstSaid, InStep, IsEventSaid, IsLookedData, IsPlanAccepted, IsQueryAnswer, IsServedData, IsTaskPiece, IsTested, IsTestedData, IsUnasked, TermOfPlan, planned_of, some_of}
 use Rattle.xet_ties.specs.Setup.{Setup}
 use Rattle.xet_ties.specs.steps.Moves.{EachJoined, FirstQuery, JoinStep, QueryStep, heard_first, heard_join, no_exchange}
 
@@ -274,6 +274,6 @@ zip_weaker R Q f (x ∷ xs) (y ∷ ys) z = (f x y z.0, zip_weaker R Q f xs ys z.
 pub tested_grew : (g : Setup) (xs ys : List Exchange) (looks more : List Look) (es : List Event) (taken : List ℕ) → EachGrew xs ys → IsTested g xs looks es taken → IsTested g ys (looks ++ more) es taken
 tested_grew g xs ys looks more es taken w t = record {
   pieces = t.pieces;
-  each = zip_weaker (IsTaskPiece g xs looks) (IsTaskPiece g ys (looks ++ more)) (piece_more g xs ys looks more w) (take (length t.pieces) (planned es)) t.pieces t.each;
+  each = zip_weaker (IsTaskPiece g xs looks) (IsTaskPiece g ys (looks ++ more)) (piece_more g xs ys looks more w) (take (length t.pieces) (some_of es)) t.pieces t.each;
   from = t.from;
 }

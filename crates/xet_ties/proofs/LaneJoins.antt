@@ -1,21 +1,23 @@
 -- What the lanes of a round did to the connections, as a step of the ties, and that no pair is served twice.
 use Rattle.std.proofs.Common.{ℕ, ◌≡◌, ◌+◌, ◌-◌, ◌<◌, ◌≤◌, true, false, Bool, zero, suc, List, [], ◌∷◌, ◌++◌, length, map, refl, sym, ap, ◌∙◌, subst, inl, inr, arith, Option, Some, None}
-use Rattle.std.specs.Prelude.{cond, nat_eq, nat_lt, slice_get, count_by, option_map, All, ◌&&◌}
+use Rattle.std.specs.Prelude.{cond, nat_eq, nat_lt, slice_get, count_by, All, ◌&&◌}
 use Rattle.std.specs.List.{concat, flat_map}
-use Rattle.std.proofs.lemmas.List.{append-nil}
 use Rattle.std.proofs.lemmas.Bool.Decides.{nat_tests}
 use Rattle.xet_outside.proofs.CallerLemmas.{count_by-cons, added_none}
 use Rattle.xet_outside.specs.declared.said.Said.{Said}
-use Rattle.xet_outside.specs.Told.{ClientTold, served_of, Added}
+use Rattle.xet_outside.specs.Told.{ClientTold, served_of}
 use Rattle.xet_outside.specs.declared.served.Served.{Served}
 use Rattle.xet_run.specs.declared.event.Event.{Event}
 use Rattle.xet_run.specs.declared.event.Event.TheVariants.{Fetched, Expired}
 use Rattle.xet_ties.specs.declared.lane_step.LaneStep.{LaneStep}
-use Rattle.xet_ties.specs.Lanes.{AreAt, AreOf, Ask, DrewApart, EachDrew, IsHidden, LaneDid, entries_in, entries_of, expired_count, hides_at, may_hide}
-use Rattle.xet_ties.specs.steps.Records.{asks_for, keys_of, places_of, Key, entries_all, expired_on, expired_all, fetched_all, fetched_on, lanes_entries, lanes_expired, lanes_fetched, lanes_late, AreFresh, EachFresh, IsFreshAsk, blocks_all, key_of, lane_events}
+use Rattle.xet_ties.specs.Lanes.{AreAt, AreOf, Ask, DrewApart, EachDrew, HidesNone, IsFor, IsHidden, LaneDid, entries_in, entries_of, expired_count, hides_at, may_hide}
+use Rattle.xet_ties.specs.steps.Records.{asks_for, keys_of, places, places_of, Key, Place, entries_all, expired_on, expired_all, fetched_all, fetched_on, lanes_entries, lanes_expired, lanes_fetched, lanes_late, AreFresh, EachFresh, IsFreshAsk, blocks_all, key_of, lane_events}
 use Rattle.xet_claims.specs.ClaimViews.{once_below, times}
-use Rattle.xet_ties.specs.steps.Moves.{EachJoined, JoinStep, no_late}
-use Rattle.xet_ties.specs.Ties.{IsPlannedEntry, all_of, is_pair, is_range}
+use Rattle.xet_ties.specs.steps.Moves.{EachJoined, JoinStep, heard_join, no_hidden, no_late}
+use Rattle.xet_ties.specs.steps.Rounds.{IsHeardStep, got_of}
+use Rattle.xet_ties.specs.InCall.{Exchange}
+use Rattle.xet_ties.proofs.RoundData.{ArePaired, lanes_more}
+use Rattle.xet_ties.specs.Ties.{all_of, is_pair, is_range}
 use Rattle.xet_ties.specs.History.{fetches}
 use Rattle.xet_ties.specs.declared.lane_step.LaneStep.TheVariants as step
 use Rattle.std.proofs.lemmas.List.Elements.{All-append, All-cons, All-head, All-nil, All-tail}
@@ -215,12 +217,22 @@ expired_places lane (step.Served p k d ∷ ss) = expired_places lane ss
 expired_places lane (step.Expired p k ∷ ss) = ap (λ (l : List Event). Expired lane p k ∷ l) (expired_places lane ss)
 expired_places lane (step.Failed e ∷ ss) = expired_places lane ss
 
+-- the places of its Served steps are those of these blocks
+got_keys : (b n : ClientTold) (served : List Served) (all : List Said) (qs : List Ask) (ss : List LaneStep) → AreOf b n served all qs ss → got_of ss ≡ places (keys_of qs ss)
+got_keys b n served all qs [] are = refl
+got_keys b n served all [] (s ∷ ss) are = absurd are
+got_keys b n served all (a ∷ qs) (step.Served p k d ∷ ss) are =
+    ap (λ (i : ℕ). (i, k) ∷ got_of ss) are.0.0 ∙ ap (λ (i : ℕ). (a.request.acquisition.plan, i) ∷ got_of ss) are.0.1 ∙ ap (λ (l : List Place). (a.request.acquisition.plan, a.request.index) ∷ l) (got_keys b n served all qs ss are.1)
+got_keys b n served all (a ∷ qs) (step.Expired p k ∷ ss) are = got_keys b n served all qs ss are.1
+got_keys b n served all (a ∷ qs) (step.Failed e ∷ ss) are = got_keys b n served all qs ss are.1
+
 lane_step : (b n : ClientTold) (qs : List Ask) (ss : List LaneStep) → (d : LaneDid b n qs ss) → JoinStep b n (entries_all (keys_of qs ss) ++ d.hidden) d.said (length (places_of ss) + 0)
 lane_step b n qs ss d = record {
   goes_on = d.goes_on;
   asked = d.asked;
   quiet = d.quiet;
   pairs = subst (λ (l : List Served). IsPaired b n (l ++ d.hidden) d.said) (entries_keys qs ss) d.pairs;
+  said_late = let e = d.late in let c = count_places ss in omega (arith, e, c);
   expired = let e = d.expired in let c = count_places ss in omega (arith, e, c);
 }
 
@@ -292,9 +304,14 @@ pub record AreJoined (fs : List Ask) (bs ns : List ClientTold) (drawn : List (Li
   pub ends : length es ≤ length bs
   pub fetched : (m : ℕ) → lanes_fetched m keys ≡ lane_events fetched_on m es
   pub expired : (m : ℕ) → lanes_expired m (map places_of es) ≡ lane_events expired_on m es
+  pub got : flat_map got_of es ≡ flat_map places keys
+  -- the data of Served steps is of answers that were heard
+  pub found : (xs : List Exchange) → ArePaired bs xs → All IsFor fs
+      → All (λ l. All (IsHeardStep fs bs (heard_join (lanes_entries keys hidden) said xs)) l) es
+  -- nothing is hidden where no step may hide
+  pub none : All HidesNone es → hidden ≡ no_hidden bs
   pub weighs : (h : Served → ℕ) → weigh h (all_of (lanes_entries keys hidden)) ≤ weigh_at h fs (concat drawn)
   pub fresh : (history : List Event) → All (IsFreshAsk history) fs → EachFresh history keys
-  pub planned : (history : List Event) → All (IsPlannedEntry history) (map asks_for fs) → All (IsPlannedEntry history) (all_of (lanes_entries keys hidden))
 
 weigh_all : (h : Served → ℕ) (x : List Served) (xs : List (List Served)) → weigh h (all_of (x ∷ xs)) ≡ weigh h x + weigh h (all_of xs)
 weigh_all h x xs = weigh_append h x (all_of xs)
@@ -307,6 +324,7 @@ none_joined (b ∷ bs) = (
     asked = refl;
     quiet = refl;
     pairs = record { serves = added_none b.served b.served refl; says = added_none b.said b.said refl; paired = refl };
+    said_late = refl;
     expired = omega arith;
   },
   none_joined bs,
@@ -335,9 +353,11 @@ are_joined fs bs ns [] [] e = record {
   ends = omega arith;
   fetched = λ m. refl;
   expired = λ m. refl;
+  got = refl;
+  found = λ xs p own. All-nil (λ l. All (IsHeardStep fs bs (heard_join (map (λ _. []) bs) (map (λ _. []) bs) xs)) l);
+  none = λ h. refl;
   weighs = λ h. let z = none_weigh h bs in omega (arith, z);
   fresh = λ history h. tt;
-  planned = λ history h. none_within (IsPlannedEntry history) bs;
 }
 are_joined fs bs ns [] (ss ∷ es) e = absurd e
 are_joined fs bs ns (d ∷ ds) [] e = absurd e
@@ -362,6 +382,11 @@ are_joined fs (b ∷ bs) (n ∷ ns) (d ∷ ds) (ss ∷ es) e =
       ends = omega (arith, u);
       fetched = λ m. ap (λ (l : List Event). l ++ lanes_fetched (m + 1) rest.keys) (sym (fetched_keys m b n (entries_of lane.made ss ++ did.hidden) did.said lane.made ss did.are)) ∙ ap (λ (l : List Event). fetched_on m ss ++ l) (rest.fetched (m + 1));
       expired = λ m. ap (λ (l : List Event). l ++ lanes_expired (m + 1) (map places_of es)) (sym (expired_places m ss)) ∙ ap (λ (l : List Event). expired_on m ss ++ l) (rest.expired (m + 1));
+      got = ap (λ (l : List Place). l ++ flat_map got_of es) (got_keys b n (entries_of lane.made ss ++ did.hidden) did.said lane.made ss did.are) ∙ ap (λ (l : List Place). places keys ++ l) rest.got;
+      found = λ xs p own.
+          lanes_more fs b n bs mine did.said (lanes_entries rest.keys rest.hidden) rest.said d lane.made ss es lane.at
+          (subst (λ (l : List Served). AreOf b n (l ++ did.hidden) did.said lane.made ss) (entries_keys lane.made ss) did.are) (made_of IsFor fs d lane.made own lane.at) (λ ys q. rest.found ys q own) xs p;
+      none = λ h. ap (λ (l : List Served). l ∷ rest.hidden) (did.none (All-head HidesNone ss es h)) ∙ ap (λ (l : List (List Served)). [] ∷ l) (rest.none (All-tail HidesNone ss es h));
       weighs = λ h.
           let w = weigh_all h mine (lanes_entries rest.keys rest.hidden) in
           let x = weigh_append h (entries_all keys) did.hidden in
@@ -372,8 +397,21 @@ are_joined fs (b ∷ bs) (n ∷ ns) (d ∷ ds) (ss ∷ es) e =
           let t = rest.weighs h in
           omega (arith, w, x, y, l, m, s, t);
       fresh = λ history h. (fresh_keys history b n (entries_of lane.made ss ++ did.hidden) did.said lane.made ss did.are (made_of (IsFreshAsk history) fs d lane.made h lane.at), rest.fresh history h);
-      planned = λ history h. All-append (IsPlannedEntry history) mine (all_of (lanes_entries rest.keys rest.hidden)) (lane_within (IsPlannedEntry history) b n lane.made ss did (made_all (IsPlannedEntry history) fs d lane.made h lane.at)) (rest.planned history h);
     }
+
+-- what holds of the entries of all fetches holds of all that the lanes served
+pub joined_among : (P : Served → Type 0) (fs : List Ask) (bs ns : List ClientTold) (drawn : List (List ℕ)) (es : List (List LaneStep)) → (e : EachDrew fs bs ns drawn es) → All P (map asks_for fs)
+    → (let j = are_joined fs bs ns drawn es e in All P (all_of (lanes_entries j.keys j.hidden)))
+unfolding are_joined
+joined_among P fs bs ns [] [] e h = none_within P bs
+joined_among P fs bs ns [] (ss ∷ es) e h = absurd e
+joined_among P fs bs ns (d ∷ ds) [] e h = absurd e
+joined_among P fs [] ns (d ∷ ds) (ss ∷ es) e h = absurd e
+joined_among P fs (b ∷ bs) [] (d ∷ ds) (ss ∷ es) e h = absurd e
+joined_among P fs (b ∷ bs) (n ∷ ns) (d ∷ ds) (ss ∷ es) e h =
+    let lane = e.0 in
+    let j = are_joined fs bs ns ds es e.1 in
+    All-append P (entries_all (keys_of lane.made ss) ++ lane.did.hidden) (all_of (lanes_entries j.keys j.hidden)) (lane_within P b n lane.made ss lane.did (made_all P fs d lane.made h lane.at)) (joined_among P fs bs ns ds es e.1 h)
 
 -- ---- no pair twice
 

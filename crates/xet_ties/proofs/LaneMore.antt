@@ -1,6 +1,6 @@
 -- One more step keeps what is said of a lane: each step's data is of the answer to its own request.
 use Rattle.std.proofs.Common.{ℕ, ◌≡◌, ◌⊎◌, ◌+◌, ◌-◌, ◌^◌, ◌≤◌, min, true, List, [], ◌∷◌, ◌++◌, length, refl, sym, ap, ◌∙◌, subst, inl, inr, ⊎_elim, arith, append_assoc, length-append, Some, false, None, Option}
-use Rattle.std.specs.Prelude.{Result, Ok, Err, slice_get}
+use Rattle.std.specs.Prelude.{Result, Ok, Err, count_by, slice_get}
 use Rattle.std.proofs.lemmas.List.{append-nil}
 use Rattle.xet_outside.specs.declared.block.BlockAnswer.{BlockAnswer}
 use Rattle.xet_outside.specs.declared.block.BlockBytes.{BlockBytes}
@@ -12,7 +12,7 @@ use Rattle.xet_error.specs.declared.error.FileReconstructionError.{FileReconstru
 use Rattle.xet_ties.specs.declared.lane_step.LaneStep.{LaneStep}
 use Rattle.xet_ties.specs.Lanes.{AnswerStep, AreOf, Ask, IsFor, IsOf, LaneDid, StepDid, entries_in, entries_of, expired_count, expired_in, hides_at, may_hide, HidesNone, HoldsAsk, StepCause, bytes_of_ask, error_hides}
 use Rattle.xet_outside.specs.Answers.{IsPaired, bytes_in, plans_in}
-use Rattle.xet_outside.proofs.CallerLemmas.{added_both, added_none, answer_after, answer_before, bytes_both, paired_both, plans_both}
+use Rattle.xet_outside.proofs.CallerLemmas.{added_none, answer_after, answer_before, paired_both, plans_both}
 use Rattle.xet_outside.specs.declared.block.BlockAnswer.TheVariants as block_answer
 use Rattle.xet_outside.specs.declared.said.Said.TheVariants as said
 use Rattle.xet_ties.specs.declared.lane_step.LaneStep.TheVariants as step
@@ -25,7 +25,9 @@ use Rattle.xet_error.specs.declared.error.Corruption.{Corruption}
 use Rattle.xet_error.specs.Errors.{of_client_error}
 use Rattle.xet_blocks.specs.BlockCalls.{failed_check}
 use Rattle.xet_blocks.specs.Refusals.{IsRefusal}
+use Rattle.xet_ties.specs.InCall.{expired_said}
 use Rattle.xet_ties.specs.Setup.{ClientGoesOn}
+use Rattle.xet_ties.proofs.Telling.{count-append}
 use Rattle.xet_error.specs.declared.error.FileReconstructionError.TheVariants as error
 use Rattle.xet_outside.specs.declared.client.ClientError.TheVariants as client_error
 
@@ -42,6 +44,8 @@ bytes_did a bb b n s hidden call shape is most none = record {
   pairs = record { serves = subst (λ (l : List Served). Added b.served n.served l) shape call.served; says = call.said; paired = ap (λ (l : List Served). length l) (sym shape) };
   is = is;
   at_most = most;
+  once = omega arith;
+  late = sym none;
   expired = let e = call.expiries in omega (arith, e, none);
 }
 
@@ -55,6 +59,8 @@ quiet_did a b n x call = record {
   pairs = record { serves = added_none b.served n.served call.unserved; says = added_none b.said n.said call.unsaid; paired = refl };
   is = cause x call;
   at_most = inl refl;
+  once = omega arith;
+  late = refl;
   expired = let e = call.expiries in omega (arith, e);
 }
   where
@@ -72,6 +78,8 @@ late_did a b n call = record {
   pairs = record { serves = added_none b.served n.served call.served; says = call.said; paired = refl };
   is = (refl, refl);
   at_most = inl refl;
+  once = omega arith;
+  late = refl;
   expired = call.expired refl;
 }
 
@@ -219,5 +227,7 @@ one_more b m n qs xs a s d len bare t =
       are = subst (λ (l : List Served). AreOf b n l (d.said ++ t.said) (qs ++ a ∷ []) (xs ++ s ∷ [])) shape (are_more b m n es more d.said t.said qs xs a s t.goes_on len are (is_after b m n es more d.said t.said a s d.goes_on before.paired t.is));
       at_most = ⊎_elim (λ (e : t.hidden ≡ []). inl e) (λ (e : (may_hide s ≡ true) × (t.hidden ≡ served_of a.request ∷ [])). inr (record { ask = a; some = omega (arith, length-append xs (s ∷ [])); last = hidden_here qs xs a s len; may = hides_end xs s ∙ e.0; is = e.1 })) t.at_most;
       none = λ h. ⊎_elim (λ (e : t.hidden ≡ []). e) (λ (e : (may_hide s ≡ true) × (t.hidden ≡ served_of a.request ∷ [])). absurd (let l = hides_last xs s h in let r = e.0 in cc)) t.at_most;
+      once = let u = d.once in let v = t.once in omega (arith, u, v, length-append d.said t.said, length-append xs (s ∷ []));
+      late = let u = d.late in let v = t.late in let w = count-append expired_said d.said t.said in let x = expired_snoc xs s in omega (arith, u, v, w, x);
       expired = subst (λ (c : ℕ). min (b.expiries + c) (2 ^ 64 - 1) ≤ n.expiries) (sym (expired_snoc xs s)) (let u = d.expired in let v = t.expired in omega (arith, u, v));
     }

@@ -1,17 +1,14 @@
 -- The ties after all that the lanes of a round did is recorded.
-use Rattle.std.proofs.Common.{◌≡◌, ℕ, suc, ◌+◌, ◌≤◌, Bool, false, cond, List, [], ◌∷◌, ◌++◌, length, refl, sym, subst, ◌∙◌, ap, arith, append_assoc, length-append, Some, None, Option}
-use Rattle.std.specs.Prelude.{count_by, map, slice_get, option_to_list}
+use Rattle.std.proofs.Common.{◌≡◌, ℕ, suc, ◌+◌, ◌≤◌, cond, List, [], ◌∷◌, ◌++◌, length, refl, sym, subst, ◌∙◌, ap, arith, append_assoc, length-append, None}
+use Rattle.std.specs.Prelude.{count_by}
 use Rattle.std.specs.List.{flat_map}
 use Rattle.std.proofs.lemmas.List.{append-nil}
-use Rattle.xet_base.specs.Lists.{first_some}
 use Rattle.xet_outside.proofs.CallerLemmas.{count_by-cons}
 use Rattle.xet_outside.specs.declared.served.Served.{Served}
 use Rattle.xet_run.specs.declared.event.Event.{Event}
 use Rattle.xet_run.specs.declared.event.Event.TheVariants.{Fetched, Expired}
 use Rattle.xet_run.specs.declared.event.PlannedBlock.{PlannedBlock}
-use Rattle.xet_run.specs.Events.{last_of}
-use Rattle.xet_run.proofs.CallerLemmas.{flat-push}
-use Rattle.xet_ties.specs.History.{block_at, blocks_in, expiry_of, is_expired}
+use Rattle.xet_ties.specs.History.{expiry_of}
 use Rattle.xet_ties.specs.steps.Records.{AreFresh, EachFresh, EachMayExpire, Key, MayExpire, Place, blocks_all, entries_all, expired_all, fetched_all, lanes_entries, lanes_expired, lanes_fetched, lanes_late}
 use Rattle.xet_ties.specs.Setup.{RunTold, Setup}
 use Rattle.xet_ties.specs.Ties.{Slack, Ties, has_one}

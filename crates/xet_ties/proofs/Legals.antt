@@ -1,28 +1,28 @@
 -- A run that is tied gives a legal answer.
-use Rattle.std.proofs.Common.{◌≡◌, ◌⊎◌, ℕ, ◌+◌, ◌≤◌, List, [], ◌∷◌, ◌++◌, length, take, refl, sym, subst, ◌∙◌, ap, arith, length-append, Some, None, Option}
-use Rattle.std.specs.Prelude.{All, IfSome, Ok, Err, Result, option_map}
+use Rattle.std.proofs.Common.{◌≡◌, ℕ, ◌+◌, ◌≤◌, List, [], ◌∷◌, length, take, refl, sym, subst, ◌∙◌, ap, arith, length-append, Some, None, Option}
+use Rattle.std.specs.Prelude.{All, IfSome, Ok, Err, Result}
 use Rattle.std.specs.List.{AllZip, concat}
 use Rattle.std.proofs.lemmas.List.{append-nil, take_all, take-append-le}
 use Rattle.std.proofs.lemmas.List.Elements.{All-cons, All-nil, All-weaker}
 use Rattle.xet_base.specs.Store.{window}
 use Rattle.xet_outside.specs.declared.served.Served.{Served}
-use Rattle.xet_outside.specs.Told.{ClientTold, SinkTold, Took, TookPrefix}
+use Rattle.xet_outside.specs.Told.{ClientTold, Query, SinkTold, Took, TookPrefix}
 use Rattle.xet_error.specs.declared.error.FileReconstructionError.{FileReconstructionError}
 use Rattle.xet_error.specs.declared.error.FileReconstructionError.TheVariants as error
 use Rattle.xet_error.specs.declared.error.Setting.{Setting}
 use Rattle.xet_run.specs.declared.event.Event.{Event}
 use Rattle.xet_run.specs.Allowed.{IsAllowedHistory}
-use Rattle.xet_run.specs.Events.{Task, planned}
-use Rattle.xet_history.specs.TrueHistory.{queries}
-use Rattle.xet_ties.specs.Causes.{Cause, failing_setting}
+use Rattle.xet_run.specs.Events.{Task}
+use Rattle.xet_ties.specs.Causes.{failing_setting}
 use Rattle.xet_ties.specs.History.{entry_of, IsWithin}
-use Rattle.xet_ties.specs.InCall.{Exchange, Look, all_exchanges, all_served, new_in}
-use Rattle.xet_ties.specs.Legal.{AllPlanned, AsksCut, FirstAsks, IsPlannedServed, Legal, ServedOnce, SomePiece, TookTested}
-use Rattle.xet_ties.specs.RunCalls.{RunCall, stop_of}
-use Rattle.xet_ties.specs.Saids.{FirstSaid, IsTaskPiece, IsTested, planned_of}
+use Rattle.xet_ties.specs.InCall.{Exchange, Look, all_exchanges, new_in}
+use Rattle.xet_ties.specs.Legal.{AllPlanned, FirstAsks, IsPlannedServed, Legal, SomePiece, TookTested}
+use Rattle.xet_ties.specs.RunCalls.{RunCall}
+use Rattle.xet_ties.specs.Saids.{FirstSaid, IsTaskPiece, IsTested, some_of}
 use Rattle.xet_ties.specs.Setup.{EachGoesOn, RunTold, Setup}
-use Rattle.xet_ties.specs.Ties.{EachLane, EachUnasked, IsPlannedEntry, Slack, Stop, Ties, all_of}
+use Rattle.xet_ties.specs.Ties.{EachLane, IsPlannedEntry, Slack, Stop, Ties, all_of}
 use Rattle.xet_ties.proofs.Asks.{first_asks}
+use Rattle.xet_ties.proofs.FewAsks.{lost_one, none_few, run_few}
 use Rattle.xet_ties.proofs.Headline as headline
 use Rattle.xet_ties.proofs.Pairs.{served_once, served_planned}
 use Rattle.xet_ties.proofs.SaidTies.{block_said}
@@ -61,7 +61,7 @@ took_tested g xs looks es taken b n took t =
     let cut : take (length taken) whole ≡ taken = ap (λ (l : List ℕ). take (length taken) l) (sym t.from.joined) ∙ take-append-le (length taken) taken t.from.rest (omega arith) ∙ take_all (length taken) taken (omega arith) in
     record {
       pieces = t.pieces;
-      each = some_pieces g xs looks (take (length t.pieces) (planned es)) t.pieces t.each;
+      each = some_pieces g xs looks (take (length t.pieces) (some_of es)) t.pieces t.each;
       took = record { count = length taken; within = omega (arith, size); took = subst (λ (l : List ℕ). Took b.took n.took l) (sym cut) took };
     }
 
@@ -137,12 +137,15 @@ legal_refused g b x h = record {
       (λ ls k. record { pieces = []; each = All-nil (SomePiece g xs ls); took = none_took b.sink.took [] })
       (told_new b.cache.looked b.cache.looked [] (added_none b.cache.looked b.cache.looked refl)))
       (all_told b.clients b.clients (no_exchange b.clients) (exchange_start b.clients));
+  total = tt;
   flushed = tt;
   cancelled = λ i. tt;
   cause = h;
   settings = λ e i. let j : x ≡ e = cc in (ap (λ (y : Setting). let r : Result ℕ FileReconstructionError = Err (error.ConfigurationError y) in r) j, refl);
   unasked = λ i. record { clients = refl; cache = refl; signal = refl };
   asked = asks_start g b.clients;
+  refreshed = none_few g b.clients;
+  all_refreshed = tt;
   served = served_once [] b.clients b.clients (no_hidden b.clients) (no_late b.clients) (served_start b.clients);
   planned =
       if_some (all_exchanges b.clients b.clients) (λ xs. xs ≡ no_exchange b.clients) (AllPlanned g)
@@ -154,6 +157,9 @@ legal_refused g b x h = record {
   link = refl;
 }
 
+no_length : (lost : List Query) → lost ≡ [] → length lost ≤ 0
+no_length lost e = let n = ap (λ (l : List Query). length l) e in omega (arith, n)
+
 legal_ran : (g : Setup) (b n : RunTold) (es : List Event) (answer : Result ℕ FileReconstructionError) → failing_setting g b.clients ≡ None → IsAllowedHistory es → RunCall g b n es answer → Legal g b n answer
 legal_ran g b n es (Ok k) h a r =
     let t = r.tied h in
@@ -163,12 +169,15 @@ legal_ran g b n es (Ok k) h a r =
       prefix = λ s o c. headline.prefix g b n es None t.slack t.ties s o c;
       stored = λ s o. headline.is_stored g b n es k t.slack a t.ties none r.finished s o;
       tested = tested_told g b n es None t.slack t.ties;
+      total = record { bytes = t.ties.taken.taken; took = t.ties.taken.took; total = let c = t.ties.taken.counted in let f = r.finished.count in omega (arith, c, f, none) };
       flushed = r.flushed;
       cancelled = r.cancelled;
       cause = tt;
       settings = λ e i. absurd (cc);
       unasked = r.unasked;
       asked = first_asks g es t.slack.lost b.clients n.clients t.ties.within t.ties.cuts t.ties.lost t.ties.asked;
+      refreshed = run_few g b n es None t.slack 1 a t.ties (lost_one g es t.slack.lost t.ties.lost);
+      all_refreshed = run_few g b n es None t.slack 0 a t.ties (no_length t.slack.lost (t.left.none refl).lost);
       served = served_once es b.clients n.clients t.slack.hidden t.slack.late t.ties.served;
       planned = planned_told g b n es None t.slack t.ties;
       goes_on = goes_on es 0 b.clients n.clients t.slack.hidden t.slack.late t.ties.served.lanes;
@@ -183,12 +192,15 @@ legal_ran g b n es (Err e) h a r =
       prefix = λ s o c. headline.prefix g b n es (Some e) t.slack t.ties s o c;
       stored = λ s o. tt;
       tested = tested_told g b n es (Some e) t.slack t.ties;
+      total = tt;
       flushed = tt;
       cancelled = λ i. tt;
       cause = r.cause;
       settings = λ x i. absurd (cc);
       unasked = r.unasked;
       asked = first_asks g es t.slack.lost b.clients n.clients t.ties.within t.ties.cuts t.ties.lost t.ties.asked;
+      refreshed = run_few g b n es (Some e) t.slack 1 a t.ties (lost_one g es t.slack.lost t.ties.lost);
+      all_refreshed = tt;
       served = served_once es b.clients n.clients t.slack.hidden t.slack.late t.ties.served;
       planned = planned_told g b n es (Some e) t.slack t.ties;
       goes_on = goes_on es 0 b.clients n.clients t.slack.hidden t.slack.late t.ties.served.lanes;

@@ -4,12 +4,16 @@ mod CacheMoves
 pub mod CallerLemmas
 mod ClientMoves
 mod Expiries
+mod FewAsks
+mod FileCauses
+mod FailedQueries
 mod Headline
 mod Heard
 mod LaneJoins
 mod LaneMore
 mod Lanes
 mod LaneTies
+mod Lates
 mod Legals
 mod Measures
 mod Missing
@@ -21,6 +25,10 @@ mod PastEnds
 mod Pushes
 mod Recording
 mod Records
+mod Renewals
+mod RoundAllowed
+mod RoundData
+mod RoundShorts
 mod RoundTies
 mod RoundTries
 mod SaidCauses
@@ -29,4 +37,6 @@ mod Starts
 mod Telling
 mod Told
 mod Wholes
+mod Windows
+mod WindowTests
 mod WindowTies

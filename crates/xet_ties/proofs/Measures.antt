@@ -1,9 +1,9 @@
--- Each fetch that was served or answered that its URL had expired leaves fewer tries.
+-- Each fetch that was served or answered that its URL had expired leaves fewer tries, and so does a block that the cache gave.
 use Rattle.std.proofs.Common.{◌≡◌, ℕ, zero, suc, ◌+◌, ◌-◌, ◌<◌, ◌≤◌, ◌==◌, ◌&&◌, ◌||◌, Bool, true, false, cond, List, [], ◌∷◌, ◌++◌, refl, sym, subst, ◌∙◌, ap, arith, Some}
 use Rattle.std.specs.Prelude.{count_by, slice_get}
 use Rattle.std.proofs.lemmas.Bool.{eq-eqb}
 use Rattle.xet_run.specs.declared.event.Event.{Event}
-use Rattle.xet_run.specs.declared.event.Event.TheVariants.{Fetched, Expired}
+use Rattle.xet_run.specs.declared.event.Event.TheVariants.{Fetched, Cached, Expired}
 use Rattle.xet_run.specs.Events.{expires, is_kept, keeps}
 use Rattle.xet_run.proofs.CallerLemmas.{any-push, count_by-push}
 use Rattle.xet_ties.specs.steps.Measures.{left, left_of}
@@ -42,6 +42,15 @@ same_keys p k = ap (λ (v : Bool). v && (k == k)) (eq-eqb p p refl) ∙ eq-eqb k
 pub left_fetched : (tries : ℕ) (es : List Event) (lane : ℕ) (cs : List Place) (i : ℕ) (c : Place) → slice_get cs i ≡ Some c → is_kept es c.0 c.1 ≡ false → left tries (es ++ Fetched lane c.0 c.1 ∷ []) cs < left tries es cs
 left_fetched tries es lane cs i c at absent =
     let e : Event = Fetched lane c.0 c.1 in
+    let kept : is_kept (es ++ e ∷ []) c.0 c.1 ≡ true = any-push (keeps c.0 c.1) es e ∙ ap (λ (v : Bool). v || (c.0 == c.0 && c.1 == c.1)) absent ∙ same_keys c.0 c.1 in
+    let now : left_of tries (es ++ e ∷ []) c ≡ 0 = ap (λ (v : Bool). cond {A = ℕ} v 0 ((tries - count_by (expires c.0 c.1) (es ++ e ∷ [])) + 1)) kept in
+    let was : left_of tries es c ≡ (tries - count_by (expires c.0 c.1) es) + 1 = ap (λ (v : Bool). cond {A = ℕ} v 0 ((tries - count_by (expires c.0 c.1) es) + 1)) absent in
+    lowers tries es e cs i c at (omega (arith, now, was))
+
+-- the cache gave a missing block
+pub left_cached : (tries : ℕ) (es : List Event) (cs : List Place) (i : ℕ) (c : Place) → slice_get cs i ≡ Some c → is_kept es c.0 c.1 ≡ false → left tries (es ++ Cached c.0 c.1 ∷ []) cs < left tries es cs
+left_cached tries es cs i c at absent =
+    let e : Event = Cached c.0 c.1 in
     let kept : is_kept (es ++ e ∷ []) c.0 c.1 ≡ true = any-push (keeps c.0 c.1) es e ∙ ap (λ (v : Bool). v || (c.0 == c.0 && c.1 == c.1)) absent ∙ same_keys c.0 c.1 in
     let now : left_of tries (es ++ e ∷ []) c ≡ 0 = ap (λ (v : Bool). cond {A = ℕ} v 0 ((tries - count_by (expires c.0 c.1) (es ++ e ∷ [])) + 1)) kept in
     let was : left_of tries es c ≡ (tries - count_by (expires c.0 c.1) es) + 1 = ap (λ (v : Bool). cond {A = ℕ} v 0 ((tries - count_by (expires c.0 c.1) es) + 1)) absent in

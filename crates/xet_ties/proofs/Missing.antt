@@ -1,5 +1,5 @@
 -- A missing block stays missing while others are recorded, so all that the lanes of a round did may be recorded.
-use Rattle.std.proofs.Common.{◌≡◌, ℕ, ◌+◌, ◌<◌, ◌≤◌, ◌==◌, ◌&&◌, ◌||◌, Bool, true, false, cond, List, [], ◌∷◌, ◌++◌, take, refl, sym, subst, ◌∙◌, ap, arith, append_assoc, None}
+use Rattle.std.proofs.Common.{◌≡◌, ℕ, ◌+◌, ◌≤◌, ◌==◌, ◌&&◌, ◌||◌, Bool, true, false, cond, List, [], ◌∷◌, ◌++◌, take, refl, sym, subst, ◌∙◌, ap, arith, append_assoc, None}
 use Rattle.std.specs.Prelude.{count_by, map, filter}
 use Rattle.std.specs.List.{list_any}
 use Rattle.std.specs.Option.{option_or}
@@ -11,7 +11,6 @@ use Rattle.xet_run.specs.declared.event.Event.TheVariants.{Fetched, Expired}
 use Rattle.xet_run.specs.Allowed.{AllowedAfter, IsMissing, IsRunning}
 use Rattle.xet_run.specs.Events.{Task, ended, error_in, expires, first_error, has_more, is_admit, keeps, needs, planned, taken_in, tasks_in, unfinished, written}
 use Rattle.xet_run.proofs.CallerLemmas.{error-push, planned-push, written-push}
-use Rattle.xet_ties.specs.History.{is_expired}
 use Rattle.xet_ties.specs.steps.Records.{EachMayExpire, Key, MayExpire, Place, expired_all, fetched_all, lanes_expired, lanes_fetched, Apart, AreMissing, HaveTries, Spot, at_spot, expired_at, fetched_at, lane_spots, places, spots}
 use Rattle.xet_ties.proofs.Telling.{count-append, count-same, expired-push}
 

@@ -1,6 +1,6 @@
 -- The ties after one step.
 use Rattle.std.proofs.Common.{◌≡◌, ℕ, ◌+◌, ◌≤◌, Bool, false, cond, List, [], ◌∷◌, ◌++◌, length, refl, sym, subst, ◌∙◌, ap, arith, append_assoc, length-append, inl, inr, ⊎_elim, Some, None, Option}
-use Rattle.std.specs.Prelude.{All, IfSome, count_by, option_map}
+use Rattle.std.specs.Prelude.{IfSome, count_by, option_map}
 use Rattle.std.proofs.lemmas.List.Elements.{All-push}
 use Rattle.std.specs.Option.{option_or}
 use Rattle.xet_base.specs.Store.{Store}
@@ -19,8 +19,9 @@ use Rattle.xet_ties.specs.Saids.{FirstSaid, IsTested}
 use Rattle.xet_ties.proofs.Heard.{said_push}
 use Rattle.xet_ties.specs.steps.Moves.{Fits}
 use Rattle.xet_ties.specs.Setup.{CacheTells, IsOver, RunTold, Setup, download_of}
-use Rattle.xet_ties.specs.Ties.{AllAre, IsAmong, IsLooked, IsTaken, Slack, Ties}
+use Rattle.xet_ties.specs.Ties.{AllAre, EachExpired, IsAmong, IsLooked, IsTaken, Slack, Ties}
 use Rattle.xet_ties.proofs.Lanes.{served_same}
+use Rattle.xet_ties.proofs.Lates.{expired_same}
 use Rattle.xet_ties.proofs.Pushes.{cuts_same, first_push, lost_push, limited_same, looked_push, offered_push, polled_push, reaches_more, recorded_same, stored_same, taken_push, tried_push, true_same}
 use Rattle.xet_ties.proofs.Telling.{count-same, each-push}
 use Rattle.xet_error.specs.declared.error.FileReconstructionError.TheVariants as error
@@ -35,6 +36,7 @@ tie_event g b n es e sl to f t = record {
   within = All-push IsWithin es e t.within f.within;
   stored = stored_same g.file es e b.clients f.plan t.stored;
   served = f.served b.clients n.clients t.served;
+  expired = f.expired to.heard (subst (λ (l : List Exchange). EachExpired es 0 l sl.late) (sym f.heard) t.expired);
   asked = first_push g.file es e sl.lost to.lost b.clients n.clients f.asked t.asked;
   lost = lost_push g es e sl.lost (asked_in g.file es e) to.lost f.query f.asked t.lost;
   said = subst (λ (l : List Exchange). FirstSaid g (es ++ e ∷ []) l) (sym f.heard) (said_push g es e sl.heard f.said t.said);
@@ -63,6 +65,7 @@ tie_poll g b n es sl to a t = record {
   within = t.within;
   stored = t.stored;
   served = t.served;
+  expired = t.expired;
   asked = t.asked;
   lost = t.lost;
   said = t.said;
@@ -115,6 +118,7 @@ tie_limit g b n es sl to l c t = record {
   within = t.within;
   stored = t.stored;
   served = t.served;
+  expired = t.expired;
   asked = t.asked;
   lost = t.lost;
   said = t.said;
@@ -147,6 +151,7 @@ tie_admit g b n es sl to l c t =
       within = All-push IsWithin es e t.within tt;
       stored = stored_same g.file es e b.clients refl t.stored;
       served = served_same es e sl.hidden sl.late b.clients n.clients (λ l. refl) (λ l. refl) (λ p k. refl) (λ m. tt) t.served;
+      expired = expired_same es e 0 sl.heard sl.late (λ l w. refl) t.expired;
       asked = first_push g.file es e sl.lost sl.lost b.clients n.clients refl t.asked;
       lost = lost_push g es e sl.lost [] sl.lost refl refl t.lost;
       said = said_push g es e sl.heard (λ x. tt) t.said;
@@ -184,6 +189,7 @@ tie_window g b n es sl to bytes took faults link t p q = record {
   within = t.within;
   stored = t.stored;
   served = t.served;
+  expired = t.expired;
   asked = t.asked;
   lost = t.lost;
   said = t.said;
@@ -226,6 +232,7 @@ tie_fail g b n es sl x spent t =
       within = All-push IsWithin es e t.within tt;
       stored = stored_same g.file es e b.clients refl t.stored;
       served = served_same es e sl.hidden sl.late b.clients n.clients (λ l. refl) (λ l. refl) (λ p k. refl) (λ m. tt) t.served;
+      expired = expired_same es e 0 sl.heard sl.late (λ l w. refl) t.expired;
       asked = first_push g.file es e sl.lost sl.lost b.clients n.clients refl t.asked;
       lost = lost_push g es e sl.lost [] sl.lost refl refl t.lost;
       said = said_push g es e sl.heard (λ x. tt) t.said;
@@ -256,6 +263,7 @@ tie_short g b n es sl t = record {
   within = t.within;
   stored = t.stored;
   served = t.served;
+  expired = t.expired;
   asked = t.asked;
   lost = t.lost;
   said = t.said;

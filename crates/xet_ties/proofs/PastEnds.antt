@@ -1,6 +1,6 @@
 -- Past a file's end a store's plan has no terms.
-use Rattle.std.proofs.Common.{◌≡◌, ℕ, ◌+◌, ◌-◌, ◌<◌, ◌≤◌, min, max, false, List, [], ◌∷◌, ◌++◌, length, take, drop, refl, sym, subst, ◌∙◌, ap, arith, length-append, None, Option}
-use Rattle.std.specs.Prelude.{All, find, nat_lt, option_map, slice_range, unwrap_or}
+use Rattle.std.proofs.Common.{◌≡◌, ℕ, ◌+◌, ◌-◌, ◌<◌, ◌≤◌, min, max, false, List, [], ◌∷◌, length, take, drop, refl, sym, subst, ◌∙◌, ap, arith, length-append, None, Option}
+use Rattle.std.specs.Prelude.{All, find, option_map, slice_range, unwrap_or}
 use Rattle.std.specs.List.{concat, flat_map}
 use Rattle.std.proofs.lemmas.Bool.{le-ltb}
 use Rattle.std.proofs.lemmas.List.{length-take}

@@ -1,13 +1,13 @@
 -- Each of the other ties after one more event.
-use Rattle.std.proofs.Common.{◌≡◌, ◌⊎◌, ℕ, ◌+◌, ◌-◌, ◌^◌, ◌≤◌, ◌<◌, length, take, inl, inr, ⊎_elim, min, Bool, false, cond, List, [], ◌∷◌, ◌++◌, refl, sym, subst, ◌∙◌, ap, arith, append_assoc, Some, None, Option}
-use Rattle.std.specs.Prelude.{All, IfSome, IsSome, count_by, option_map}
+use Rattle.std.proofs.Common.{◌≡◌, ℕ, ◌+◌, ◌-◌, ◌^◌, ◌≤◌, ◌<◌, length, take, inl, inr, ⊎_elim, min, false, cond, List, [], ◌∷◌, ◌++◌, refl, sym, subst, ◌∙◌, ap, arith, append_assoc, Some, None, Option}
+use Rattle.std.specs.Prelude.{All, IfSome, IsSome, count_by, filter, option_map}
 use Rattle.std.specs.Option.{option_or}
 use Rattle.std.specs.List.{flat_map}
 use Rattle.std.specs.List.{AllZip}
 use Rattle.std.proofs.lemmas.Slice.Zip.{AllZip-long}
 use Rattle.std.proofs.lemmas.List.{append-nil, length-take, take-append-le}
 use Rattle.std.proofs.lemmas.Grind.{flat_map-append}
-use Rattle.std.proofs.lemmas.List.Elements.{All-append, All-cons, All-nil}
+use Rattle.std.proofs.lemmas.List.Elements.{All-append, All-cons, All-nil, filter-append}
 use Rattle.xet_base.specs.declared.cas_types.ChunkRange.{ChunkRange}
 use Rattle.xet_base.specs.declared.cas_types.FileRange.{FileRange}
 use Rattle.xet_base.specs.declared.merklehash.MerkleHash.{MerkleHash}
@@ -22,7 +22,7 @@ use Rattle.xet_history.specs.TrueHistory.{Download, IsTrueEvent, IsTrueHistory, 
 use Rattle.xet_run.proofs.CallerLemmas.{count_by-push, error-push, flat-push, planned-push, written-push}
 use Rattle.xet_ties.specs.History.{asked_by, asked_in, cached_in, fetched_in, kept_in, limit_in, limits_of, range_at, telling}
 use Rattle.xet_ties.specs.InCall.{Exchange, Look}
-use Rattle.xet_ties.specs.Saids.{IsTaskPiece, IsTested}
+use Rattle.xet_ties.specs.Saids.{IsTaskPiece, IsTested, has_bytes, some_of}
 use Rattle.xet_ties.specs.Setup.{AllTell, Setup}
 use Rattle.xet_ties.specs.Ties.{AllAre, CutsRange, FirstAsked, IsLost, IsAmong, IsAsked, IsLimited, IsLooked, IsOffered, IsPolled, IsRecorded, IsTaken, IsTried, Reaches, has_one, is_one}
 use Rattle.xet_ties.proofs.Telling.{count-append, count-same, range_at-push, telling-push}
@@ -143,9 +143,10 @@ limited_same es e b n none t =
 pub tested_push : (g : Setup) (xs : List Exchange) (looks : List Look) (es : List Event) (e : Event) (taken : List ℕ) → IsTested g xs looks es taken → IsTested g xs looks (es ++ e ∷ []) taken
 tested_push g xs looks es e taken t =
     let n = length t.pieces in
-    let long = AllZip-long (IsTaskPiece g xs looks) (take n (planned es)) t.pieces t.each in
-    let short = length-take n (planned es) in
-    let same : take n (planned (es ++ e ∷ [])) ≡ take n (planned es) = ap (λ (l : List Task). take n l) (planned-push es e) ∙ take-append-le n (planned es) (tasks_in e) (omega (arith, long, short)) in
+    let long = AllZip-long (IsTaskPiece g xs looks) (take n (some_of es)) t.pieces t.each in
+    let short = length-take n (some_of es) in
+    let more : some_of (es ++ e ∷ []) ≡ some_of es ++ filter has_bytes (tasks_in e) = ap (λ (l : List Task). filter has_bytes l) (planned-push es e) ∙ filter-append has_bytes (planned es) (tasks_in e) in
+    let same : take n (some_of (es ++ e ∷ [])) ≡ take n (some_of es) = ap (λ (l : List Task). take n l) more ∙ take-append-le n (some_of es) (filter has_bytes (tasks_in e)) (omega (arith, long, short)) in
     record { pieces = t.pieces; each = subst (λ (l : List Task). AllZip (IsTaskPiece g xs looks) l t.pieces) (sym same) t.each; from = t.from }
 
 -- the written bytes of an event were taken

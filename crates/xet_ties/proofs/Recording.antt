@@ -11,8 +11,9 @@ use Rattle.xet_run.specs.declared.event.PlannedBlock.{PlannedBlock}
 use Rattle.xet_run.specs.Events.{expires}
 use Rattle.xet_ties.specs.History.{block_at, entry_of, is_expired, range_at}
 use Rattle.xet_ties.specs.Setup.{RunTold, Setup}
-use Rattle.xet_ties.specs.Ties.{IsServed, Slack, Ties, has_one, is_one}
+use Rattle.xet_ties.specs.Ties.{EachExpired, IsServed, Slack, Ties, has_one, is_one}
 use Rattle.xet_ties.proofs.Lanes.{served_expired, served_fetched, served_same}
+use Rattle.xet_ties.proofs.Lates.{expired_next, expired_same}
 use Rattle.xet_ties.proofs.Moves.{tie_event}
 use Rattle.xet_run.proofs.CallerLemmas.{same_numbers}
 use Rattle.xet_base.specs.declared.cas_types.FileRange.{FileRange}
@@ -35,6 +36,7 @@ tie_fetched g b n es sl m p k x h before after rest at fresh is hidden pending t
       plan = refl;
       tasks = refl;
       served = λ bs ns v. served_fetched es m p k x h before after sl.late bs ns at is (subst (λ (l : List (List Served)). IsServed es l sl.late bs ns) hidden v);
+      expired = λ xs v. expired_same es e 0 xs sl.late (λ l w. refl) v;
       asked = refl;
       tried = λ q j. let a = t.tried.at_most q j in omega (arith, a);
       renewed = fresh;
@@ -70,6 +72,7 @@ tie_expired g b n es sl m p k j before after fresh left is late t =
       plan = refl;
       tasks = refl;
       served = λ bs ns v. served_expired es m p k j sl.hidden before after bs ns is (subst (λ (l : List ℕ). IsServed es sl.hidden l bs ns) late v);
+      expired = λ xs v. expired_next es m p k j 0 xs before after (omega (arith, is)) (subst (λ (l : List ℕ). EachExpired es 0 xs l) late v);
       asked = refl;
       tried = λ q i. tried q i (expires q i e) refl;
       renewed = fresh;
@@ -106,6 +109,7 @@ tie_refreshed g b n es sl p r at lost t =
       plan = refl;
       tasks = refl;
       served = λ bs ns v. served_same es e sl.hidden sl.late bs ns (λ l. refl) (λ l. refl) (λ q k. refl) (λ m. tt) v;
+      expired = λ xs v. expired_same es e 0 xs sl.late (λ l w. refl) v;
       asked = lost ∙ ap (λ (l : List FileRange). map (λ v. (g.file, v)) l ++ []) (sym at);
       tried = λ q j. let a = t.tried.at_most q j in omega (arith, a);
       renewed = tt;
@@ -134,6 +138,7 @@ tie_wrote g b n es sl taken rest is t =
       plan = refl;
       tasks = refl;
       served = λ bs ns v. served_same es e sl.hidden sl.late bs ns (λ l. refl) (λ l. refl) (λ q k. refl) (λ m. tt) v;
+      expired = λ xs v. expired_same es e 0 xs sl.late (λ l w. refl) v;
       asked = refl;
       tried = λ q j. let a = t.tried.at_most q j in omega (arith, a);
       renewed = tt;
@@ -157,6 +162,7 @@ tie_rest g b n es sl rest spare fewer less t = record {
   within = t.within;
   stored = t.stored;
   served = t.served;
+  expired = t.expired;
   asked = t.asked;
   lost = t.lost;
   said = t.said;

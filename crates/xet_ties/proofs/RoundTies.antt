@@ -1,5 +1,5 @@
 -- The ties after a whole round: the lanes came back, and all that they did is recorded.
-use Rattle.std.proofs.Common.{◌≡◌, ℕ, ◌+◌, ◌≤◌, List, [], ◌∷◌, ◌++◌, length, map, refl, sym, subst, ap, arith, None}
+use Rattle.std.proofs.Common.{◌≡◌, ℕ, ◌+◌, ◌≤◌, List, [], ◌∷◌, ◌++◌, length, map, refl, sym, subst, ◌∙◌, ap, arith, None}
 use Rattle.std.specs.Prelude.{count_by, All}
 use Rattle.std.specs.List.{flat_map}
 use Rattle.std.proofs.lemmas.List.{append-nil}
@@ -7,18 +7,23 @@ use Rattle.xet_base.specs.declared.cas_types.ChunkRange.{ChunkRange}
 use Rattle.xet_base.specs.declared.merklehash.MerkleHash.{MerkleHash}
 use Rattle.xet_outside.specs.Told.{ClientTold}
 use Rattle.xet_outside.specs.declared.served.Served.{Served}
+use Rattle.std.proofs.lemmas.Grind.{flat_map-append}
 use Rattle.xet_run.specs.declared.event.Event.{Event}
+use Rattle.xet_run.specs.declared.event.PlannedBlock.{PlannedBlock}
 use Rattle.xet_ties.specs.declared.lane_step.LaneStep.{LaneStep}
 use Rattle.xet_ties.specs.Lanes.{Ask, DrewApart}
-use Rattle.xet_ties.specs.steps.Records.{asks_for, places_of, EachFresh, EachMayExpire, blocks_all, expired_on, fetched_on, lanes_entries, lane_events, lanes_late, IsFreshAsk, key_of}
+use Rattle.xet_ties.specs.steps.Records.{AreFresh, asks_for, Key, Place, places, places_of, EachFresh, EachMayExpire, blocks_all, expired_on, fetched_on, lanes_entries, lane_events, lanes_late, IsFreshAsk, key_of}
 use Rattle.xet_ties.specs.steps.Moves.{no_hidden, no_late, heard_join}
 use Rattle.xet_ties.specs.Setup.{RunTold, Setup}
 use Rattle.xet_ties.specs.Ties.{EachLane, Slack, Ties, has_one, is_one, is_pair, IsPlannedEntry}
-use Rattle.xet_ties.specs.History.{fetches}
+use Rattle.xet_ties.specs.History.{block_at, fetches}
+use Rattle.xet_ties.specs.steps.Rounds.{AfterRound, blocks_at}
+use Rattle.xet_ties.proofs.Heard.{grew_join, join_match, step_join}
 use Rattle.xet_ties.proofs.ClientMoves.{tie_join}
-use Rattle.xet_ties.proofs.LaneJoins.{are_joined, served_apart, fetched_among}
+use Rattle.xet_ties.proofs.LaneJoins.{AreJoined, are_joined, fetched_among, joined_among, served_apart}
 use Rattle.xet_ties.proofs.LaneTies.{tie_lanes_expired, tie_lanes_fetched}
 use Rattle.xet_ties.proofs.Recording.{tie_rest}
+use Rattle.xet_ties.proofs.RoundData.{are_paired}
 use Rattle.std.proofs.lemmas.List.Elements.{All-map, All-weaker}
 
 -- as many connections as at the start
@@ -40,42 +45,111 @@ places_length : (ls : List (List LaneStep)) → length (map places_of ls) ≡ le
 places_length [] = refl
 places_length (l ∷ ls) = let r = places_length ls in omega (arith, r)
 
--- what the lanes served goes from the pending blocks to those that are to be offered; what they have hidden stays
-pub round_ties : (g : Setup) (b at : RunTold) (es : List Event) (sl : Slack) (fs : List Ask) (ns : List ClientTold) (ls : List (List LaneStep)) → (d : DrewApart fs at.clients ns ls)
-    → ((p k : ℕ) → count_by (fetches p k) es + count_by (is_pair p k) (map asks_for fs) ≤ 1) → All (IsPlannedEntry es) (map asks_for fs)
-    → sl.hidden ≡ no_hidden b.clients → sl.late ≡ no_late b.clients
-    → (let j = are_joined fs at.clients ns d.drawn ls d.each in EachFresh es j.keys × ((x : MerkleHash) (r : ChunkRange) → count_by (is_one x r) (flat_map blocks_all j.keys) ≤ count_by (is_one x r) sl.pending))
-    → EachMayExpire g.tries 0 (es ++ lane_events fetched_on 0 ls) (map places_of ls)
-    → Ties g b at es None sl
-    → (let j = are_joined fs at.clients ns d.drawn ls d.each in
-    Ties g b (record at { clients = ns }) ((es ++ lane_events fetched_on 0 ls) ++ lane_events expired_on 0 ls) None
-    (record sl { heard = heard_join (lanes_entries j.keys j.hidden) j.said sl.heard; hidden = j.hidden; late = no_late b.clients; pending = []; due = sl.due + count_by has_one (flat_map blocks_all j.keys) }))
-round_ties g b at es sl fs ns ls d new planned none_h none_l fresh may t =
+same_hidden : (es : List Event) (l : ℕ) (bs ns : List ClientTold) (hs : List (List Served)) (ks : List ℕ) → EachLane es l bs ns hs ks → no_hidden ns ≡ no_hidden bs
+same_hidden es l [] [] [] [] t = refl
+same_hidden es l (b ∷ bs) (n ∷ ns) (h ∷ hs) (k ∷ ks) t = ap (λ (x : List (List Served)). [] ∷ x) (same_hidden es (l + 1) bs ns hs ks t.1)
+same_hidden es l [] [] [] (k ∷ ks) t = absurd t
+same_hidden es l [] [] (h ∷ hs) ks t = absurd t
+same_hidden es l [] (n ∷ ns) hs ks t = absurd t
+same_hidden es l (b ∷ bs) [] hs ks t = absurd t
+same_hidden es l (b ∷ bs) (n ∷ ns) [] ks t = absurd t
+same_hidden es l (b ∷ bs) (n ∷ ns) (h ∷ hs) [] t = absurd t
+
+-- the blocks at the places of fresh ones are these
+fresh_blocks : (es : List Event) (cs : List Key) → AreFresh es cs → blocks_at es (places cs) ≡ blocks_all cs
+fresh_blocks es [] a = refl
+fresh_blocks es (c ∷ cs) a = ap (λ (l : List PlannedBlock). l ++ blocks_at es (places cs)) a.0 ∙ ap (λ (l : List PlannedBlock). c.2 ∷ l) (fresh_blocks es cs a.2)
+
+each_blocks : (es : List Event) (css : List (List Key)) → EachFresh es css → blocks_at es (flat_map places css) ≡ flat_map blocks_all css
+each_blocks es [] a = refl
+each_blocks es (cs ∷ css) a =
+    flat_map-append (λ (c : Place). block_at es c.0 c.1) (places cs) (flat_map places css) ∙ ap (λ (l : List PlannedBlock). l ++ blocks_at es (flat_map places css)) (fresh_blocks es cs a.0) ∙ ap (λ (l : List PlannedBlock). blocks_all cs ++ l) (each_blocks es css a.1)
+
+-- what was told after the join, of which nothing is recorded
+abbrev pub joined_slack : (fs : List Ask) (bs ns : List ClientTold) (drawn : List (List ℕ)) (ls : List (List LaneStep)) → AreJoined fs bs ns drawn ls → Slack → Slack
+joined_slack fs bs ns drawn ls j sl = record sl {
+  heard = heard_join (lanes_entries j.keys j.hidden) j.said sl.heard;
+  hidden = lanes_entries j.keys j.hidden;
+  late = lanes_late (map places_of ls) (no_late bs);
+  pending = flat_map blocks_all j.keys;
+}
+
+-- and after the Fetched events: what the lanes served goes from the pending blocks to those that are to be offered, and
+-- what they have hidden stays
+abbrev pub fetched_slack : (fs : List Ask) (bs ns : List ClientTold) (drawn : List (List ℕ)) (ls : List (List LaneStep)) → AreJoined fs bs ns drawn ls → Slack → Slack
+fetched_slack fs bs ns drawn ls j sl = record sl {
+  heard = heard_join (lanes_entries j.keys j.hidden) j.said sl.heard;
+  hidden = j.hidden;
+  late = lanes_late (map places_of ls) (no_late bs);
+  pending = [];
+  due = sl.due + count_by has_one (flat_map blocks_all j.keys);
+}
+
+-- no more lanes than connections
+pub late_places : (bs : List ClientTold) (ls : List (List LaneStep)) → length ls ≤ length bs → length (map places_of ls) ≤ length (no_late bs)
+late_places bs ls h = let u = places_length ls in let v = late_length bs in omega (arith, u, v, h)
+
+-- the lanes came back
+pub round_joined : (g : Setup) (b at : RunTold) (es : List Event) (sl : Slack) (fs : List Ask) (ns : List ClientTold) (ls : List (List LaneStep)) → (d : DrewApart fs at.clients ns ls)
+    → ((p k : ℕ) → count_by (fetches p k) es + count_by (is_pair p k) (map asks_for fs) ≤ 1) → All (IsFreshAsk es) fs
+    → ((x : MerkleHash) (r : ChunkRange) → count_by (is_one x r) (blocks_all (map key_of fs)) ≤ count_by (is_one x r) sl.pending)
+    → sl.hidden ≡ no_hidden b.clients → sl.late ≡ no_late b.clients → Ties g b at es None sl
+    → Ties g b (record at { clients = ns }) es None (joined_slack fs at.clients ns d.drawn ls (are_joined fs at.clients ns d.drawn ls d.each) sl)
+round_joined g b at es sl fs ns ls d new fresh waits none_h none_l t =
     let j = are_joined fs at.clients ns d.drawn ls d.each in
-    let took = flat_map blocks_all j.keys in
     let served = lanes_entries j.keys j.hidden in
     let late = lanes_late (map places_of ls) (no_late at.clients) in
     let heard = heard_join served j.said sl.heard in
-    let first = tie_join g b at es sl ns served j.said late j.joined (served_apart es fs at.clients ns ls d new) (j.planned es planned) none_h none_l t in
-    let sorted = tie_rest g b (record at { clients = ns }) es (record sl { heard = heard; hidden = served; late = late }) took sl.spare fresh.1 (omega arith) first in
-    let fetched = tie_lanes_fetched g b (record at { clients = ns }) es (record sl { heard = heard; hidden = served; late = late; pending = took }) 0 j.keys j.hidden [] [] fresh.0 j.lanes refl refl (sym (append-nil took)) sorted in
-    let lanes : length (map places_of ls) ≤ length (no_late at.clients) = (let u = places_length ls in let v = late_length at.clients in let w = j.ends in omega (arith, u, v, w)) in
-    let to : Slack = record sl { heard = heard; hidden = j.hidden; late = late; pending = []; due = sl.due + count_by has_one took } in
-    let named = subst (λ (l : List Event). Ties g b (record at { clients = ns }) (es ++ l) None to) (j.fetched 0) fetched in
-    let all = tie_lanes_expired g b (record at { clients = ns }) (es ++ lane_events fetched_on 0 ls) to 0 (map places_of ls) (no_late at.clients) [] may lanes refl refl named in
-    let events = subst (λ (l : List Event). Ties g b (record at { clients = ns }) ((es ++ lane_events fetched_on 0 ls) ++ l) None (record to { late = no_late at.clients })) (j.expired 0) all in
-    subst (λ (l : List ℕ). Ties g b (record at { clients = ns }) ((es ++ lane_events fetched_on 0 ls) ++ lane_events expired_on 0 ls) None (record to { late = l })) (same_late es 0 b.clients at.clients sl.hidden sl.late t.served.lanes) events
+    let planned : All (IsPlannedEntry es) (map asks_for fs) = All-map (IsPlannedEntry es) asks_for fs (All-weaker (IsFreshAsk es) (λ a. IsPlannedEntry es (asks_for a)) (λ a h. ((key_of a).2, h.planned, refl)) fs fresh) in
+    let entries = joined_among (IsPlannedEntry es) fs at.clients ns d.drawn ls d.each planned in
+    let first = tie_join g b at es sl ns served j.said late j.joined (served_apart es fs at.clients ns ls d new) entries none_h none_l t in
+    tie_rest g b (record at { clients = ns }) es (record sl { heard = heard; hidden = served; late = late }) (flat_map blocks_all j.keys) sl.spare
+    (λ x r. let a = fetched_among fs at.clients ns ls d x r in let w = waits x r in omega (arith, a, w)) (omega arith) first
 
--- the same by the fetches alone
+-- and their Fetched events are recorded
+pub round_fetched : (g : Setup) (b at : RunTold) (es : List Event) (sl : Slack) (fs : List Ask) (ns : List ClientTold) (ls : List (List LaneStep)) → (d : DrewApart fs at.clients ns ls)
+    → ((p k : ℕ) → count_by (fetches p k) es + count_by (is_pair p k) (map asks_for fs) ≤ 1) → All (IsFreshAsk es) fs
+    → ((x : MerkleHash) (r : ChunkRange) → count_by (is_one x r) (blocks_all (map key_of fs)) ≤ count_by (is_one x r) sl.pending)
+    → sl.hidden ≡ no_hidden b.clients → sl.late ≡ no_late b.clients → Ties g b at es None sl
+    → Ties g b (record at { clients = ns }) (es ++ lane_events fetched_on 0 ls) None (fetched_slack fs at.clients ns d.drawn ls (are_joined fs at.clients ns d.drawn ls d.each) sl)
+round_fetched g b at es sl fs ns ls d new fresh waits none_h none_l t =
+    let j = are_joined fs at.clients ns d.drawn ls d.each in
+    let now : RunTold = record at { clients = ns } in
+    let took = flat_map blocks_all j.keys in
+    let first = round_joined g b at es sl fs ns ls d new fresh waits none_h none_l t in
+    let fetched = tie_lanes_fetched g b now es (joined_slack fs at.clients ns d.drawn ls j sl) 0 j.keys j.hidden [] [] (j.fresh es fresh) j.lanes refl refl (sym (append-nil took)) first in
+    subst (λ (l : List Event). Ties g b now (es ++ l) None (fetched_slack fs at.clients ns d.drawn ls j sl)) (j.fetched 0) fetched
+
+-- all that the lanes did is recorded
 pub round_tied : (g : Setup) (b at : RunTold) (es : List Event) (sl : Slack) (fs : List Ask) (ns : List ClientTold) (ls : List (List LaneStep)) → DrewApart fs at.clients ns ls
     → ((p k : ℕ) → count_by (fetches p k) es + count_by (is_pair p k) (map asks_for fs) ≤ 1) → All (IsFreshAsk es) fs
     → ((x : MerkleHash) (r : ChunkRange) → count_by (is_one x r) (blocks_all (map key_of fs)) ≤ count_by (is_one x r) sl.pending)
     → sl.hidden ≡ no_hidden b.clients → sl.late ≡ no_late b.clients
     → EachMayExpire g.tries 0 (es ++ lane_events fetched_on 0 ls) (map places_of ls)
     → Ties g b at es None sl
-    → (to : Slack) × Ties g b (record at { clients = ns }) ((es ++ lane_events fetched_on 0 ls) ++ lane_events expired_on 0 ls) None to × (to.late ≡ no_late b.clients) × (to.pending ≡ []) × (to.lost ≡ sl.lost) × (to.ahead ≡ sl.ahead)
+    → (to : Slack) × Ties g b (record at { clients = ns }) ((es ++ lane_events fetched_on 0 ls) ++ lane_events expired_on 0 ls) None to × AfterRound b.clients at.clients es fs ls sl to
 round_tied g b at es sl fs ns ls d new fresh waits none_h none_l may t =
     let j = are_joined fs at.clients ns d.drawn ls d.each in
-    let planned : All (IsPlannedEntry es) (map asks_for fs) = All-map (IsPlannedEntry es) asks_for fs (All-weaker (IsFreshAsk es) (λ a. IsPlannedEntry es (asks_for a)) (λ a h. ((key_of a).2, h.planned, refl)) fs fresh) in
+    let now : RunTold = record at { clients = ns } in
+    let got = es ++ lane_events fetched_on 0 ls in
+    let from = round_fetched g b at es sl fs ns ls d new fresh waits none_h none_l t in
+    let all = tie_lanes_expired g b now got (fetched_slack fs at.clients ns d.drawn ls j sl) 0 (map places_of ls) (no_late at.clients) [] may (late_places at.clients ls j.ends) refl refl from in
     let to : Slack = record sl { heard = heard_join (lanes_entries j.keys j.hidden) j.said sl.heard; hidden = j.hidden; late = no_late b.clients; pending = []; due = sl.due + count_by has_one (flat_map blocks_all j.keys) } in
-    (to, round_ties g b at es sl fs ns ls d new planned none_h none_l (j.fresh es fresh, λ x r. let a = fetched_among fs at.clients ns ls d x r in let w = waits x r in omega (arith, a, w)) may t, refl, refl, refl, refl)
+    let named = subst (λ (l : List Event). Ties g b now (got ++ l) None (record to { late = no_late at.clients })) (j.expired 0) all in
+    let tied = subst (λ (l : List ℕ). Ties g b now (got ++ lane_events expired_on 0 ls) None (record to { late = l })) (same_late es 0 b.clients at.clients sl.hidden sl.late t.served.lanes) named in
+    let keys = j.fresh es fresh in
+    let match = join_match b.clients at.clients ns (lanes_entries j.keys j.hidden) j.said (lanes_late (map places_of ls) (no_late at.clients)) sl.heard j.joined t.heard in
+    let after : AfterRound b.clients at.clients es fs ls sl to = record {
+      grew = grew_join (lanes_entries j.keys j.hidden) j.said sl.heard match;
+      step = step_join (lanes_entries j.keys j.hidden) j.said sl.heard match;
+      found = j.found sl.heard (are_paired b.clients at.clients sl.heard t.heard);
+      looks = refl;
+      none = λ h. j.none h ∙ same_hidden es 0 b.clients at.clients sl.hidden sl.late t.served.lanes;
+      late = refl;
+      pending = refl;
+      due = ap (λ (l : List PlannedBlock). sl.due + count_by has_one l) (sym (each_blocks es j.keys keys) ∙ sym (ap (λ (l : List Place). blocks_at es l) j.got));
+      spare = refl;
+      lost = refl;
+      ahead = refl;
+    } in
+    (to, tied, after)

@@ -1,11 +1,10 @@
 -- The expired answers of a round may be recorded, where each of its fetches has tries left and no two are of one block.
-use Rattle.std.proofs.Common.{◌≡◌, ℕ, ◌+◌, ◌<◌, ◌≤◌, ◌==◌, ◌&&◌, Bool, true, false, cond, List, [], ◌∷◌, ◌++◌, length, map, refl, sym, subst, ◌∙◌, ap, arith, append_assoc, Some}
-use Rattle.std.specs.Prelude.{All, count_by, slice_get}
-use Rattle.std.specs.List.{concat, flat_map}
+use Rattle.std.proofs.Common.{◌≡◌, ℕ, ◌+◌, ◌<◌, ◌≤◌, ◌==◌, ◌&&◌, Bool, true, false, cond, List, [], ◌∷◌, ◌++◌, map, refl, sym, subst, ◌∙◌, ap, arith, append_assoc}
+use Rattle.std.specs.Prelude.{All, count_by}
+use Rattle.std.specs.List.{concat}
 use Rattle.std.proofs.lemmas.Bool.{eq-eqb, eqb-true, ne_eqb}
 use Rattle.std.proofs.lemmas.List.{append-nil}
 use Rattle.std.proofs.lemmas.List.Elements.{All-head, All-tail}
-use Rattle.xet_claims.specs.ClaimViews.{once_below, times}
 use Rattle.xet_outside.specs.declared.said.Said.{Said}
 use Rattle.xet_outside.specs.declared.served.Served.{Served}
 use Rattle.xet_outside.specs.Told.{ClientTold}
@@ -14,11 +13,11 @@ use Rattle.xet_run.specs.declared.event.Event.{Event}
 use Rattle.xet_run.specs.declared.event.Event.TheVariants.{Fetched}
 use Rattle.xet_run.specs.Events.{expires}
 use Rattle.xet_ties.specs.History.{is_expired}
-use Rattle.xet_ties.specs.Lanes.{AreAt, AreOf, Ask, DrewApart, EachDrew, entries_of}
+use Rattle.xet_ties.specs.Lanes.{AreOf, Ask, DrewApart, EachDrew, entries_of}
 use Rattle.xet_ties.specs.Ties.{is_pair}
 use Rattle.xet_ties.specs.declared.lane_step.LaneStep.{LaneStep}
 use Rattle.xet_ties.specs.declared.lane_step.LaneStep.TheVariants as step
-use Rattle.xet_ties.specs.steps.Records.{Apart, EachMayExpire, HasTry, HaveTries, Place, Spot, asks_for, at_spot, fetched_at, fetched_on, lane_events, lane_spots, places_of, spots}
+use Rattle.xet_ties.specs.steps.Records.{EachMayExpire, HasTry, HaveTries, Spot, asks_for, at_spot, fetched_on, lane_events, lane_spots, places_of, spots}
 use Rattle.xet_ties.proofs.LaneJoins.{at_append, made_of, made_weighs, numbers_weigh, once_most, once_past, weigh, weigh_at}
 use Rattle.xet_ties.proofs.Missing.{lanes_may_expire}
 use Rattle.xet_ties.proofs.Telling.{count-append, count-same, expired-push}
@@ -26,11 +25,11 @@ use Rattle.xet_ties.proofs.Telling.{count-append, count-same, expired-push}
 -- ---- places of a lane
 
 -- an Expired step of a fetch is counted as its pair
-pair_is : (p k lane q j : ℕ) (a : Ask) → q ≡ a.request.acquisition.plan → j ≡ a.request.index → at_spot p k (lane, q, j) ≡ (p == a.request.acquisition.plan && k == a.request.index)
+pub pair_is : (p k lane q j : ℕ) (a : Ask) → q ≡ a.request.acquisition.plan → j ≡ a.request.index → at_spot p k (lane, q, j) ≡ (p == a.request.acquisition.plan && k == a.request.index)
 pair_is p k lane q j a e f = ap (λ (i : ℕ). p == i && k == j) e ∙ ap (λ (i : ℕ). p == a.request.acquisition.plan && k == i) f
 
 -- how often a fetch is of a block, as the spots say it
-abbrev counts : ℕ → ℕ → Served → ℕ
+abbrev pub counts : ℕ → ℕ → Served → ℕ
 counts p k e = cond (p == e.plan && k == e.index) 1 0
 
 lane_count : (p k lane : ℕ) (b n : ClientTold) (served : List Served) (all : List Said) (qs : List Ask) (ss : List LaneStep) → AreOf b n served all qs ss → count_by (at_spot p k) (spots lane (places_of ss)) ≤ weigh (counts p k) (map asks_for qs)
@@ -69,7 +68,7 @@ swap a b c d = ap (λ (v : Bool). v && b == d) (same_eq a c) ∙ ap (λ (v : Boo
         go true e = e ∙ sym (eq-eqb y x (sym (eqb-true x y e)))
         go false e = e ∙ sym (ne_eqb y x (λ h. let z = eq-eqb x y (sym h) in cc))
 
-counts_pairs : (p k : ℕ) (fs : List Ask) → weigh (counts p k) (map asks_for fs) ≡ count_by (is_pair p k) (map asks_for fs)
+pub counts_pairs : (p k : ℕ) (fs : List Ask) → weigh (counts p k) (map asks_for fs) ≡ count_by (is_pair p k) (map asks_for fs)
 counts_pairs p k [] = refl
 counts_pairs p k (a ∷ fs) =
     let r = counts_pairs p k fs in

@@ -1,5 +1,5 @@
 -- Data and blocks by what was said.
-use Rattle.std.proofs.Common.{◌≡◌, ◌⊎◌, ℕ, zero, suc, ◌+◌, ◌<◌, ◌≤◌, ◌==◌, Bool, true, false, cond, List, [], ◌∷◌, ◌++◌, length, refl, sym, subst, ◌∙◌, ap, arith, inl, inr, ⊎_elim, Some, None, Option}
+use Rattle.std.proofs.Common.{◌≡◌, ℕ, zero, suc, ◌+◌, ◌≤◌, ◌==◌, Bool, true, false, cond, List, [], ◌∷◌, ◌++◌, length, refl, sym, subst, ◌∙◌, ap, arith, ⊎_elim, Some, None, Option}
 use Rattle.std.specs.Prelude.{All, map, option_to_list, slice_get}
 use Rattle.std.specs.List.{enumerate_from, flat_map}
 use Rattle.std.proofs.lemmas.List.{append-nil}
@@ -11,7 +11,6 @@ use Rattle.xet_base.specs.Lists.{first_some}
 use Rattle.xet_outside.specs.Answers.{AnswerTo, bytes_in}
 use Rattle.xet_outside.specs.Plan.{shape}
 use Rattle.xet_outside.specs.Told.{ClientTold, served_of}
-use Rattle.xet_outside.specs.declared.plan.Plan.{Plan}
 use Rattle.xet_outside.specs.declared.plan.PlanAnswer.{PlanAnswer}
 use Rattle.xet_outside.specs.declared.plan.PlanAnswer.TheVariants.{Found, PastEnd, NoFile}
 use Rattle.xet_outside.specs.declared.said.Said.{Said}
@@ -20,7 +19,7 @@ use Rattle.xet_outside.proofs.CallerLemmas.{answer_after}
 use Rattle.xet_blocks.specs.declared.reconstruction_terms.xorb_block.XorbBlock.{XorbBlock}
 use Rattle.xet_blocks.specs.declared.reconstruction_terms.xorb_block.XorbBlockData.{XorbBlockData}
 use Rattle.xet_blocks.specs.Blocks.{PlanBlock, blocks_of}
-use Rattle.xet_blocks.specs.TermBlocks.{xorb_block, xorb_blocks}
+use Rattle.xet_blocks.specs.TermBlocks.{xorb_block}
 use Rattle.xet_run.specs.declared.event.Event.{Event}
 use Rattle.xet_run.specs.declared.event.Event.TheVariants.{Planned, Admit, Fetched, Cached, Expired, Refreshed, Wrote, Fail, Cancel}
 use Rattle.xet_run.specs.declared.event.PlannedBlock.{PlannedBlock}

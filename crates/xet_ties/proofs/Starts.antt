@@ -1,32 +1,29 @@
 -- The ties at the start and at the end of a run.
-use Rattle.std.proofs.Common.{◌≡◌, ℕ, ◌+◌, Bool, cond, List, [], ◌∷◌, ◌++◌, length, Option, Some, None, Ok, Err, refl, sym, subst, ◌∙◌, ap, inr, ⊎_elim, arith, ◌≤◌, ◌⊎◌}
-use Rattle.std.specs.Prelude.{IfSome, count_by, map, option_map, nat_eq, Result, All}
+use Rattle.std.proofs.Common.{◌≡◌, ℕ, ◌+◌, Bool, cond, List, [], ◌∷◌, ◌++◌, length, Option, Some, None, refl, sym, subst, ◌∙◌, ap, inr, arith, ◌≤◌}
+use Rattle.std.specs.Prelude.{IfSome, count_by, map, option_map, nat_eq, All}
 use Rattle.std.specs.Option.{option_or}
 use Rattle.std.proofs.lemmas.List.{append-nil}
 use Rattle.std.proofs.lemmas.List.Elements.{All-nil, All-cons, All-push}
 use Rattle.xet_base.specs.declared.cas_types.FileRange.{FileRange}
 use Rattle.xet_base.specs.declared.merklehash.MerkleHash.{MerkleHash}
-use Rattle.xet_base.specs.Store.{window}
-use Rattle.xet_outside.specs.Told.{ClientTold, TookPrefix, SinkTold}
-use Rattle.xet_outside.specs.declared.served.Served.{Served}
+use Rattle.xet_outside.specs.Told.{ClientTold, SinkTold}
 use Rattle.xet_run.specs.Budgets.{LimitTold, LimitCall}
 use Rattle.xet_error.specs.declared.error.FileReconstructionError.{FileReconstructionError}
-use Rattle.xet_error.specs.declared.error.Setting.{Setting}
 use Rattle.xet_error.specs.declared.error.Setting.TheVariants.{NoConnection, NoTries}
 use Rattle.std.proofs.lemmas.Bool.{ne_eqb}
 use Rattle.xet_terms.specs.declared.reconstruction_config.ReconstructionConfig.{ReconstructionConfig}
 use Rattle.xet_run.specs.declared.event.Event.{Event}
 use Rattle.xet_run.specs.declared.event.Event.TheVariants.{Cancel, Admit}
-use Rattle.xet_run.specs.Allowed.{IsAllowedHistory}
 use Rattle.xet_run.specs.Events.{expires, first_error}
 use Rattle.xet_history.specs.TrueHistory.{IsTrueEvent}
 use Rattle.xet_run.proofs.CallerLemmas.{error-push}
 use Rattle.xet_ties.specs.History.{IsOneCached, IsRenewed, IsOnLane, IsWithin}
 use Rattle.xet_ties.specs.steps.Moves.{no_slack, no_hidden, no_late, no_exchange}
-use Rattle.xet_ties.specs.Causes.{Cause, failing_setting}
+use Rattle.xet_ties.specs.Causes.{failing_setting}
 use Rattle.xet_ties.specs.Setup.{RunTold, Setup, download_of}
-use Rattle.xet_ties.specs.Ties.{all_of, is_pair, EachLane, EachUnasked, FirstAsked, IsLane, MayLeave, Slack, Ties, IsPlannedEntry, LeavesNothing, IsServed}
+use Rattle.xet_ties.specs.Ties.{AllAre, all_of, is_pair, EachLane, EachUnasked, FirstAsked, IsLane, MayLeave, Slack, Ties, IsPlannedEntry, LeavesNothing, IsServed}
 use Rattle.xet_ties.proofs.Lanes.{served_same}
+use Rattle.xet_ties.proofs.Lates.{expired_same, expired_start}
 use Rattle.xet_ties.proofs.Moves.{tie_fail, tie_short, tie_admit, tie_limit}
 use Rattle.xet_ties.proofs.Pushes.{first_push, limited_same, looked_push, offered_push, polled_push, reaches_start, stored_same, taken_push, true_same, cuts_same, lost_push}
 use Rattle.xet_ties.proofs.Telling.{count-same, each-push}
@@ -88,6 +85,7 @@ tie_start g b h = record {
   within = All-nil IsWithin;
   stored = λ s tell k. absurd (omega arith);
   served = served_start b.clients;
+  expired = expired_start 0 b.clients;
   asked = asked_start g b.clients h;
   lost = tt;
   said = said_start g b.clients h;
@@ -121,6 +119,7 @@ tie_cancel g b n es sl t =
       within = All-push IsWithin es e t.within tt;
       stored = stored_same g.file es e b.clients refl t.stored;
       served = served_same es e sl.hidden sl.late b.clients n.clients (λ l. refl) (λ l. refl) (λ p k. refl) (λ m. tt) t.served;
+      expired = expired_same es e 0 sl.heard sl.late (λ l w. refl) t.expired;
       asked = first_push g.file es e sl.lost sl.lost b.clients n.clients refl t.asked;
       lost = lost_push g es e sl.lost [] sl.lost refl refl t.lost;
       said = said_push g es e sl.heard (λ x. tt) t.said;
@@ -169,6 +168,7 @@ tie_flush g b n es sl to took faults link t = record {
   within = t.within;
   stored = t.stored;
   served = t.served;
+  expired = t.expired;
   asked = t.asked;
   lost = t.lost;
   said = t.said;
@@ -198,13 +198,13 @@ none_hidden [] = refl
 none_hidden (b ∷ bs) = none_hidden bs
 
 pub short_leaves : (bs : List ClientTold) (sl : Slack) → MayLeave (Some error.OutOfMemory) bs sl
-short_leaves bs sl = record { none = λ e. absurd (cc); honest = λ s o other. absurd (other refl); counted = λ other _. absurd (other refl) }
+short_leaves bs sl = record { none = λ e. absurd (cc); honest = λ s o other. absurd (other refl); late = λ other. absurd (other refl); counted = λ other _. absurd (other refl) }
 
-pub steady_leaves : (bs : List ClientTold) (e : FileReconstructionError) (sl : Slack) → all_of sl.hidden ≡ [] → sl.ahead ≡ 0 → MayLeave (Some e) bs sl
-steady_leaves bs e sl hidden ahead = record { none = λ h. absurd (cc); honest = λ s o other. hidden; counted = λ other io. ahead }
+pub steady_leaves : (bs : List ClientTold) (e : FileReconstructionError) (sl : Slack) → all_of sl.hidden ≡ [] → AllAre 0 sl.late → sl.ahead ≡ 0 → MayLeave (Some e) bs sl
+steady_leaves bs e sl hidden late ahead = record { none = λ h. absurd (cc); honest = λ s o other. hidden; late = λ other. late; counted = λ other io. ahead }
 
-pub steady_ends : (bs : List ClientTold) (sl : Slack) → LeavesNothing sl → MayLeave None bs sl
-steady_ends bs sl l = record { none = λ h. l; honest = λ s o other. l.hidden; counted = λ other io. l.ahead }
+pub steady_ends : (bs : List ClientTold) (sl : Slack) → LeavesNothing sl → AllAre 0 sl.late → MayLeave None bs sl
+steady_ends bs sl l late = record { none = λ h. l; honest = λ s o other. l.hidden; late = λ other. late; counted = λ other io. l.ahead }
 
 -- ---- limits
 

@@ -1,20 +1,19 @@
 -- What connections that tell their lists tell of a call.
-use Rattle.std.proofs.Common.{◌≡◌, ℕ, ◌+◌, List, [], ◌∷◌, ◌++◌, length, drop, refl, sym, subst, ◌∙◌, ap, arith, Some, None, Option}
-use Rattle.std.specs.Prelude.{All, IfSome, option_map}
-use Rattle.std.proofs.lemmas.List.{append-nil}
+use Rattle.std.proofs.Common.{◌≡◌, ℕ, ◌+◌, List, [], ◌∷◌, ◌++◌, length, drop, refl, sym, subst, ◌∙◌, ap, Some, None, Option}
+use Rattle.std.specs.Prelude.{All, IfSome}
 use Rattle.std.proofs.lemmas.List.Elements.{All-append, All-cons, All-nil}
 use Rattle.xet_outside.specs.declared.said.Said.{Said}
 use Rattle.xet_outside.specs.declared.served.Served.{Served}
 use Rattle.xet_outside.specs.Told.{Added, ClientTold, Query}
 use Rattle.xet_run.specs.declared.event.Event.{Event}
 use Rattle.xet_ties.specs.History.{served_by}
-use Rattle.xet_ties.specs.InCall.{EachExchange, Exchange, IsExchange, all_exchanges, all_served, exchange, exchange_of, joined, new_in, with_exchange}
+use Rattle.xet_ties.specs.InCall.{EachExchange, Exchange, IsExchange, all_exchanges, exchange, exchange_of, new_in, with_exchange}
 use Rattle.xet_ties.specs.Ties.{EachLane, all_of}
 use Rattle.xet_ties.proofs.Telling.{all_left, all_right}
 
 -- ---- one list
 
-drop_front : {A : Type 0} (xs ys : List A) → drop (length xs) (xs ++ ys) ≡ ys
+pub drop_front : {A : Type 0} (xs ys : List A) → drop (length xs) (xs ++ ys) ≡ ys
 drop_front [] ys = refl
 drop_front (x ∷ xs) ys = drop_front xs ys
 

@@ -1,7 +1,8 @@
 -- What each error of a run shows of what its arguments tell.
-use Rattle.std.specs.Prelude.{ℕ, ◌≡◌, ◌⊎◌, ◌+◌, ◌-◌, ◌^◌, ◌<◌, ◌≤◌, List, [], ◌∷◌, cond, length, nat_eq, nat_lt, Contains, Option, Some, None, IsNone, IfSome, slice_get}
+use Rattle.std.specs.Prelude.{ℕ, ◌≡◌, ◌⊎◌, ◌+◌, ◌-◌, ◌^◌, ◌<◌, ◌≤◌, List, [], ◌∷◌, cond, nat_eq, nat_lt, Option, Some, None, IsNone, IfSome, slice_get, length, count_by, Contains}
 use Rattle.xet_base.specs.declared.cas_types.FileRange.{FileRange}
 use Rattle.xet_base.specs.Store.{Store, file_of}
+use Rattle.xet_outside.specs.Answers.{plans_in}
 use Rattle.xet_outside.specs.Plan.{shape}
 use Rattle.xet_outside.specs.Told.{ClientTold, Rose}
 use Rattle.xet_outside.specs.declared.block.BlockBytes.{BlockBytes}
@@ -20,7 +21,7 @@ use Rattle.xet_blocks.specs.Extracts.{failed_term_test}
 use Rattle.xet_blocks.specs.PlanChecks.{failed_test}
 use Rattle.xet_blocks.specs.TermBlocks.{covered}
 use Rattle.xet_fetch.specs.Refreshes.{plan_extents, refusal_of}
-use Rattle.xet_ties.specs.InCall.{Exchange, SomeOne, all_exchanges}
+use Rattle.xet_ties.specs.InCall.{Exchange, SomeOne, all_exchanges, expired_said, new_in}
 use Rattle.xet_ties.specs.Saids.{BlockOfPlan, IsBlockAnswer, IsPlanAccepted, IsPlanSaid, IsQueryAnswer, TermOfPlan}
 use Rattle.xet_ties.specs.Setup.{AllTell, IsOver, RunTold, Setup}
 
@@ -56,9 +57,16 @@ abbrev pub NoneAtEnd : List ClientTold → Type 0
 NoneAtEnd [] = Unit {0}
 NoneAtEnd (c ∷ cs) = (c.expiries < 2 ^ 64 - 1) × NoneAtEnd cs
 
--- the expired answers together grew by so many, where no count stands at its last value
-abbrev pub HaveExpired : ℕ → List ClientTold → List ClientTold → Type 0
-HaveExpired tries before after = NoneAtEnd after → total_expiries before + tries ≤ total_expiries after
+-- the expired answers that connections said together
+abbrev pub expired_answers : List Exchange → ℕ
+expired_answers [] = 0
+expired_answers (x ∷ xs) = count_by expired_said x.said + expired_answers xs
+
+-- so many expired answers came at least: by the counts, where none stands at its last value, and by the lists, where
+-- each connection tells its own
+pub record HaveExpired (tries : ℕ) (before after : List ClientTold) : Type 0 where
+  pub counted : NoneAtEnd after → total_expiries before + tries ≤ total_expiries after
+  pub said : IfSome (all_exchanges before after) (λ xs. tries ≤ expired_answers xs)
 
 -- ---- failed tests
 
@@ -133,10 +141,19 @@ SomeFailed g xs k =
 
 -- ---- causes
 
+-- the first connection, where it tells what it said, answered a query that there is no such file
+abbrev pub FirstSaysNone : List ClientTold → List ClientTold → Type 0
+FirstSaysNone [] ns = ⊥
+FirstSaysNone (b ∷ bs) [] = ⊥
+FirstSaysNone (b ∷ bs) (n ∷ ns) =
+    IfSome (new_in b.said n.said) (λ all. (i : ℕ) × (slice_get (plans_in all) i ≡ Some NoFile))
+
 -- the range has bytes, the answer to a query was that the file isn't stored, and no told store has it
 pub record IsMissingFile (g : Setup) (before after : List ClientTold) : Type 0 where
   pub some : g.range.start < g.range.end
   pub said : IfSome (all_exchanges before after) (λ xs. (q : FileRange) × IsQueryAnswer g.file xs q NoFile)
+  -- whatever the other connections tell
+  pub first : FirstSaysNone before after
   pub unstored : (s : Store) → AllTell s before → IsNone (file_of s g.file)
 
 -- an answer failed this test, and the connections don't tell one valid store

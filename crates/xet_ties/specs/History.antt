@@ -84,6 +84,15 @@ HasOne b = length b.ranges ≡ 1
 
 -- ---- expired answers
 
+-- the event is an Expired event, and a Refreshed event
+abbrev pub is_expiry : Event → Bool
+is_expiry (Expired lane p k) = true
+is_expiry _ = false
+
+abbrev pub is_refresh : Event → Bool
+is_refresh (Refreshed p) = true
+is_refresh _ = false
+
 -- for an Expired event of the block yes, for a Refreshed event of its plan no
 abbrev pub expiry_of : ℕ → ℕ → Event → List Bool
 expiry_of p k (Expired lane plan block) = cond (plan == p && block == k) (true ∷ []) []

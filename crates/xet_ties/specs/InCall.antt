@@ -1,9 +1,11 @@
 -- What connections were asked, served and said in a call, by the lists that they tell before and after.
-use Rattle.std.specs.Prelude.{◌≡◌, ◌⊎◌, List, [], ◌∷◌, ◌++◌, drop, length, Option, Some, None}
+use Rattle.std.specs.Prelude.{◌≡◌, ◌⊎◌, Bool, false, true, List, [], ◌∷◌, ◌++◌, drop, length, Option, Some, None}
 use Rattle.xet_base.specs.declared.cas_types.ChunkRange.{ChunkRange}
 use Rattle.xet_base.specs.declared.merklehash.MerkleHash.{MerkleHash}
+use Rattle.xet_outside.specs.declared.block.BlockAnswer.TheVariants as block_answer
 use Rattle.xet_outside.specs.declared.block.BlockBytes.{BlockBytes}
 use Rattle.xet_outside.specs.declared.said.Said.{Said}
+use Rattle.xet_outside.specs.declared.said.Said.TheVariants as said
 use Rattle.xet_outside.specs.declared.served.Served.{Served}
 use Rattle.xet_outside.specs.Answers.{bytes_in}
 use Rattle.xet_outside.specs.Told.{Added, ClientTold, Query}
@@ -13,6 +15,12 @@ pub record Exchange : Type 0 where
   pub asked : List Query
   pub served : List Served
   pub said : List Said
+
+-- it was said that a URL has expired
+abbrev pub expired_said : Said → Bool
+expired_said (said.Plan a) = false
+expired_said (said.Block (block_answer.Bytes b)) = false
+expired_said (said.Block block_answer.Expired) = true
 
 -- this holds of one of these connections
 abbrev pub SomeOne : (Exchange → Type 0) → List Exchange → Type 0

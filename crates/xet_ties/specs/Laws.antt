@@ -1,15 +1,17 @@
 -- Laws of ties and of runs.
-use Rattle.std.specs.Prelude.{ℕ, ◌≡◌, IfSome, ◌+◌, ◌<◌, ◌≤◌, false, true, List, [], ◌∷◌, ◌++◌, length, map, count_by, All, Some, None, Option, Result, Ok, Err, slice_get}
+use Rattle.std.specs.Prelude.{ℕ, ◌≡◌, IfSome, IsNone, ◌+◌, ◌<◌, ◌≤◌, false, true, List, [], ◌∷◌, ◌++◌, length, map, take, count_by, All, Some, None, Option, Result, Ok, Err, slice_get, drop, filter}
+use Rattle.std.specs.List.{AllZip, concat, list_any, sum_by}
 use Rattle.xet_base.specs.declared.cas_types.ChunkRange.{ChunkRange}
 use Rattle.xet_base.specs.declared.cas_types.FileRange.{FileRange}
 use Rattle.xet_base.specs.declared.merklehash.MerkleHash.{MerkleHash}
 use Rattle.xet_base.specs.declared.unique_id.UniqueId.{UniqueId}
-use Rattle.xet_base.specs.Store.{Store}
+use Rattle.xet_base.specs.Store.{Store, file_of}
 use Rattle.xet_outside.specs.Answers.{bytes_in}
 use Rattle.xet_outside.specs.Plan.{block_of}
 use Rattle.xet_outside.specs.Told.{AskCall, BlockCall, CacheTold, ClientTold, Rose, SignalTold, SinkTold, Took}
 use Rattle.xet_outside.specs.declared.block.BlockAnswer.{BlockAnswer}
 use Rattle.xet_outside.specs.declared.client.ClientError.{ClientError}
+use Rattle.xet_outside.specs.declared.plan.PlanAnswer.{PlanAnswer}
 use Rattle.xet_outside.specs.declared.plan.PlanAnswer.TheVariants.{NoFile}
 use Rattle.xet_outside.specs.declared.said.Said.{Said}
 use Rattle.xet_outside.specs.declared.served.Served.{Served}
@@ -22,28 +24,30 @@ use Rattle.xet_blocks.specs.declared.reconstruction_terms.xorb_block.XorbBlock.{
 use Rattle.xet_blocks.specs.declared.reconstruction_terms.xorb_block.XorbBlockData.{XorbBlockData}
 use Rattle.xet_blocks.specs.TermBlockCalls.{FromSaid, TermBlockCall}
 use Rattle.xet_fetch.specs.CachedBlocks.{IsOffered, entry_of, passes_cached}
-use Rattle.xet_fetch.specs.Refreshes.{IsRefreshed, MayAsk, Refresh}
+use Rattle.xet_fetch.specs.Refreshes.{Answered, IsRefreshed, MayAsk, Refresh}
 use Rattle.xet_run.specs.declared.event.Event.{Event}
-use Rattle.xet_run.specs.declared.event.Event.TheVariants.{Admit, Expired, Fetched, Refreshed}
+use Rattle.xet_run.specs.declared.event.Event.TheVariants.{Admit, Cached, Expired, Fetched, Refreshed}
 use Rattle.xet_run.specs.Allowed.{AllowedAfter, IsAllowedHistory, IsRunning}
 use Rattle.xet_run.specs.Budgets.{LimitCall, LimitTold}
-use Rattle.xet_run.specs.Events.{expires, is_kept}
+use Rattle.xet_run.specs.Events.{Task, expires, is_admit, is_kept, needs, planned, size, unfinished}
 use Rattle.xet_history.specs.Laws.{IsPrefix}
 use Rattle.xet_history.specs.TrueHistory.{pieces, queries}
-use Rattle.xet_ties.specs.Causes.{BlockFailsIn, HaveExpired, SomeFailed, failing_setting}
-use Rattle.xet_ties.specs.History.{block_at, fetches, range_at}
-use Rattle.xet_ties.specs.InCall.{Exchange, Look, all_exchanges, all_served, new_in}
+use Rattle.xet_ties.specs.Causes.{BlockFailsIn, HaveExpired, IsMissingFile, SomeFailed, failing_setting}
+use Rattle.xet_ties.specs.History.{block_at, fetches, is_expiry, is_refresh, range_at}
+use Rattle.xet_ties.specs.InCall.{EachGrew, Exchange, Look, all_exchanges, all_served, new_in}
 use Rattle.xet_ties.specs.Lanes.{AnswerStep, Ask, BytesFail, DrewApart, IsFor, IsOf, LaneDid, StepDid}
 use Rattle.xet_ties.specs.Legal.{AllPlanned, FirstAsks, IsExact, Legal, ServedOnce, TookTested}
 use Rattle.xet_ties.specs.RunCalls.{IsFinished, RunCall, TookAll}
-use Rattle.xet_ties.specs.Saids.{BlockOfPlan, InStep, IsQueryAnswer, IsServedData, IsTested, planned_of}
-use Rattle.xet_ties.specs.Setup.{CacheTells, IsOver, RunTold, Setup}
+use Rattle.xet_ties.specs.Saids.{BlockOfPlan, InStep, IsQueryAnswer, IsServedData, IsTested, planned_of, IsTaskPiece, has_bytes}
+use Rattle.xet_ties.specs.Setup.{AllTell, CacheTells, IsOver, RunTold, Setup}
 use Rattle.xet_ties.specs.declared.lane_step.LaneStep.{LaneStep}
 use Rattle.xet_ties.specs.declared.lane_step.LaneStep.TheVariants as step
 use Rattle.xet_ties.specs.steps.Measures.{left}
 use Rattle.xet_ties.specs.steps.Moves.{no_hidden, no_late, no_slack}
-use Rattle.xet_ties.specs.steps.Parts.{AdmitsCall, LookedShort, LookedUp, OfferOneCall, plan_event, plan_query, stop_event, total}
+use Rattle.xet_ties.specs.steps.Parts.{AdmitsCall, LookedShort, LookedUp, OfferOneCall, looks_after, pending_after, plan_event, plan_query, stop_event, total, AskedSaid, AskedShort}
+use Rattle.xet_ties.specs.steps.Rounds.{AfterRound, IsMissingAsk}
 use Rattle.xet_ties.specs.steps.Records.{Apart, AreMissing, AreUnkept, EachMayExpire, HasTry, IsFreshAsk, HaveTries, Place, Spot, asks_for, blocks_all, expired_at, expired_on, fetched_at, fetched_on, key_of, lane_events, lane_spots, places_of, wrote_of}
+use Rattle.xet_ties.specs.steps.Windows.{AreKept, IsAt, is_wanted, open_terms}
 use Rattle.xet_ties.specs.Ties.{CutsRange, Slack, Stop, Ties, is_one, is_pair}
 
 -- ---- runs
@@ -86,7 +90,7 @@ FinishedIsExact = (g : Setup) (before after : RunTold) (es : List Event) (k : �
     → IsAllowedHistory es → Ties g before after es None slack → slack.ahead ≡ 0 → IsFinished g es k
     → (s : Store) → IsOver s before.clients → CacheTells s before.cache → IsExact s g before.sink after.sink k
 
--- whatever store is told or not, it took the tested pieces of all planned terms
+-- whatever store is told or not, it took the tested pieces of all planned terms that have bytes
 abbrev pub FinishedIsWhole : Type 0
 FinishedIsWhole = (g : Setup) (before after : RunTold) (es : List Event) (k : ℕ) (slack : Slack)
     → Ties g before after es None slack → slack.ahead ≡ 0 → IsFinished g es k
@@ -97,6 +101,10 @@ abbrev pub ExpiriesCounted : Type 0
 ExpiriesCounted = (g : Setup) (before after : RunTold) (es : List Event) (stop : Stop) (slack : Slack) (p k : ℕ)
     → count_by (expires p k) es ≡ g.tries → Ties g before after es stop slack
     → HaveExpired g.tries before.clients after.clients
+
+-- an allowed history has no more Refreshed events than Expired ones
+abbrev pub RefreshesFew : Type 0
+RefreshesFew = (es : List Event) → IsAllowedHistory es → count_by is_refresh es ≤ count_by is_expiry es
 
 -- a tied run that goes on stays tied where an error is recorded, or memory is wanting
 abbrev pub StopsTied : Type 0
@@ -138,6 +146,15 @@ RoundsMayExpire = (tries : ℕ) (es : List Event) (fs : List Ask) (bs ns : List 
     → ((p k : ℕ) → count_by (is_pair p k) (map asks_for fs) ≤ 1)
     → EachMayExpire tries 0 (es ++ lane_events fetched_on 0 ls) (map places_of ls)
 
+-- where each fetch is of a missing block and no two are of one, the served answers may be recorded, and after these the
+-- expired ones
+abbrev pub RoundsAllowed : Type 0
+RoundsAllowed = (es : List Event) (fs : List Ask) (bs ns : List ClientTold) (ls : List (List LaneStep))
+    → DrewApart fs bs ns ls → IsRunning es → All (IsMissingAsk es) fs
+    → ((p k : ℕ) → count_by (is_pair p k) (map asks_for fs) ≤ 1)
+    → AllowedAfter es (lane_events fetched_on 0 ls)
+    × AllowedAfter (es ++ lane_events fetched_on 0 ls) (lane_events expired_on 0 ls)
+
 -- after a round of such fetches, each of a fresh block, all that the lanes did may be recorded, and it is tied
 abbrev pub RoundsTied : Type 0
 RoundsTied = (g : Setup) (b at : RunTold) (es : List Event) (sl : Slack) (fs : List Ask) (ns : List ClientTold)
@@ -150,7 +167,20 @@ RoundsTied = (g : Setup) (b at : RunTold) (es : List Event) (sl : Slack) (fs : L
     → EachMayExpire g.tries 0 (es ++ lane_events fetched_on 0 ls) (map places_of ls) → Ties g b at es None sl
     → (to : Slack) × Ties g b (record at { clients = ns })
     ((es ++ lane_events fetched_on 0 ls) ++ lane_events expired_on 0 ls) None to
-    × (to.late ≡ no_late b.clients) × (to.pending ≡ []) × (to.lost ≡ sl.lost) × (to.ahead ≡ sl.ahead)
+    × AfterRound b.clients at.clients es fs ls sl to
+
+-- and wherever the recording ends for want of memory, what was recorded is tied
+abbrev pub ShortRoundsTied : Type 0
+ShortRoundsTied = (g : Setup) (b at : RunTold) (es : List Event) (sl : Slack) (fs : List Ask) (ns : List ClientTold)
+    (ls : List (List LaneStep)) (k : ℕ) → DrewApart fs at.clients ns ls
+    → ((p i : ℕ) → count_by (fetches p i) es + count_by (is_pair p i) (map asks_for fs) ≤ 1)
+    → All (IsFreshAsk es) fs
+    → ((x : MerkleHash) (r : ChunkRange)
+    → count_by (is_one x r) (blocks_all (map key_of fs)) ≤ count_by (is_one x r) sl.pending)
+    → sl.hidden ≡ no_hidden b.clients → sl.late ≡ no_late b.clients
+    → EachMayExpire g.tries 0 (es ++ lane_events fetched_on 0 ls) (map places_of ls) → Ties g b at es None sl
+    → (to : Slack) × Ties g b (record at { clients = ns })
+    (es ++ take k (lane_events fetched_on 0 ls ++ lane_events expired_on 0 ls)) None to
 
 -- missing blocks of which no two are one may be recorded as fetched, in any order, and as expired
 abbrev pub MissingFetched : Type 0
@@ -165,11 +195,15 @@ abbrev pub TriesLeft : Type 0
 TriesLeft = (tries lane : ℕ) (es : List Event) (css : List (List Place)) → HaveTries tries es (lane_spots lane css)
     → Apart (lane_spots lane css) → EachMayExpire tries lane es css
 
--- a fetch of a missing block leaves fewer tries, and so does one more expired answer
+-- a fetch of a missing block leaves fewer tries, and so do one that the cache gives and one more expired answer
 abbrev pub FetchesFall : Type 0
 FetchesFall = (tries : ℕ) (es : List Event) (lane : ℕ) (cs : List Place) (i : ℕ) (c : Place)
     → slice_get cs i ≡ Some c → is_kept es c.0 c.1 ≡ false
     → left tries (es ++ Fetched lane c.0 c.1 ∷ []) cs < left tries es cs
+
+abbrev pub CachedFall : Type 0
+CachedFall = (tries : ℕ) (es : List Event) (cs : List Place) (i : ℕ) (c : Place) → slice_get cs i ≡ Some c
+    → is_kept es c.0 c.1 ≡ false → left tries (es ++ Cached c.0 c.1 ∷ []) cs < left tries es cs
 
 abbrev pub ExpiriesFall : Type 0
 ExpiriesFall = (tries : ℕ) (es : List Event) (lane : ℕ) (cs : List Place) (i : ℕ) (c : Place)
@@ -203,7 +237,7 @@ AsksTied = (g : Setup) (b at : RunTold) (es : List Event) (sl : Slack) (spare : 
     → InStep sl.heard → CutsRange g (queries es ++ q ∷ [])
     → Ties g b at es None sl
     → (heard : List Exchange) × Ties g b (record at { clients = n ∷ cs }) (es ++ plan_event es q o ∷ []) None
-    (record sl { heard = heard; lost = []; spare = spare }) × InStep heard
+    (record sl { heard = heard; lost = []; spare = spare }) × InStep heard × EachGrew sl.heard heard
 
 -- the URLs of a plan were asked for again, and that is recorded
 abbrev pub RefreshesTied : Type 0
@@ -212,7 +246,34 @@ RefreshesTied = (g : Setup) (b at : RunTold) (es : List Event) (sl : Slack) (p :
     → at.clients ≡ c ∷ cs → MayAsk r c n → IsRefreshed r c n us → sl.lost ≡ [] → InStep sl.heard
     → range_at es p ≡ r.range ∷ [] → r.file ≡ g.file → Ties g b at es None sl
     → (heard : List Exchange) × Ties g b (record at { clients = n ∷ cs }) (es ++ Refreshed p ∷ []) None
-    (record sl { heard = heard; lost = [] }) × InStep heard
+    (record sl { heard = heard; lost = [] }) × InStep heard × EachGrew sl.heard heard
+
+-- a plan was asked for, and no event says so: the query that was asked is left
+abbrev pub AsksLeft : Type 0
+AsksLeft = (g : Setup) (b at : RunTold) (es : List Event) (sl : Slack) (c n : ClientTold) (cs : List ClientTold)
+    (q : FileRange) (id : UniqueId) (answer : Result (Option TermBlock) FileReconstructionError)
+    → at.clients ≡ c ∷ cs → sl.lost ≡ [] → TermBlockCall c n (plan_query g q id) answer
+    → CutsRange g (queries es ++ q ∷ []) → Ties g b at es None sl → AskedShort g b at es sl (n ∷ cs)
+
+-- so it is where the URLs of a plan were asked for again
+abbrev pub RefreshesLeft : Type 0
+RefreshesLeft = (g : Setup) (b at : RunTold) (es : List Event) (sl : Slack) (p : ℕ) (r : Refresh) (c n : ClientTold)
+    (cs : List ClientTold) → at.clients ≡ c ∷ cs → sl.lost ≡ [] → MayAsk r c n → range_at es p ≡ r.range ∷ []
+    → r.file ≡ g.file → Ties g b at es None sl → AskedShort g b at es sl (n ∷ cs)
+
+-- and where a query was answered, the answer is its own
+abbrev pub AsksSaid : Type 0
+AsksSaid = (g : Setup) (b at : RunTold) (es : List Event) (sl : Slack) (c n : ClientTold) (cs : List ClientTold)
+    (q : FileRange) (id : UniqueId) (answer made : Result (Option TermBlock) FileReconstructionError)
+    → at.clients ≡ c ∷ cs → sl.lost ≡ [] → InStep sl.heard → TermBlockCall c n (plan_query g q id) answer
+    → (from : FromSaid c n (plan_query g q id) made) → CutsRange g (queries es ++ q ∷ [])
+    → Ties g b at es None sl → AskedSaid g b at es sl (n ∷ cs) q from.plan
+
+abbrev pub RefreshesSaid : Type 0
+RefreshesSaid = (g : Setup) (b at : RunTold) (es : List Event) (sl : Slack) (p : ℕ) (r : Refresh) (c n : ClientTold)
+    (cs : List ClientTold) (a : PlanAnswer) → at.clients ≡ c ∷ cs → sl.lost ≡ [] → InStep sl.heard → MayAsk r c n
+    → Answered r c n a → range_at es p ≡ r.range ∷ [] → r.file ≡ g.file → Ties g b at es None sl
+    → AskedSaid g b at es sl (n ∷ cs) r.range a
 
 -- the source of limits was asked, and a term admitted
 abbrev pub AdmitsTied : Type 0
@@ -222,9 +283,12 @@ AdmitsTied = (m n k : LimitTold) (es fs : List Event) (l : ℕ) → AdmitsCall m
 -- a block of a plan was looked for in the cache, and recorded as cached where it was found
 abbrev pub LooksTied : Type 0
 LooksTied = (g : Setup) (b at : RunTold) (es fs : List Event) (sl : Slack) (after : CacheTold) (x y : XorbBlock) (p : ℕ)
-    → LookedUp x y p at.cache after es fs → block_at es p x.xorb_block_index ≡ planned_of x ∷ []
+    → (l : LookedUp x y p at.cache after es fs) → block_at es p x.xorb_block_index ≡ planned_of x ∷ []
     → ((s : Store) → IsOver s b.clients → passes_cached x (block_of s x.xorb_hash x.chunk_ranges) ≡ true)
-    → Ties g b at es None sl → (to : Slack) × Ties g b (record at { cache = after }) fs None to
+    → Ties g b at es None sl → Ties g b (record at { cache = after }) fs None (record sl {
+      looks = looks_after x x.chunk_ranges l.look.given sl.looks;
+      pending = pending_after l.found (planned_of x) sl.pending;
+    })
 
 -- memory was wanting for a look
 abbrev pub ShortLooksTied : Type 0
@@ -252,6 +316,33 @@ WritesTied = (g : Setup) (b n : RunTold) (es : List Event) (sl : Slack) (ns : Li
     → sl.ahead ≡ total ns + rest → Ties g b n es None sl
     → Ties g b n (es ++ wrote_of ns) None (record sl { ahead = rest })
 
+-- and wherever their recording ends
+abbrev pub ShortWritesTied : Type 0
+ShortWritesTied = (g : Setup) (b n : RunTold) (es : List Event) (sl : Slack) (ns : List ℕ) (k : ℕ)
+    → total ns ≤ sl.ahead → Ties g b n es None sl
+    → (rest : ℕ) × Ties g b n (es ++ take k (wrote_of ns)) None (record sl { ahead = rest })
+
+-- where the first planned terms are wholly written, a block is wanted where one of the admitted terms after them has
+-- bytes and is of that block
+abbrev pub WantedAre : Type 0
+WantedAre = (es : List Event) (finished plan block : ℕ) → IsAt es finished
+    → list_any (λ c. needs plan block c.1) (unfinished es) ≡ list_any (is_wanted plan block) (open_terms es finished)
+
+-- the next terms, whose blocks are kept where they have bytes, may be recorded as written one after another
+abbrev pub WindowsAllowed : Type 0
+WindowsAllowed = (es : List Event) (finished : ℕ) (ts rest : List Task) → IsRunning es → IsAt es finished
+    → finished + length ts ≤ count_by is_admit es → drop finished (planned es) ≡ ts ++ rest → AreKept es ts
+    → AllowedAfter es (wrote_of (map size ts))
+
+-- where all that was taken is the bytes of the first planned terms, and tested, it is tested with the pieces of the
+-- terms after them, and with any first bytes of these
+abbrev pub WindowsTested : Type 0
+WindowsTested = (g : Setup) (xs : List Exchange) (looks : List Look) (es : List Event) (finished : ℕ)
+    (ts rest : List Task) (taken : List ℕ) (new : List (List ℕ)) (bytes : List ℕ)
+    → length taken ≡ sum_by size (take finished (planned es)) → drop finished (planned es) ≡ ts ++ rest
+    → AllZip (IsTaskPiece g xs looks) (filter has_bytes ts) new → IsPrefix bytes (concat new)
+    → IsTested g xs looks es taken → IsTested g xs looks es (taken ++ bytes)
+
 -- ---- causes
 
 -- a query in the range was answered with a plan that fails a test
@@ -265,6 +356,12 @@ PlansFail = (g : Setup) (xs : List Exchange) (q : FileRange) (id : UniqueId) (k 
 abbrev pub FilesMissing : Type 0
 FilesMissing = (g : Setup) (q : FileRange) (id : UniqueId) (b n : ClientTold)
     → (from : FromSaid b n (plan_query g q id) (Err error.FileNotFound)) → from.plan ≡ NoFile
+
+-- and such an answer is its cause, where no told store has the file
+abbrev pub FilesAreMissing : Type 0
+FilesAreMissing = (g : Setup) (b n : RunTold) (es : List Event) (stop : Stop) (sl : Slack) (q : FileRange)
+    → Ties g b n es stop sl → g.range.start < g.range.end → IsQueryAnswer g.file sl.heard q NoFile
+    → ((s : Store) → AllTell s b.clients → IsNone (file_of s g.file)) → IsMissingFile g b.clients n.clients
 
 -- a failed step's bytes fail as those of a block of an accepted plan, by the answer to the block's own request
 abbrev pub StepsFail : Type 0

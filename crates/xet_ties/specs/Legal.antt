@@ -1,14 +1,14 @@
 -- Which answers of a run are legal, by what its arguments tell before and after.
-use Rattle.std.specs.Prelude.{ℕ, ◌≡◌, ◌⊎◌, ◌+◌, ◌-◌, ◌<◌, ◌≤◌, List, [], ◌∷◌, length, All, Contains, Option, Some, None, IsSome, IfSome, OnOk, option_map, slice_get, count_by, Result, Err, IfOk, IfErr}
+use Rattle.std.specs.Prelude.{ℕ, ◌≡◌, ◌⊎◌, ◌+◌, ◌-◌, ◌<◌, ◌≤◌, List, [], ◌∷◌, length, All, Contains, Some, IsSome, IfSome, OnOk, option_map, count_by, Result, Err, IfOk, IfErr}
 use Rattle.std.specs.List.{concat}
 use Rattle.xet_base.specs.declared.cas_types.FileRange.{FileRange}
 use Rattle.xet_base.specs.Store.{Store, file_of, window}
 use Rattle.xet_outside.specs.declared.served.Served.{Served}
-use Rattle.xet_outside.specs.Told.{Added, CacheTold, ClientTold, Query, SinkTold, Took, TookPrefix}
+use Rattle.xet_outside.specs.Told.{ClientTold, Query, SinkTold, Took, TookPrefix}
 use Rattle.xet_error.specs.declared.error.FileReconstructionError.{FileReconstructionError}
 use Rattle.xet_error.specs.declared.error.FileReconstructionError.TheVariants as error
 use Rattle.xet_error.specs.declared.error.Setting.{Setting}
-use Rattle.xet_ties.specs.Causes.{Cause, failing_setting}
+use Rattle.xet_ties.specs.Causes.{Cause, expired_answers, failing_setting}
 use Rattle.xet_ties.specs.History.{entry_of}
 use Rattle.xet_ties.specs.InCall.{Exchange, Look, all_exchanges, all_served, new_in}
 use Rattle.xet_ties.specs.RunCalls.{IsUntouched}
@@ -23,6 +23,12 @@ pub record IsExact (s : Store) (g : Setup) (before after : SinkTold) (k : ℕ) :
   pub stored : IsSome (file_of s g.file) ⊎ IsEmptyRange g.range
   pub took : Took before.took after.took (window s g.file g.range)
   pub total : k ≡ length (window s g.file g.range)
+
+-- the writer took so many bytes
+pub record TookCounted (before after : SinkTold) (k : ℕ) : Type 0 where
+  pub bytes : List ℕ
+  pub took : Took before.took after.took bytes
+  pub total : k ≡ length bytes
 
 -- a term's bytes in tested data of its block
 pub record SomePiece (g : Setup) (xs : List Exchange) (looks : List Look) (piece : List ℕ) : Type 0 where
@@ -68,6 +74,18 @@ FirstAsks g [] (n ∷ ns) = ⊥
 FirstAsks g (b ∷ bs) [] = ⊥
 FirstAsks g (b ∷ bs) (n ∷ ns) = IfSome (new_in b.asked n.asked) (AsksCut g) × EachUnasked bs ns
 
+-- queries that cut the range, and no more others than expired answers came and so many
+pub record AsksFew (g : Setup) (more : ℕ) (xs : List Exchange) (qs : List Query) : Type 0 where
+  pub cut : List FileRange
+  pub cuts : CutsRange g cut
+  pub asked : AskedCut [] qs cut
+  pub few : length qs ≤ length cut + (expired_answers xs + more)
+
+-- so the first connection was asked, by what all connections said
+abbrev pub FirstAsksFew : Setup → ℕ → List Exchange → Type 0
+FirstAsksFew g more [] = Unit {0}
+FirstAsksFew g more (x ∷ xs) = AsksFew g more (x ∷ xs) x.asked
+
 -- ---- served blocks
 
 -- no block of a plan was served twice
@@ -98,6 +116,8 @@ pub record Legal (g : Setup) (before after : RunTold) (answer : Result ℕ FileR
   -- over connections and a cache that tell their lists, the writer took tested bytes and no others, whatever the answer
   pub tested : IfSome (all_exchanges before.clients after.clients) (λ xs.
       IfSome (new_in before.cache.looked after.cache.looked) (λ ls. TookTested g xs ls before.sink after.sink))
+  -- whatever is told, Ok counts what the writer took
+  pub total : IfOk answer (TookCounted before.sink after.sink)
   -- on Ok all that the writer took is flushed
   pub flushed : OnOk answer (after.sink.flushed ≡ option_map length after.sink.took)
   -- where the signal said yes the answer isn't Ok
@@ -112,6 +132,10 @@ pub record Legal (g : Setup) (before after : RunTold) (answer : Result ℕ FileR
   -- whatever the first connection tells of a store, the queries that it was asked are short, and but for refreshes they
   -- cut the range
   pub asked : FirstAsks g before.clients after.clients
+  -- over connections that tell their lists, no plan's URLs were asked for again without an expired answer, but for one
+  -- query at most of a run that failed
+  pub refreshed : IfSome (all_exchanges before.clients after.clients) (FirstAsksFew g 1)
+  pub all_refreshed : OnOk answer (IfSome (all_exchanges before.clients after.clients) (FirstAsksFew g 0))
   -- no block of a plan was served twice
   pub served : IfSome (all_served before.clients after.clients) ServedOnce
   -- and each is a block of a plan that was said and passes its tests

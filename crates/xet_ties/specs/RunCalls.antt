@@ -1,16 +1,16 @@
 -- What a run says: its answer, and how its history is tied to what its arguments tell.
-use Rattle.std.specs.Prelude.{ℕ, ◌≡◌, ◌<◌, List, [], length, take, drop, count_by, Some, None, OnOk, option_map, Result, Ok, Err, IfOk, IfErr}
-use Rattle.std.specs.List.{AllZip, concat, sum_by}
+use Rattle.std.specs.Prelude.{ℕ, ◌≡◌, ◌<◌, List, [], length, count_by, Some, None, OnOk, option_map, Result, Ok, Err, IfOk, IfErr}
+use Rattle.std.specs.List.{AllZip, concat}
 use Rattle.xet_base.specs.Store.{Store}
 use Rattle.xet_outside.specs.Told.{SinkTold, Took}
 use Rattle.xet_error.specs.declared.error.FileReconstructionError.{FileReconstructionError}
 use Rattle.xet_error.specs.declared.error.FileReconstructionError.TheVariants as error
 use Rattle.xet_error.specs.declared.error.Setting.{Setting}
 use Rattle.xet_run.specs.declared.event.Event.{Event}
-use Rattle.xet_run.specs.Events.{is_admit, planned, size, unwritten, written}
+use Rattle.xet_run.specs.Events.{is_admit, planned, unwritten, written}
 use Rattle.xet_history.specs.TrueHistory.{ReachesEnd}
 use Rattle.xet_ties.specs.Causes.{Cause, failing_setting}
-use Rattle.xet_ties.specs.Saids.{IsTaskPiece}
+use Rattle.xet_ties.specs.Saids.{IsTaskPiece, some_of}
 use Rattle.xet_ties.specs.Setup.{CacheTells, IsEmptyRange, IsOver, RunTold, Setup}
 use Rattle.xet_ties.specs.Ties.{MayLeave, Slack, Stop, Ties}
 
@@ -27,11 +27,10 @@ pub record IsFinished (g : Setup) (es : List Event) (k : ℕ) : Type 0 where
   pub reaches : g.range.start < g.range.end → ReachesEnd g.range es
   pub empty : IsEmptyRange g.range → es ≡ []
 
--- the writer took the pieces of all planned terms, but for some last ones without bytes, and they were counted
+-- the writer took the pieces of all planned terms that have bytes, and they were counted
 pub record TookAll (g : Setup) (es : List Event) (slack : Slack) (before after : SinkTold) (k : ℕ) : Type 0 where
   pub pieces : List (List ℕ)
-  pub each : AllZip (IsTaskPiece g slack.heard slack.looks) (take (length pieces) (planned es)) pieces
-  pub rest : sum_by size (drop (length pieces) (planned es)) ≡ 0
+  pub each : AllZip (IsTaskPiece g slack.heard slack.looks) (some_of es) pieces
   pub took : Took before.took after.took (concat pieces)
   pub total : k ≡ length (concat pieces)
 

@@ -1,5 +1,5 @@
 -- How plans and data are tied to what the connections said, each answer to its own request.
-use Rattle.std.specs.Prelude.{ℕ, ◌≡◌, ◌⊎◌, ◌<◌, ◌≤◌, true, List, [], ◌∷◌, length, map, take, All, Contains, Some, None, slice_get}
+use Rattle.std.specs.Prelude.{ℕ, ◌≡◌, ◌⊎◌, ◌<◌, ◌≤◌, Bool, true, List, [], ◌∷◌, length, map, take, filter, nat_lt, All, Contains, Some, None, slice_get}
 use Rattle.std.specs.List.{AllZip, concat}
 use Rattle.xet_base.specs.declared.cas_types.ChunkRange.{ChunkRange}
 use Rattle.xet_base.specs.declared.cas_types.FileRange.{FileRange}
@@ -10,7 +10,6 @@ use Rattle.xet_outside.specs.declared.block.BlockBytes.{BlockBytes}
 use Rattle.xet_outside.specs.declared.plan.Plan.{Plan}
 use Rattle.xet_outside.specs.declared.plan.PlanAnswer.{PlanAnswer}
 use Rattle.xet_outside.specs.declared.plan.PlanAnswer.TheVariants.{Found, PastEnd, NoFile}
-use Rattle.xet_outside.specs.declared.served.Served.{Served}
 use Rattle.xet_blocks.specs.declared.reconstruction_terms.file_term.FileTerm.{FileTerm}
 use Rattle.xet_blocks.specs.declared.reconstruction_terms.xorb_block.XorbBlock.{XorbBlock}
 use Rattle.xet_blocks.specs.declared.reconstruction_terms.xorb_block.XorbBlockData.{XorbBlockData}
@@ -26,7 +25,7 @@ use Rattle.xet_run.specs.declared.event.Event.{Event}
 use Rattle.xet_run.specs.declared.event.Event.TheVariants.{Planned}
 use Rattle.xet_run.specs.declared.event.PlannedBlock.{PlannedBlock}
 use Rattle.xet_run.specs.declared.event.PlannedTerm.{PlannedTerm}
-use Rattle.xet_run.specs.Events.{Task, planned}
+use Rattle.xet_run.specs.Events.{Task, planned, size}
 use Rattle.xet_history.specs.Laws.{IsPrefix}
 use Rattle.xet_history.specs.TrueHistory.{planned_block, planned_term}
 use Rattle.xet_ties.specs.History.{entry_of}
@@ -155,9 +154,16 @@ pub record IsTaskPiece (g : Setup) (xs : List Exchange) (looks : List Look) (t :
   pub is : t.term ≡ planned_term of_plan.term
   pub piece_of : IsPiece g xs looks t.plan of_plan piece
 
--- bytes that are the beginning of the joined pieces of the first planned terms
+-- the planned terms that have bytes, in order: the block of an empty one is never asked for
+abbrev pub has_bytes : Task → Bool
+has_bytes t = nat_lt 0 (size t)
+
+abbrev pub some_of : List Event → List Task
+some_of es = filter has_bytes (planned es)
+
+-- bytes that are the beginning of the joined pieces of the first of these
 pub record IsTested (g : Setup) (xs : List Exchange) (looks : List Look) (es : List Event)
     (taken : List ℕ) : Type 0 where
   pub pieces : List (List ℕ)
-  pub each : AllZip (IsTaskPiece g xs looks) (take (length pieces) (planned es)) pieces
+  pub each : AllZip (IsTaskPiece g xs looks) (take (length pieces) (some_of es)) pieces
   pub from : IsPrefix taken (concat pieces)

@@ -22,7 +22,7 @@ use Rattle.xet_history.specs.Laws.{IsPrefix}
 use Rattle.xet_history.specs.Queries.{CutFrom}
 use Rattle.xet_history.specs.TrueHistory.{IsTrueHistory, pieces, queries}
 use Rattle.xet_ties.specs.History.{EachAfter, IsOnLane, IsOneCached, IsRenewed, IsWithin, asked_by, block_at, cached_in, entry_of, expired_by, fetched_in, fetches, kept_in, limits_of, range_at, served_by, telling}
-use Rattle.xet_ties.specs.InCall.{EachExchange, Exchange, Look}
+use Rattle.xet_ties.specs.InCall.{EachExchange, Exchange, Look, expired_said}
 use Rattle.xet_ties.specs.Saids.{FirstSaid, IsTested}
 use Rattle.xet_ties.specs.Setup.{AllTell, CacheTells, ClientGoesOn, IsOver, RunTold, Setup, download_of}
 
@@ -86,6 +86,14 @@ pub record IsServed (es : List Event) (hidden : List (List Served)) (late : List
   pub planned : All (IsPlannedEntry es) (all_of hidden)
   -- each event is of one of the lanes
   pub on_lanes : All (IsOnLane (length before)) es
+
+-- of each lane from a number on: its connection said as many expired answers as the lane has Expired events, and so
+-- many that no event says yet
+abbrev pub EachExpired : List Event → ℕ → List Exchange → List ℕ → Type 0
+EachExpired es lane [] [] = Unit {0}
+EachExpired es lane (x ∷ xs) (l ∷ ls) =
+    (count_by expired_said x.said ≡ expired_by lane es + l) × EachExpired es (lane + 1) xs ls
+EachExpired es lane xs ls = ⊥
 
 -- what the first connection was asked: the queries of the Planned events and the actual ranges of the refreshed plans,
 -- then those whose answer isn't recorded
@@ -254,6 +262,7 @@ pub record Ties (g : Setup) (before after : RunTold) (es : List Event) (stop : S
   -- over connections that tell a store, valid or not, a plan is of a stored file
   pub stored : (s : Store) → AllTell s before.clients → 0 < plan_count es → IsSome (file_of s g.file)
   pub served : IsServed es slack.hidden slack.late before.clients after.clients
+  pub expired : EachExpired es 0 slack.heard slack.late
   pub asked : FirstAsked g.file es slack.lost before.clients after.clients
   pub lost : IsLost g es slack.lost
   pub said : FirstSaid g es slack.heard
@@ -286,5 +295,7 @@ pub record MayLeave (stop : Stop) (clients : List ClientTold) (slack : Slack) : 
   pub none : stop ≡ None → LeavesNothing slack
   -- over one valid store a served block for want of memory alone
   pub honest : (s : Store) → IsOver s clients → IsOther stop → all_of slack.hidden ≡ []
+  -- an expired answer for want of memory alone
+  pub late : IsOther stop → AllAre 0 slack.late
   -- bytes that were taken for want of memory and after the writer's failure alone
   pub counted : IsOther stop → stop ≢ Some error.IoError → slack.ahead ≡ 0

@@ -3,3 +3,5 @@ pub mod Measures
 pub mod Moves
 pub mod Parts
 pub mod Records
+pub mod Rounds
+pub mod Windows

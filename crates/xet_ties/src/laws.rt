@@ -1,5 +1,5 @@
 //! Laws of ties and of runs, as functions whose contracts state them.
-ghost use Rattle.xet_ties.specs.Laws.{AdmitsTied, AnswersStep, AsksTied, CancelsTied, ExpiriesCounted, ExpiriesFall, FetchesFall, FilesMissing, FinishedIsExact, FinishedIsWhole, LanesGoOn, LooksTied, MissingExpired, MissingFetched, NoneRises, OffersTied, PairsAreNew, PlansFail, PollsTied, RefreshesTied, RoundsMayExpire, RoundsTied, RunsAreLegal, ShortLooksTied, StartsTied, StepsFail, StepsServe, StopsTied, TakesTied, TiesAskCut, TiesServeOnce, TiesServePlanned, TiesTakeTested, TriesLeft, WritesTied};
+ghost use Rattle.xet_ties.specs.Laws.{AdmitsTied, AnswersStep, AsksTied, CachedFall, CancelsTied, ExpiriesCounted, ExpiriesFall, FetchesFall, FilesAreMissing, FilesMissing, FinishedIsExact, FinishedIsWhole, LanesGoOn, LooksTied, MissingExpired, MissingFetched, NoneRises, OffersTied, PairsAreNew, PlansFail, PollsTied, RefreshesTied, RoundsAllowed, RoundsMayExpire, RoundsTied, RunsAreLegal, ShortLooksTied, ShortRoundsTied, ShortWritesTied, StartsTied, StepsFail, StepsServe, StopsTied, TakesTied, TiesAskCut, TiesServeOnce, TiesServePlanned, TiesTakeTested, TriesLeft, WritesTied, AsksLeft, AsksSaid, RefreshesLeft, RefreshesSaid, WantedAre, WindowsAllowed, WindowsTested, RefreshesFew};
 
 /// Before a run all is tied; after an error that is recorded, or want of memory, it stays so.
 pub fn starts_and_stops()
@@ -32,9 +32,11 @@ pub fn finished_is_exact()
     ensures whole { FinishedIsWhole }
 {}
 
-/// Where one block has as many Expired events as tries, the expired answers of all connections grew by so many.
+/// Where one block has as many Expired events as tries, all connections together gave so many expired answers at least.
+/// An allowed history has no more Refreshed events than Expired ones.
 pub fn expiries_are_counted()
-    ensures { ExpiriesCounted }
+    ensures expired { ExpiriesCounted }
+    ensures refreshed { RefreshesFew }
 {}
 
 /// The answer to a fetch's own request makes a step, and a lane goes on with it; its data is of that answer.
@@ -47,8 +49,10 @@ pub fn lanes_go_on()
 /// After a round of fetches of fresh blocks that weren't served, what the lanes did is recorded, and it is tied.
 pub fn rounds_are_tied()
     ensures new { PairsAreNew }
+    ensures allowed { RoundsAllowed }
     ensures tries { RoundsMayExpire }
     ensures round { RoundsTied }
+    ensures short { ShortRoundsTied }
 {}
 
 /// What the lanes of a round did may be recorded: missing blocks of which no two are one, in any order.
@@ -58,9 +62,11 @@ pub fn missing_blocks_may_be_recorded()
     ensures tries { TriesLeft }
 {}
 
-/// A fetch that was served, and an expired answer, leave fewer tries of the wanted blocks; no event leaves more.
+/// A fetch that was served, a block that the cache gave and an expired answer leave fewer tries of the wanted blocks;
+/// no event leaves more.
 pub fn tries_fall()
     ensures fetched { FetchesFall }
+    ensures cached { CachedFall }
     ensures expired { ExpiriesFall }
     ensures none { NoneRises }
 {}
@@ -77,6 +83,15 @@ pub fn queries_are_tied()
     ensures refresh { RefreshesTied }
 {}
 
+/// Where a query failed, or its answer isn't recorded: it is tied with the query left, and where the query was answered
+/// the answer is its own.
+pub fn failed_queries_are_tied()
+    ensures plan { AsksLeft }
+    ensures refresh { RefreshesLeft }
+    ensures plan_said { AsksSaid }
+    ensures refresh_said { RefreshesSaid }
+{}
+
 /// After the cache was asked for a block, or offered one, it is tied.
 pub fn looks_are_tied()
     ensures look { LooksTied }
@@ -89,11 +104,21 @@ pub fn writes_are_tied()
     ensures admit { AdmitsTied }
     ensures take { TakesTied }
     ensures write { WritesTied }
+    ensures short { ShortWritesTied }
+{}
+
+/// The terms after the wholly written ones: which blocks they want, that a window of them may be recorded, and that
+/// its bytes are tested.
+pub fn windows_may_be_recorded()
+    ensures wanted { WantedAre }
+    ensures allowed { WindowsAllowed }
+    ensures tested { WindowsTested }
 {}
 
 /// What was said gives the causes of errors.
 pub fn answers_are_causes()
     ensures plan { PlansFail }
     ensures file { FilesMissing }
+    ensures missing { FilesAreMissing }
     ensures block { StepsFail }
 {}

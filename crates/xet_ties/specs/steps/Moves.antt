@@ -1,5 +1,5 @@
 -- What one step of a run's leader may do to what its arguments tell.
-use Rattle.std.specs.Prelude.{ℕ, ◌≡◌, ◌+◌, ◌≤◌, ◌^◌, ◌-◌, min, map, false, cond, List, [], ◌∷◌, ◌++◌, count_by, All, Option, None}
+use Rattle.std.specs.Prelude.{ℕ, ◌≡◌, ◌+◌, ◌≤◌, ◌^◌, ◌-◌, min, map, false, cond, List, [], ◌∷◌, ◌++◌, count_by, Option, None}
 use Rattle.xet_base.specs.declared.cas_types.ChunkRange.{ChunkRange}
 use Rattle.xet_base.specs.declared.merklehash.MerkleHash.{MerkleHash}
 use Rattle.xet_base.specs.Store.{Store}
@@ -13,10 +13,10 @@ use Rattle.xet_run.specs.declared.event.PlannedBlock.{PlannedBlock}
 use Rattle.xet_run.specs.Events.{error_in, expires, is_plan, taken_in, tasks_in}
 use Rattle.xet_history.specs.TrueHistory.{IsTrueEvent, queries_in}
 use Rattle.xet_ties.specs.History.{IsOneCached, IsRenewed, IsWithin, asked_in, cached_in, fetched_in, limit_in}
-use Rattle.xet_ties.specs.InCall.{Exchange}
+use Rattle.xet_ties.specs.InCall.{Exchange, expired_said}
 use Rattle.xet_ties.specs.Saids.{IsEventSaid}
 use Rattle.xet_ties.specs.Setup.{ClientGoesOn, Setup}
-use Rattle.xet_ties.specs.Ties.{IsServed, Slack, has_one, is_one}
+use Rattle.xet_ties.specs.Ties.{EachExpired, IsServed, Slack, has_one, is_one}
 
 -- ---- queries
 
@@ -26,6 +26,7 @@ pub record QueryStep (before after : ClientTold) (qs : List Query) (all : List S
   pub asked : Added before.asked after.asked qs
   pub said : Added before.said after.said all
   pub quiet : bytes_in all ≡ []
+  pub late : count_by expired_said all ≡ 0
   pub served : after.served ≡ before.served
 
 -- so the first connection of some, and the others are as before
@@ -67,6 +68,7 @@ pub record Fits (g : Setup) (es : List Event) (e : Event) (sl to : Slack) : Type
   pub tasks : tasks_in e ≡ []
   pub served : (bs ns : List ClientTold) → IsServed es sl.hidden sl.late bs ns
       → IsServed (es ++ e ∷ []) to.hidden to.late bs ns
+  pub expired : (xs : List Exchange) → EachExpired es 0 xs sl.late → EachExpired (es ++ e ∷ []) 0 xs to.late
   pub asked : sl.lost ≡ asked_in g.file es e ++ to.lost
   pub tried : (p k : ℕ) → count_by (expires p k) es + cond (expires p k e) 1 0 ≤ g.tries
   pub renewed : IsRenewed es e
@@ -88,6 +90,7 @@ pub record JoinStep (before after : ClientTold) (hidden : List Served) (all : Li
   pub asked : after.asked ≡ before.asked
   pub quiet : plans_in all ≡ []
   pub pairs : IsPaired before after hidden all
+  pub said_late : count_by expired_said all ≡ late
   pub expired : min (before.expiries + late) (2 ^ 64 - 1) ≤ after.expiries
 
 -- so of each connection

@@ -4,7 +4,10 @@ use Rattle.xet_base.specs.declared.cas_types.ChunkRange.{ChunkRange}
 use Rattle.xet_base.specs.declared.cas_types.FileRange.{FileRange}
 use Rattle.xet_base.specs.declared.unique_id.UniqueId.{UniqueId}
 use Rattle.xet_outside.specs.declared.block.BlockBytes.{BlockBytes}
-use Rattle.xet_outside.specs.Told.{AskCall, CacheTold, SignalTold}
+use Rattle.xet_outside.specs.declared.plan.PlanAnswer.{PlanAnswer}
+use Rattle.xet_outside.specs.declared.said.Said.{Said}
+use Rattle.xet_outside.specs.declared.said.Said.TheVariants as said
+use Rattle.xet_outside.specs.Told.{AskCall, CacheTold, ClientTold, Query, SignalTold}
 use Rattle.xet_error.specs.declared.error.FileReconstructionError.{FileReconstructionError}
 use Rattle.xet_error.specs.declared.error.FileReconstructionError.TheVariants as error
 use Rattle.xet_blocks.specs.declared.reconstruction_terms.file_term.TermBlock.{TermBlock}
@@ -20,8 +23,9 @@ use Rattle.xet_run.specs.Budgets.{LimitTold}
 use Rattle.xet_run.specs.Events.{plan_count}
 use Rattle.xet_history.specs.TrueHistory.{planned_term}
 use Rattle.xet_ties.specs.InCall.{Look}
-use Rattle.xet_ties.specs.Saids.{planned_of}
+use Rattle.xet_ties.specs.Saids.{IsQueryAnswer, planned_of}
 use Rattle.xet_ties.specs.Setup.{RunTold, Setup}
+use Rattle.xet_ties.specs.steps.Moves.{heard_first}
 use Rattle.xet_ties.specs.Ties.{Slack, Ties, has_one}
 
 -- ---- limits
@@ -56,6 +60,24 @@ plan_query g q id = record { file = g.file; range = q; multirange = g.multirange
 -- the event of an answer to a query
 abbrev pub plan_event : List Event → FileRange → Option TermBlock → Event
 plan_event es q t = Planned (plan_count es + 1) q (terms_in t) (blocks_of_answer t)
+
+-- the first connection was asked for a plan, or for a plan's URLs again, and no event says so
+pub record AskedShort (g : Setup) (before at : RunTold) (es : List Event) (slack : Slack)
+    (after : List ClientTold) : Type 0 where
+  pub queries : List Query
+  pub answers : List Said
+  pub ties : Ties g before (record at { clients = after }) es None
+      (record slack { heard = heard_first queries answers slack.heard; lost = queries })
+
+-- it was asked this and said this answer to it
+pub record AskedSaid (g : Setup) (before at : RunTold) (es : List Event) (slack : Slack)
+    (after : List ClientTold) (q : FileRange) (answer : PlanAnswer) : Type 0 where
+  pub ties : Ties g before (record at { clients = after }) es None
+      (record slack {
+        heard = heard_first ((g.file, q) ∷ []) (said.Plan answer ∷ []) slack.heard;
+        lost = (g.file, q) ∷ [];
+      })
+  pub own : IsQueryAnswer g.file (heard_first ((g.file, q) ∷ []) (said.Plan answer ∷ []) slack.heard) q answer
 
 -- ---- looks
 

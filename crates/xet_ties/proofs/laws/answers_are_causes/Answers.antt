@@ -1,3 +1,4 @@
+use Rattle.xet_ties.proofs.FileCauses.{missing_file}
 use Rattle.xet_ties.proofs.SaidCauses.{file_missing, plan_fails, step_fails}
 use Rattle.xet_ties.proofs.laws.answers_are_causes.Goals as goal
 
@@ -5,5 +6,6 @@ pub returns : goal.returns
 returns c = record {
   plan = plan_fails;
   file = file_missing;
+  missing = missing_file;
   block = step_fails;
 }

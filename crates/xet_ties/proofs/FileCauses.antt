@@ -1,0 +1,39 @@
+-- A missing file by what the first connection said.
+use Rattle.std.proofs.Common.{◌≡◌, ℕ, ◌<◌, List, [], ◌∷◌, sym, subst, ◌∙◌, ap, Some, None, Option}
+use Rattle.std.specs.Prelude.{IfSome, IsNone, slice_get}
+use Rattle.xet_base.specs.Store.{Store, file_of}
+use Rattle.xet_base.specs.declared.cas_types.FileRange.{FileRange}
+use Rattle.xet_base.specs.declared.merklehash.MerkleHash.{MerkleHash}
+use Rattle.xet_outside.specs.Answers.{plans_in}
+use Rattle.xet_outside.specs.Told.{ClientTold}
+use Rattle.xet_outside.specs.declared.plan.PlanAnswer.TheVariants.{NoFile}
+use Rattle.xet_outside.specs.declared.said.Said.{Said}
+use Rattle.xet_run.specs.declared.event.Event.{Event}
+use Rattle.xet_ties.specs.Causes.{FirstSaysNone, IsMissingFile}
+use Rattle.xet_ties.specs.InCall.{EachExchange, Exchange, all_exchanges, new_in}
+use Rattle.xet_ties.specs.Saids.{IsQueryAnswer}
+use Rattle.xet_ties.specs.Setup.{AllTell, RunTold, Setup}
+use Rattle.xet_ties.specs.Ties.{Slack, Stop, Ties}
+use Rattle.xet_ties.proofs.Told.{all_told, if_some, told_new}
+
+first_none : (f : MerkleHash) (q : FileRange) (bs ns : List ClientTold) (xs : List Exchange) → EachExchange bs ns xs → IsQueryAnswer f xs q NoFile → FirstSaysNone bs ns
+first_none f q bs ns [] h a = absurd a
+first_none f q [] [] (x ∷ xs) h a = absurd h
+first_none f q [] (n ∷ ns) (x ∷ xs) h a = absurd h
+first_none f q (b ∷ bs) [] (x ∷ xs) h a = absurd h
+first_none f q (b ∷ bs) (n ∷ ns) (x ∷ xs) h a =
+    if_some (new_in b.said n.said) (λ all. all ≡ x.said) (λ all. (i : ℕ) × (slice_get (plans_in all) i ≡ Some NoFile))
+    (λ all e. (a.place, ap (λ (l : List Said). slice_get (plans_in l) a.place) e ∙ a.answer))
+    (told_new b.said n.said x.said h.0.says)
+
+-- a query was answered that there is no such file
+pub missing_file : (g : Setup) (b n : RunTold) (es : List Event) (stop : Stop) (sl : Slack) (q : FileRange) → Ties g b n es stop sl → g.range.start < g.range.end → IsQueryAnswer g.file sl.heard q NoFile
+    → ((s : Store) → AllTell s b.clients → IsNone (file_of s g.file)) → IsMissingFile g b.clients n.clients
+missing_file g b n es stop sl q t some answer none = record {
+  some = some;
+  said =
+      if_some (all_exchanges b.clients n.clients) (λ xs. xs ≡ sl.heard) (λ xs. (r : FileRange) × IsQueryAnswer g.file xs r NoFile)
+      (λ xs e. (q, subst (λ (l : List Exchange). IsQueryAnswer g.file l q NoFile) (sym e) answer)) (all_told b.clients n.clients sl.heard t.heard);
+  first = first_none g.file q b.clients n.clients sl.heard t.heard answer;
+  unstored = none;
+}

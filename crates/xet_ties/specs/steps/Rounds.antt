@@ -1,0 +1,75 @@
+-- What a whole round leaves.
+use Rattle.std.specs.Prelude.{ℕ, ◌≡◌, ◌+◌, List, [], ◌∷◌, count_by, All, Some, slice_get}
+use Rattle.std.specs.List.{flat_map}
+use Rattle.xet_base.specs.Store.{Store}
+use Rattle.xet_outside.specs.Told.{ClientTold}
+use Rattle.xet_blocks.specs.BlockChecks.{block_data}
+use Rattle.xet_blocks.specs.declared.reconstruction_terms.xorb_block.XorbBlockData.{XorbBlockData}
+use Rattle.xet_run.specs.declared.event.Event.{Event}
+use Rattle.xet_run.specs.declared.event.PlannedBlock.{PlannedBlock}
+use Rattle.xet_run.specs.Allowed.{IsMissing}
+use Rattle.xet_ties.specs.History.{block_at}
+use Rattle.xet_ties.specs.InCall.{EachGrew, Exchange, SomeOne}
+use Rattle.xet_ties.specs.Lanes.{Ask, HidesNone, HoldsAsk, IsFor, bytes_of_ask}
+use Rattle.xet_ties.specs.Saids.{InStep, IsServedData}
+use Rattle.xet_ties.specs.Setup.{AllTell}
+use Rattle.xet_ties.specs.Ties.{Slack, has_one}
+use Rattle.xet_ties.specs.declared.lane_step.LaneStep.{LaneStep}
+use Rattle.xet_ties.specs.declared.lane_step.LaneStep.TheVariants as step
+use Rattle.xet_ties.specs.steps.Moves.{no_hidden, no_late}
+use Rattle.xet_ties.specs.steps.Records.{Place}
+
+-- the places of a lane's Served steps
+abbrev pub got_in : LaneStep → List Place
+got_in (step.Served p k d) = (p, k) ∷ []
+got_in (step.Expired p k) = []
+got_in (step.Failed e) = []
+
+abbrev pub got_of : List LaneStep → List Place
+got_of ss = flat_map got_in ss
+
+-- the planned blocks of some places
+abbrev pub blocks_at : List Event → List Place → List PlannedBlock
+blocks_at es cs = flat_map (λ (c : Place). block_at es c.0 c.1) cs
+
+-- the fetch is of a missing block
+abbrev pub IsMissingAsk : List Event → Ask → Type 0
+IsMissingAsk es a = IsMissing es a.request.acquisition.plan a.request.index
+
+-- a Served step's data is of one of these fetches, of its plan and number: it is made of bytes that some connection
+-- said in answer to the fetch's own request and that pass the block's tests; over connections that tell a store which
+-- holds the block's chunks it is the store's
+pub record IsHeardData (fs : List Ask) (bs : List ClientTold) (xs : List Exchange) (p k : ℕ)
+    (d : XorbBlockData) : Type 0 where
+  pub number : ℕ
+  pub ask : Ask
+  pub at : slice_get fs number ≡ Some ask
+  pub plan : p ≡ ask.request.acquisition.plan
+  pub index : k ≡ ask.request.index
+  pub served : SomeOne (λ x. IsServedData x p k ask.block d) xs
+  pub honest : (s : Store) → AllTell s bs → HoldsAsk s ask
+      → d ≡ block_data ask.block.chunk_ranges (bytes_of_ask s ask)
+
+abbrev pub IsHeardStep : List Ask → List ClientTold → List Exchange → LaneStep → Type 0
+IsHeardStep fs bs xs (step.Served p k d) = IsHeardData fs bs xs p k d
+IsHeardStep fs bs xs (step.Expired p k) = Unit {0}
+IsHeardStep fs bs xs (step.Failed e) = Unit {0}
+
+-- what was told and isn't recorded after a round, all of whose steps were recorded
+pub record AfterRound (bs ms : List ClientTold) (es : List Event) (fs : List Ask) (ls : List (List LaneStep))
+    (sl to : Slack) : Type 0 where
+  -- the lanes' answers were heard, each query still has its answer
+  pub grew : EachGrew sl.heard to.heard
+  pub step : InStep sl.heard → InStep to.heard
+  -- where each fetch asks for its own block, the data of Served steps was heard
+  pub found : All IsFor fs → All (λ ss. All (IsHeardStep fs ms to.heard) ss) ls
+  pub looks : to.looks ≡ sl.looks
+  -- no entry is hidden where no step may hide one
+  pub none : All HidesNone ls → to.hidden ≡ no_hidden bs
+  pub late : to.late ≡ no_late bs
+  pub pending : to.pending ≡ []
+  -- each served block of one range is to be offered
+  pub due : to.due ≡ sl.due + count_by has_one (blocks_at es (flat_map got_of ls))
+  pub spare : to.spare ≡ sl.spare
+  pub lost : to.lost ≡ sl.lost
+  pub ahead : to.ahead ≡ sl.ahead
