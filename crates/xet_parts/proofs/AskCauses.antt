@@ -1,0 +1,154 @@
+-- The causes of the errors of asking for a plan.
+use Rattle.std.proofs.Common.{◌≡◌, ◌⊎◌, ℕ, ◌+◌, ◌-◌, ◌^◌, ◌<◌, ◌≤◌, min, false, List, [], ◌∷◌, ◌++◌, Option, Some, None, Ok, Err, refl, sym, subst, ◌∙◌, ap, arith, inl, inr, ⊎_elim}
+use Rattle.std.specs.Prelude.{IfSome, IsNone, Result}
+use Rattle.xet_base.specs.declared.cas_types.FileRange.{FileRange}
+use Rattle.xet_base.specs.declared.unique_id.UniqueId.{UniqueId}
+use Rattle.xet_base.specs.Store.{IsValid, Store, file_of}
+use Rattle.xet_outside.specs.declared.plan.Plan.{Plan}
+use Rattle.xet_outside.specs.declared.plan.PlanAnswer.{PlanAnswer}
+use Rattle.xet_outside.specs.declared.plan.PlanAnswer.TheVariants.{Found, NoFile, PastEnd}
+use Rattle.xet_outside.specs.declared.plan.PlanTerm.{PlanTerm}
+use Rattle.xet_outside.specs.declared.said.Said.{Said}
+use Rattle.xet_outside.specs.declared.said.Said.TheVariants as said
+use Rattle.xet_outside.specs.declared.served.Served.{Served}
+use Rattle.xet_outside.specs.Plan.{Shape, shape}
+use Rattle.xet_outside.specs.Told.{ClientTold, IsHonest, Query, Rose}
+use Rattle.xet_error.specs.declared.error.Corruption.{Corruption}
+use Rattle.xet_error.specs.declared.error.FileReconstructionError.{FileReconstructionError}
+use Rattle.xet_error.specs.declared.error.FileReconstructionError.TheVariants as error
+use Rattle.xet_blocks.specs.declared.reconstruction_terms.file_term.TermBlock.{TermBlock}
+use Rattle.xet_blocks.specs.PlanChecks.{failed_test}
+use Rattle.xet_blocks.specs.TermBlockCalls.{Answer, FromAnswer, FromSaid, FromTerms, FromTested, QueryAnswered, TermBlockCause, TermBlockCall}
+use Rattle.xet_blocks.proofs.CallerLemmas.{honest_accepted}
+use Rattle.xet_run.specs.declared.event.Event.{Event}
+use Rattle.xet_history.specs.Queries.{CutFrom}
+use Rattle.xet_history.specs.TrueHistory.{queries}
+use Rattle.xet_terms.specs.Managers.{IsManager, Manager, PassesKnownEnd}
+use Rattle.xet_ties.specs.Causes.{Cause, SomeFailed, SomeRose}
+use Rattle.xet_ties.specs.InCall.{EachExchange, Exchange, all_exchanges}
+use Rattle.xet_ties.specs.Saids.{InStep, IsQueryAnswer}
+use Rattle.xet_ties.specs.Setup.{AllTell, IsOver, RunTold, Setup}
+use Rattle.xet_ties.specs.steps.Moves.{heard_first}
+use Rattle.xet_ties.specs.steps.Parts.{AskedSaid, plan_query}
+use Rattle.xet_ties.specs.Ties.{CutsRange, EachLane, MayBeAsked, Slack, Ties}
+use Rattle.xet_ties.proofs.CallerLemmas.{all_told, ask_said, file_missing, first_tells, if_some, plan_fails, missing_file}
+use Rattle.xet_parts.specs.PlanAsks.{AskPlanCall, PlanFails, QueryFails}
+
+-- ---- counts
+
+-- the faults of the first connection rose since the start, where they rose in a call
+pub first_rose : (es : List Event) (bs : List ClientTold) (c n : ClientTold) (cs : List ClientTold) (hs : List (List Served)) (ks : List ℕ) → EachLane es 0 bs (c ∷ cs) hs ks → Rose c.faults n.faults → SomeRose bs (n ∷ cs)
+first_rose es [] c n cs hs ks t r = absurd t
+first_rose es (b ∷ bs) c n cs [] ks t r = absurd t
+first_rose es (b ∷ bs) c n cs (h ∷ hs) [] t r = absurd t
+first_rose es (b ∷ bs) c n cs (h ∷ hs) (k ∷ ks) t r = inl (rose b.faults c.faults n.faults t.0.goes_on.faults r)
+  where
+    rose : (x y z : ℕ) → x ≤ y → Rose y z → Rose x z
+    rose x y z a h = omega arith
+
+-- ---- what was said
+
+-- what holds of all that was heard holds of all that is told
+pub told_of_all : (bs ns : List ClientTold) (xs : List Exchange) (P : List Exchange → Type 0) → EachExchange bs ns xs → P xs → IfSome (all_exchanges bs ns) P
+told_of_all bs ns xs P h p = if_some (all_exchanges bs ns) (λ ys. ys ≡ xs) P (λ ys e. subst P (sym e) p) (all_told bs ns xs h)
+
+-- ---- a query of the cut
+
+cut_within : (qs : List FileRange) (place end bound : ℕ) (q : FileRange) → CutFrom place end bound (qs ++ q ∷ []) → (place ≤ q.start) × (q.start < q.end) × (q.end ≤ end)
+cut_within [] place end bound q c = let at = c.0 in (omega (arith, at), c.1, c.2)
+cut_within (r ∷ qs) place end bound q c = let at = c.0 in let some = c.1 in let h = cut_within qs r.end end bound q c.4 in let low = h.0 in (omega (arith, at, some, low), h.1, h.2)
+
+-- it lies in the range, and isn't empty
+pub query_within : (g : Setup) (qs : List FileRange) (q : FileRange) → CutsRange g (qs ++ q ∷ []) → (g.range.start ≤ q.start) × (q.start < q.end) × (q.end ≤ g.range.end)
+query_within g qs q c = cut_within qs g.range.start g.range.end (g.greatest + g.least) q c
+
+-- no answer to it passes the known end, while no plan ended early
+pub none_passes : (m : Manager) (q : FileRange) (t : Option TermBlock) → IsManager m → m.ended ≡ false → q.start < q.end → q.end ≤ m.range.end → PassesKnownEnd m q t → ⊥
+none_passes m q None x unended some within p = p
+none_passes m q (Some b) x unended some within p = let known = x.still_open unended in let fits = x.range_fits in absurd (omega (arith, known, fits, some, within, p))
+
+-- ---- over a valid store
+
+-- an honest plan fails no test
+pub honest_passes : (s : Store) → IsValid s → (g : Setup) (q : FileRange) (id : UniqueId) (k : Corruption) (a : PlanAnswer) → IsHonest s g.file q a → FromAnswer (plan_query g q id) a (Err (error.CorruptedReconstruction k)) → ⊥
+honest_passes s v g q id k NoFile h f = cc
+honest_passes s v g q id k PastEnd h f = cc
+honest_passes s v g q id k (Found p) h f = terms p.terms f
+  where
+    passes : failed_test (shape p) q g.multirange ≡ None
+    passes = ap (λ (x : Shape). failed_test x q g.multirange) h.2 ∙ honest_accepted s v g.file q g.multirange
+
+    terms : (ts : List PlanTerm) → FromTerms p (plan_query g q id) ts (Err (error.CorruptedReconstruction k)) → ⊥
+    terms [] e = cc
+    terms (t ∷ ts) e =
+        let made : FromTested p (plan_query g q id) None (Err (error.CorruptedReconstruction k)) = subst (λ (o : Option Corruption). FromTested p (plan_query g q id) o (Err (error.CorruptedReconstruction k))) passes e in
+        let same = made.1 in
+        cc
+
+-- ---- the first connection's answer
+
+-- it told the store that it told at the start
+tells_now : (s : Store) (g : Setup) (b at : RunTold) (es : List Event) (sl : Slack) (c : ClientTold) (cs : List ClientTold) → at.clients ≡ c ∷ cs → Ties g b at es None sl → AllTell s b.clients → c.store ≡ Some s
+tells_now s g b at es sl c cs is t tell = first_tells s es b.clients c cs sl.hidden sl.late (subst (λ (l : List ClientTold). EachLane es 0 b.clients l sl.hidden sl.late) is t.served.lanes) tell
+
+-- it said that the file isn't stored
+pub missing_cause : (g : Setup) (b at : RunTold) (es : List Event) (sl : Slack) (c n : ClientTold) (cs : List ClientTold) (q : FileRange) → at.clients ≡ c ∷ cs → Ties g b at es None sl → g.range.start < g.range.end
+    → QueryAnswered c n (g.file, q) NoFile → AskedSaid g b at es sl (n ∷ cs) q NoFile → Cause g b (record at { clients = n ∷ cs }) error.FileNotFound
+missing_cause g b at es sl c n cs q is t some answered heard =
+    missing_file g b (record at { clients = n ∷ cs }) es None _ q heard.ties some heard.own (λ s tell. answered.honest s (tells_now s g b at es sl c cs is t tell))
+
+-- its faults rose
+pub rose_cause : (g : Setup) (b at : RunTold) (es : List Event) (sl : Slack) (c n : ClientTold) (cs : List ClientTold) → at.clients ≡ c ∷ cs → Ties g b at es None sl → Rose c.faults n.faults → Cause g b (record at { clients = n ∷ cs }) error.ClientError
+rose_cause g b at es sl c n cs is t r = first_rose es b.clients c n cs sl.hidden sl.late (subst (λ (l : List ClientTold). EachLane es 0 b.clients l sl.hidden sl.late) is t.served.lanes) r
+
+-- its answer fails this test, and over a valid store none does
+pub failed_cause : (g : Setup) (b at : RunTold) (es : List Event) (sl : Slack) (c n : ClientTold) (cs : List ClientTold) (q : FileRange) (a : PlanAnswer) (k : Corruption) → at.clients ≡ c ∷ cs → Ties g b at es None sl
+    → QueryAnswered c n (g.file, q) a → AskedSaid g b at es sl (n ∷ cs) q a → ((s : Store) → IsOver s b.clients → IsHonest s g.file q a → ⊥) → SomeFailed g (heard_first ((g.file, q) ∷ []) (said.Plan a ∷ []) sl.heard) k
+    → Cause g b (record at { clients = n ∷ cs }) (error.CorruptedReconstruction k)
+failed_cause g b at es sl c n cs q a k is t answered heard untrue failed = record {
+  untrue = λ s over. untrue s over (answered.honest s (tells_now s g b at es sl c cs is t over.tell));
+  failed = told_of_all b.clients (n ∷ cs) (heard_first ((g.file, q) ∷ []) (said.Plan a ∷ []) sl.heard) (λ xs. SomeFailed g xs k) heard.ties.heard failed;
+}
+
+-- ---- asking
+
+answered_of : (g : Setup) (q : FileRange) (id : UniqueId) (c n : ClientTold) (answer : Answer) → (from : FromSaid c n (plan_query g q id) answer) → QueryAnswered c n (g.file, q) from.plan
+answered_of g q id c n answer from = record { asked = from.asked; said = from.said; honest = from.honest }
+
+query_cause : (g : Setup) (b at : RunTold) (es : List Event) (sl : Slack) (c n : ClientTold) (cs : List ClientTold) (q : FileRange) (id : UniqueId) (answer : Answer) (e : FileReconstructionError)
+    → at.clients ≡ c ∷ cs → sl.lost ≡ [] → InStep sl.heard → CutsRange g (queries es ++ q ∷ []) → Ties g b at es None sl → TermBlockCall c n (plan_query g q id) answer → TermBlockCause c n (plan_query g q id) e
+    → Cause g b (record at { clients = n ∷ cs }) e
+query_cause g b at es sl c n cs q id answer error.OutOfMemory is none step cuts t call h = tt
+query_cause g b at es sl c n cs q id answer error.ClientError is none step cuts t call h = rose_cause g b at es sl c n cs is t h
+query_cause g b at es sl c n cs q id answer error.FileNotFound is none step cuts t call h =
+    let within = query_within g (queries es) q cuts in
+    let a = within.0 in
+    let d = within.1 in
+    let f = within.2 in
+    let no_file : h.plan ≡ NoFile = file_missing g q id c n h in
+    missing_cause g b at es sl c n cs q is t (omega (arith, a, d, f)) (subst (QueryAnswered c n (g.file, q)) no_file (answered_of g q id c n (Err error.FileNotFound) h))
+    (subst (AskedSaid g b at es sl (n ∷ cs) q) no_file (ask_said g b at es sl c n cs q id answer (Err error.FileNotFound) is none step call h cuts t))
+query_cause g b at es sl c n cs q id answer error.UrlExpired is none step cuts t call h = absurd h
+query_cause g b at es sl c n cs q id answer error.IoError is none step cuts t call h = absurd h
+query_cause g b at es sl c n cs q id answer (error.CorruptedReconstruction k) is none step cuts t call h =
+    let within = query_within g (queries es) q cuts in
+    let made : Answer = Err (error.CorruptedReconstruction k) in
+    let heard = ask_said g b at es sl c n cs q id answer made is none step call h cuts t in
+    failed_cause g b at es sl c n cs q h.plan k is t (answered_of g q id c n made h) heard
+    (λ s over honest. honest_passes s over.valid g q id k h.plan honest h.from)
+    (plan_fails g (heard_first ((g.file, q) ∷ []) (said.Plan h.plan ∷ []) sl.heard) q id k c n within.0 within.2 h heard.own)
+query_cause g b at es sl c n cs q id answer (error.ConfigurationError k) is none step cuts t call h = absurd h
+query_cause g b at es sl c n cs q id answer error.Cancelled is none step cuts t call h = absurd h
+query_cause g b at es sl c n cs q id answer (error.InternalWriterError k) is none step cuts t call h = absurd h
+
+-- each error of asking for a plan has its cause, where no answer passes the known end
+pub ask_cause : (g : Setup) (b at : RunTold) (es fs : List Event) (sl : Slack) (c n : ClientTold) (cs : List ClientTold) (m now : Manager) (q : FileRange) (id : UniqueId) (e : FileReconstructionError)
+    → at.clients ≡ c ∷ cs → AskPlanCall m now c n es fs (plan_query g q id) (Err e) → sl.lost ≡ [] → InStep sl.heard → CutsRange g (queries es ++ q ∷ []) → ((t : Option TermBlock) → PassesKnownEnd m q t → ⊥)
+    → Ties g b at es None sl → Cause g b (record at { clients = n ∷ cs }) e
+ask_cause g b at es fs sl c n cs m now q id e is call none step cuts unpassed t = ⊎_elim asked answered call.err
+  where
+    asked : QueryFails m now c n es fs (plan_query g q id) e → Cause g b (record at { clients = n ∷ cs }) e
+    asked h = query_cause g b at es sl c n cs q id (Err e) e is none step cuts t h.call h.call.cause
+
+    answered : PlanFails m now c n es fs (plan_query g q id) e → Cause g b (record at { clients = n ∷ cs }) e
+    answered h = ⊎_elim (λ (short : e ≡ error.OutOfMemory). subst (Cause g b (record at { clients = n ∷ cs })) (sym short) tt) (λ p. absurd (unpassed h.answer p.0)) h.left.fails

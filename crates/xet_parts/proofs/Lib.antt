@@ -1,0 +1,12 @@
+mod Admitting
+mod AdmitTies
+mod Answering
+mod AskCauses
+mod AskTies
+pub mod CallerLemmas
+mod Dues
+mod OfferTies
+mod RefreshCauses
+mod RefreshTies
+mod Running
+mod StopTies
