@@ -1,0 +1,33 @@
+-- What admitting the terms of a run does to its leader.
+use Rattle.std.specs.Prelude.{ℕ, ◌≡◌, ◌-◌, List, Result, OnOk, IfErr}
+use Rattle.xet_error.specs.declared.error.FileReconstructionError.{FileReconstructionError}
+use Rattle.xet_run.specs.declared.event.Event.{Event}
+use Rattle.xet_run.specs.Budgets.{LimitTold}
+use Rattle.xet_parts.specs.Admissions.{AdmitsErr, AdmitsOk}
+use Rattle.xet_ties.specs.Setup.{Setup}
+use Rattle.xet_leader.specs.Led.{Led}
+use Rattle.xet_leader.specs.Steady.{LeadPart, Loose, Moment}
+
+-- of the terms that waited so many are left
+pub record AdmittedTerms (before after : LimitTold) (es fs : List Event) (l k : Led) : Type 0 where
+  pub left : ℕ
+  pub admits : AdmitsOk before after es fs (l.planned - l.admitted) left
+  pub led : k ≡ record l { admitted = l.planned - left }
+
+-- memory was wanting
+pub record AdmitFails (before after : LimitTold) (es fs : List Event) (l k : Led)
+    (e : FileReconstructionError) : Type 0 where
+  pub admits : AdmitsErr before after es fs e
+  pub led : k ≡ l
+
+-- one call of `admit`
+pub record AdmitTurn (before after : LimitTold) (es fs : List Event) (l k : Led)
+    (answer : Result (Unit {0}) FileReconstructionError) : Type 0 where
+  pub ok : OnOk answer (AdmittedTerms before after es fs l k)
+  pub err : IfErr answer (AdmitFails before after es fs l k)
+
+-- over the moment of a run of which these are the limits and events: it goes on, or is to stop
+abbrev pub AdmitLeads : LimitTold → LimitTold → List Event → List Event → Led → Led
+    → Result (Unit {0}) FileReconstructionError → Type 0
+AdmitLeads before after es fs l k answer = (g : Setup) (m : Moment) (o : Loose) → m.told.limits ≡ before
+    → m.events ≡ es → LeadPart g m (record { told = record m.told { limits = after }; events = fs }) o o l k answer
