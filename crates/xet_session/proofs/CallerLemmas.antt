@@ -1,0 +1,5 @@
+-- What proofs of the crates above may cite of this crate's words.
+
+-- what a call keeps, and that a backed session stays backed
+pub use Rattle.xet_session.proofs.Keeping.{keeps-both, keeps-refl, keeps-still, later-both, later-same, stores-later}
+pub use Rattle.xet_session.proofs.Ends.{backs-finalized, backs-kept, new-listed, ordered-grown}

@@ -1,0 +1,631 @@
+-- The exits of the end of a session, and the order of its log.
+use Rattle.std.proofs.Common.{◌≡◌, ℕ, ◌≤◌, ◌⊎◌, inl, inr, Bool, true, false, List, [], ◌∷◌, ◌++◌, length, map, take, refl, sym, ◌∙◌, ap, subst, arith}
+use Rattle.std.specs.Prelude.{All, Contains, Option, Some, None, IsSome, IfSome, is_some, option_map, unwrap_or, Result, Ok, Err, OnOk, IfOk, IfErr}
+use Rattle.std.proofs.lemmas.Bool.{false≢true}
+use Rattle.std.proofs.lemmas.List.{append-nil, append_assoc, length-map, get_or-map, take-take}
+use Rattle.std.proofs.lemmas.List.Concat.{flat_map-append}
+use Rattle.std.proofs.lemmas.List.Elements.{All-nil, All-append, All-same, All-weaker, All-contains, Contains-append_right}
+use Rattle.xet_base.specs.declared.merklehash.MerkleHash.{MerkleHash}
+use Rattle.xet_base.specs.declared.mdb_shard.Xorb.{Xorb}
+use Rattle.xet_base.specs.declared.mdb_shard.MDBFileInfo.{MDBFileInfo}
+use Rattle.xet_base.specs.declared.mdb_shard.MDBXorbInfo.{MDBXorbInfo}
+use Rattle.xet_base.specs.declared.mdb_shard.ShardRecord.{ShardRecord}
+use Rattle.xet_outside.specs.declared.client.ClientError.{ClientError}
+use Rattle.xet_outside.specs.declared.client.ClientError.TheVariants as client_error
+use Rattle.xet_outside.specs.Told.{Rose}
+use Rattle.xet_uploader.specs.declared.uploader.Put.{Put}
+use Rattle.xet_uploader.specs.declared.uploader.Put.TheVariants as put
+use Rattle.xet_uploader.specs.Uploads.{UploaderTold}
+use Rattle.xet_shards.specs.Shards.{no_records}
+use Rattle.xet_shard_interface.specs.Fillings.{shards_in}
+use Rattle.xet_shard_interface.specs.Interfaces.{InterfaceTold, LaterFaults, ListsFiles, StoreFails, StoresTell, known_told, known_xorbs, records_of, resumed_records}
+use Rattle.xet_shard_interface.specs.Puts.{all_with_shards, FailsSo, UploadFails, Uploads, forgotten, puts_of, shards_of, sizes, with_puts, with_shards}
+use Rattle.xet_shard_interface.specs.declared.shard_interface.ShardRules.{ShardRules}
+use Rattle.xet_shard_interface.proofs.CallerLemmas.{files-in, files_of, in-shard, log-grown, names-take, ordered-shards}
+use Rattle.xet_upload.specs.DataErrors.{of_client_error}
+use Rattle.xet_upload.specs.Orders.{IsOrdered, IsThere, names_of}
+use Rattle.xet_upload.specs.Waitings.{Waiting, no_waiting, record_of_file}
+use Rattle.xet_upload.specs.declared.data_error.DataError.{DataError}
+use Rattle.xet_upload.specs.declared.metrics.DeduplicationMetrics.{DeduplicationMetrics}
+use Rattle.xet_upload.proofs.CallerLemmas.{ordered-none, ordered-xorb}
+use Rattle.xet_session.specs.Calls.{Backs, Counted, Cut, Finalizes, GrewByXorbs, GrewToEnd, HasFiles, IsPut, Keeps, KeepsFailed, PutsFail, ResumedKept, StoresFail, end_counts, finalized_error, waiting_hash}
+use Rattle.xet_session.specs.Sessions.{HasListed, IsBackedSession, IsListed, SessionTold, Stands, Tells, known_of, log_of, waiting_names}
+use Rattle.xet_session.specs.steps.SessionSteps.{AddedFinished, PutRecords}
+use Rattle.xet_session.proofs.Keeping.{failed-same, later-both, later-same, stores-later}
+
+-- ---- the order
+
+ordered-xorbs : (xs : List Xorb) (log : List Put) (first : ℕ) (known : List MerkleHash) → IsOrdered log first known → IsOrdered (log ++ map put.Xorb xs) first known
+ordered-xorbs [] log first known h = let P : List Put → Type 0 = λ ps. IsOrdered ps first known in subst P (sym (append-nil log)) h
+ordered-xorbs (x ∷ xs) log first known h =
+    let P : List Put → Type 0 = λ ps. IsOrdered ps first known in
+    subst P (append_assoc log (put.Xorb x ∷ []) (map put.Xorb xs)) (ordered-xorbs xs (log ++ put.Xorb x ∷ []) first known (ordered-xorb log first known x h))
+
+-- after xorbs alone the log is ordered
+pub ordered-grown : (b n : SessionTold) (known : List MerkleHash) → GrewByXorbs b n → IsOrdered (log_of n) (length (log_of b)) known
+ordered-grown b n known g =
+    let P : List Put → Type 0 = λ ps. IsOrdered ps (length (log_of b)) known in
+    subst P (sym g.grown) (ordered-xorbs g.xorbs (log_of b) (length (log_of b)) known (ordered-none (log_of b) known))
+
+-- and after the shards whose file records name what stands
+ordered-records : (b n1 n2 n : SessionTold) → Tells b → Stands b → Keeps b n1 → IsListed n1 → (records_of n2.shards.session).files ≡ (records_of n1.shards.session).files ++ n1.finished → log_of n2 ≡ log_of n1
+    → (k : ℕ) → log_of n ≡ log_of n2 ++ map put.Shard (take k (shards_of n2.shards)) → IsOrdered (log_of n) (length (log_of b)) (known_of b)
+ordered-records b n1 n2 n t s k l files same i e = go
+  where
+    P : List Put → Type 0
+    P ps = IsOrdered ps (length (log_of b)) (known_of b)
+
+    first : IsOrdered (log_of n1) (length (log_of b)) (known_of b)
+    first = ordered-grown b n1 (known_of b) (k.grew t)
+
+    now : Stands n1
+    now = k.stands t s
+
+    known : known_of n1 ≡ known_of b
+    known = ap (λ (k : Option (Option ShardRecord) × Option ShardRecord). map (λ (r : MDBXorbInfo). r.hash) (known_xorbs k)) k.known
+
+    Q : MerkleHash → Type 0
+    Q = IsThere (log_of n1) (known_of n1)
+
+    listed : All Q (names_of n1.finished)
+    listed = All-weaker (Contains n1.listed) Q (λ h c. All-contains Q n1.listed h now.on_list c) (names_of n1.finished) l.finished
+
+    both : All Q (names_of (records_of n2.shards.session).files)
+    both = All-same Q (names_of (records_of n2.shards.session).files) (names_of (records_of n1.shards.session).files ++ names_of n1.finished)
+        (ap names_of files ∙ flat_map-append (λ (f : MDBFileInfo). map (λ e. e.xorb) f.entries) (records_of n1.shards.session).files n1.finished)
+        (All-append Q (names_of (records_of n1.shards.session).files) (names_of n1.finished) now.named listed)
+
+    at : All (IsThere (log_of n1) (known_of b)) (names_of (files_of (take i (shards_of n2.shards))))
+    at = names-take (IsThere (log_of n1) (known_of b)) i (shards_of n2.shards)
+        (subst (λ (fs : List MDBFileInfo). All (IsThere (log_of n1) (known_of b)) (names_of fs)) (sym (files-in n2.shards.rules.shard_max_target_size (records_of n2.shards.session)))
+        (subst (λ (ks : List MerkleHash). All (IsThere (log_of n1) ks) (names_of (records_of n2.shards.session).files)) known both))
+
+    go : IsOrdered (log_of n) (length (log_of b)) (known_of b)
+    go =
+        let f : log_of n ≡ log_of n1 ++ map put.Shard (take i (shards_of n2.shards)) = e ∙ ap (λ (ps : List Put). ps ++ map put.Shard (take i (shards_of n2.shards))) same in
+        subst P (sym f) (ordered-shards (take i (shards_of n2.shards)) (log_of n1) (length (log_of b)) (known_of b) first at)
+
+Contains-shards : (ss : List ShardRecord) (s : ShardRecord) → Contains ss s → Contains (map put.Shard ss) (put.Shard s)
+Contains-shards ss s c =
+    let lt = c.1 in
+    let size = length-map ss put.Shard in
+    (c.0, omega (arith, lt, size), get_or-map put.Shard ss c.0 s (put.Shard s) lt ∙ ap put.Shard c.2)
+
+-- ---- stores that tell
+
+map-some : {A B : Type 0} (f : A → B) (o : Option A) → IsSome o → IsSome (option_map f o)
+map-some f (Some x) s = refl
+map-some f None s = absurd (false≢true s)
+
+forgotten-tells : (o : Option (Option ShardRecord)) → IfSome o (λ r. IsSome r) → IfSome (forgotten o) (λ r. IsSome r)
+forgotten-tells None t = tt
+forgotten-tells (Some r) t = map-some (λ (s : ShardRecord). no_records) r t
+
+-- what tells goes on telling where records are put
+uploads-tell : (u v : UploaderTold) (b n : InterfaceTold) (x z : Option ClientError) (a : Result ℕ DataError) → Uploads u v b n x z a → IsSome u.puts → StoresTell b → IsSome v.puts × StoresTell n
+uploads-tell u v b n x z a h puts t = (
+  subst (λ (o : Option (List Put)). IsSome o) (sym (h.some t.session)) (map-some (λ (ps : List Put). ps ++ map put.Shard (take h.count (shards_of b))) u.puts puts),
+  record {
+    resumed = go h.resumed;
+    session = subst (λ (o : Option ShardRecord). IsSome o) (sym h.session) t.session;
+    cache = subst (λ (o : Option ShardRecord). IsSome o) (sym (h.cached t.session)) (map-some (λ (r : ShardRecord). with_shards r (take h.kept (shards_of b))) b.cache.records t.cache);
+    staging = subst (λ (i : InterfaceTold). IsSome i.staging.records) (sym h.same) t.staging;
+  },
+)
+  where
+    P : Option (Option ShardRecord) → Type 0
+    P o = IfSome o (λ r. IsSome r)
+
+    go : (resumed_records n.resumed ≡ resumed_records b.resumed) ⊎ (resumed_records n.resumed ≡ forgotten (resumed_records b.resumed)) → P (resumed_records n.resumed)
+    go (inl e) = subst P (sym e) t.resumed
+    go (inr e) = subst P (sym e) (forgotten-tells (resumed_records b.resumed) t.resumed)
+
+-- ---- the exits
+
+cache-none : (o : Option ShardRecord) → o ≡ all_with_shards o []
+cache-none None = refl
+cache-none (Some r) = refl
+
+-- the second call
+pub finalizes-again : {A : Type 0} (b : SessionTold) → b.finalized ≡ true → Finalizes {A = A} b b (Err finalized_error)
+finalizes-again b e = record {
+  tells = λ t. t;
+  ordered = λ t s l. ordered-none (log_of b) (known_of b);
+  finalized = e;
+  unfailed = tt;
+  finished = tt;
+  recorded = λ t. tt;
+  put = λ t d. tt;
+  grew = λ t. record { xorbs = []; shards = []; grown = sym (append-nil (log_of b)); kept = 0; cached = cache-none b.shards.cache.records; resumed = inl refl; sent = λ few. omega (arith, few) };
+  dry = λ t d. record { xorbs = []; grown = sym (append-nil (log_of b)); sent = λ few. omega (arith, few) };
+  quiet = λ f. refl;
+  failed = failed-same b b refl refl;
+  stores = later-same b.shards b.shards refl;
+  again = λ f. (refl, refl);
+  refused = λ f g q. absurd (false≢true (sym f ∙ e));
+  why = inl (refl, e);
+}
+
+module _ (b n1 : SessionTold) (first : b.finalized ≡ false) where
+  begun : Tells b → Tells (record b { finalized = true })
+  begun t = record { puts = t.puts; shards = t.shards }
+
+  never : {P : Type 0} → b.finalized ≡ true → P
+  never h = absurd (false≢true (sym first ∙ h))
+
+  -- the same states, before and after xorbs alone
+  grew-so : (n : SessionTold) → log_of n ≡ log_of n1 → n.metrics.xorb_bytes_uploaded ≡ n1.metrics.xorb_bytes_uploaded → GrewByXorbs (record b { finalized = true }) n1 → GrewByXorbs b n
+  grew-so n log m g = record { xorbs = g.xorbs; grown = log ∙ g.grown; sent = λ few. m ∙ g.sent few }
+
+  -- the cache of a state with the same known records has none of the shards yet
+  cached-none : (n : SessionTold) → known_told n.shards ≡ known_told b.shards → n.shards.cache.records ≡ all_with_shards b.shards.cache.records []
+  cached-none n e = ap (λ (k : Option (Option ShardRecord) × Option ShardRecord). k.1) e ∙ cache-none b.shards.cache.records
+
+  resumed-same : (n : SessionTold) → known_told n.shards ≡ known_told b.shards → resumed_records n.shards.resumed ≡ resumed_records b.shards.resumed
+  resumed-same n e = ap (λ (k : Option (Option ShardRecord) × Option ShardRecord). k.0) e
+
+  grew-end : (n : SessionTold) (ss : List ShardRecord) → log_of n ≡ log_of n1 ++ map put.Shard ss → n.metrics.xorb_bytes_uploaded ≡ n1.metrics.xorb_bytes_uploaded
+      → (kept : ℕ) → n.shards.cache.records ≡ all_with_shards b.shards.cache.records (take kept ss) → ResumedKept b.shards n.shards → GrewByXorbs (record b { finalized = true }) n1 → GrewToEnd b n
+  grew-end n ss log m kept cached resumed g = record {
+    xorbs = g.xorbs;
+    shards = ss;
+    grown = log ∙ ap (λ (ps : List Put). ps ++ map put.Shard ss) g.grown ∙ append_assoc (log_of b) (map put.Xorb g.xorbs) (map put.Shard ss);
+    kept = kept;
+    cached = cached;
+    resumed = resumed;
+    sent = λ few. m ∙ g.sent few;
+  }
+
+  failed-so : (n : SessionTold) → n.failed ≡ n1.failed → n.uploader ≡ n1.uploader → KeepsFailed (record b { finalized = true }) n1 → KeepsFailed b n
+  failed-so n e u k = record {
+    stays = λ f. e ∙ k.stays f;
+    met = λ q. subst (λ (v : UploaderTold). (b.failed ≡ Some client_error.Failed) ⊎ Rose b.uploader.faults v.faults) (sym u) (k.met (sym e ∙ q));
+    faults = subst (λ (v : UploaderTold). b.uploader.faults ≤ v.faults) (sym u) k.faults;
+  }
+
+  -- the cut failed
+  pub finalizes-cut : {A : Type 0} (e : DataError) → Cut (record b { finalized = true }) n1 (Err e) → Finalizes {A = A} b n1 (Err e)
+  finalizes-cut e c = record {
+    tells = λ t. c.keeps.tells (begun t);
+    ordered = λ t s l. ordered-grown b n1 (known_of b) (grew-so n1 refl refl (c.keeps.grew (begun t)));
+    finalized = c.keeps.finalized;
+    unfailed = tt;
+    finished = tt;
+    recorded = λ t. tt;
+    put = λ t d. tt;
+    grew = λ t. grew-end n1 [] (sym (append-nil (log_of n1))) refl 0 (cached-none n1 c.keeps.known) (inl (resumed-same n1 c.keeps.known)) (c.keeps.grew (begun t));
+    dry = λ t d. grew-so n1 refl refl (c.keeps.grew (begun t));
+    quiet = c.keeps.quiet;
+    failed = failed-so n1 refl refl c.keeps.failed;
+    stores = c.keeps.stores;
+    again = never;
+    refused = λ f g q. let same = c.refused g q in let d : e ≡ of_client_error g = cc in ap (λ (x : DataError). Err x) d;
+    why = inr c.why;
+  }
+
+  module _ (n2 : SessionTold) (u : Unit {0}) (cut : Cut (record b { finalized = true }) n1 (Ok u)) where
+    unfailed1 : n1.failed ≡ None
+    unfailed1 = cut.unfailed
+
+    -- no put had failed, since the cut was done
+    sound : {P : Type 0} → is_some b.failed ≡ true → P
+    sound f = absurd (false≢true (sym (ap (λ (o : Option ClientError). is_some o) unfailed1) ∙ ap (λ (o : Option ClientError). is_some o) (cut.keeps.failed.stays f) ∙ f))
+
+    unrefused : {P : Type 0} (e : ClientError) → b.failed ≡ Some e → P
+    unrefused e q = absurd (let f = cut.refused e q in cc)
+
+    -- the records could not be added
+    pub finalizes-added : {A : Type 0} (e : DataError) → AddedFinished n1 n2 (Err e) → Finalizes {A = A} b n2 (Err e)
+    finalizes-added e a =
+        let same = a.same in
+        let log : log_of n2 ≡ log_of n1 = ap log_of same in
+        let m = ap (λ (z : SessionTold). z.metrics.xorb_bytes_uploaded) same in
+        record {
+          tells = λ t.
+              let told1 = cut.keeps.tells (begun t) in
+              record { puts = subst (λ (s : SessionTold). IsSome s.uploader.puts) (sym same) told1.puts; shards = a.tells told1 };
+          ordered = λ t s l. ordered-grown b n2 (known_of b) (grew-so n2 log m (cut.keeps.grew (begun t)));
+          finalized = ap (λ (z : SessionTold). z.finalized) same ∙ cut.keeps.finalized;
+          unfailed = tt;
+          finished = tt;
+          recorded = λ t. tt;
+          put = λ t d. tt;
+          grew = λ t. grew-end n2 [] (log ∙ sym (append-nil (log_of n1))) m 0 (cached-none n2 (a.known ∙ cut.keeps.known)) (inl (resumed-same n2 (a.known ∙ cut.keeps.known))) (cut.keeps.grew (begun t));
+          dry = λ t d. grew-so n2 log m (cut.keeps.grew (begun t));
+          quiet = sound;
+          failed = failed-so n2 (ap (λ (z : SessionTold). z.failed) same) (ap (λ (z : SessionTold). z.uploader) same) cut.keeps.failed;
+          stores = later-both b.shards n1.shards n2.shards cut.keeps.stores a.stores;
+          again = never;
+          refused = λ f g q. unrefused g q;
+          why = inr (inl (stores-later b.shards n1.shards n2.shards e cut.keeps.stores a.why));
+        }
+
+    module _ (v : Unit {0}) (a : AddedFinished n1 n2 (Ok v)) (n z : SessionTold) (answer : Result ℕ DataError) (p : PutRecords n2 n answer) (ends : z ≡ record n { metrics = z.metrics }) (sent : z.metrics.xorb_bytes_uploaded ≡ n.metrics.xorb_bytes_uploaded) where
+      told2 : Tells b → Tells n2
+      told2 t =
+          let told1 = cut.keeps.tells (begun t) in
+          record { puts = subst (λ (s : SessionTold). IsSome s.uploader.puts) (sym a.same) told1.puts; shards = a.tells told1 }
+
+      told-end : Tells b → Tells z
+      told-end t =
+          let told = uploads-tell n2.uploader n.uploader n2.shards n.shards n2.failed n.failed answer p.uploads (told2 t).puts (told2 t).shards in
+          subst (λ (s : SessionTold). Tells s) (sym ends) (record { puts = told.0; shards = told.1 })
+
+      uploader : z.uploader ≡ n.uploader
+      uploader = ap (λ (s : SessionTold). s.uploader) ends
+
+      log2 : log_of n2 ≡ log_of n1
+      log2 = ap log_of a.same
+
+      log-put : (ss : List ShardRecord) → Tells b → n.uploader.puts ≡ with_puts n2.uploader.puts ss → log_of z ≡ log_of n2 ++ map put.Shard ss
+      log-put ss t e = ap puts_of uploader ∙ ap (λ (o : Option (List Put)). unwrap_or o []) e ∙ log-grown n2.uploader.puts (map put.Shard ss) (told2 t).puts
+
+      rules : n2.shards.rules ≡ b.shards.rules
+      rules = a.rules ∙ cut.keeps.rules
+
+      finished : z.finished ≡ n1.finished
+      finished = ap (λ (s : SessionTold). s.finished) ends ∙ ap (λ (s : SessionTold). s.finished) p.same ∙ ap (λ (s : SessionTold). s.finished) a.same
+
+      metrics : z.metrics.xorb_bytes_uploaded ≡ n1.metrics.xorb_bytes_uploaded
+      metrics = sent ∙ ap (λ (s : SessionTold). s.metrics.xorb_bytes_uploaded) p.same ∙ ap (λ (s : SessionTold). s.metrics.xorb_bytes_uploaded) a.same
+
+      failed2 : n2.failed ≡ None
+      failed2 = ap (λ (s : SessionTold). s.failed) a.same ∙ unfailed1
+
+      some : Tells b → log_of z ≡ log_of n2 ++ map put.Shard (take p.uploads.count (shards_of n2.shards))
+      some t = log-put (take p.uploads.count (shards_of n2.shards)) t (p.uploads.some (told2 t).shards.session)
+
+      ordered : Tells b → Stands b → IsListed b → IsOrdered (log_of z) (length (log_of b)) (known_of b)
+      ordered t s l =
+          ordered-records (record b { finalized = true }) n1 n2 z (begun t) s cut.keeps
+          (cut.listed (record { finished = l.finished; waiting = l.waiting; put = l.put }) unfailed1) (a.files (cut.keeps.tells (begun t))) log2
+          p.uploads.count (some t)
+
+      finalized : z.finalized ≡ true
+      finalized = ap (λ (s : SessionTold). s.finalized) ends ∙ ap (λ (s : SessionTold). s.finalized) p.same ∙ ap (λ (s : SessionTold). s.finalized) a.same ∙ cut.keeps.finalized
+
+      known2 : known_told n2.shards ≡ known_told b.shards
+      known2 = a.known ∙ cut.keeps.known
+
+      cached-end : Tells b → z.shards.cache.records ≡ all_with_shards b.shards.cache.records (take p.uploads.kept (take p.uploads.count (shards_of n2.shards)))
+      cached-end t =
+          ap (λ (s : SessionTold). s.shards.cache.records) ends ∙ p.uploads.cached (told2 t).shards.session
+          ∙ ap (λ (o : Option ShardRecord). all_with_shards o (take p.uploads.kept (shards_of n2.shards))) (ap (λ (k : Option (Option ShardRecord) × Option ShardRecord). k.1) known2)
+          ∙ ap (all_with_shards b.shards.cache.records) (sym (take-take p.uploads.kept p.uploads.count (shards_of n2.shards) p.uploads.fewer))
+
+      resumed-end : ResumedKept b.shards z.shards
+      resumed-end =
+          let P : InterfaceTold → Type 0 = λ i. ResumedKept b.shards i in
+          subst P (sym (ap (λ (s : SessionTold). s.shards) ends)) (subst (λ (o : Option (Option ShardRecord)). (resumed_records n.shards.resumed ≡ o) ⊎ (resumed_records n.shards.resumed ≡ forgotten o)) (resumed-same n2 known2) p.uploads.resumed)
+
+      grew : Tells b → GrewToEnd b z
+      grew t =
+          let ss = shards_of n2.shards in
+          let few = take p.uploads.count ss in
+          grew-end z few (some t ∙ ap (λ (ps : List Put). ps ++ map put.Shard few) log2) metrics p.uploads.kept (cached-end t) resumed-end (cut.keeps.grew (begun t))
+
+      dry : Tells b → b.shards.rules.dry_run ≡ true → GrewByXorbs b z
+      dry t d =
+          let quiet : n.uploader ≡ n2.uploader = (p.uploads.dry (ap (λ (r : ShardRules). r.dry_run) rules ∙ d)).0 in
+          grew-so z (ap puts_of uploader ∙ ap puts_of quiet ∙ log2) metrics (cut.keeps.grew (begun t))
+
+      stores : LaterFaults b.shards z.shards
+      stores =
+          let ended : LaterFaults n2.shards z.shards = subst (λ (i : InterfaceTold). LaterFaults n2.shards i) (sym (ap (λ (s : SessionTold). s.shards) ends)) p.uploads.faults in
+          later-both b.shards n2.shards z.shards (later-both b.shards n1.shards n2.shards cut.keeps.stores a.stores) ended
+
+      faults : b.uploader.faults ≤ n2.uploader.faults
+      faults = subst (λ (w : UploaderTold). b.uploader.faults ≤ w.faults) (sym (ap (λ (s : SessionTold). s.uploader) a.same)) cut.keeps.failed.faults
+
+      failed-end : ((n.failed ≡ n2.failed) ⊎ (n.failed ≡ Some client_error.Failed → Rose n2.uploader.faults n.uploader.faults)) → KeepsFailed b z
+      failed-end m =
+          let P : UploaderTold → Type 0 = λ w. (b.failed ≡ Some client_error.Failed) ⊎ Rose b.uploader.faults w.faults in
+          record {
+            stays = sound;
+            met = λ q. subst P (sym uploader) (met m (sym (ap (λ (s : SessionTold). s.failed) ends) ∙ q));
+            faults = subst (λ (w : UploaderTold). b.uploader.faults ≤ w.faults) (sym uploader) (omega (arith, faults, p.uploads.failure.faults));
+          }
+        where
+          met : ((n.failed ≡ n2.failed) ⊎ (n.failed ≡ Some client_error.Failed → Rose n2.uploader.faults n.uploader.faults)) → n.failed ≡ Some client_error.Failed → (b.failed ≡ Some client_error.Failed) ⊎ Rose b.uploader.faults n.uploader.faults
+          met (inl e) q = absurd (false≢true (ap (λ (o : Option ClientError). is_some o) (sym failed2 ∙ sym e ∙ q)))
+          met (inr f) q = inr (omega (arith, faults, f q))
+
+      is-put : log_of z ≡ log_of n2 ++ map put.Shard (shards_of n2.shards) → (records_of n2.shards.session).files ≡ (records_of n1.shards.session).files ++ n1.finished → (f : MDBFileInfo) → Contains z.finished f → IsPut (log_of z) f
+      is-put e files f c =
+          let C : List MDBFileInfo → Type 0 = λ fs. Contains fs f in
+          let there = Contains-append_right (records_of n1.shards.session).files n1.finished f (subst C finished c) in
+          let one = in-shard (shards_of n2.shards) f (subst C (sym (files-in n2.shards.rules.shard_max_target_size (records_of n2.shards.session))) (subst C (sym files) there)) in
+          let E : List Put → Type 0 = λ ps. Contains ps (put.Shard one.0) in
+          record { shard = one.0; is_there = subst E (sym e) (Contains-append_right (log_of n2) (map put.Shard (shards_of n2.shards)) (put.Shard one.0) (Contains-shards (shards_of n2.shards) one.0 one.1)); has = one.2 }
+
+      session-same : z.shards.session.records ≡ n2.shards.session.records
+      session-same = ap (λ (s : SessionTold). s.shards.session.records) ends ∙ p.uploads.session
+
+      records-same : records_of z.shards.session ≡ records_of n2.shards.session
+      records-same = ap (λ (o : Option ShardRecord). unwrap_or o no_records) session-same
+
+      rules-same : z.shards.rules ≡ n2.shards.rules
+      rules-same = ap (λ (s : SessionTold). s.shards.rules) ends ∙ ap (λ (i : InterfaceTold). i.rules) p.uploads.same
+
+      shards-same : shards_of n2.shards ≡ shards_of z.shards
+      shards-same =
+          ap (λ (r : ShardRules). shards_in r.shard_max_target_size (records_of n2.shards.session)) (sym rules-same)
+          ∙ ap (shards_in z.shards.rules.shard_max_target_size) (sym records-same)
+
+      recorded : Tells b → (records_of z.shards.session).files ≡ (records_of b.shards.session).files ++ z.finished
+      recorded t = ap (λ (r : ShardRecord). r.files) records-same ∙ a.files (cut.keeps.tells (begun t)) ∙ ap (λ (fs : List MDBFileInfo). fs ++ n1.finished) cut.keeps.files ∙ ap (λ (fs : List MDBFileInfo). (records_of b.shards.session).files ++ fs) (sym finished)
+
+      -- all was put
+      finalizes-ok : {A : Type 0} (m : A) (k : ℕ) → answer ≡ Ok k → Finalizes b z (Ok m)
+      finalizes-ok m k is =
+          let same : n.failed ≡ n2.failed = subst (λ (r : Result ℕ DataError). OnOk r (n.failed ≡ n2.failed)) is p.uploads.failure.ok in
+          record {
+            tells = told-end;
+            ordered = ordered;
+            finalized = finalized;
+            unfailed = ap (λ (s : SessionTold). s.failed) ends ∙ same ∙ failed2;
+            finished = finished ∙ cut.finished;
+            recorded = recorded;
+            put = λ t d. is-put (log-put (shards_of n2.shards) t (subst (λ (r : Result ℕ DataError). OnOk r (n.uploader.puts ≡ with_puts n2.uploader.puts (shards_of n2.shards))) is (p.uploads.ok (told2 t).shards.session (ap (λ (r : ShardRules). r.dry_run) rules ∙ d)))) (a.files (cut.keeps.tells (begun t)));
+            grew = grew;
+            dry = dry;
+            quiet = sound;
+            failed = failed-end (inl same);
+            stores = stores;
+            again = never;
+            refused = λ f g q. unrefused g q;
+            why = tt;
+          }
+
+      -- a put failed, or a store
+      finalizes-err : {A : Type 0} (e : DataError) → answer ≡ Err e → Finalizes {A = A} b z (Err e)
+      finalizes-err e is = record {
+        tells = told-end;
+        ordered = ordered;
+        finalized = finalized;
+        unfailed = tt;
+        finished = tt;
+        recorded = λ t. tt;
+        put = λ t d. tt;
+        grew = grew;
+        dry = dry;
+        quiet = sound;
+        failed = failed-end (kept so);
+        stores = stores;
+        again = never;
+        refused = λ f g q. unrefused g q;
+        why = inr (why so);
+      }
+        where
+          so : FailsSo n2.uploader n.uploader n2.failed n.failed (UploadFails n2.shards n.shards) e
+          so = subst (λ (r : Result ℕ DataError). IfErr r (FailsSo n2.uploader n.uploader n2.failed n.failed (UploadFails n2.shards n.shards))) is p.uploads.failure.err
+
+          kept : FailsSo n2.uploader n.uploader n2.failed n.failed (UploadFails n2.shards n.shards) e → (n.failed ≡ n2.failed) ⊎ (n.failed ≡ Some client_error.Failed → Rose n2.uploader.faults n.uploader.faults)
+          kept (inl q) = inl q.0
+          kept (inr f) = inr (λ q. f.rose (let both : Some f.error ≡ Some client_error.Failed = sym f.kept ∙ q in cc))
+
+          shards : z.shards ≡ n.shards
+          shards = ap (λ (s : SessionTold). s.shards) ends
+
+          store : UploadFails n2.shards n.shards e → StoresFail n2.shards n.shards e
+          store (inl q) = inr (inl q)
+          store (inr q) = inr (inr (inl q))
+
+          why : FailsSo n2.uploader n.uploader n2.failed n.failed (UploadFails n2.shards n.shards) e → PutsFail b z e
+          why (inl q) = inl (stores-later b.shards n2.shards z.shards e (later-both b.shards n1.shards n2.shards cut.keeps.stores a.stores) (subst (λ (i : InterfaceTold). StoresFail n2.shards i e) (sym shards) (store q.1)))
+          why (inr f) = inr (f.error, ap (λ (s : SessionTold). s.failed) ends ∙ f.kept, f.told)
+
+    module _ (v : Unit {0}) (a : AddedFinished n1 n2 (Ok v)) (n : SessionTold) where
+      -- a put of records failed
+      pub finalizes-unput : {A : Type 0} (e : DataError) → PutRecords n2 n (Err e) → Finalizes {A = A} b n (Err e)
+      finalizes-unput e p = finalizes-err v a n n (Err e) p refl refl e refl
+
+      -- all was put, and then the counts were taken
+      pub finalizes-put : (z : SessionTold) (k : ℕ) → PutRecords n2 n (Ok k) → z ≡ record n { metrics = end_counts n.metrics k } → (m : DeduplicationMetrics) → m ≡ z.metrics → Finalizes b z (Ok m) × Counted b z m
+      finalizes-put z k p is m taken =
+          let counts : z.metrics ≡ end_counts n.metrics k = ap (λ (s : SessionTold). s.metrics) is in
+          let ends : z ≡ record n { metrics = z.metrics } = is ∙ ap (λ (c : DeduplicationMetrics). record n { metrics = c }) (sym counts) in
+          let sent : z.metrics.xorb_bytes_uploaded ≡ n.metrics.xorb_bytes_uploaded = ap (λ (c : DeduplicationMetrics). c.xorb_bytes_uploaded) counts in
+          let whole : m ≡ end_counts n.metrics k = taken ∙ counts in
+          let before : n.metrics ≡ n1.metrics = ap (λ (s : SessionTold). s.metrics) p.same ∙ ap (λ (s : SessionTold). s.metrics) a.same in (
+            finalizes-ok v a n z (Ok k) p ends sent m k refl,
+            record {
+              counts = taken;
+              same = rest m k (before ∙ cut.counts) whole;
+              shards = λ t.
+                  let size : k ≡ sizes (shards_of z.shards) = p.uploads.sum (told2 v a n z (Ok k) p ends sent t).shards.session ∙ ap sizes (shards-same v a n z (Ok k) p ends sent) in
+                  whole ∙ ap (end_counts n.metrics) size ∙ sym (ap (λ (c : DeduplicationMetrics). end_counts c (sizes (shards_of z.shards))) whole);
+            },
+          )
+        where
+          rest : (m : DeduplicationMetrics) (k : ℕ) → n.metrics ≡ record b.metrics { xorb_bytes_uploaded = n1.metrics.xorb_bytes_uploaded } → m ≡ end_counts n.metrics k
+              → m ≡ record b.metrics { xorb_bytes_uploaded = m.xorb_bytes_uploaded; shard_bytes_uploaded = m.shard_bytes_uploaded; total_bytes_uploaded = m.total_bytes_uploaded }
+          rest m k e w =
+              let f = w ∙ ap (λ (c : DeduplicationMetrics). end_counts c k) e in
+              f ∙ sym (ap (λ (c : DeduplicationMetrics). record b.metrics { xorb_bytes_uploaded = c.xorb_bytes_uploaded; shard_bytes_uploaded = c.shard_bytes_uploaded; total_bytes_uploaded = c.total_bytes_uploaded }) f)
+
+-- the same error, of an answer of another kind
+pub retold : {A B : Type 0} (b n : SessionTold) (e : DataError) → Finalizes {A = A} b n (Err e) → Finalizes {A = B} b n (Err e)
+retold b n e k = record {
+  tells = k.tells;
+  ordered = k.ordered;
+  finalized = k.finalized;
+  unfailed = tt;
+  finished = tt;
+  recorded = λ t. tt;
+  put = λ t d. tt;
+  grew = k.grew;
+  dry = k.dry;
+  quiet = k.quiet;
+  failed = k.failed;
+  stores = k.stores;
+  again = λ f. let h = (k.again f).0 in let d : e ≡ finalized_error = cc in (ap (λ (x : DataError). Err x) d, (k.again f).1);
+  refused = λ f g q. let h = k.refused f g q in let d : e ≡ of_client_error g = cc in ap (λ (x : DataError). Err x) d;
+  why = k.why;
+}
+
+-- ---- the file records after the end
+
+module _ (b m n : SessionTold) (x : DeduplicationMetrics) (k : Finalizes b m (Ok x)) (same : n ≡ record m { shards = n.shards }) (answer : Result (List MDBFileInfo) DataError) (l : ListsFiles m.shards n.shards answer) where
+  log-listed : log_of n ≡ log_of m
+  log-listed = ap log_of same
+
+  rules-listed : n.shards.rules ≡ m.shards.rules
+  rules-listed = ap (λ (i : InterfaceTold). i.rules) l.same
+
+  records-listed : records_of n.shards.session ≡ records_of m.shards.session
+  records-listed = ap (λ (o : Option ShardRecord). unwrap_or o no_records) l.records
+
+  cache-listed : n.shards.cache.records ≡ m.shards.cache.records
+  cache-listed = ap (λ (i : InterfaceTold). i.cache.records) l.same
+
+  resumed-listed : ResumedKept b.shards m.shards → ResumedKept b.shards n.shards
+  resumed-listed r =
+      let P : Option (Option ShardRecord) → Type 0 = λ o. (o ≡ resumed_records b.shards.resumed) ⊎ (o ≡ forgotten (resumed_records b.shards.resumed)) in
+      subst P (sym (ap (λ (i : InterfaceTold). resumed_records i.resumed) l.same)) r
+
+  stores-listed : LaterFaults m.shards n.shards
+  stores-listed =
+      let P : InterfaceTold → Type 0 = λ i. LaterFaults m.shards i in
+      subst P (sym l.same) (record { resumed = omega arith; session = l.faults; cache = omega arith; staging = omega arith })
+
+  told-listed : Tells m → Tells n
+  told-listed t =
+      let I : InterfaceTold → Type 0 = λ i. StoresTell i in
+      record {
+        puts = subst (λ (z : SessionTold). IsSome z.uploader.puts) (sym same) t.puts;
+        shards = subst I (sym l.same) (record { resumed = t.shards.resumed; session = subst (λ (o : Option ShardRecord). IsSome o) (sym l.records) t.shards.session; cache = t.shards.cache; staging = t.shards.staging });
+      }
+
+  grew-listed : GrewByXorbs b m → GrewByXorbs b n
+  grew-listed g = record { xorbs = g.xorbs; grown = log-listed ∙ g.grown; sent = λ few. ap (λ (z : SessionTold). z.metrics.xorb_bytes_uploaded) same ∙ g.sent few }
+
+  failed-listed : KeepsFailed b n
+  failed-listed =
+      let P : UploaderTold → Type 0 = λ v. (b.failed ≡ Some client_error.Failed) ⊎ Rose b.uploader.faults v.faults in
+      let u = ap (λ (z : SessionTold). z.uploader) same in
+      let f = ap (λ (z : SessionTold). z.failed) same in
+      record {
+        stays = λ q. f ∙ k.failed.stays q;
+        met = λ q. subst P (sym u) (k.failed.met (sym f ∙ q));
+        faults = subst (λ (v : UploaderTold). b.uploader.faults ≤ v.faults) (sym u) k.failed.faults;
+      }
+
+  ended : {A : Type 0} (said : Result A DataError) → OnOk said (n.failed ≡ None) → OnOk said (n.finished ≡ b.finished ++ map (record_of_file (waiting_hash b)) b.waiting.files)
+      → (Tells b → OnOk said ((records_of n.shards.session).files ≡ (records_of b.shards.session).files ++ n.finished))
+      → (Tells b → b.shards.rules.dry_run ≡ false → OnOk said ((f : MDBFileInfo) → Contains n.finished f → IsPut (log_of n) f))
+      → IfErr said (λ e. ((e ≡ finalized_error) × (b.finalized ≡ true)) ⊎ PutsFail b n e)
+      → (b.finalized ≡ true → ⊥) → ((e : ClientError) → b.failed ≡ Some e → ⊥) → Finalizes b n said
+  ended said unfailed finished recorded put why never kept =
+      let P : List Put → Type 0 = λ ps. IsOrdered ps (length (log_of b)) (known_of b) in
+      record {
+        tells = λ t. told-listed (k.tells t);
+        ordered = λ t s i. subst P (sym log-listed) (k.ordered t s i);
+        finalized = ap (λ (z : SessionTold). z.finalized) same ∙ k.finalized;
+        unfailed = unfailed;
+        finished = finished;
+        recorded = recorded;
+        put = put;
+        grew = λ t. let g = k.grew t in record { xorbs = g.xorbs; shards = g.shards; grown = log-listed ∙ g.grown; kept = g.kept; cached = cache-listed ∙ g.cached; resumed = resumed-listed g.resumed; sent = λ few. ap (λ (z : SessionTold). z.metrics.xorb_bytes_uploaded) same ∙ g.sent few };
+        dry = λ t d. grew-listed (k.dry t d);
+        quiet = λ f. log-listed ∙ k.quiet f;
+        failed = failed-listed;
+        stores = later-both b.shards m.shards n.shards k.stores stores-listed;
+        again = λ f. absurd (never f);
+        refused = λ f e q. absurd (kept e q);
+        why = why;
+      }
+
+  once : b.finalized ≡ true → ⊥
+  once f = let e = (k.again f).0 in absurd cc
+
+  unkept : (e : ClientError) → b.failed ≡ Some e → ⊥
+  unkept e q =
+      let none : m.failed ≡ None = k.unfailed in
+      let stays = k.failed.stays (ap (λ (o : Option ClientError). is_some o) q) in
+      false≢true (ap (λ (o : Option ClientError). is_some o) (sym none ∙ stays ∙ q))
+
+  finished-listed : n.finished ≡ m.finished
+  finished-listed = ap (λ (z : SessionTold). z.finished) same
+
+  pub listed-ok : (fs : List MDBFileInfo) → answer ≡ Ok fs → Finalizes {A = DeduplicationMetrics × List MDBFileInfo} b n (Ok (x, fs))
+  listed-ok fs is =
+      let D : List Put → Type 0 = λ ps. (f : MDBFileInfo) → Contains n.finished f → IsPut ps f in
+      let F : List MDBFileInfo → Type 0 = λ gs. (f : MDBFileInfo) → Contains gs f → IsPut (log_of m) f in
+      let said : Result (DeduplicationMetrics × List MDBFileInfo) DataError = Ok (x, fs) in
+      ended said (ap (λ (z : SessionTold). z.failed) same ∙ k.unfailed) (finished-listed ∙ k.finished)
+      (λ t. ap (λ (r : ShardRecord). r.files) records-listed ∙ k.recorded t ∙ ap (λ (gs : List MDBFileInfo). (records_of b.shards.session).files ++ gs) (sym finished-listed))
+      (λ t d. subst D (sym log-listed) (subst F (sym finished-listed) (k.put t d)))
+      tt once unkept
+
+  pub listed-err : {A : Type 0} (e : DataError) → answer ≡ Err e → Finalizes {A = A} b n (Err e)
+  listed-err e is =
+      let why : StoreFails m.shards.session.faults n.shards.session.faults e = subst (λ (r : Result (List MDBFileInfo) DataError). IfErr r (StoreFails m.shards.session.faults n.shards.session.faults)) is l.why in
+      ended (Err e) tt tt (λ t. tt) (λ t d. tt) (inr (inl (stores-later b.shards m.shards n.shards e k.stores (inr (inl why))))) once unkept
+
+  pub listed-counted : Counted b m x → Counted b n x
+  listed-counted c =
+      let shards : shards_of m.shards ≡ shards_of n.shards =
+      ap (λ (r : ShardRules). shards_in r.shard_max_target_size (records_of m.shards.session)) (sym rules-listed)
+      ∙ ap (shards_in n.shards.rules.shard_max_target_size) (sym records-listed) in
+      record {
+        counts = c.counts ∙ sym (ap (λ (z : SessionTold). z.metrics) same);
+        same = c.same;
+        shards = λ t. c.shards t ∙ ap (λ (ss : List ShardRecord). end_counts x (sizes ss)) shards;
+      }
+
+  pub listed-files : (fs : List MDBFileInfo) → answer ≡ Ok fs → HasFiles b n fs
+  listed-files fs is t =
+      let of : IfSome m.shards.session.records (λ r. fs ≡ r.files) = subst (λ (a : Result (List MDBFileInfo) DataError). IfSome m.shards.session.records (λ r. IfOk a (λ gs. gs ≡ r.files))) is l.files in
+      some m.shards.session.records (k.tells t).shards.session of ∙ ap (λ (r : ShardRecord). r.files) (sym records-listed)
+    where
+      some : (o : Option ShardRecord) → IsSome o → IfSome o (λ r. fs ≡ r.files) → fs ≡ (unwrap_or o no_records).files
+      some (Some r) s e = e
+      some None s e = absurd (false≢true s)
+
+-- ---- backed sessions
+
+case : (o : Option ClientError) → (is_some o ≡ true) ⊎ (o ≡ None)
+case (Some e) = inl refl
+case None = inr refl
+
+case-bool : (x : Bool) → (x ≡ true) ⊎ (x ≡ false)
+case-bool true = inl refl
+case-bool false = inr refl
+
+-- a call that puts xorbs alone
+pub backs-kept : (b n : SessionTold) → Keeps b n → (IsListed b → n.failed ≡ None → IsListed n) → Backs b n
+backs-kept b n k keep = record {
+  listed = λ h f g. keep (h (sound f (case b.failed)) (sym k.finalized ∙ g)) f;
+  backed = λ t l s f g. k.stands t (s (sound f (case b.failed)) (sym k.finalized ∙ g));
+  ordered = λ t l s. ordered-grown b n (known_of b) (k.grew t);
+}
+  where
+    -- no put had failed, since none has now
+    sound : n.failed ≡ None → (is_some b.failed ≡ true) ⊎ (b.failed ≡ None) → b.failed ≡ None
+    sound f (inr e) = e
+    sound f (inl e) = absurd (false≢true (ap (λ (o : Option ClientError). is_some o) (sym f ∙ k.failed.stays e) ∙ e))
+
+-- the end of a session
+pub backs-finalized : {A : Type 0} (b n : SessionTold) (answer : Result A DataError) → Finalizes b n answer → Backs b n
+backs-finalized b n answer k = record {
+  listed = λ h f g. absurd (false≢true (sym g ∙ k.finalized));
+  backed = λ t l s f g. absurd (false≢true (sym g ∙ k.finalized));
+  ordered = λ t l s. go (case b.failed) (case-bool b.finalized) t l s;
+}
+  where
+    P : List Put → Type 0
+    P ps = IsOrdered ps (length (log_of b)) (known_of b)
+
+    go : (is_some b.failed ≡ true) ⊎ (b.failed ≡ None) → (b.finalized ≡ true) ⊎ (b.finalized ≡ false) → Tells b → HasListed b → IsBackedSession b → IsOrdered (log_of n) (length (log_of b)) (known_of b)
+    go (inl e) g t l s = subst P (sym (k.quiet e)) (ordered-none (log_of b) (known_of b))
+    go (inr e) (inl g) t l s = subst P (sym (ap log_of (k.again g).1)) (ordered-none (log_of b) (known_of b))
+    go (inr e) (inr g) t l s = k.ordered t (s e g) (l e g)
+
+-- a new session
+pub new-listed : (t : SessionTold) → t.finished ≡ [] → t.waiting ≡ no_waiting → t.registered ≡ [] → HasListed t
+new-listed t f w r p q =
+    let A : List MDBFileInfo → Type 0 = λ fs. All (Contains t.listed) (names_of fs) in
+    let W : Waiting → Type 0 = λ v. All (Contains t.listed) (waiting_names v.files) in
+    let R : List MerkleHash → Type 0 = λ hs. All (Contains t.listed) hs in
+    record { finished = subst A (sym f) (All-nil (Contains t.listed)); waiting = subst W (sym w) (All-nil (Contains t.listed)); put = subst R (sym r) (All-nil (Contains t.listed)) }

@@ -1,0 +1,5 @@
+use Rattle.xet_session.proofs.Ends.{backs-kept}
+use Rattle.xet_session.proofs.session.FileUploadSession.checkpoint.Goals as goal
+
+pub returns-clause-backs : goal.returns-clause-backs
+returns-clause-backs g c = backs-kept _ _ c.cut.ensures.keeps c.cut.ensures.listed

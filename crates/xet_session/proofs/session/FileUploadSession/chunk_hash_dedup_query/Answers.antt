@@ -1,0 +1,23 @@
+use Rattle.std.proofs.Common.{rules, ◌≡◌}
+use Rattle.std.specs.Prelude.{Err, Ok}
+use Rattle.xet_session.proofs.Ends.{backs-kept}
+use Rattle.xet_session.proofs.Queries.{queries-err, queries-none, queries-some}
+use Rattle.xet_session.proofs.session.FileUploadSession.chunk_hash_dedup_query.Goals as goal
+
+pub returns-in_err-search : goal.returns-in_err-search
+returns-in_err-search g c =
+    let e : c.from_residual-in_err-search.result ≡ Err c.in_err-search.field-0.0 = search rules in
+    let call = queries-err _ _ _ (rw c.in_ok-reserve.ensures.same at c.search.ensures.same) _ (rw c.in_err-search.was at c.search.ensures.searches) in
+    rw e (record { call = call; backs = backs-kept _ _ call.keeps call.listed })
+
+pub returns-in-None : goal.returns-in-None
+returns-in-None g c =
+    let was : c.search.result ≡ Ok c.in_ok-search.field-0 = c.in_ok-search.was in
+    let call = queries-none _ _ _ (rw c.in_ok-reserve.ensures.same at c.search.ensures.same) (rw (was, c.in-None.is) at c.search.ensures.searches) in
+    record { call = call; backs = backs-kept _ _ call.keeps call.listed }
+
+pub returns-in-Some : goal.returns-in-Some
+returns-in-Some g c =
+    let was : c.search.result ≡ Ok c.in_ok-search.field-0 = c.in_ok-search.was in
+    let call = queries-some _ _ _ (rw c.in_ok-reserve.ensures.same at c.search.ensures.same) _ _ (rw (was, c.in-Some.is) at c.search.ensures.searches) c.put_on_list.ensures in
+    record { call = call; backs = backs-kept _ _ call.keeps call.listed }

@@ -1,0 +1,2 @@
+pub mod HashLists
+pub mod SessionSteps

@@ -1,0 +1,117 @@
+-- What the steps of a session change.
+use Rattle.std.specs.Prelude.{ℕ, ◌≡◌, ◌+◌, ◌-◌, ◌^◌, ◌⊎◌, ◌≤◌, min, List, [], ◌∷◌, ◌++◌, map, Contains, None, option_map, Result, OnOk, OnErr, IfOk, IfErr}
+use Rattle.xet_base.specs.declared.merklehash.MerkleHash.{MerkleHash}
+use Rattle.xet_base.specs.declared.mdb_shard.Xorb.{Xorb}
+use Rattle.xet_base.specs.declared.mdb_shard.MDBXorbInfo.{MDBXorbInfo}
+use Rattle.xet_base.specs.declared.mdb_shard.MDBFileInfo.{MDBFileInfo}
+use Rattle.xet_base.specs.declared.mdb_shard.ShardRecord.{ShardRecord}
+use Rattle.xet_base.specs.Records.{Describes}
+use Rattle.xet_uploader.specs.declared.uploader.Put.TheVariants as put
+use Rattle.xet_shards.specs.Shards.{with_records}
+use Rattle.xet_shard_interface.specs.Interfaces.{LaterFaults, StoresTell, known_told, records_of}
+use Rattle.xet_shard_interface.specs.Puts.{PutFailed, Uploads}
+use Rattle.xet_upload.specs.Waitings.{no_waiting, record_of_file, xorb_of_chunks}
+use Rattle.xet_upload.specs.declared.data_error.DataError.{DataError}
+use Rattle.xet_upload.specs.declared.metrics.DeduplicationMetrics.{DeduplicationMetrics}
+use Rattle.xet_upload.specs.declared.raw_xorb.PendingFile.{PendingFile}
+use Rattle.xet_upload.specs.declared.raw_xorb.RawXorbData.{RawXorbData}
+use Rattle.xet_session.specs.Calls.{CountsSent, Keeps, PutsFail, StoresFail, waiting_hash, xorb_bytes}
+use Rattle.xet_session.specs.Sessions.{IsListed, SessionTold, Tells, log_of}
+
+-- so many bytes of a xorb more
+abbrev pub with_sent : DeduplicationMetrics → ℕ → DeduplicationMetrics
+with_sent m n = record m { xorb_bytes_uploaded = min (m.xorb_bytes_uploaded + n) (2 ^ 64 - 1) }
+
+-- the put of one xorb: its hash comes onto the lists and its bytes are counted, or the failure is kept
+pub record PutRaw (b n : SessionTold) (x : Xorb) (answer : Result (Unit {0}) DataError) : Type 0 where
+  pub tells : Tells b → Tells n
+  pub sent : ℕ
+  pub ok : OnOk answer (n ≡ record b {
+    uploader = n.uploader;
+    listed = b.listed ++ x.hash ∷ [];
+    registered = b.registered ++ x.hash ∷ [];
+    metrics = with_sent b.metrics sent;
+  })
+  pub bytes : Tells b → OnOk answer (sent ≡ min (xorb_bytes x) (2 ^ 64 - 1))
+  pub err : OnErr answer (n ≡ record b { uploader = n.uploader; failed = n.failed })
+  pub put : Tells b → OnOk answer (log_of n ≡ log_of b ++ put.Xorb x ∷ [])
+  pub unput : OnErr answer (log_of n ≡ log_of b)
+  pub unfailed : b.failed ≡ None
+  pub faults : b.uploader.faults ≤ n.uploader.faults
+  pub failed : IfErr answer (PutFailed b.uploader n.uploader n.failed)
+
+-- the waiting data was taken as a xorb with its record, and files with theirs
+pub record TookWaiting (b n : SessionTold) (answer : Result (RawXorbData × List PendingFile) DataError) : Type 0 where
+  pub ok : OnOk answer (n ≡ record b { waiting = no_waiting })
+  pub err : OnErr answer (n ≡ b)
+  pub xorb : IfOk answer (λ r. r.0.xorb ≡ xorb_of_chunks b.waiting.chunks)
+  pub describes : IfOk answer (λ r. Describes r.0.xorb_info r.0.xorb)
+  pub files : IfOk answer (λ r. map (λ p. p.info) r.1 ≡ map (record_of_file (waiting_hash b)) b.waiting.files)
+  pub why : IfErr answer (StoresFail b.shards n.shards)
+
+-- the record of a xorb alone
+abbrev pub one_xorb : MDBXorbInfo → ShardRecord
+one_xorb x = record { xorbs = x ∷ []; files = [] }
+
+-- the records of the session are as they were, or one of a xorb came behind them
+abbrev pub MaybeAdded : SessionTold → SessionTold → MDBXorbInfo → Type 0
+MaybeAdded b n x = (n.shards.session.records ≡ b.shards.session.records)
+    ⊎ (n.shards.session.records ≡ option_map (λ r. with_records r (one_xorb x)) b.shards.session.records)
+
+-- a record of a xorb was added to those of the session, and was kept for staging or not
+pub record AddedRecord (b n : SessionTold) (x : MDBXorbInfo) (answer : Result (Unit {0}) DataError) : Type 0 where
+  pub same : n ≡ record b { shards = n.shards }
+  pub tells : Tells b → StoresTell n.shards
+  pub known : known_told n.shards ≡ known_told b.shards
+  pub rules : n.shards.rules ≡ b.shards.rules
+  pub added : MaybeAdded b n x
+  pub ok : OnOk answer (n.shards.session.records
+      ≡ option_map (λ r. with_records r (one_xorb x)) b.shards.session.records)
+  pub stores : LaterFaults b.shards n.shards
+  pub why : IfErr answer (StoresFail b.shards n.shards)
+
+-- the files are finished, and the hash is on the lists
+pub record FinishedAll (b n : SessionTold) (x : Xorb) (fs : List MDBFileInfo) : Type 0 where
+  pub finished : n.finished ≡ b.finished ++ fs
+  pub listed : n.listed ≡ b.listed ++ x.hash ∷ []
+  pub registered : n.registered ≡ b.registered ++ x.hash ∷ []
+
+-- a xorb was put, and its files are finished
+pub record PutFinished (b n : SessionTold) (x : Xorb) (fs : List MDBFileInfo)
+    (answer : Result (Unit {0}) DataError) : Type 0 where
+  pub keeps : Keeps b n
+  pub waiting : n.waiting ≡ b.waiting
+  pub done : n.failed ≡ None → FinishedAll b n x fs
+  pub failed : OnOk answer (n.failed ≡ b.failed)
+  pub log : Tells b → OnOk answer (log_of n ≡ log_of b ++ put.Xorb x ∷ [])
+  pub counts : CountsSent b n
+  pub why : IfErr answer (PutsFail b n)
+
+-- a given xorb was put
+pub record PutGiven (b n : SessionTold) (x : Xorb) (answer : Result (Unit {0}) DataError) : Type 0 where
+  pub keeps : Keeps b n
+  pub listed : IsListed b → n.failed ≡ None → IsListed n
+  pub log : Tells b → OnOk answer (log_of n ≡ log_of b ++ put.Xorb x ∷ [])
+  pub counts : CountsSent b n
+  pub why : IfErr answer (PutsFail b n)
+
+-- the records of the finished files were added to those of the session
+pub record AddedFinished (b n : SessionTold) (answer : Result (Unit {0}) DataError) : Type 0 where
+  pub same : n ≡ record b { shards = n.shards }
+  pub tells : Tells b → StoresTell n.shards
+  pub known : known_told n.shards ≡ known_told b.shards
+  pub rules : n.shards.rules ≡ b.shards.rules
+  pub files : Tells b → OnOk answer ((records_of n.shards.session).files
+      ≡ (records_of b.shards.session).files ++ b.finished)
+  pub stores : LaterFaults b.shards n.shards
+  pub why : IfErr answer (StoresFail b.shards n.shards)
+
+-- the records of the session were put as shards, or some of the first of these
+pub record PutRecords (b n : SessionTold) (answer : Result ℕ DataError) : Type 0 where
+  pub same : n ≡ record b { uploader = n.uploader; shards = n.shards; failed = n.failed }
+  pub uploads : Uploads b.uploader n.uploader b.shards n.shards b.failed n.failed answer
+
+-- the xorb is on the list, which has it more at its end or is as it was
+pub record OnList (b n : SessionTold) (x : MerkleHash) : Type 0 where
+  pub is_there : Contains n.listed x
+  pub same : (n ≡ b) ⊎ (n ≡ record b { listed = b.listed ++ x ∷ [] })

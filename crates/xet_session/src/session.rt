@@ -1,0 +1,427 @@
+//! An upload session.
+ghost use Rattle.std.specs.Prelude.{◌≡◌, ◌+◌, ◌++◌, ◌<◌, ◌≤◌, ◌⊎◌, [], Contains, IfOk, None, OnOk, false, length, map, true, vec_capacity, vec_len};
+ghost use Rattle.xet_base.specs.Records.{Describes};
+ghost use Rattle.xet_shard_interface.specs.Interfaces.{ListsFiles, Searches, new_interface, rules_of, shards_told};
+ghost use Rattle.xet_session.specs.Calls.{Backs, Counted, Cut, Finalizes, HasFiles, Queries, Registers, end_counts, new_session};
+ghost use Rattle.xet_session.specs.Sessions.{told_by};
+ghost use Rattle.xet_session.specs.steps.SessionSteps.{AddedFinished, AddedRecord, OnList, PutFinished, PutGiven, PutRaw, PutRecords, TookWaiting};
+
+use crate::hash_list::HashList;
+use std::alloc::Global;
+use xet_base::{
+    FileDataSequenceEntry, Invalid, List, MDBFileInfo, MDBXorbInfo, MerkleHash, OutOfMemory,
+};
+use xet_outside::ClientError;
+use xet_pointer::TranslatorConfig;
+use xet_shard_interface::{SessionShardInterface, SessionStores};
+use xet_shards::ShardStore;
+use xet_upload::{DataAggregator, DataError, DeduplicationMetrics, PendingFile, RawXorbData};
+use xet_uploader::Uploader;
+
+/// An upload session: what waits to be put, and the records of what was put.
+///
+/// In the Rust crate xet-data: `processing::file_upload_session::FileUploadSession`.
+#[derive(Drop)]
+pub struct FileUploadSession<U: Uploader, R: ShardStore> {
+    uploader: U,
+    shards: SessionShardInterface<R>,
+    // what waits to be put
+    waiting: DataAggregator,
+    // the files whose chunks are all in xorbs with a hash
+    finished: Vec<PendingFile>,
+    // the xorbs that were put, and those that a query found
+    listed: HashList,
+    // the xorbs that were put
+    registered: HashList,
+    metrics: DeduplicationMetrics,
+    // the first put that failed
+    failed: Option<ClientError>,
+    finalized: bool,
+}
+
+impl<U: Uploader, R: ShardStore> FileUploadSession<U, R> {
+    /// A session in which nothing waits. It asks nothing of uploader and stores and takes no memory. `now` is a moment
+    /// in seconds. The caller sees to it that the session's store and the staging store have no records.
+    ///
+    /// In the Rust crate xet-data: `FileUploadSession::new`.
+    pub fn new(
+        alloc: Global,
+        config: &TranslatorConfig,
+        uploader: U,
+        stores: SessionStores<R>,
+        now: u64,
+    ) -> FileUploadSession<U, R>
+        ensures { told_by U.told R.told result
+            ≡ new_session (U.told uploader) (new_interface R.told (rules_of config.now false) stores now) }
+    {
+        let shards = SessionShardInterface::new(alloc, config, stores, false, now);
+        FileUploadSession::over(alloc, uploader, shards)
+    }
+
+    /// The same, but that it puts no records and uses no resumed ones.
+    ///
+    /// In the Rust crate xet-data: `FileUploadSession::dry_run`.
+    pub fn dry_run(
+        alloc: Global,
+        config: &TranslatorConfig,
+        uploader: U,
+        stores: SessionStores<R>,
+        now: u64,
+    ) -> FileUploadSession<U, R>
+        ensures { told_by U.told R.told result
+            ≡ new_session (U.told uploader) (new_interface R.told (rules_of config.now true) stores now) }
+    {
+        let shards = SessionShardInterface::new(alloc, config, stores, true, now);
+        FileUploadSession::over(alloc, uploader, shards)
+    }
+
+    // A session over these in which nothing waits.
+    fn over(alloc: Global, uploader: U, shards: SessionShardInterface<R>) -> FileUploadSession<U, R>
+        ensures { told_by U.told R.told result ≡ new_session (U.told uploader) (shards_told R.told shards) }
+    {
+        FileUploadSession {
+            uploader,
+            shards,
+            waiting: DataAggregator::new(alloc),
+            finished: Vec::new(alloc),
+            listed: HashList::new(alloc),
+            registered: HashList::new(alloc),
+            metrics: DeduplicationMetrics::new(),
+            failed: None,
+            finalized: false,
+        }
+    }
+
+    /// The uploader and the stores as the session holds them.
+    ///
+    /// It has no source in the Rust crates.
+    pub fn into_parts(self) -> (U, SessionStores<R>)
+        ensures uploader { result.0 ≡ self.uploader }
+        ensures stores { result.1 ≡ self.shards.stores }
+    {
+        (self.uploader, self.shards.into_stores())
+    }
+
+    /// The uploader as the session holds it.
+    pub fn uploader(&self) -> &U
+        ensures { result.now ≡ self.now.uploader }
+    {
+        &self.uploader
+    }
+
+    // Puts a xorb. Its hash comes onto the lists and its bytes are counted, or the failure is kept.
+    fn put_raw(&mut self, alloc: Global, raw: &RawXorbData) -> Result<(), DataError>
+        requires room { vec_len self.old.listed.hashes < vec_capacity self.old.listed.hashes }
+        requires noted { vec_len self.old.registered.hashes < vec_capacity self.old.registered.hashes }
+        requires unfailed { self.old.failed ≡ None }
+        ensures call { PutRaw (told_by U.told R.told self.old) (told_by U.told R.told self.new) raw.now.xorb result }
+        ensures files { self.new.finished ≡ self.old.finished }
+    {
+        match self.uploader.put_xorb(alloc, &raw.xorb) {
+            Ok(sent) => {
+                self.listed.push_reserved(raw.xorb.hash);
+                self.registered.push_reserved(raw.xorb.hash);
+                let bytes = self.metrics.xorb_bytes_uploaded.saturating_add(sent);
+                self.metrics.xorb_bytes_uploaded = bytes;
+                Ok(())
+            }
+            Err(refused) => {
+                self.failed = Some(refused);
+                Err(DataError::from(refused))
+            }
+        }
+    }
+
+    // Takes what waits, with room for its xorb on the lists and for its files.
+    fn take_waiting(&mut self, alloc: Global) -> Result<(RawXorbData, List<PendingFile>), DataError>
+        ensures taken { TookWaiting (told_by U.told R.told self.old) (told_by U.told R.told self.new) result }
+        ensures room { OnOk result (vec_len self.new.listed.hashes < vec_capacity self.new.listed.hashes) }
+        ensures noted { OnOk result (vec_len self.new.registered.hashes < vec_capacity self.new.registered.hashes) }
+        ensures space { IfOk result (λ r.
+            vec_len self.new.finished + length r.1 ≤ vec_capacity self.new.finished) }
+    {
+        self.listed.reserve(1)?;
+        self.registered.reserve(1)?;
+        reserve(&mut self.finished, self.waiting.num_files())?;
+        Ok(self.waiting.finalize(alloc)?)
+    }
+
+    // The files are finished.
+    fn finish_files(&mut self, files: List<PendingFile>)
+        requires { vec_len self.old.finished + length files ≤ vec_capacity self.old.finished }
+        ensures { told_by U.told R.told self.new ≡ record (told_by U.told R.told self.old) {
+          finished = map (λ p. p.info) self.old.finished.items ++ map (λ p. p.info) files;
+        } }
+    {
+        let mut files = files.into_inner();
+        append_reserved(&mut self.finished, &mut files);
+    }
+
+    // Adds the record of a xorb that was put to those of the session, and keeps it for staging.
+    fn add_record(&mut self, alloc: Global, info: &MDBXorbInfo, now: u64) -> Result<(), DataError>
+        ensures { AddedRecord (told_by U.told R.told self.old) (told_by U.told R.told self.new) info.now result }
+    {
+        self.shards.add_xorb_block(alloc, info)?;
+        self.shards.add_uploaded_xorb_block(alloc, info, now)
+    }
+
+    // Puts a xorb, after which its files are finished, and adds its record to those of the session.
+    fn put_finished(
+        &mut self,
+        alloc: Global,
+        raw: RawXorbData,
+        files: List<PendingFile>,
+        now: u64,
+    ) -> Result<(), DataError>
+        requires room { vec_len self.old.listed.hashes < vec_capacity self.old.listed.hashes }
+        requires noted { vec_len self.old.registered.hashes < vec_capacity self.old.registered.hashes }
+        requires unfailed { self.old.failed ≡ None }
+        requires space { vec_len self.old.finished + length files ≤ vec_capacity self.old.finished }
+        requires describes { Describes raw.xorb_info raw.xorb }
+        ensures { PutFinished (told_by U.told R.told self.old) (told_by U.told R.told self.new)
+            raw.xorb (map (λ p. p.info) files) result }
+    {
+        self.put_raw(alloc, &raw)?;
+        self.finish_files(files);
+        self.add_record(alloc, &raw.xorb_info, now)
+    }
+
+    // Whether a xorb of so many chunks is to be put: it has some, and none of its hash was put before.
+    fn is_new(&self, chunks: u64, hash: &MerkleHash) -> bool
+        ensures new { result ≡ true → Contains self.now.registered.hashes.items hash.now → ⊥ }
+        ensures old { result ≡ false → (chunks ≡ 0) ⊎ Contains self.now.registered.hashes.items hash.now }
+    {
+        chunks > 0 && !self.registered.contains(hash)
+    }
+
+    // What waits becomes a xorb, which is put, and its files are finished. Data without chunks puts nothing, nor does
+    // data whose xorb was put before.
+    fn cut(&mut self, alloc: Global, now: u64) -> Result<(), DataError>
+        ensures { Cut (told_by U.told R.told self.old) (told_by U.told R.told self.new) result }
+    {
+        if let Some(error) = self.failed {
+            return Err(DataError::from(error));
+        }
+        let chunks = self.waiting.num_chunks();
+        let (raw, files) = self.take_waiting(alloc)?;
+        if self.is_new(chunks, &raw.xorb.hash) {
+            return self.put_finished(alloc, raw, files, now);
+        }
+        self.finish_files(files);
+        Ok(())
+    }
+
+    /// Cuts what waits as a xorb and puts it. It does not ask whether the session is finalized. `now` is a moment in
+    /// seconds.
+    ///
+    /// After a put that failed it answers so, and puts nothing: `ClientError` where the uploader failed. `IOError`
+    /// comes only where a store of records failed.
+    ///
+    /// In the Rust crate xet-data: `FileUploadSession::checkpoint`.
+    pub fn checkpoint(&mut self, alloc: Global, now: u64) -> Result<(), DataError>
+        ensures call { Cut (told_by U.told R.told self.old) (told_by U.told R.told self.new) result }
+        ensures backs { Backs (told_by U.told R.told self.old) (told_by U.told R.told self.new) }
+    {
+        self.cut(alloc, now)
+    }
+
+    // Puts a xorb and adds its record to those of the session, where no put failed.
+    fn put_given(&mut self, alloc: Global, raw: RawXorbData, now: u64) -> Result<(), DataError>
+        requires unfailed { self.old.failed ≡ None }
+        requires describes { Describes raw.xorb_info raw.xorb }
+        ensures { PutGiven (told_by U.told R.told self.old) (told_by U.told R.told self.new) raw.xorb result }
+    {
+        self.listed.reserve(1)?;
+        self.registered.reserve(1)?;
+        self.put_finished(alloc, raw, List::new(alloc), now)
+    }
+
+    /// Puts a xorb with its record, unless one with the hash was put before: then it answers false and changes nothing.
+    /// A xorb without chunks is put nowhere. `now` is a moment in seconds.
+    ///
+    /// `Finalized` exactly where the session is finalized. After a put that failed it answers so, and puts nothing:
+    /// `ClientError` where the uploader failed. `IOError` comes only where a store of records failed.
+    ///
+    /// In the Rust crate xet-data: `FileUploadSession::register_new_xorb`.
+    pub fn register_new_xorb(
+        &mut self,
+        alloc: Global,
+        raw: RawXorbData,
+        now: u64,
+    ) -> Result<bool, DataError>
+        requires { Describes raw.xorb_info raw.xorb }
+        ensures call { Registers (told_by U.told R.told self.old) (told_by U.told R.told self.new) raw.xorb result }
+        ensures backs { Backs (told_by U.told R.told self.old) (told_by U.told R.told self.new) }
+    {
+        if self.finalized {
+            return Err(DataError::InvalidOperation(Invalid::Finalized));
+        }
+        if self.registered.contains(&raw.xorb.hash) {
+            return Ok(false);
+        }
+        if raw.xorb.chunks.len() == 0 {
+            return Ok(true);
+        }
+        if let Some(error) = self.failed {
+            return Err(DataError::from(error));
+        }
+        self.put_given(alloc, raw, now)?;
+        Ok(true)
+    }
+
+    // The xorb is on the list, for which there is room.
+    fn put_on_list(&mut self, xorb: MerkleHash)
+        requires { vec_len self.old.listed.hashes < vec_capacity self.old.listed.hashes }
+        ensures { OnList (told_by U.told R.told self.old) (told_by U.told R.told self.new) xorb }
+    {
+        if self.listed.contains(&xorb) {
+            return;
+        }
+        self.listed.push_reserved(xorb);
+    }
+
+    // A run of chunks with these hashes, from the stores of records. What else the session has stays.
+    fn search(
+        &mut self,
+        alloc: Global,
+        hashes: &[MerkleHash],
+    ) -> Result<Option<(usize, FileDataSequenceEntry, bool)>, DataError>
+        ensures same { told_by U.told R.told self.new
+            ≡ record (told_by U.told R.told self.old) { shards = shards_told R.told self.new.shards } }
+        ensures searches { Searches (shards_told R.told self.old.shards) (shards_told R.told self.new.shards)
+            hashes.now result }
+        ensures listed { self.new.listed ≡ self.old.listed }
+    {
+        self.shards.chunk_hash_dedup_query(alloc, hashes)
+    }
+
+    /// A run of chunks with these hashes: from the resumed records, from those of the session, or from those of the
+    /// cache. It tells how many of them, the term that names the run, and whether the session did not add the record.
+    /// The xorb is on the session's list afterwards. `IOError` comes only where the faults of one of these stores rose.
+    ///
+    /// In the Rust crate xet-data: `deduplication_interface::UploadSessionDataManager::chunk_hash_dedup_query`.
+    pub fn chunk_hash_dedup_query(
+        &mut self,
+        alloc: Global,
+        hashes: &[MerkleHash],
+    ) -> Result<Option<(usize, FileDataSequenceEntry, bool)>, DataError>
+        ensures call { Queries (told_by U.told R.told self.old) (told_by U.told R.told self.new) hashes.now result }
+        ensures backs { Backs (told_by U.told R.told self.old) (told_by U.told R.told self.new) }
+    {
+        self.listed.reserve(1)?;
+        match self.search(alloc, hashes)? {
+            None => Ok(None),
+            Some(found) => {
+                self.put_on_list(found.1.xorb);
+                Ok(Some(found))
+            }
+        }
+    }
+
+    // Adds the records of the finished files to those of the session.
+    fn add_finished(&mut self, alloc: Global) -> Result<(), DataError>
+        ensures { AddedFinished (told_by U.told R.told self.old) (told_by U.told R.told self.new) result }
+    {
+        let records = file_records(alloc, self.finished.as_slice())?;
+        self.shards.add_files(alloc, records)
+    }
+
+    // The counts at the end of the session, whose shards have so many bytes.
+    fn count_shards(&mut self, bytes: u64) -> DeduplicationMetrics
+        ensures counted { told_by U.told R.told self.new
+            ≡ record (told_by U.told R.told self.old) { metrics = end_counts self.old.metrics bytes } }
+        ensures is { result ≡ self.new.metrics }
+    {
+        self.metrics.shard_bytes_uploaded = bytes;
+        self.metrics.total_bytes_uploaded = self.metrics.xorb_bytes_uploaded.saturating_add(bytes);
+        self.metrics
+    }
+
+    // Puts the records of the session as shards. It tells how many bytes these count for.
+    fn put_records(&mut self, alloc: Global) -> Result<u64, DataError>
+        ensures { PutRecords (told_by U.told R.told self.old) (told_by U.told R.told self.new) result }
+    {
+        self.shards
+            .upload_shards(alloc, &mut self.uploader, &mut self.failed)
+    }
+
+    /// Puts what waits, and then the records of all that was put and finished, and takes the counts last. The session
+    /// is finalized then, whatever it answers: no call puts anything after it but `checkpoint`, which puts what waits
+    /// on. A dry run puts no records, and answers the same counts. `now` is a moment in seconds.
+    ///
+    /// `Finalized` exactly where it was called before. After a put that failed it answers so, and puts nothing more:
+    /// `ClientError` where the uploader failed. `IOError` comes only where a store of records failed.
+    ///
+    /// In the Rust crate xet-data: `FileUploadSession::finalize`.
+    pub fn finalize(&mut self, alloc: Global, now: u64) -> Result<DeduplicationMetrics, DataError>
+        ensures call { Finalizes (told_by U.told R.told self.old) (told_by U.told R.told self.new) result }
+        ensures counts { IfOk result (Counted (told_by U.told R.told self.old) (told_by U.told R.told self.new)) }
+        ensures backs { Backs (told_by U.told R.told self.old) (told_by U.told R.told self.new) }
+    {
+        if self.finalized {
+            return Err(DataError::InvalidOperation(Invalid::Finalized));
+        }
+        self.finalized = true;
+        self.cut(alloc, now)?;
+        self.add_finished(alloc)?;
+        let bytes = self.put_records(alloc)?;
+        Ok(self.count_shards(bytes))
+    }
+
+    // The file records of the session.
+    fn list_files(&mut self, alloc: Global) -> Result<List<MDBFileInfo>, DataError>
+        ensures same { told_by U.told R.told self.new
+            ≡ record (told_by U.told R.told self.old) { shards = shards_told R.told self.new.shards } }
+        ensures files { ListsFiles (shards_told R.told self.old.shards) (shards_told R.told self.new.shards) result }
+    {
+        self.shards.session_file_info_list(alloc)
+    }
+
+    /// The same, with the file records of the session, in the order in which they were added.
+    ///
+    /// In the Rust crate xet-data: `FileUploadSession::finalize_with_file_info`.
+    pub fn finalize_with_file_info(
+        &mut self,
+        alloc: Global,
+        now: u64,
+    ) -> Result<(DeduplicationMetrics, List<MDBFileInfo>), DataError>
+        ensures call { Finalizes (told_by U.told R.told self.old) (told_by U.told R.told self.new) result }
+        ensures counts { IfOk result (λ r.
+            Counted (told_by U.told R.told self.old) (told_by U.told R.told self.new) r.0) }
+        ensures files { IfOk result (λ r.
+            HasFiles (told_by U.told R.told self.old) (told_by U.told R.told self.new) r.1) }
+        ensures backs { Backs (told_by U.told R.told self.old) (told_by U.told R.told self.new) }
+    {
+        let metrics = self.finalize(alloc, now)?;
+        let files = self.list_files(alloc)?;
+        Ok((metrics, files))
+    }
+}
+
+// Makes room for so many items more.
+fn reserve<T>(items: &mut Vec<T>, count: usize) -> Result<(), OutOfMemory>
+    ensures same { items.new.items ≡ items.old.items }
+    ensures room { OnOk result (vec_len items.new + count ≤ vec_capacity items.new) }
+{
+    items.reserve(count)?;
+    Ok(())
+}
+
+// Moves the items of a list behind those of another, which has room for them.
+fn append_reserved<T>(to: &mut Vec<T>, from: &mut Vec<T>)
+    requires { vec_len to.old + vec_len from.old ≤ vec_capacity to.old }
+    ensures { to.new.items ≡ to.old.items ++ from.old.items }
+{
+    let _ = to.append(from);
+}
+
+// The records of the files.
+fn file_records(alloc: Global, files: &[PendingFile]) -> Result<List<MDBFileInfo>, OutOfMemory>
+    ensures { IfOk result (λ records. records ≡ map (λ p. p.info) files.now) }
+{
+    let mut infos = List::new(alloc);
+    for file in files {
+        infos.push(file.info.copied(alloc)?)?;
+    }
+    Ok(infos)
+}

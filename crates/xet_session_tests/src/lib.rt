@@ -1,0 +1,9 @@
+//! Tests of `xet_session` and of `xet_shard_interface`.
+#![tactic(auto)]
+
+#[cfg(test)]
+mod interfaces;
+#[cfg(test)]
+mod made;
+#[cfg(test)]
+mod sessions;

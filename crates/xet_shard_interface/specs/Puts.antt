@@ -1,0 +1,167 @@
+-- Records that are put as shards, and the cache, which learns what was put or answered.
+use Rattle.std.specs.Prelude.{ℕ, ◌≡◌, ◌-◌, ◌^◌, ◌≤◌, ◌⊎◌, min, Bool, true, false, List, [], ◌∷◌, ◌++◌, length, map, take, All, Option, Some, None, IsSome, option_map, unwrap_or, Result, IfOk, OnOk, OnErr, IfErr}
+use Rattle.std.specs.List.{sum_by}
+use Rattle.xet_base.specs.declared.merklehash.MerkleHash.{MerkleHash}
+use Rattle.xet_base.specs.declared.mdb_shard.ShardRecord.{ShardRecord}
+use Rattle.xet_base.specs.Records.{shard_size}
+use Rattle.xet_outside.specs.declared.client.ClientError.{ClientError}
+use Rattle.xet_outside.specs.declared.client.ClientError.TheVariants as client_error
+use Rattle.xet_outside.specs.Told.{Rose, Grew}
+use Rattle.xet_uploader.specs.declared.uploader.Put.{Put}
+use Rattle.xet_uploader.specs.declared.uploader.Put.TheVariants as put
+use Rattle.xet_uploader.specs.Uploads.{UploaderTold}
+use Rattle.xet_shards.specs.Shards.{no_records, with_records}
+use Rattle.xet_upload.specs.Orders.{IsOrdered, IsThere, names_of}
+use Rattle.xet_upload.specs.DataErrors.{of_client_error}
+use Rattle.xet_upload.specs.declared.data_error.DataError.{DataError}
+use Rattle.xet_shard_interface.specs.Fillings.{shards_in}
+use Rattle.xet_shard_interface.specs.Interfaces.{InterfaceTold, LaterFaults, StoreFails, known_told, records_of, resumed_faults, resumed_records}
+
+abbrev pub puts_of : UploaderTold → List Put
+puts_of u = unwrap_or u.puts []
+
+-- the log with some shards behind it
+abbrev pub with_puts : Option (List Put) → List ShardRecord → Option (List Put)
+with_puts log ss = option_map (λ ps. ps ++ map put.Shard ss) log
+
+-- records with those of some shards behind them
+abbrev pub with_shards : ShardRecord → List ShardRecord → ShardRecord
+with_shards r [] = r
+with_shards r (s ∷ ss) = with_shards (with_records r s) ss
+
+abbrev pub all_with_shards : Option ShardRecord → List ShardRecord → Option ShardRecord
+all_with_shards o ss = option_map (λ r. with_shards r ss) o
+
+-- what a query found, which the cache has now
+abbrev pub Learned : UploaderTold → UploaderTold → InterfaceTold → InterfaceTold → Type 0
+Learned u v b n = (s : ShardRecord) × Grew u.answered v.answered (Some s)
+    × (n.cache.records ≡ option_map (λ r. with_records r s) b.cache.records)
+
+-- a query that found nothing, or failed
+abbrev pub LearnedNothing : UploaderTold → UploaderTold → Type 0
+LearnedNothing u v = Grew u.answered v.answered None ⊎ ((v.answered ≡ u.answered) × Rose u.faults v.faults)
+
+-- one query of the uploader for records that know a chunk
+pub record Asks (u v : UploaderTold) (b n : InterfaceTold) (answer : Result Bool DataError) : Type 0 where
+  pub same : n ≡ record b { cache = n.cache }
+  pub puts : v.puts ≡ u.puts
+  pub learned : (n.cache.records ≡ b.cache.records) ⊎ Learned u v b n
+  pub yes : IfOk answer (λ y. y ≡ true → Learned u v b n)
+  pub no : IfOk answer (λ y. y ≡ false → (n ≡ b) × LearnedNothing u v)
+  pub faults : u.faults ≤ v.faults
+  pub why : IfErr answer (StoreFails b.cache.faults n.cache.faults)
+
+-- ---- puts of shards
+
+-- a put failed with this error, which is kept
+pub record PutFailed (u v : UploaderTold) (after : Option ClientError) (e : DataError) : Type 0 where
+  pub error : ClientError
+  pub kept : after ≡ Some error
+  pub told : e ≡ of_client_error error
+  pub rose : error ≡ client_error.Failed → Rose u.faults v.faults
+
+-- no put failed, and the call fails for another cause if it does; or a put failed, and the call answers so
+abbrev pub FailsSo : UploaderTold → UploaderTold → Option ClientError → Option ClientError
+    → (DataError → Type 0) → DataError → Type 0
+FailsSo u v before after Other e = ((after ≡ before) × Other e) ⊎ PutFailed u v after e
+
+-- what a call that puts keeps of a failed put, and why it fails
+pub record Fails {A : Type 0} (u v : UploaderTold) (before after : Option ClientError)
+    (Other : DataError → Type 0) (answer : Result A DataError) : Type 0 where
+  pub ok : OnOk answer (after ≡ before)
+  pub err : IfErr answer (FailsSo u v before after Other)
+  pub faults : u.faults ≤ v.faults
+
+-- the put of one shard: it is in the log and in the cache, or in the log alone, or the failure is kept
+pub record PutsShard (u v : UploaderTold) (b n : InterfaceTold) (before after : Option ClientError)
+    (s : ShardRecord) (answer : Result (Unit {0}) DataError) : Type 0 where
+  pub same : n ≡ record b { cache = n.cache }
+  pub ok : OnOk answer ((v.puts ≡ with_puts u.puts (s ∷ []))
+      × (n.cache.records ≡ option_map (λ r. with_records r s) b.cache.records))
+  pub err : OnErr answer ((n.cache.records ≡ b.cache.records)
+      × ((v.puts ≡ u.puts) ⊎ (v.puts ≡ with_puts u.puts (s ∷ []))))
+  pub answered : v.answered ≡ u.answered
+  pub failure : Fails u v before after (StoreFails b.cache.faults n.cache.faults) answer
+  pub cache : b.cache.faults ≤ n.cache.faults
+
+-- the puts of some shards, in order: the first `count` of them are in the log, and the first `kept` of these in the
+-- cache
+pub record PutsShards (u v : UploaderTold) (b n : InterfaceTold) (before after : Option ClientError)
+    (ss : List ShardRecord) (answer : Result (Unit {0}) DataError) : Type 0 where
+  pub same : n ≡ record b { cache = n.cache }
+  pub ok : OnOk answer ((v.puts ≡ with_puts u.puts ss)
+      × (n.cache.records ≡ all_with_shards b.cache.records ss))
+  pub count : ℕ
+  pub some : v.puts ≡ with_puts u.puts (take count ss)
+  pub kept : ℕ
+  pub fewer : kept ≤ count
+  pub cached : n.cache.records ≡ all_with_shards b.cache.records (take kept ss)
+  pub answered : v.answered ≡ u.answered
+  pub failure : Fails u v before after (StoreFails b.cache.faults n.cache.faults) answer
+  pub cache : b.cache.faults ≤ n.cache.faults
+
+-- no records, where there are any that are told
+abbrev pub forgotten : Option (Option ShardRecord) → Option (Option ShardRecord)
+forgotten o = option_map (λ r. option_map (λ s. no_records) r) o
+
+-- the resumed records are forgotten, or are as they were
+pub record Forgets (b n : InterfaceTold) : Type 0 where
+  pub same : n ≡ record b { resumed = n.resumed }
+  pub resumed : (resumed_records n.resumed ≡ resumed_records b.resumed)
+      ⊎ (resumed_records n.resumed ≡ forgotten (resumed_records b.resumed))
+  pub faults : resumed_faults b.resumed ≤ resumed_faults n.resumed
+
+-- ---- all records of the session
+
+-- the sum of the sizes
+abbrev pub sizes : List ShardRecord → ℕ
+sizes ss = min (sum_by shard_size ss) (2 ^ 64 - 1)
+
+-- the shards that the records of the session become
+abbrev pub shards_of : InterfaceTold → List ShardRecord
+shards_of b = shards_in b.rules.shard_max_target_size (records_of b.session)
+
+-- the shards that the records of the session become were made
+pub record MakesShards (b n : InterfaceTold) (answer : Result (List ShardRecord) DataError) : Type 0 where
+  pub same : n ≡ record b { session = n.session }
+  pub records : n.session.records ≡ b.session.records
+  pub shards : IsSome b.session.records → IfOk answer (λ ss. ss ≡ shards_of b)
+  pub faults : b.session.faults ≤ n.session.faults
+  pub why : IfErr answer (StoreFails b.session.faults n.session.faults)
+
+-- why it fails: want of memory, or the session's store or the cache failed
+abbrev pub UploadFails : InterfaceTold → InterfaceTold → DataError → Type 0
+UploadFails b n e = StoreFails b.session.faults n.session.faults e ⊎ StoreFails b.cache.faults n.cache.faults e
+
+-- the puts of all records of the session: what the log, the cache and the resumed store gain or lose
+pub record Uploads (u v : UploaderTold) (b n : InterfaceTold) (before after : Option ClientError)
+    (answer : Result ℕ DataError) : Type 0 where
+  pub same : n ≡ record b { resumed = n.resumed; session = n.session; cache = n.cache }
+  pub session : n.session.records ≡ b.session.records
+  pub dry : b.rules.dry_run ≡ true → (v ≡ u) × (known_told n ≡ known_told b)
+  pub count : ℕ
+  pub some : IsSome b.session.records → v.puts ≡ with_puts u.puts (take count (shards_of b))
+  pub ok : IsSome b.session.records → b.rules.dry_run ≡ false
+      → OnOk answer (v.puts ≡ with_puts u.puts (shards_of b))
+  pub learned : IsSome b.session.records → b.rules.dry_run ≡ false
+      → OnOk answer (n.cache.records ≡ all_with_shards b.cache.records (shards_of b))
+  pub sum : IsSome b.session.records → IfOk answer (λ k. k ≡ sizes (shards_of b))
+  pub kept : ℕ
+  pub fewer : kept ≤ count
+  pub cached : IsSome b.session.records
+      → n.cache.records ≡ all_with_shards b.cache.records (take kept (shards_of b))
+  pub resumed : (resumed_records n.resumed ≡ resumed_records b.resumed)
+      ⊎ (resumed_records n.resumed ≡ forgotten (resumed_records b.resumed))
+  pub answered : v.answered ≡ u.answered
+  pub failure : Fails u v before after (UploadFails b n) answer
+  pub faults : LaterFaults b n
+
+-- the same, where no put had failed before
+abbrev pub UploadsAll : UploaderTold → UploaderTold → InterfaceTold → InterfaceTold → Result ℕ DataError → Type 0
+UploadsAll u v b n answer = (after : Option ClientError) × Uploads u v b n None after answer
+
+-- where each xorb that a file record of the session names was put or is known, what is put is in order
+abbrev pub PutsInOrder : UploaderTold → UploaderTold → InterfaceTold → Type 0
+PutsInOrder u v b = (known : List MerkleHash) → IsSome u.puts → IsSome b.session.records
+    → All (IsThere (puts_of u) known) (names_of (records_of b.session).files)
+    → IsOrdered (puts_of v) (length (puts_of u)) known
