@@ -1,20 +1,9 @@
 -- Places in order, and the parts of bytes between them.
-use Rattle.std.proofs.Common.{◌≡◌, ℕ, ◌+◌, ◌-◌, ◌<◌, ◌≤◌, List, [], ◌∷◌, ◌++◌, length, drop, get_or, refl, sym, ap, arith}
+use Rattle.std.proofs.Common.{◌≡◌, ℕ, ◌+◌, ◌-◌, ◌≤◌, List, [], ◌∷◌, ◌++◌, length, drop, refl, sym, ap, arith}
 use Rattle.std.specs.Prelude.{slice_range}
-use Rattle.std.proofs.lemmas.List.{drop_more, drop_at, drop-append-le, take-append-le, take_all, length-drop}
-use Rattle.xet_store.specs.Parts.{parts}
-use Rattle.xet_tool.specs.steps.ChunkEnds.{AreEnds}
-
--- the first is not past the last
-pub ends-le : (p : ℕ) (es : List ℕ) (n : ℕ) → AreEnds p es n → p ≤ n
-ends-le p [] n h = omega arith
-ends-le p (e ∷ es) n h = let first = h.0 in let rest = ends-le e es n h.1 in omega arith
-
--- nor is any of them
-pub ends-at : (p : ℕ) (es : List ℕ) (n i : ℕ) → i < length es → AreEnds p (drop i es) n → get_or es i 0 ≤ n
-ends-at p es n i within h =
-    let more = rw (drop_more es i 0 within) at h in
-    ends-le (get_or es i 0) (drop (i + 1) es) n more.1
+use Rattle.std.proofs.lemmas.List.{drop_at, drop-append-le, take-append-le, take_all, length-drop}
+use Rattle.xet_store.specs.Parts.{AreEnds, parts}
+use Rattle.xet_store.proofs.CallerLemmas.{ends-le}
 
 -- one more end
 pub ends-push : (p : ℕ) (es : List ℕ) (n m : ℕ) → AreEnds p es n → n ≤ m → AreEnds p (es ++ m ∷ []) m

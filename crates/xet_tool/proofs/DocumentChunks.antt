@@ -7,8 +7,8 @@ use Rattle.hex.specs.Hex.{decode_pairs}
 use Rattle.hex.proofs.HexLemmas.{decode_of-odd}
 use Rattle.serde_json.specs.View.{view, items_view}
 use Rattle.serde_json.specs.declared.value.Value.{Value}
-use Rattle.xet_store.specs.Parts.{parts}
-use Rattle.xet_tool.specs.steps.ChunkEnds.{AreEnds, AddsChunk}
+use Rattle.xet_store.specs.Parts.{AreEnds, parts}
+use Rattle.xet_tool.specs.steps.ChunkEnds.{AddsChunk}
 use Rattle.xet_tool.specs.Document.{chunk_of, chunk_of_text, chunks_of_items}
 use Rattle.xet_tool.proofs.ChunkEnds.{ends-push, parts-push}
 

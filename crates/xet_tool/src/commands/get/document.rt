@@ -4,18 +4,17 @@ ghost use Rattle.serde_json.specs.Find.{as_array};
 ghost use Rattle.serde_json.specs.View.{items_view, members_view, view};
 ghost use Rattle.serde_json.specs.Written.{has_float};
 ghost use Rattle.xet_base.specs.Store.{IsValid};
-ghost use Rattle.xet_store.specs.Parts.{parts};
 ghost use Rattle.xet_store.specs.Refusals.{stored_term};
 ghost use Rattle.xet_tool.specs.steps.AddedMembers.{AddsFiles, AddsXorbs};
-ghost use Rattle.xet_tool.specs.steps.ChunkEnds.{AddsChunk, AreEnds};
+ghost use Rattle.xet_tool.specs.steps.ChunkEnds.{AddsChunk};
 ghost use Rattle.xet_tool.specs.Document.{IsDocumentOf, IsNoDocument, chunk_of, chunk_of_text, chunks_of_items, number_of_data, term_of_items, terms_of_items, xorb_of_member};
 
-use crate::commands::get::hex_digits::{decode_digits, hash_of};
+use crate::commands::get::hex_digits::{LastHash, decode_digits, hash_of};
 use bytes::Bytes;
 use serde_json::{Map, Value};
 use std::alloc::Global;
-use xet_base::{FileDataSequenceEntry, List, MerkleHash, OutOfMemory, Xorb};
-use xet_store::{MemStore, StoreRefused};
+use xet_base::{FileDataSequenceEntry, List, MerkleHash, OutOfMemory};
+use xet_store::{JoinedXorb, MemStore, StoreRefused};
 
 // Whether a number that is kept as a float stands anywhere in the value.
 fn holds_float(value: &Value) -> bool
@@ -75,23 +74,15 @@ fn with_room<T>(alloc: Global, count: usize) -> Result<List<T>, OutOfMemory>
     Ok(List::from_vec(Vec::with_capacity(alloc, count)?))
 }
 
-// Cuts the bytes at the ends of the chunks.
-fn cut(alloc: Global, bytes: &Bytes, ends: &[usize]) -> Result<List<Bytes>, OutOfMemory>
-    requires { AreEnds 0 ends.now (length bytes.now) }
-    ensures { IfOk result (λ chunks. chunks ≡ parts bytes.now 0 ends.now) }
-{
-    let mut chunks = with_room(alloc, ends.len())?;
-    let mut start = 0;
-    for end in ends {
-        chunks.push(bytes.slice(start..*end)?)?;
-        start = *end;
-    }
-    Ok(chunks)
-}
-
-// The chunks of a xorb, which share one buffer, or none where one isn't a nonempty even number of digits.
-fn chunks_of(alloc: Global, items: &[Value]) -> Result<Option<List<Bytes>>, OutOfMemory>
-    ensures { IfOk result (λ o. o ≡ chunks_of_items (items_view items.now)) }
+// The xorb with this hash of these chunks, which share one buffer, or none where one isn't a nonempty even number of
+// digits.
+fn joined_xorb(
+    alloc: Global,
+    hash: MerkleHash,
+    items: &[Value],
+) -> Result<Option<JoinedXorb>, OutOfMemory>
+    ensures { IfOk result (λ o. o ≡ option_map (λ cs. record { hash = hash; chunks = cs })
+        (chunks_of_items (items_view items.now))) }
 {
     let mut joined = Vec::new(alloc);
     let mut ends = Vec::with_capacity(alloc, items.len())?;
@@ -101,12 +92,11 @@ fn chunks_of(alloc: Global, items: &[Value]) -> Result<Option<List<Bytes>>, OutO
         }
         ends.push(joined.len())?;
     }
-    let bytes = Bytes::from_vec(joined)?;
-    Ok(Some(cut(alloc, &bytes, ends.as_slice())?))
+    Ok(Some(JoinedXorb::new(hash, Bytes::from_vec(joined)?, ends)))
 }
 
 // The xorb of a member, or none where the key or the value hasn't the form.
-fn xorb_of(alloc: Global, key: &str, value: &Value) -> Result<Option<Xorb>, OutOfMemory>
+fn xorb_of(alloc: Global, key: &str, value: &Value) -> Result<Option<JoinedXorb>, OutOfMemory>
     ensures { IfOk result (λ o. o ≡ xorb_of_member key.now (view value.now)) }
 {
     let Some(hash) = hash_of(key) else {
@@ -115,10 +105,7 @@ fn xorb_of(alloc: Global, key: &str, value: &Value) -> Result<Option<Xorb>, OutO
     let Some(items) = value.as_array() else {
         return Ok(None);
     };
-    match chunks_of(alloc, items.as_slice())? {
-        Some(chunks) => Ok(Some(Xorb { hash, chunks })),
-        None => Ok(None),
-    }
+    joined_xorb(alloc, hash, items.as_slice())
 }
 
 // A whole number below 2^32.
@@ -130,13 +117,13 @@ fn number(value: &Value) -> Option<u32>
 }
 
 // A term: a xorb's hash, and the numbers of its first chunk and of the one after its last.
-fn term_of(value: &Value) -> Option<FileDataSequenceEntry>
+fn term_of<'a>(value: &'a Value, last: &mut LastHash<'a>) -> Option<FileDataSequenceEntry>
     ensures { option_map stored_term result ≡ option_and_then term_of_items (as_array (view value.now)) }
 {
     let items = value.as_array()?;
     match items.as_slice() {
         [xorb, from, to] => Some(FileDataSequenceEntry {
-            xorb: hash_of(xorb.as_str()?)?,
+            xorb: last.hash_of(xorb.as_str()?)?,
             from: number(from)?,
             to: number(to)?,
             bytes: 0,
@@ -157,8 +144,9 @@ fn terms_of(
         return Ok(None);
     };
     let mut terms = with_room(alloc, items.as_slice().len())?;
+    let mut last = LastHash::of_text("");
     for item in items {
-        let Some(term) = term_of(item) else {
+        let Some(term) = term_of(item, &mut last) else {
             return Ok(None);
         };
         terms.push(term)?;
@@ -191,7 +179,7 @@ fn add_xorbs(
         let Some(xorb) = xorb_of(alloc, key.as_str(), value)? else {
             return Ok(false);
         };
-        if !was_added(store.add_xorb(alloc, xorb))? {
+        if !was_added(store.add_joined(alloc, xorb))? {
             return Ok(false);
         }
     }

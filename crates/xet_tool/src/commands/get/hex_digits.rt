@@ -64,3 +64,35 @@ pub fn hash_of(text: &str) -> Option<MerkleHash>
         None
     }
 }
+
+/// The text of a hash that was read last, and what it spells: terms of one xorb follow each other in most files, and
+/// texts compare by words.
+#[derive(Drop)]
+pub struct LastHash<'a> {
+    text: &'a str,
+    hash: Option<MerkleHash>,
+    ghost spelt: { hash ≡ hash_of_text text.now },
+}
+
+impl<'a> LastHash<'a> {
+    /// This text was read last.
+    pub fn of_text(text: &'a str) -> LastHash<'a>
+        ensures { result.hash ≡ hash_of_text text.now }
+    {
+        LastHash {
+            text,
+            hash: hash_of(text),
+        }
+    }
+
+    /// The hash that a text spells, or none where it isn't 64 digits. It was read last from then on.
+    pub fn hash_of(&mut self, text: &'a str) -> Option<MerkleHash>
+        ensures { result ≡ hash_of_text text.now }
+    {
+        if text == self.text {
+            return self.hash;
+        }
+        *self = LastHash::of_text(text);
+        self.hash
+    }
+}

@@ -1,6 +1,6 @@
 use Rattle.std.proofs.Common.{◌≡◌, ◌∙◌, ap, length, arith, ◌++◌, ◌∷◌, [], ℕ}
 use Rattle.xet_tool.proofs.DocumentChunks.{chunks_more}
-use Rattle.xet_tool.proofs.commands.get.document.chunks_of.Goals as goal
+use Rattle.xet_tool.proofs.commands.get.document.joined_xorb.Goals as goal
 
 pub loop-item-preserved : goal.loop-item-preserved
 loop-item-preserved c =

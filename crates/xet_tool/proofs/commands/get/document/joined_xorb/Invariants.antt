@@ -1,10 +1,9 @@
 use Rattle.std.proofs.Common.{◌≡◌, ◌++◌, length, drop}
 use Rattle.std.specs.Prelude.{option_map}
 use Rattle.serde_json.specs.View.{items_view}
-use Rattle.xet_store.specs.Parts.{parts}
-use Rattle.xet_tool.specs.steps.ChunkEnds.{AreEnds}
+use Rattle.xet_store.specs.Parts.{AreEnds, parts}
 use Rattle.xet_tool.specs.Document.{chunks_of_items}
-use Rattle.xet_tool.proofs.commands.get.document.chunks_of.Given as goal
+use Rattle.xet_tool.proofs.commands.get.document.joined_xorb.Given as goal
 
 abbrev pub invariant-loop-item : goal.invariant-loop-item
 invariant-loop-item l = record {
