@@ -1,21 +1,28 @@
 -- What an index that remembers its last look answers.
-use Rattle.std.proofs.Common.{◌≡◌, ℕ, Bool, true, false, cond, List, [], ◌∷◌, ◌++◌, refl, sym, subst, ◌∙◌, ap, length, map, arith}
-use Rattle.std.specs.Prelude.{Option, Some, None, IfSome, not, position}
+use Rattle.std.proofs.Common.{◌≡◌, ◌⊎◌, ◌<◌, ◌≤◌, ℕ, Bool, true, false, cond, List, [], ◌∷◌, ◌++◌, refl, sym, subst, ◌∙◌, ap, get_or, inl, inr, length, map, arith}
+use Rattle.std.specs.Prelude.{Option, Some, None, IfSome, not, position, slice_get}
+use Rattle.std.specs.List.{position_or_len}
 use Rattle.std.specs.declared.cmp.Ordering.{Ordering}
 use Rattle.std.specs.declared.cmp.Ordering.TheVariants.{Less, Equal, Greater}
-use Rattle.std.specs.Ordering.{is_eq}
+use Rattle.std.specs.Ordering.{is_eq, nat_cmp, ordering_then}
+use Rattle.std.specs.Cmp.Lexicographic.{slice_cmp}
 use Rattle.std.specs.Cmp.{IsTotalOrder}
 use Rattle.std.specs.BTreeMap.{BTreeMap, get}
-use Rattle.std.proofs.lemmas.Bool.{false≢true}
+use Rattle.std.proofs.lemmas.Bool.{cases_lt, false≢true, lt-ltb}
 use Rattle.std.proofs.lemmas.Bool.Decides.{nat_tests}
-use Rattle.std.proofs.lemmas.Cmp.{alike_right, tied_itself}
-use Rattle.std.proofs.lemmas.List.{length_push}
+use Rattle.std.proofs.lemmas.Cmp.{alike_right, nat_cmp_total, tied_itself}
+use Rattle.std.proofs.lemmas.List.{get_or-map, get_or_push, length-map, length_push}
+use Rattle.std.proofs.Math.ListN.{get_or-append}
+use Rattle.std.proofs.lemmas.Option.{get_or_from_slice_get, slice_get_within}
 use Rattle.std.proofs.lemmas.List.Folds.{position_or_len_push}
 use Rattle.std.proofs.lemmas.List.Sums.{prefix_len-le-length}
 use Rattle.xet_base.specs.declared.merklehash.MerkleHash.{MerkleHash}
 use Rattle.xet_base.specs.Hashes.{hash_eq}
+use Rattle.xet_base.proofs.CallerLemmas.{hash_eq-true, place_within, position_some}
+use Rattle.xet_progress.specs.declared.hash_key.HashKey.{HashKey}
 use Rattle.xet_progress.specs.declared.recent.Recent.{Recent}
-use Rattle.xet_progress.specs.steps.Indexes.{Indexes, first_at, hash_cmp, number_at}
+use Rattle.xet_progress.specs.steps.Indexes.{Indexes, first_at, number_at}
+use Rattle.xet_progress.specs.steps.Keys.{key_cmp, key_of, last_word}
 use Rattle.xet_progress.proofs.Indexed.{position-map}
 use Rattle.xet_progress.proofs.Places.{position_push}
 use Rattle.xet_progress.proofs.Unfinished.{hashes_tied}
@@ -27,6 +34,17 @@ position_apart p xs x apart =
     let e = position_or_len_push p xs x in
     let l = length_push xs x in
     grind (arith, nat_tests)
+
+-- a place that is found stays where one more element comes
+position_stays : {A : Type 0} (p : A → Bool) (xs : List A) (x : A) (i : ℕ) → position p xs ≡ Some i → position p (xs ++ x ∷ []) ≡ Some i
+position_stays p xs x i found =
+    let b = prefix_len-le-length (λ y. not (p y)) xs in
+    let e = position_or_len_push p xs x in
+    let l = length_push xs x in
+    let here = position_some p xs i found in
+    let within = place_within p xs here.0 in
+    let at : position_or_len p (xs ++ x ∷ []) ≡ i = grind (arith, nat_tests) in
+    rw (lt-ltb (position_or_len p (xs ++ x ∷ [])) (length (xs ++ x ∷ [])) (omega (arith, at, within, here.1, l))) (ap Some at)
 
 tied : (c : Ordering) → is_eq c ≡ true → c ≡ Equal
 tied Less h = absurd (false≢true h)
@@ -70,12 +88,27 @@ module _ {K : Type 0} {R : K → K → Ordering} (o : IsTotalOrder R) where
       go false m true n = e ∙ ap (λ t. cond t (Some number) b) n
       go false m false n = e ∙ ap (λ t. cond t (Some number) b) n
 
+  -- each key stands at its own number, also where one more comes that was not there
+  own_pushed : (keys : List K) (r : Recent K) (key : K) → Indexes R keys r → position (λ y. is_eq (R y key)) keys ≡ None
+      → (i : ℕ) (d : K) → i < length (keys ++ key ∷ []) → position (λ y. is_eq (R y (get_or (keys ++ key ∷ []) i d))) (keys ++ key ∷ []) ≡ Some i
+  own_pushed keys r key ix none i d l = go (cases_lt i (length keys))
+    where
+      Q : K → Type 0
+      Q k = position (λ y. is_eq (R y k)) (keys ++ key ∷ []) ≡ Some i
+
+      go : (i < length keys) ⊎ (length keys ≤ i) → Q (get_or (keys ++ key ∷ []) i d)
+      go (inl low) = subst Q (sym (get_or-append keys (key ∷ []) d i low)) (position_stays (λ y. is_eq (R y (get_or keys i d))) keys key i (ix.own i d low))
+      go (inr high) =
+          let last : length keys ≡ i = omega (arith, l, length_push keys key) in
+          subst Q (sym (get_or_push keys key d i last)) (position_push (λ y. is_eq (R y key)) keys key none (ap is_eq (tied_itself o key)) ∙ ap Some last)
+
   pushed : (keys : List K) (r s : Recent K) (key : K) (number : ℕ) → Indexes R keys r → length keys ≡ number → position (λ y. is_eq (R y key)) keys ≡ None
       → ((q : K) → number_at R s q ≡ cond (is_eq (R key q)) (Some number) (number_at R r q)) → s.last ≡ Some key → s.number ≡ Some number → Indexes R (keys ++ key ∷ []) s
   pushed keys r s key number ix len none gets last num = record {
     numbers = λ q. gets q ∙ go q (is_eq (R key q)) refl;
     remembered = subst (λ (l : Option K). IfSome l (λ k. s.number ≡ position (λ y. is_eq (R y k)) (keys ++ key ∷ []))) (sym last)
         (num ∙ ap Some (sym len) ∙ sym (position_push (λ y. is_eq (R y key)) keys key none (ap is_eq (tied_itself o key))));
+    own = own_pushed keys r key ix none;
   }
     where
       go : (q : K) (b : Bool) → is_eq (R key q) ≡ b → cond b (Some number) (number_at R r q) ≡ position (λ y. is_eq (R y q)) (keys ++ key ∷ [])
@@ -105,6 +138,7 @@ module _ {K : Type 0} {R : K → K → Ordering} (o : IsTotalOrder R) where
     numbers = λ q. ap (λ (t : Option K). first_at R (get R s.numbers q) q t) first ∙ ap (λ t. cond (is_eq (R key q)) (Some 0) t) (ap (λ (m : BTreeMap K ℕ). get R m q) same ∙ bare r.first r refl ix q) ∙ go q (is_eq (R key q)) refl;
     remembered = subst (λ (l : Option K). IfSome l (λ k. s.number ≡ position (λ y. is_eq (R y k)) (key ∷ []))) (sym last)
         (num ∙ sym (position_push (λ y. is_eq (R y key)) [] key refl (ap is_eq (tied_itself o key))));
+    own = own_pushed [] r key ix refl;
   }
     where
       go : (q : K) (b : Bool) → is_eq (R key q) ≡ b → cond b (Some 0) None ≡ position (λ y. is_eq (R y q)) (key ∷ [])
@@ -116,6 +150,31 @@ module _ {K : Type 0} {R : K → K → Ordering} (o : IsTotalOrder R) where
 pub indexes_to : {K : Type 0} {R : K → K → Ordering} {keys also : List K} {r : Recent K} → Indexes R keys r → also ≡ keys → Indexes R also r
 indexes_to {K} {R} {keys} {also} {r} ix e = subst (λ (l : List K). Indexes R l r) (sym e) ix
 
--- a look for a hash among the hashes of elements
-pub hash_look : {A : Type 0} (f : A → MerkleHash) (xs : List A) (h : MerkleHash) → position (λ y. is_eq (hash_cmp y h)) (map f xs) ≡ position (λ x. hash_eq (f x) h) xs
-hash_look f xs h = (λ i. position (λ y. hashes_tied y h i) (map f xs)) ∙ position-map f (λ y. hash_eq y h) xs
+-- the keys of two hashes are in one place of the order exactly where their bytes are equal
+keys_tied : (a b : MerkleHash) → is_eq (key_cmp (key_of a) (key_of b)) ≡ hash_eq a b
+keys_tied a b = go (nat_cmp (last_word a) (last_word b)) refl (hash_eq a b) refl
+  where
+    words_same : a ≡ b → is_eq (nat_cmp (last_word a) (last_word b)) ≡ true
+    words_same e = ap is_eq (ap (λ (h : MerkleHash). nat_cmp (last_word h) (last_word b)) e ∙ tied_itself nat_cmp_total (last_word b))
+
+    go : (o : Ordering) → nat_cmp (last_word a) (last_word b) ≡ o → (e : Bool) → hash_eq a b ≡ e → is_eq (ordering_then o (slice_cmp nat_cmp a.0 b.0)) ≡ hash_eq a b
+    go Equal n e m = hashes_tied a b
+    go Less n false m = sym m
+    go Less n true m = absurd (false≢true (ap is_eq (sym n) ∙ words_same (hash_eq-true a b m)))
+    go Greater n false m = sym m
+    go Greater n true m = absurd (false≢true (ap is_eq (sym n) ∙ words_same (hash_eq-true a b m)))
+
+-- a look for the key of a hash among the keys of elements
+pub key_look : {A : Type 0} (f : A → MerkleHash) (xs : List A) (h : MerkleHash) → position (λ y. is_eq (key_cmp y (key_of h))) (map (λ x. key_of (f x)) xs) ≡ position (λ x. hash_eq (f x) h) xs
+key_look f xs h = position-map (λ x. key_of (f x)) (λ y. is_eq (key_cmp y (key_of h))) xs ∙ (λ i. position (λ x. keys_tied (f x) h i) xs)
+
+-- where an element with a hash stands, there is the place of the hash
+pub key_at : {A : Type 0} (f : A → MerkleHash) (xs : List A) (r : Recent HashKey) (h : MerkleHash) (i : ℕ) (x : A) → Indexes key_cmp (map (λ x. key_of (f x)) xs) r → slice_get xs i ≡ Some x
+    → is_eq (key_cmp (key_of (f x)) (key_of h)) ≡ true → position (λ x. hash_eq (f x) h) xs ≡ Some i
+key_at f xs r h i x ix got same =
+    let within = slice_get_within xs i x got in
+    let here : f x ≡ h = hash_eq-true (f x) h (sym (keys_tied (f x) h) ∙ same) in
+    let at : get_or (map (λ x. key_of (f x)) xs) i (key_of h) ≡ key_of h =
+    get_or-map (λ x. key_of (f x)) xs i x (key_of h) within ∙ ap (λ y. key_of (f y)) (get_or_from_slice_get xs i x x got) ∙ ap key_of here in
+    sym (key_look f xs h) ∙ ap (λ (k : HashKey). position (λ y. is_eq (key_cmp y k)) (map (λ x. key_of (f x)) xs)) (sym at)
+    ∙ ix.own i (key_of h) (omega (arith, within, length-map xs (λ x. key_of (f x))))

@@ -4,6 +4,7 @@ pub mod Depends
 pub mod Files
 pub mod Found
 pub mod Indexes
+pub mod Keys
 pub mod Kept
 pub mod Noted
 pub mod Open

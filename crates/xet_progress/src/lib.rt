@@ -12,6 +12,7 @@ mod depend;
 pub mod error;
 mod file;
 pub mod group;
+mod hash_key;
 pub mod item;
 pub mod laws;
 mod marks;

@@ -1,5 +1,5 @@
 //! An index that remembers its last look.
-ghost use Rattle.std.specs.Prelude.{◌≡◌, ◌∷◌, ◌++◌, [], List, None, length, position, OnOk, OnErr};
+ghost use Rattle.std.specs.Prelude.{◌≡◌, ◌∷◌, ◌++◌, [], List, None, Some, length, position, OnOk, OnErr};
 ghost use Rattle.std.specs.Ordering.{is_eq};
 ghost use Rattle.xet_progress.specs.steps.Indexes.{Indexes};
 
@@ -64,6 +64,23 @@ impl<K: Ord + Copy> Recent<K> {
         let number = self.number_of(key);
         self.last = Some(*key);
         self.number = number;
+    }
+
+    /// Remembers the number that a key has, for the looks after this one.
+    pub(crate) fn remember_at(&mut self, key: &K, number: usize)
+        ensures { (keys : List K) → Indexes K.cmp keys self.old
+            → position (λ y. is_eq (K.cmp y key.now)) keys ≡ Some number → Indexes K.cmp keys self.new }
+    {
+        self.last = Some(*key);
+        self.number = Some(number);
+    }
+
+    /// The number after the one that is remembered, or 0.
+    pub(crate) fn next(&self) -> usize {
+        match self.number {
+            Some(number) => number.saturating_add(1),
+            None => 0,
+        }
     }
 
     /// Adds a key that isn't there, with the number of keys before it.

@@ -261,6 +261,13 @@ impl TrackerState {
         Ok(())
     }
 
+    /// Looks for a xorb, so that the look after this one is short.
+    fn look(&mut self, xorb_hash: &MerkleHash)
+        ensures { self.new ≡ self.old }
+    {
+        self.xorbs.remember(xorb_hash);
+    }
+
     /// Counts more bytes of a xorb as sent, and credits each part that waits for it with its share, rounded down.
     ///
     /// `UnknownXorb` exactly where it was never registered, `XorbCompleted` exactly where it is completed, else
@@ -272,6 +279,14 @@ impl TrackerState {
         xorb_hash: MerkleHash,
         new_byte_progress: u64,
     ) -> Result<(), ProgressError>
+        ensures { CallOf self.old self.new (RegisterXorbUploadProgress xorb_hash new_byte_progress) tt result }
+    {
+        self.look(&xorb_hash);
+        self.send(xorb_hash, new_byte_progress)
+    }
+
+    /// `register_xorb_upload_progress`, after the look.
+    fn send(&mut self, xorb_hash: MerkleHash, new_byte_progress: u64) -> Result<(), ProgressError>
         ensures { CallOf self.old self.new (RegisterXorbUploadProgress xorb_hash new_byte_progress) tt result }
     {
         let Some(found) = self.xorbs.find(&xorb_hash) else {
@@ -309,6 +324,19 @@ impl TrackerState {
     ///
     /// In the Rust crate: `CompletionTracker::register_xorb_upload_progress_background`.
     pub fn register_xorb_upload_progress_background(
+        &mut self,
+        xorb_hash: MerkleHash,
+        new_byte_progress: u64,
+    ) -> Result<(), ProgressError>
+        ensures { CallOf self.old self.new
+            (RegisterXorbUploadProgressBackground xorb_hash new_byte_progress) tt result }
+    {
+        self.look(&xorb_hash);
+        self.send_in_background(xorb_hash, new_byte_progress)
+    }
+
+    /// `register_xorb_upload_progress_background`, after the look.
+    fn send_in_background(
         &mut self,
         xorb_hash: MerkleHash,
         new_byte_progress: u64,
@@ -356,6 +384,14 @@ impl TrackerState {
         &mut self,
         xorb_hash: MerkleHash,
     ) -> Result<(), ProgressError>
+        ensures { CallOf self.old self.new (RegisterXorbUploadCompletion xorb_hash) tt result }
+    {
+        self.look(&xorb_hash);
+        self.complete_xorb(xorb_hash)
+    }
+
+    /// `register_xorb_upload_completion`, after the look.
+    fn complete_xorb(&mut self, xorb_hash: MerkleHash) -> Result<(), ProgressError>
         ensures { CallOf self.old self.new (RegisterXorbUploadCompletion xorb_hash) tt result }
     {
         let Some(found) = self.xorbs.find(&xorb_hash) else {

@@ -517,8 +517,8 @@ impl<L: Ledger> CompletionTracker<L> {
         Ok(whole_answer(&reply))
     }
 
-    /// What the tracker was asked, in order, and what it answered. It has at least as many calls as the pass counts, and
-    /// just as many once all split passes were gathered.
+    /// What the tracker was asked, in order, and what it answered. It has at least as many calls as the pass counts,
+    /// and just as many once all split passes were gathered.
     ///
     /// The Rust crate has no such call.
     pub fn close(self, pass: TrackerPass<L>) -> List<TrackerCall>

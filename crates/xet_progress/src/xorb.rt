@@ -6,10 +6,12 @@ ghost use Rattle.xet_progress.specs.declared.xorb.TrackedXorb.{TrackedXorb};
 ghost use Rattle.xet_progress.specs.steps.Credits.{Advanced, AdvancedAt, CanCredit, Credited, Entered, completed_in};
 ghost use Rattle.xet_progress.specs.steps.Depends.{CanWait, StandAlike, Waited, has_room};
 ghost use Rattle.xet_progress.specs.steps.Found.{IsFound};
+ghost use Rattle.xet_progress.specs.steps.Keys.{key_of};
 ghost use Rattle.xet_progress.specs.steps.Open.{done_in};
 
 use crate::error::ProgressError;
 use crate::file::TrackedFile;
+use crate::hash_key::HashKey;
 use crate::part::Parts;
 use crate::recent::Recent;
 use crate::step::FileXorbDependency;
@@ -40,19 +42,20 @@ pub(crate) struct Found {
 #[derive(Drop)]
 pub(crate) struct Xorbs {
     list: Vec<TrackedXorb>,
-    places: Recent<MerkleHash>,
+    places: Recent<HashKey>,
 }
 
 impl Model for Xorbs {
     ghost use Rattle.std.specs.Prelude.{List, map};
-    ghost use Rattle.xet_progress.specs.steps.Indexes.{Indexes, hash_cmp};
+    ghost use Rattle.xet_progress.specs.steps.Indexes.{Indexes};
+    ghost use Rattle.xet_progress.specs.steps.Keys.{key_cmp, key_of};
     ghost use Rattle.xet_progress.specs.declared.xorb.TrackedXorb.{TrackedXorb};
 
     ghost Value = { List TrackedXorb };
 
     ghost view = { λ s. s.list.items };
 
-    ghost invariant = { λ s. Indexes hash_cmp (map (λ x. x.hash) s.list.items) s.places };
+    ghost invariant = { λ s. Indexes key_cmp (map (λ x. key_of x.hash) s.list.items) s.places };
 }
 
 impl Xorbs {
@@ -70,14 +73,32 @@ impl Xorbs {
     fn number_of(&self, hash: &MerkleHash) -> Option<usize>
         ensures { result ≡ position (λ x. hash_eq x.hash hash.now) self.now }
     {
-        self.places.number_of(hash)
+        self.places.number_of(&HashKey::of(hash))
     }
 
-    /// Remembers the place of a xorb's entry, for the looks after this one.
+    /// Remembers the place of a xorb's entry, for the looks after this one. The entry after the one that is remembered
+    /// is looked at first, since calls often go in the order of registration.
     pub(crate) fn remember(&mut self, hash: &MerkleHash)
         ensures { self.new ≡ self.old }
     {
-        self.places.remember(hash);
+        let key = HashKey::of(hash);
+        let next = self.places.next();
+        if self.is_at(next, hash, &key) {
+            self.places.remember_at(&key, next);
+            return;
+        }
+        self.places.remember(&key);
+    }
+
+    /// Whether the entry at a place is that of a xorb, whose key is given too.
+    fn is_at(&self, place: usize, hash: &MerkleHash, key: &HashKey) -> bool
+        requires { key.now ≡ key_of hash.now }
+        ensures { result ≡ true → position (λ x. hash_eq x.hash hash.now) self.now ≡ Some place }
+    {
+        match self.list.get(place) {
+            Some(xorb) => HashKey::of(&xorb.hash).cmp(key).is_eq(),
+            None => false,
+        }
     }
 
     /// The entry of a registered xorb.
@@ -125,12 +146,13 @@ impl Xorbs {
         ensures list { OnOk result (Entered hash self.old self.new) }
         ensures memory { IfErr result (λ e. (e ≡ ProgressError.OutOfMemory) × (self.new ≡ self.old)) }
     {
-        self.places.remember(&hash);
-        if let Some(place) = self.places.number_of(&hash) {
+        let key = HashKey::of(&hash);
+        self.places.remember(&key);
+        if let Some(place) = self.places.number_of(&key) {
             return Ok(place);
         }
         let place = self.list.len();
-        if self.list.reserve(1).is_err() || self.places.push(hash, place).is_err() {
+        if self.list.reserve(1).is_err() || self.places.push(key, place).is_err() {
             return Err(ProgressError::OutOfMemory);
         }
         let xorb = TrackedXorb {

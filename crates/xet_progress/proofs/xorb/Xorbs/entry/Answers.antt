@@ -6,20 +6,24 @@ use Rattle.std.proofs.lemmas.List.{length-map, map-append}
 use Rattle.xet_base.specs.declared.merklehash.MerkleHash.{MerkleHash}
 use Rattle.xet_base.specs.Hashes.{hash_eq}
 use Rattle.xet_base.proofs.CallerLemmas.{hash_eq-own}
+use Rattle.xet_progress.specs.declared.hash_key.HashKey.{HashKey}
 use Rattle.xet_progress.specs.declared.recent.Recent.{Recent}
 use Rattle.xet_progress.specs.declared.xorb.TrackedXorb.{TrackedXorb}
 use Rattle.xet_progress.specs.steps.Credits.{IsBare}
-use Rattle.xet_progress.specs.steps.Indexes.{Indexes, hash_cmp}
+use Rattle.xet_progress.specs.steps.Indexes.{Indexes}
+use Rattle.xet_progress.specs.steps.Keys.{key_cmp, key_of}
 use Rattle.xet_progress.proofs.Places.{find_nothing, position_push}
-use Rattle.xet_progress.proofs.Remembering.{hash_look, indexes_to}
+use Rattle.xet_progress.proofs.Remembering.{indexes_to, key_look}
 use Rattle.xet_progress.proofs.xorb.Xorbs.entry.Goals as goal
 
-abbrev hashes : List TrackedXorb → List MerkleHash
-hashes xs = map (λ (x : TrackedXorb). x.hash) xs
+abbrev keys_of : List TrackedXorb → List HashKey
+keys_of xs = map (λ (x : TrackedXorb). key_of x.hash) xs
 
 -- what a look in the index answers of the entries
-look : (xs ys : List TrackedXorb) (h : MerkleHash) (r : Recent MerkleHash) (o : Option ℕ) → Indexes hash_cmp (hashes xs) r → ((keys : List MerkleHash) → Indexes hash_cmp keys r → o ≡ position (λ y. is_eq (hash_cmp y h)) keys) → xs ≡ ys → o ≡ position (λ (x : TrackedXorb). hash_eq x.hash h) ys
-look xs ys h r o ix says same = says (hashes xs) ix ∙ hash_look (λ (x : TrackedXorb). x.hash) xs h ∙ ap (λ (l : List TrackedXorb). position (λ (x : TrackedXorb). hash_eq x.hash h) l) same
+look : (xs ys : List TrackedXorb) (h : MerkleHash) (key : HashKey) (r : Recent HashKey) (o : Option ℕ) → key ≡ key_of h → Indexes key_cmp (keys_of xs) r → ((keys : List HashKey) → Indexes key_cmp keys r → o ≡ position (λ y. is_eq (key_cmp y key)) keys) → xs ≡ ys
+    → o ≡ position (λ (x : TrackedXorb). hash_eq x.hash h) ys
+look xs ys h key r o own ix says same =
+    says (keys_of xs) ix ∙ ap (λ (k : HashKey). position (λ y. is_eq (key_cmp y k)) (keys_of xs)) own ∙ key_look (λ (x : TrackedXorb). x.hash) xs h ∙ ap (λ (l : List TrackedXorb). position (λ (x : TrackedXorb). hash_eq x.hash h) l) same
 
 -- what a refused call leaves, and what an accepted one does
 at_err : {A E P : Type 0} (r : Result A E) → is_err r ≡ true → OnErr r P → P
@@ -31,41 +35,42 @@ at_ok (Ok x) e h = h
 at_ok (Err y) e h = absurd (true≢false e)
 
 pub invariant_of-self : goal.invariant_of-self
-invariant_of-self c = c.remember.ensures (hashes c.self.inside.list.items) c.self.invariant
+invariant_of-self c = c.remember.ensures (keys_of c.self.inside.list.items) c.self.invariant
 
 pub invariant_of-self-then-is_err : goal.invariant_of-self-then-is_err
-invariant_of-self-then-is_err c = indexes_to (c.remember.ensures (hashes c.self.inside.list.items) c.self.invariant) (ap hashes c.reserve.ensures.items)
+invariant_of-self-then-is_err c = indexes_to (c.remember.ensures (keys_of c.self.inside.list.items) c.self.invariant) (ap keys_of c.reserve.ensures.items)
 
 pub invariant_of-self-then-is_err-2 : goal.invariant_of-self-then-is_err-2
 invariant_of-self-then-is_err-2 c =
     let items = c.self.inside.list.items in
     let refused : is_err c.push.result ≡ true = search rules in
-    let kept : (keys : List MerkleHash) → Indexes hash_cmp keys c.remember.new.self → Indexes hash_cmp keys c.push.new.self = at_err c.push.result refused c.push.ensures.err in
-    indexes_to (kept (hashes items) (c.remember.ensures (hashes items) c.self.invariant)) (ap hashes c.reserve.ensures.items)
+    let kept : (keys : List HashKey) → Indexes key_cmp keys c.remember.new.self → Indexes key_cmp keys c.push.new.self = at_err c.push.result refused c.push.ensures.err in
+    indexes_to (kept (keys_of items) (c.remember.ensures (keys_of items) c.self.invariant)) (ap keys_of c.reserve.ensures.items)
 
 pub invariant_of-self-2 : goal.invariant_of-self-2
 invariant_of-self-2 c =
     let items = c.self.inside.list.items in
+    let key = c.of-key.result in
     let accepted : is_err c.push.result ≡ false = search rules in
-    let more : (keys : List MerkleHash) → Indexes hash_cmp keys c.remember.new.self → length keys ≡ c.len-place.result → position (λ y. is_eq (hash_cmp y c.args.hash)) keys ≡ None → Indexes hash_cmp (keys ++ c.args.hash ∷ []) c.push.new.self = at_ok c.push.result accepted c.push.ensures.ok in
-    let start = c.remember.ensures (hashes items) c.self.invariant in
+    let more : (keys : List HashKey) → Indexes key_cmp keys c.remember.new.self → length keys ≡ c.len-place.result → position (λ y. is_eq (key_cmp y key)) keys ≡ None → Indexes key_cmp (keys ++ key ∷ []) c.push.new.self = at_ok c.push.result accepted c.push.ensures.ok in
+    let start = c.remember.ensures (keys_of items) c.self.invariant in
     let missing : c.number_of.result ≡ None = search rules in
-    let absent = sym (c.number_of.ensures (hashes items) start) ∙ missing in
+    let absent = sym (c.number_of.ensures (keys_of items) start) ∙ missing in
     let count : c.len-place.result ≡ length items = search rules in
-    let number : length (hashes items) ≡ c.len-place.result = length-map items (λ (x : TrackedXorb). x.hash) ∙ sym count in
+    let number : length (keys_of items) ≡ c.len-place.result = length-map items (λ (x : TrackedXorb). key_of x.hash) ∙ sym count in
     let pushed : c.push-2.new.self.items ≡ c.reserve.new.self.items ++ record { hash = c.args.hash; size = None; sent = 0; completed = false; parts = c.new.result } ∷ [] = search rules in
-    indexes_to (more (hashes items) start number absent)
-    (ap hashes (pushed ∙ ap (λ (l : List TrackedXorb). l ++ record { hash = c.args.hash; size = None; sent = 0; completed = false; parts = c.new.result } ∷ []) c.reserve.ensures.items) ∙ map-append (λ (x : TrackedXorb). x.hash) items _)
+    indexes_to (more (keys_of items) start number absent)
+    (ap keys_of (pushed ∙ ap (λ (l : List TrackedXorb). l ++ record { hash = c.args.hash; size = None; sent = 0; completed = false; parts = c.new.result } ∷ []) c.reserve.ensures.items) ∙ map-append (λ (x : TrackedXorb). key_of x.hash) items _ ∙ ap (λ (k : HashKey). keys_of items ++ k ∷ []) (sym c.of-key.ensures))
 
 pub returns-in-Some-clause-place : goal.returns-in-Some-clause-place
 returns-in-Some-clause-place c =
     let some : c.number_of.result ≡ Some c.in-Some.place = search rules in
-    sym (look c.self.inside.list.items c.self.inside.list.items c.args.hash c.remember.new.self c.number_of.result (c.remember.ensures (hashes c.self.inside.list.items) c.self.invariant) c.number_of.ensures refl) ∙ some
+    sym (look c.self.inside.list.items c.self.inside.list.items c.args.hash c.of-key.result c.remember.new.self c.number_of.result c.of-key.ensures (c.remember.ensures (keys_of c.self.inside.list.items) c.self.invariant) c.number_of.ensures refl) ∙ some
 
 pub returns-clause-place : goal.returns-clause-place
 returns-clause-place c =
     let missing : c.number_of.result ≡ None = search rules in
-    let none = sym (look c.self.inside.list.items c.args.self.now c.args.hash c.remember.new.self c.number_of.result (c.remember.ensures (hashes c.self.inside.list.items) c.self.invariant) c.number_of.ensures c.self.view_is) ∙ missing in
+    let none = sym (look c.self.inside.list.items c.args.self.now c.args.hash c.of-key.result c.remember.new.self c.number_of.result c.of-key.ensures (c.remember.ensures (keys_of c.self.inside.list.items) c.self.invariant) c.number_of.ensures c.self.view_is) ∙ missing in
     let pushed : c.push-2.new.self.items ≡ c.reserve.new.self.items ++ record { hash = c.args.hash; size = None; sent = 0; completed = false; parts = c.new.result } ∷ [] = search rules in
     let same = c.reserve.ensures.items ∙ c.self.view_is in
     let count : c.len-place.result ≡ length c.args.self.now = search rules ∙ ap (λ (l : List TrackedXorb). length l) c.self.view_is in
@@ -74,7 +79,7 @@ returns-clause-place c =
 pub returns-clause-list : goal.returns-clause-list
 returns-clause-list c =
     let missing : c.number_of.result ≡ None = search rules in
-    let none = sym (look c.self.inside.list.items c.args.self.now c.args.hash c.remember.new.self c.number_of.result (c.remember.ensures (hashes c.self.inside.list.items) c.self.invariant) c.number_of.ensures c.self.view_is) ∙ missing in
+    let none = sym (look c.self.inside.list.items c.args.self.now c.args.hash c.of-key.result c.remember.new.self c.number_of.result c.of-key.ensures (c.remember.ensures (keys_of c.self.inside.list.items) c.self.invariant) c.number_of.ensures c.self.view_is) ∙ missing in
     let bare : IsBare c.args.hash (record { hash = c.args.hash; size = None; sent = 0; completed = false; parts = c.new.result }) = record { hash_is = refl; no_size = refl; nothing_sent = refl; waiting = refl; no_parts = c.new.ensures } in
     let pushed : c.push-2.new.self.items ≡ c.reserve.new.self.items ++ record { hash = c.args.hash; size = None; sent = 0; completed = false; parts = c.new.result } ∷ [] = search rules in
     let same = c.reserve.ensures.items ∙ c.self.view_is in

@@ -3,6 +3,7 @@ use Rattle.std.specs.Prelude.{OnOk, Result, Ok, Err}
 use Rattle.std.proofs.Math.Seq.{map-set_same}
 use Rattle.xet_progress.specs.declared.error.ProgressError.{ProgressError}
 use Rattle.xet_progress.specs.declared.xorb.TrackedXorb.{TrackedXorb}
+use Rattle.xet_progress.specs.steps.Keys.{key_of}
 use Rattle.xet_progress.specs.steps.Depends.{WithPart, has_room}
 use Rattle.xet_progress.proofs.Rooms.{alike, room_made, room_kept}
 use Rattle.xet_progress.proofs.Remembering.{indexes_to}
@@ -10,8 +11,8 @@ use Rattle.xet_progress.proofs.xorb.Xorbs.make_room.Goals as goal
 
 pub invariant_of-self : goal.invariant_of-self
 invariant_of-self c =
-    indexes_to c.self.invariant (map-set_same (λ (x : TrackedXorb). x.hash) c.self.inside.list.items c.in_ok-place.place (record c.index_mut-xorb.result.now { parts = c.add_empty.new.self }) c.index_mut-xorb.result.now
-    (ap (λ (x : TrackedXorb). x.hash) c.index_mut-xorb.ensures.value))
+    indexes_to c.self.invariant (map-set_same (λ (x : TrackedXorb). key_of x.hash) c.self.inside.list.items c.in_ok-place.place (record c.index_mut-xorb.result.now { parts = c.add_empty.new.self }) c.index_mut-xorb.result.now
+    (ap (λ (x : TrackedXorb). key_of x.hash) c.index_mut-xorb.ensures.value))
 
 pub returns-clause-alike : goal.returns-clause-alike
 returns-clause-alike c =

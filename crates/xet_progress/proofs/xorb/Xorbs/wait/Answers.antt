@@ -3,6 +3,7 @@ use Rattle.std.specs.Prelude.{position}
 use Rattle.std.proofs.Math.Seq.{map-set_same}
 use Rattle.xet_base.specs.Hashes.{hash_eq}
 use Rattle.xet_progress.specs.declared.xorb.TrackedXorb.{TrackedXorb}
+use Rattle.xet_progress.specs.steps.Keys.{key_of}
 use Rattle.xet_progress.proofs.Places.{find_here}
 use Rattle.xet_progress.proofs.Rooms.{no_room, waited, room_waited}
 use Rattle.xet_progress.proofs.Remembering.{indexes_to}
@@ -22,8 +23,8 @@ wait-requires c =
 
 pub invariant_of-self : goal.invariant_of-self
 invariant_of-self c =
-    indexes_to c.self.invariant (map-set_same (λ (x : TrackedXorb). x.hash) c.self.inside.list.items c.in-Some.place (record c.index_mut-xorb.result.now { parts = c.wait.new.self }) c.index_mut-xorb.result.now
-    (ap (λ (x : TrackedXorb). x.hash) c.index_mut-xorb.ensures.value))
+    indexes_to c.self.invariant (map-set_same (λ (x : TrackedXorb). key_of x.hash) c.self.inside.list.items c.in-Some.place (record c.index_mut-xorb.result.now { parts = c.wait.new.self }) c.index_mut-xorb.result.now
+    (ap (λ (x : TrackedXorb). key_of x.hash) c.index_mut-xorb.ensures.value))
 
 pub returns-clause-step : goal.returns-clause-step
 returns-clause-step c =
