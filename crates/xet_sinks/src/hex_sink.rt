@@ -216,6 +216,7 @@ mod tests {
     use super::*;
     use crate::script_sink::{ScriptSink, SinkStep};
     use crate::vec_sink::VecSink;
+    use bytes::Bytes;
     use std::test::Fail;
 
     /// Takes one byte a call, and finds no memory at one of the calls.
@@ -279,12 +280,26 @@ mod tests {
     }
 
     #[test]
+    fn takes_pieces_together(rt: HostRuntime) {
+        let pieces = [
+            Bytes::from_static(&[0x12, 0xc4]),
+            Bytes::new(),
+            Bytes::from_static(&[0x0a]),
+        ];
+        let mut sink = HexSink::new(VecSink::new(rt.alloc()));
+        assert!(rt; sink.write_vectored(&pieces) == Ok(3));
+        assert!(rt; sink.flush() == Ok(()));
+        assert!(rt; sink.into_inner().taken() == b"12c40a".as_slice());
+    }
+
+    #[test]
     fn sends_nothing_after_a_fault(rt: HostRuntime) -> Result<(), Fail> {
         let steps = vec![in rt.alloc(); SinkStep::FailAfter(3)]?;
         let mut sink = HexSink::new(ScriptSink::new(rt.alloc(), steps));
         assert!(rt; sink.write(&[0x5a; 2]) == Err(SinkError::Failed));
         assert!(rt; sink.write(&[0x5a; 2]) == Err(SinkError::OutOfMemory));
         assert!(rt; sink.flush() == Err(SinkError::OutOfMemory));
+        assert!(rt; sink.write_vectored(&[]) == Ok(0));
         assert!(rt; sink.into_inner().taken() == b"5a5".as_slice());
         Ok(())
     }

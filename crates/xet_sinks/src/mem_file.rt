@@ -171,6 +171,7 @@ impl PlaceSink for MemFile {
 #[cfg(test)]
 mod tests {
     use super::*;
+    use bytes::Bytes;
     use std::test::Fail;
 
     #[test]
@@ -191,6 +192,22 @@ mod tests {
         assert!(rt; file.seek(3) == Ok(()));
         assert!(rt; file.write(b"lo, wo") == Ok(6));
         assert!(rt; file.content() == b"zzzlo, wo".as_slice());
+        Ok(())
+    }
+
+    #[test]
+    fn takes_pieces_together(rt: HostRuntime) -> Result<(), Fail> {
+        let pieces = [
+            Bytes::from_static(b"lo"),
+            Bytes::new(),
+            Bytes::from_static(b"!"),
+        ];
+        let mut file = MemFile::new(rt.alloc(), b"abcd".to_vec(rt.alloc())?);
+        assert!(rt; file.seek(3) == Ok(()));
+        assert!(rt; file.write_vectored(&pieces) == Ok(3));
+        assert!(rt; file.content() == b"abclo!".as_slice());
+        assert!(rt; file.write_vectored(&[Bytes::new()]) == Ok(0));
+        assert!(rt; file.content() == b"abclo!".as_slice());
         Ok(())
     }
 }

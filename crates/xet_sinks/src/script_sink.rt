@@ -3,6 +3,7 @@ ghost use Rattle.std.specs.List.{concat};
 ghost use Rattle.std.specs.Prelude.{◌≡◌, ◌<◌, ◌≤◌, ◌++◌, [], Err, IfOk, Ok, OnErr, Some, drop, false, length};
 ghost use Rattle.std.specs.Prelude.{min, slice_get, take, true};
 ghost use Rattle.xet_outside.specs.Told.{FlushCall, Rose, WriteCall};
+ghost use Rattle.xet_sinks.specs.Faults.{CountsFailed};
 ghost use Rattle.xet_sinks.specs.Scripts.{FollowsSink, step_fails, step_most};
 
 use bytes::Bytes;
@@ -126,6 +127,7 @@ impl ScriptSink {
         ensures failed { fails ≡ true → (result ≡ Err SinkError.Failed) × Rose self.old.faults self.new.faults }
         ensures same { self.new ≡ record self.old { faults = self.new.faults } }
         ensures faults { self.old.faults ≤ self.new.faults }
+        ensures counted { CountsFailed self.old.faults self.new.faults result }
     {
         if fails {
             self.faults = self.faults.saturating_add(1);
@@ -147,6 +149,7 @@ impl Sink for ScriptSink {
             FollowsSink (slice_get self.old.steps.items 0) self.old.taken.items self.new.taken.items
             piece.now result }
         ensures steps { 0 < length piece.now → self.new.steps.items ≡ drop 1 self.old.steps.items }
+        ensures counted { CountsFailed self.old.faults self.new.faults result }
         ensures none { piece.now ≡ [] → self.new ≡ self.old }
     {
         if piece.is_empty() {
@@ -160,11 +163,12 @@ impl Sink for ScriptSink {
         self.answer(step.fails, count)
     }
 
-    /// Succeeds.
+    /// Succeeds, and takes no step.
     fn flush(&mut self) -> Result<(), SinkError>
         ensures call { FlushCall (⟦<ScriptSink as Sink>⟧.told self.old)
             (⟦<ScriptSink as Sink>⟧.told self.new) result }
         ensures ok { result ≡ Ok tt }
+        ensures same { self.new ≡ record self.old { flushed = self.new.flushed } }
     {
         self.flushed = self.taken.len();
         Ok(())
@@ -178,6 +182,7 @@ impl Sink for ScriptSink {
             FollowsSink (slice_get self.old.steps.items 0) self.old.taken.items self.new.taken.items
             (concat pieces.now) result }
         ensures steps { 0 < length (concat pieces.now) → self.new.steps.items ≡ drop 1 self.old.steps.items }
+        ensures counted { CountsFailed self.old.faults self.new.faults result }
         ensures none { concat pieces.now ≡ [] → self.new ≡ self.old }
     {
         if !has_bytes(pieces) {
