@@ -2,8 +2,8 @@
 
 -- behind a tap: the answers to queries are those of the store, and a link names the tap and the store
 pub use Rattle.xet_store.proofs.TapConnections.{honest_answer, same_link}
--- a connection's log may go to another thread
-pub use Rattle.xet_store.proofs.SentConnections.{client_log_send}
+-- a connection to a store in memory, and its log, may go to another thread
+pub use Rattle.xet_store.proofs.SentConnections.{client_log_send, mem_client_send}
 -- what a store that accepts xorbs and files holds
 pub use Rattle.xet_store.proofs.AcceptedTerms.{accepted_terms}
 pub use Rattle.xet_store.proofs.GrownStores.{valid_with_file, valid_with_xorb}

@@ -4,4 +4,8 @@
 #[cfg(test)]
 mod caches;
 #[cfg(test)]
+mod connections;
+#[cfg(test)]
 mod signals;
+#[cfg(test)]
+mod stores;

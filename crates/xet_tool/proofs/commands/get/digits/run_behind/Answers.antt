@@ -11,8 +11,7 @@ use Rattle.std.proofs.Crossing.{crosses}
 use Rattle.xet_base.specs.Store.{Store}
 use Rattle.xet_outside.specs.Answers.{plans_in}
 use Rattle.xet_outside.specs.Told.{ClientTold}
-use Rattle.xet_store.proofs.mem_client.MemClient.TheSendSync as client
-use Rattle.xet_store.proofs.CallerLemmas.{client_log_send, same_link}
+use Rattle.xet_store.proofs.CallerLemmas.{client_log_send, mem_client_send, same_link}
 use Rattle.xet_store.specs.HonestPlans.{PlansAreHonest}
 use Rattle.xet_store.specs.Taps.{behind}
 use Rattle.xet_tool.specs.steps.PrintedDigits.{Tapped}
@@ -25,7 +24,7 @@ run_on_one-answer-requires-send-C g c = λ κs h.
     let to : NamedLft = record { mir = named 5; lft = κs.1.1.1.1.1.0 } in
     let fields : Shape = shape (tap_client.the_type at to (param 0 g.row.T) g.T.Tap) in
     let s : IsSend (Struct fields) = struct_send fields
-    (search (sendable, client.the_field_send) depth 9, (mut_send _ _ _ c.type_bounds.send-T, (search (sendable, crosses) depth 9, (search (sendable, client_log_send) depth 9, tt)))) in
+    (search (sendable, mem_client_send) depth 9, (mut_send _ _ _ c.type_bounds.send-T, (search (sendable, crosses) depth 9, (search (sendable, client_log_send) depth 9, tt)))) in
     record {
       owned = λ x vs. s.owned ((tap_client.the_type at to (param 0 g.row.T) g.T.Tap).to x) vs;
       leaving = λ k. Quiet-if (k (of_param 0)) _ unseen (λ x w. s.leaving no ((tap_client.the_type at to (param 0 g.row.T) g.T.Tap).to x) w) (λ x w. tt);
