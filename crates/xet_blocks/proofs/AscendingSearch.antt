@@ -3,7 +3,8 @@ use Rattle.std.proofs.Common.{◌≡◌, ◌⊎◌, inl, inr, ℕ, zero, suc, �
 use Rattle.std.specs.Prelude.{find, option_and_then, slice_get}
 use Rattle.std.specs.Bool.{then_some}
 use Rattle.std.specs.List.Sorted.{IsNonDecreasingBy, IsPartitionPoint, IsPartitionedBy}
-use Rattle.std.proofs.lemmas.Bool.{cases_lt, or_parts, ltb-true, ltb-false, leb-true, leb-false, lt-leb, and_left}
+use Rattle.std.proofs.lemmas.Option.{get_or_from_slice_get, slice_get_within}
+use Rattle.std.proofs.lemmas.Bool.{and_parts, cases_lt, or_parts, ltb-true, ltb-false, leb-true, leb-false, lt-leb, and_left}
 use Rattle.std.proofs.lemmas.List.Sorted.{IsPartitionedBy-leb}
 use Rattle.xet_outside.specs.declared.plan.FetchRange.{FetchRange}
 use Rattle.xet_outside.specs.declared.plan.PlanTerm.{PlanTerm}
@@ -106,3 +107,33 @@ module _ {X : Type 0} (f : X → FetchRange) where
       after k d l m =
           let here : t.range.start < (f (get_or xs i d)).chunks.end = leb-false (f (get_or xs i d)).chunks.end t.range.start (part.1 i d (omega arith) (omega arith)) in
           apart_after t (f (get_or xs k d)) (omega (arith, here, starts_after 0 xs h i k d l m))
+
+  -- a range that has the term is the first one that has it
+  pub find_there : (xs : List X) (t : PlanTerm) (i : ℕ) (x : X) → unordered 0 (map f xs) ≡ false → slice_get xs i ≡ Some x → lies_in t (f x) ≡ true → find (λ x. lies_in t (f x)) xs ≡ Some x
+  find_there xs t i x h got here =
+      find_at (λ x. lies_in t (f x)) xs i before after ∙ ap (λ o. option_and_then (λ x. cond (lies_in t (f x)) (Some x) None) o) got ∙ ap (λ b. cond b (Some x) None) here
+    where
+      within : i < length xs
+      within = slice_get_within xs i x got
+
+      parts : (leb (f x).chunks.start t.range.start ≡ true) × ((ltb t.range.start t.range.end && leb t.range.end (f x).chunks.end) ≡ true)
+      parts = and_parts (leb (f x).chunks.start t.range.start) (ltb t.range.start t.range.end && leb t.range.end (f x).chunks.end) here
+
+      ends : (ltb t.range.start t.range.end ≡ true) × (leb t.range.end (f x).chunks.end ≡ true)
+      ends = and_parts (ltb t.range.start t.range.end) (leb t.range.end (f x).chunks.end) parts.1
+
+      low : (d : X) → (f (get_or xs i d)).chunks.start ≤ t.range.start
+      low d =
+          let same : (f (get_or xs i d)).chunks.start ≡ (f x).chunks.start = ap (λ y. (f y).chunks.start) (get_or_from_slice_get xs i x d got) in
+          omega (arith, same, leb-true (f x).chunks.start t.range.start parts.0)
+
+      high : (d : X) → t.range.start < (f (get_or xs i d)).chunks.end
+      high d =
+          let same : (f (get_or xs i d)).chunks.end ≡ (f x).chunks.end = ap (λ y. (f y).chunks.end) (get_or_from_slice_get xs i x d got) in
+          omega (arith, same, ltb-true t.range.start t.range.end ends.0, leb-true t.range.end (f x).chunks.end ends.1)
+
+      before : (k : ℕ) (d : X) → k < i → k < length xs → lies_in t (f (get_or xs k d)) ≡ false
+      before k d l m = apart_before t (f (get_or xs k d)) (omega (arith, starts_after 0 xs h k i d l within, low d))
+
+      after : (k : ℕ) (d : X) → i < k → k < length xs → lies_in t (f (get_or xs k d)) ≡ false
+      after k d l m = apart_after t (f (get_or xs k d)) (omega (arith, starts_after 0 xs h i k d l m, high d))

@@ -2,7 +2,6 @@
 use Rattle.std.proofs.Common.{◌≡◌, ℕ, zero, suc, ◌+◌, ◌-◌, ◌<◌, ◌≤◌, Bool, true, false, cond, not, ◌&&◌, ◌^◌, List, [], ◌∷◌, ◌++◌, length, map, get_or, take, eqb, leb, ltb, refl, sym, ◌∙◌, ap, subst, arith, Some, None}
 use Rattle.std.specs.Prelude.{All, MatchOption, Option, find, is_none, min, option_and_then, option_map, position, unwrap_or}
 use Rattle.std.specs.List.{enumerate_from, flat_map, list_any, position_or_len}
-use Rattle.std.specs.Ordering.{is_eq}
 use Rattle.std.proofs.lemmas.Bool.{false≢true, and_parts, leb-true, ltb-true}
 use Rattle.std.proofs.lemmas.List.{length-map, map-append, take_more, length-take}
 use Rattle.std.proofs.lemmas.Option.{same_Some}
@@ -18,15 +17,13 @@ use Rattle.xet_outside.specs.declared.plan.Plan.{Plan}
 use Rattle.xet_outside.specs.declared.plan.PlanTerm.{PlanTerm}
 use Rattle.xet_outside.specs.declared.plan.PlanXorb.{PlanXorb}
 use Rattle.xet_outside.specs.Plan.{Shape, shape, xorb_shape}
-use Rattle.xet_blocks.specs.declared.reconstruction_terms.plan_blocks.BlockKey.{BlockKey}
 use Rattle.xet_blocks.specs.declared.reconstruction_terms.plan_blocks.PlacedTerm.{PlacedTerm}
 use Rattle.xet_blocks.specs.declared.reconstruction_terms.plan_blocks.PlanBlocks.{PlanBlocks}
-use Rattle.xet_blocks.specs.declared.reconstruction_terms.plan_blocks.OfferedBlock.{OfferedBlock}
-use Rattle.xet_blocks.specs.contracts.reconstruction_terms.plan_blocks.BlockKeyOrd.TheImpl.{ghosts}
-use Rattle.xet_blocks.specs.contracts.reconstruction_terms.plan_blocks.BlockKeyOrd.TheImpl.Laws.{matches_eq-law}
+use Rattle.xet_blocks.specs.declared.reconstruction_terms.block_list.OfferedBlock.{OfferedBlock}
 use Rattle.xet_blocks.specs.Blocks.{PlanBlock, block_of_term, block_ranges, blocks_of, entry_blocks, lies_in, range_eq, same_block, start_index, term_block}
 use Rattle.xet_blocks.specs.steps.Offers.{Candidate, Offered, candidates, entry_candidates, offer_of_term, offered, ranges_block, xorb_offers, xorb_place}
-use Rattle.xet_blocks.specs.steps.Planning.{HasChunks, HasRanges, IsNumbered, IsOfTerm, IsPlaced, IsPlanned, IsToldApart, key_of, number_in, plan_block, same_key}
+use Rattle.xet_blocks.specs.steps.BlockKeys.{key_of, place_of_key, same_key}
+use Rattle.xet_blocks.specs.steps.Planning.{HasChunks, HasRanges, IsNumbered, IsOfTerm, IsPlaced, IsPlanned, IsToldApart, number_in, plan_block}
 use Rattle.xet_blocks.specs.TermBlocks.{block_url}
 use Rattle.xet_blocks.specs.PlanChecks.{failed_ranges, ranges_test, unordered}
 use Rattle.xet_error.specs.declared.error.Corruption.TheVariants.{Ranges}
@@ -57,10 +54,6 @@ numbered-push f xs i d l =
 
 -- ---- keys of blocks
 
--- two keys are in one place of the order exactly where they are the same
-pub key_cmp : (a b : BlockKey) → is_eq (ghosts.cmp a b) ≡ same_key a b
-key_cmp a b = sym (matches_eq-law a b)
-
 places_alike : {A : Type 0} (p q : A → Bool) (xs : List A) → All (λ x. p x ≡ q x) xs → position_or_len p xs ≡ position_or_len q xs
 places_alike p q [] h = refl
 places_alike p q (x ∷ xs) h =
@@ -71,27 +64,22 @@ places_alike p q (x ∷ xs) h =
 position_alike : {A : Type 0} (p q : A → Bool) (xs : List A) → All (λ x. p x ≡ q x) xs → position p xs ≡ position q xs
 position_alike p q xs h = ap (λ (n : ℕ). cond (ltb n (length xs)) (Some n) None) (places_alike p q xs h)
 
--- the place of a key among those of blocks
-abbrev pub place_of_key : List OfferedBlock → BlockKey → Option ℕ
-place_of_key blocks k = position (λ c. is_eq (ghosts.cmp (key_of c) k)) blocks
-
 -- the place of a block's key is the block's number, where the keys tell it from the others
-pub position-key_cmp : (blocks : List OfferedBlock) (b : OfferedBlock) → IsToldApart b blocks → place_of_key blocks (key_of b) ≡ number_in blocks b
-position-key_cmp blocks b apart =
-    (λ i. position (λ c. key_cmp (key_of c) (key_of b) i) blocks)
-    ∙ position_alike (λ c. same_key (key_of c) (key_of b)) (λ c. same_block (plan_block c) (plan_block b)) blocks apart
+pub position-key : (blocks : List OfferedBlock) (b : OfferedBlock) → IsToldApart b blocks → place_of_key blocks (key_of b) ≡ number_in blocks b
+position-key blocks b apart =
+    position_alike (λ c. same_key (key_of c) (key_of b)) (λ c. same_block (plan_block c) (plan_block b)) blocks apart
     ∙ sym (position-map plan_block (λ c. same_block c (plan_block b)) blocks)
 
 -- a block that is there keeps the list, and one that is not is added
 pub numbered_found : (before after : List OfferedBlock) (b : OfferedBlock) (n : ℕ) → IsToldApart b before → place_of_key before (key_of b) ≡ Some n → after ≡ before → IsNumbered before after b n
 numbered_found before after b n apart at same =
     let P : Option ℕ → Type 0 = λ o. MatchOption o ((after ≡ before ++ b ∷ []) × (n ≡ length before)) (λ i. (after ≡ before) × (n ≡ i)) in
-    subst P (sym (sym (position-key_cmp before b apart) ∙ at)) (same, refl)
+    subst P (sym (sym (position-key before b apart) ∙ at)) (same, refl)
 
 pub numbered_new : (before after : List OfferedBlock) (b : OfferedBlock) (n : ℕ) → IsToldApart b before → place_of_key before (key_of b) ≡ None → after ≡ before ++ b ∷ [] → n ≡ length before → IsNumbered before after b n
 numbered_new before after b n apart at more number =
     let P : Option ℕ → Type 0 = λ o. MatchOption o ((after ≡ before ++ b ∷ []) × (n ≡ length before)) (λ i. (after ≡ before) × (n ≡ i)) in
-    subst P (sym (sym (position-key_cmp before b apart) ∙ at)) (more, number)
+    subst P (sym (sym (position-key before b apart) ∙ at)) (more, number)
 
 -- ---- the block of a term with an offer
 

@@ -1,4 +1,5 @@
 mod AscendingSearch
+mod BlockNumbers
 mod BlockReferences
 mod BlockUrls
 mod BlockWalk

@@ -19,7 +19,7 @@ use Rattle.xet_error.specs.declared.error.FileReconstructionError.TheVariants as
 use Rattle.xet_blocks.specs.declared.reconstruction_terms.file_term.TermBlock.{TermBlock}
 use Rattle.xet_blocks.specs.declared.reconstruction_terms.plan_blocks.PlacedTerm.{PlacedTerm}
 use Rattle.xet_blocks.specs.declared.reconstruction_terms.plan_blocks.PlanBlocks.{PlanBlocks}
-use Rattle.xet_blocks.specs.declared.reconstruction_terms.plan_blocks.OfferedBlock.{OfferedBlock}
+use Rattle.xet_blocks.specs.declared.reconstruction_terms.block_list.OfferedBlock.{OfferedBlock}
 use Rattle.xet_blocks.specs.declared.reconstruction_terms.retrieval_urls.RetrievalUrl.{RetrievalUrl}
 use Rattle.xet_blocks.specs.declared.reconstruction_terms.retrieval_urls.TermBlockRetrievalURLs.{TermBlockRetrievalURLs}
 use Rattle.xet_blocks.specs.Blocks.{PlanBlock, transfer_sum}

@@ -1,4 +1,5 @@
 -- The words of private functions.
+pub mod BlockKeys
 pub mod Offers
 pub mod Planning
 pub mod Reached

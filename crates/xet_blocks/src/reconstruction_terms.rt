@@ -1,4 +1,5 @@
 //! The terms of a file, the blocks that they are cut from, and the URLs of these.
+mod block_list;
 pub mod file_term;
 mod lists;
 mod plan_blocks;

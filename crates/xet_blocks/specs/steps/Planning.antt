@@ -1,5 +1,5 @@
 -- Blocks that entries offer, and the terms that are placed in them.
-use Rattle.std.specs.Prelude.{ℕ, ◌≡◌, ◌+◌, ◌-◌, ◌^◌, ◌<◌, ◌≤◌, ◌&&◌, Bool, false, Option, Some, None, List, [], ◌∷◌, ◌++◌, All, MatchOption, Vec, filter, length, map, min, nat_eq, position, slice_index_or}
+use Rattle.std.specs.Prelude.{ℕ, ◌≡◌, ◌+◌, ◌-◌, ◌^◌, ◌<◌, ◌≤◌, Bool, false, Option, Some, None, List, [], ◌∷◌, ◌++◌, All, MatchOption, Vec, filter, length, map, min, nat_eq, position, slice_index_or}
 use Rattle.std.specs.List.{enumerate_from, position_or_len}
 use Rattle.std.specs.declared.alloc.Global.{Global}
 use Rattle.xet_base.specs.declared.cas_types.FileRange.{FileRange}
@@ -8,15 +8,15 @@ use Rattle.xet_outside.specs.declared.plan.PlanTerm.{PlanTerm}
 use Rattle.xet_outside.specs.Plan.{Shape, shape}
 use Rattle.xet_blocks.specs.declared.reconstruction_terms.file_term.FileTerm.{FileTerm}
 use Rattle.xet_blocks.specs.declared.reconstruction_terms.file_term.TermBlock.{TermBlock}
-use Rattle.xet_blocks.specs.declared.reconstruction_terms.plan_blocks.BlockKey.{BlockKey}
 use Rattle.xet_blocks.specs.declared.reconstruction_terms.plan_blocks.PlacedTerm.{PlacedTerm}
 use Rattle.xet_blocks.specs.declared.reconstruction_terms.plan_blocks.PlanBlocks.{PlanBlocks}
-use Rattle.xet_blocks.specs.declared.reconstruction_terms.plan_blocks.OfferedBlock.{OfferedBlock}
+use Rattle.xet_blocks.specs.declared.reconstruction_terms.block_list.OfferedBlock.{OfferedBlock}
 use Rattle.xet_blocks.specs.declared.reconstruction_terms.retrieval_urls.RetrievalUrl.{RetrievalUrl}
 use Rattle.xet_blocks.specs.declared.reconstruction_terms.retrieval_urls.TermBlockRetrievalURLs.{TermBlockRetrievalURLs}
 use Rattle.xet_blocks.specs.declared.reconstruction_terms.xorb_block.XorbBlock.{XorbBlock}
 use Rattle.xet_blocks.specs.declared.reconstruction_terms.xorb_block.XorbReference.{XorbReference}
 use Rattle.xet_blocks.specs.Blocks.{PlanBlock, block_ranges, blocks_of, same_block, start_index, term_block, transfer_sum}
+use Rattle.xet_blocks.specs.steps.BlockKeys.{key_of, same_key}
 use Rattle.xet_blocks.specs.steps.Offers.{offer_of_term, offered, ranges_block, xorb_place}
 use Rattle.xet_blocks.specs.PlanChecks.{unordered}
 use Rattle.xet_blocks.specs.TermBlocks.{block_url, by_start, known_size, reference_of}
@@ -24,14 +24,6 @@ use Rattle.xet_blocks.specs.TermBlocks.{block_url, by_start, known_size, referen
 -- the block as one of the plan
 abbrev pub plan_block : OfferedBlock → PlanBlock
 plan_block b = ranges_block b.xorb b.offer.block.now
-
--- the number of the block's xorb, and the block's own among those of the xorb
-abbrev pub key_of : OfferedBlock → BlockKey
-key_of b = record { place = b.place; number = b.offer.number }
-
--- two keys are equal
-abbrev pub same_key : BlockKey → BlockKey → Bool
-same_key a b = nat_eq a.place b.place && nat_eq a.number b.number
 
 -- the block's URL and what it serves
 abbrev pub retrieval_url : OfferedBlock → RetrievalUrl

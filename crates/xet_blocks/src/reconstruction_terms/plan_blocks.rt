@@ -1,10 +1,6 @@
 //! The blocks of a plan: one for all ranges of an entry or for each of them, where some term lies in it.
 ghost use Rattle.std.specs.Prelude.{◌≡◌, ◌+◌, ◌-◌, ◌^◌, ◌<◌, ◌≤◌, [], ◌∷◌, All, IfErr, IfOk, None, OnOk, length, map, min};
-ghost use Rattle.std.proofs.Common.{rules};
-ghost use Rattle.std.specs.Cmp.{partial_order_from_own_ties};
-ghost use Rattle.std.specs.Cmp.Rules.{comparing};
 ghost use Rattle.std.specs.List.{enumerate_from};
-ghost use Rattle.std.specs.Ordering.{as_partial_cmp, flip_args, nat_cmp, on, then_cmp};
 ghost use Rattle.xet_outside.specs.Plan.{shape};
 ghost use Rattle.xet_blocks.specs.Blocks.{range_bytes, transfer_sum};
 ghost use Rattle.xet_blocks.specs.Refusals.{IsRefusal};
@@ -13,75 +9,17 @@ ghost use Rattle.xet_blocks.specs.steps.Planning.{Fit, HasChunks, HasRanges, Has
 ghost use Rattle.xet_blocks.specs.TermBlocks.{by_start};
 ghost use Rattle.xet_blocks.specs.PlanChecks.{no_range_test, ranges_test};
 
+use crate::reconstruction_terms::block_list::{BlockList, OfferedBlock};
 use crate::reconstruction_terms::file_term::FileTerm;
 use crate::reconstruction_terms::lists::with_room;
 use crate::reconstruction_terms::plan_offers::{Offer, PlanOffers};
 use crate::reconstruction_terms::retrieval_urls::RetrievalUrl;
 use crate::reconstruction_terms::xorb_block::{XorbBlock, XorbReference};
 use std::alloc::Global;
-use std::cmp::Ordering;
 use std::mem;
-use xet_base::{ChunkRange, FileRange, HttpRange, Keyed, KeyedList, List, MerkleHash, OutOfMemory};
+use xet_base::{ChunkRange, FileRange, HttpRange, List, OutOfMemory};
 use xet_error::{Corruption, FileReconstructionError};
 use xet_outside::{FetchRange, PlanTerm};
-
-/// What tells a term's block from others: the number of its xorb, and its number among the blocks that the xorb
-/// offers. A term lies in no block before its own, so that the blocks of two terms with different numbers have
-/// different ranges. The greater ones come first: the keys of a plan mostly rise, and a search through an ordered map
-/// looks at its first ones first.
-#[derive(Clone, Copy, PartialEq, Eq)]
-pub(crate) struct BlockKey {
-    place: usize,
-    number: usize,
-}
-
-impl Ord for BlockKey {
-    ghost cmp = { then_cmp (on (λ k. k.place) (flip_args nat_cmp)) (on (λ k. k.number) (flip_args nat_cmp)) };
-
-    ghost total = { Prim.search (comparing, rules) };
-
-    ghost matches_partial_cmp = { Prim.search (comparing, rules) };
-
-    ghost matches_eq = { Prim.search (comparing, rules) };
-
-    fn cmp(&self, other: &BlockKey) -> Ordering {
-        other
-            .place
-            .cmp(&self.place)
-            .then(other.number.cmp(&self.number))
-    }
-}
-
-impl PartialOrd for BlockKey {
-    ghost partial_cmp = { as_partial_cmp
-        (then_cmp (on (λ k. k.place) (flip_args nat_cmp)) (on (λ k. k.number) (flip_args nat_cmp))) };
-
-    ghost laws = { partial_order_from_own_ties (Prim.search (comparing, rules)) (Prim.search (comparing, rules)) };
-
-    fn partial_cmp(&self, other: &BlockKey) -> Option<Ordering> {
-        Some(self.cmp(other))
-    }
-}
-
-/// A block of a xorb, by one of its ranges.
-#[derive(Clone, Copy)]
-pub(crate) struct OfferedBlock<'a> {
-    pub(crate) xorb: MerkleHash,
-    /// The number of the xorb among those of the plan.
-    pub(crate) place: usize,
-    pub(crate) offer: Offer<'a>,
-}
-
-impl<'a> Keyed<BlockKey> for OfferedBlock<'a> {
-    ghost key_of = { λ b. record { place = b.place; number = b.offer.number } };
-
-    fn key(&self) -> BlockKey {
-        BlockKey {
-            place: self.place,
-            number: self.offer.number,
-        }
-    }
-}
 
 /// A term of a plan, the number of its block, and how many of the block's chunks come before it.
 #[derive(Clone, Copy)]
@@ -94,7 +32,7 @@ pub(crate) struct PlacedTerm {
 /// The terms of a plan, and their blocks in the order of first use.
 #[derive(Drop)]
 pub(crate) struct PlanBlocks<'a> {
-    blocks: KeyedList<BlockKey, OfferedBlock<'a>>,
+    blocks: BlockList<'a>,
     terms: List<PlacedTerm>,
 }
 
@@ -115,13 +53,16 @@ impl<'a> PlanBlocks<'a> {
             (IsRefusal (no_range_test (shape offers.now.plan.now) offers.now.multirange)) }
     {
         let mut made = PlanBlocks::with_room(alloc, xorbs.len())?;
+        // the range after that of the term before, which is often the next term's
+        let mut near = 0usize;
         for (number, term) in offers.plan.terms.as_slice().iter().enumerate() {
             let place = xorbs[number];
-            let Some(offer) = offers.find(place, term) else {
+            let Some(offer) = offers.find(place, term, near) else {
                 let failed = Corruption::NoRange { term: number };
                 return Err(FileReconstructionError::CorruptedReconstruction(failed));
             };
-            made.add_term(term, place, offer)?;
+            near = offer.number.saturating_add(1);
+            made.add_term(alloc, term, place, offer)?;
         }
         Ok(made)
     }
@@ -132,7 +73,7 @@ impl<'a> PlanBlocks<'a> {
         ensures terms { IfOk result (λ made. made.terms ≡ []) }
     {
         Ok(PlanBlocks {
-            blocks: KeyedList::new(alloc),
+            blocks: BlockList::new(alloc),
             terms: with_room(alloc, terms)?,
         })
     }
@@ -140,6 +81,7 @@ impl<'a> PlanBlocks<'a> {
     /// Adds a term that lies in this range of the xorb with this number.
     fn add_term(
         &mut self,
+        alloc: Global,
         term: &PlanTerm,
         place: usize,
         offer: Offer<'a>,
@@ -150,7 +92,7 @@ impl<'a> PlanBlocks<'a> {
             (record { xorb = term.now.xorb; place = place; offer = offer.entry })) }
     {
         let xorb = term.xorb;
-        let block = self.number_of(OfferedBlock { xorb, place, offer })?;
+        let block = self.number_of(alloc, OfferedBlock { xorb, place, offer })?;
         let inside = u64::from(first_chunk(term) - offer.range.chunks.start);
         self.terms.push(PlacedTerm {
             term: *term,
@@ -161,16 +103,16 @@ impl<'a> PlanBlocks<'a> {
     }
 
     /// The number of a block, which is added where it is not there.
-    fn number_of(&mut self, block: OfferedBlock<'a>) -> Result<usize, OutOfMemory>
+    fn number_of(&mut self, alloc: Global, block: OfferedBlock<'a>) -> Result<usize, OutOfMemory>
         requires { IsToldApart block self.old.blocks }
         ensures number { IfOk result (IsNumbered self.old.blocks self.new.blocks block.entry) }
         ensures terms { self.new.terms ≡ self.old.terms }
     {
-        if let Some(number) = self.blocks.position(&block.key()) {
+        if let Some(number) = self.blocks.position(block.key()) {
             return Ok(number);
         }
         let number = self.blocks.len();
-        self.blocks.push(block)?;
+        self.blocks.push(alloc, block)?;
         Ok(number)
     }
 

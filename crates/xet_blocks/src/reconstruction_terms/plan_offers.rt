@@ -1,5 +1,5 @@
 //! Where the chunks of a plan's terms are fetched: the ranges that the entries of its xorbs offer.
-ghost use Rattle.std.specs.Prelude.{◌≡◌, ◌++◌, ◌∷◌, [], false, find, length, map, nat_le, not, option_map, true, IfOk, IsSome, MatchOption, None, OnOk, Some, position};
+ghost use Rattle.std.specs.Prelude.{◌≡◌, ◌++◌, ◌∷◌, [], false, find, length, map, nat_le, not, option_map, true, IfOk, IfSome, IsSome, MatchOption, None, OnOk, Some, position};
 ghost use Rattle.std.specs.List.Sorted.{IsPartitionPoint};
 ghost use Rattle.xet_base.specs.Hashes.{hash_eq};
 ghost use Rattle.xet_outside.specs.Plan.{shape};
@@ -146,13 +146,13 @@ impl<'a> XorbOffers<'a> {
         self.xorb.cmp(xorb).is_eq()
     }
 
-    /// The first range in which the term lies. Where the ranges ascend no other one has the term, and its place is
-    /// searched by halves.
-    fn find(&self, term: &PlanTerm) -> Option<Offer<'a>>
+    /// The first range in which the term lies. Where the ranges ascend no other one has the term: this place is looked
+    /// at first, and else its place is searched by halves.
+    fn find(&self, term: &PlanTerm, near: usize) -> Option<Offer<'a>>
         ensures { result ≡ find (λ o. lies_in term.now o.range) self.now.offers }
     {
         if self.ascending {
-            find_by_halves(self.offers.as_slice(), term)
+            find_near(self.offers.as_slice(), near, term)
         } else {
             find_in_order(self.offers.as_slice(), term)
         }
@@ -203,6 +203,26 @@ fn find_by_halves<'a>(offers: &[Offer<'a>], term: &PlanTerm) -> Option<Offer<'a>
 {
     let offer = *offers.get(count_before(offers, term.range.start))?;
     lies_in(term, &offer.range).then_some(offer)
+}
+
+/// The range at a place, where the term lies in it, of ranges that ascend.
+fn offer_at<'a>(offers: &[Offer<'a>], place: usize, term: &PlanTerm) -> Option<Offer<'a>>
+    requires { unordered 0 (map (λ o. o.range) offers.now) ≡ false }
+    ensures { IfSome result (λ offer. find (λ o. lies_in term.now o.range) offers.now ≡ Some offer) }
+{
+    let offer = *offers.get(place)?;
+    lies_in(term, &offer.range).then_some(offer)
+}
+
+/// The range in which the term lies, of ranges that ascend: `find_by_halves`, which looks at a place first.
+fn find_near<'a>(offers: &[Offer<'a>], near: usize, term: &PlanTerm) -> Option<Offer<'a>>
+    requires { unordered 0 (map (λ o. o.range) offers.now) ≡ false }
+    ensures { result ≡ find (λ o. lies_in term.now o.range) offers.now }
+{
+    match offer_at(offers, near, term) {
+        Some(offer) => Some(offer),
+        None => find_by_halves(offers, term),
+    }
 }
 
 /// What the entries of a plan's xorbs offer. Of two xorbs with one hash the first counts.
@@ -280,11 +300,12 @@ impl<'a> PlanOffers<'a> {
         }
     }
 
-    /// The first range in which the term lies of the xorb with this number, which is the term's.
-    pub(crate) fn find(&self, xorb: usize, term: &PlanTerm) -> Option<Offer<'a>>
+    /// The first range in which the term lies of the xorb with this number, which is the term's. Where the xorb's
+    /// ranges ascend, the one at this place is looked at first.
+    pub(crate) fn find(&self, xorb: usize, term: &PlanTerm, near: usize) -> Option<Offer<'a>>
         requires { xorb ≡ xorb_place self.now.plan.now term.now.xorb }
         ensures { option_map offered result ≡ offer_of_term self.now.plan.now self.now.multirange term.now }
     {
-        self.xorbs.as_slice().get(xorb)?.find(term)
+        self.xorbs.as_slice().get(xorb)?.find(term, near)
     }
 }

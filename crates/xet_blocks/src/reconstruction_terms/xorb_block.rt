@@ -1,5 +1,5 @@
 //! Blocks: what is fetched at once of a xorb.
-ghost use Rattle.std.specs.Prelude.{◌≡◌, ◌-◌, ◌++◌, Some, None, OnErr, OnOk, IfOk, IfErr, zip};
+ghost use Rattle.std.specs.Prelude.{◌≡◌, ◌-◌, ◌++◌, Some, None, OnErr, OnOk, IfOk, IfErr, length, zip};
 ghost use Rattle.std.specs.Prelude.{◌<◌, All};
 ghost use Rattle.std.specs.List.{range_with_len};
 ghost use Rattle.std.specs.Result.{result_err};
@@ -13,7 +13,7 @@ ghost use Rattle.xet_blocks.specs.steps.Reached.{size_between};
 
 use crate::reconstruction_terms::lists::with_room;
 use crate::reconstruction_terms::reached_sizes::{ReachedSizes, sizes_fit};
-use crate::reconstruction_terms::retrieval_urls::TermBlockRetrievalURLs;
+use crate::reconstruction_terms::retrieval_urls::{RetrievalUrl, TermBlockRetrievalURLs};
 use bytes::Bytes;
 use std::alloc::Global;
 use xet_base::{ChunkRange, List, MerkleHash, OutOfMemory};
@@ -144,6 +144,36 @@ impl XorbBlock {
             xorb: self.xorb_hash,
             chunks,
             bytes,
+        }))
+    }
+
+    /// The request by which the block is fetched, as `request` makes it, with the URL and the byte ranges that the table
+    /// had: they go from the table into the request, and no copy is made of them. The table keeps its length and its
+    /// acquisition.
+    ///
+    /// The Rust crate has no such call.
+    pub fn take_request(
+        &self,
+        alloc: Global,
+        urls: &mut TermBlockRetrievalURLs,
+    ) -> Result<Option<BlockRequest>>
+        ensures call { RequestCall self.now urls.old result }
+        ensures acquisition { urls.new.acquisition_id ≡ urls.old.acquisition_id }
+        ensures count { length urls.new.retrieval_urls ≡ length urls.old.retrieval_urls }
+    {
+        let chunks = self.chunk_ranges.copied(alloc)?;
+        let acquisition = urls.acquisition_id();
+        let Some(found) = urls.take(alloc, self.xorb_block_index) else {
+            return Ok(None);
+        };
+        let RetrievalUrl { url, ranges } = found;
+        Ok(Some(BlockRequest {
+            acquisition,
+            index: self.xorb_block_index,
+            url,
+            xorb: self.xorb_hash,
+            chunks,
+            bytes: ranges,
         }))
     }
 

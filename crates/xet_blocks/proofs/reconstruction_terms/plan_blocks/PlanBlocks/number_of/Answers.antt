@@ -1,6 +1,6 @@
 use Rattle.std.proofs.Common.{◌≡◌, ◌∙◌, ap, refl, sym, None, Some}
-use Rattle.xet_blocks.specs.steps.Planning.{key_of}
-use Rattle.xet_blocks.proofs.BlockWalk.{numbered_found, numbered_new, place_of_key}
+use Rattle.xet_blocks.specs.steps.BlockKeys.{key_of, place_of_key}
+use Rattle.xet_blocks.proofs.BlockWalk.{numbered_found, numbered_new}
 use Rattle.xet_blocks.proofs.reconstruction_terms.plan_blocks.PlanBlocks.number_of.Goals as goal
 
 pub push-requires : goal.push-requires

@@ -3,7 +3,7 @@ use Rattle.std.specs.Prelude.{All, Vec}
 use Rattle.std.specs.declared.alloc.Global.{Global}
 use Rattle.std.specs.List.{enumerate_from}
 use Rattle.std.proofs.lemmas.List.{length-map, map-set}
-use Rattle.xet_blocks.specs.declared.reconstruction_terms.plan_blocks.OfferedBlock.{OfferedBlock}
+use Rattle.xet_blocks.specs.declared.reconstruction_terms.block_list.OfferedBlock.{OfferedBlock}
 use Rattle.xet_blocks.specs.declared.reconstruction_terms.xorb_block.XorbReference.{XorbReference}
 use Rattle.xet_blocks.specs.steps.Planning.{HasRanges, lists_of, numbered_block, own_references, plan_block, with_references}
 use Rattle.xet_blocks.proofs.BlockWalk.{numbered-push}
