@@ -1,17 +1,16 @@
 -- The end of the writer in order.
-use Rattle.std.proofs.Common.{◌≡◌, ℕ, zero, suc, ◌+◌, ◌≤◌, drop, List, [], ◌∷◌, ◌++◌, length, Bool, true, Option, Some, None, Ok, Err, Result, ap, sym, ◌∙◌, refl, arith, ◌⊎◌, inl, inr}
-use Rattle.std.specs.Prelude.{IfErr}
+use Rattle.std.proofs.Common.{◌≡◌, ℕ, zero, suc, ◌+◌, ◌≤◌, drop, List, [], ◌∷◌, ◌++◌, length, Bool, true, Option, Some, None, Ok, Err, Result, ap, sym, ◌∙◌, refl, arith, inl, inr}
+use Rattle.std.specs.Prelude.{IfErr, IfOk}
 use Rattle.std.specs.List.{concat}
 use Rattle.std.proofs.lemmas.List.{take_all, drop_all}
 use Rattle.std.proofs.Math.Seq.{take-length}
 use Rattle.xet_run.specs.declared.budget.Admission.{Admission}
-use Rattle.xet_outside.specs.Told.{SinkTold, Rose}
+use Rattle.xet_outside.specs.Told.{SinkTold}
 use Rattle.xet_error.specs.declared.error.FileReconstructionError.{FileReconstructionError}
-use Rattle.xet_error.specs.declared.error.FileReconstructionError.TheVariants as error
 use Rattle.xet_writers.specs.declared.queued_term.QueuedTerm.{QueuedTerm}
 use Rattle.xet_writers.specs.Queues.{admissions, bytes_then, ready, ready_bytes, wanted}
-use Rattle.xet_writers.specs.Calls.{FailedEnd}
-use Rattle.xet_writers.specs.Sequential.{Sequential, Wrote, WrotePart, told_of}
+use Rattle.xet_writers.specs.Calls.{DoneEnd, FailedEnd, SinkCause}
+use Rattle.xet_writers.specs.Sequential.{NotEnded, Sequential, Wrote, sums_of, told_of}
 use Rattle.xet_writers.specs.steps.SequentialSteps.{Flushed, Last}
 
 ready_one : (t : QueuedTerm) (ts : List QueuedTerm) (o : Option (List ℕ)) → t.bytes ≡ o → wanted (t ∷ ts) ≡ [] → (wanted ts ≡ [] → length (ready ts) ≡ length ts) → length (bytes_then o (ready ts)) ≡ suc (length ts)
@@ -26,7 +25,10 @@ ready_all (t ∷ ts) w = ready_one t ts t.bytes refl w (λ v. ready_all ts v)
 same_parts : {S : Type 0} (s : S) (v v2 : Bool) (q q2 : List QueuedTerm) (r r2 : List Admission) (e e2 d d2 : ℕ) (k k2 : Option FileReconstructionError) → v ≡ v2 → q ≡ q2 → r ≡ r2 → e ≡ e2 → d ≡ d2 → k ≡ k2 → ◌≡◌ {A = Sequential S} (record { sink = s; vectored = v; queue = q; released = r; expected = e; delivered = d; kept = k; finished = true }) (record { sink = s; vectored = v2; queue = q2; released = r2; expected = e2; delivered = d2; kept = k2; finished = true })
 same_parts s v v2 q q2 r r2 e e2 d d2 k k2 hv hq hr he hd hk = rw (hv, hq, hr, he, hd, hk) refl
 
-later : (a b n : SinkTold) (e : FileReconstructionError) → a.faults ≤ b.faults → (e ≡ error.OutOfMemory) ⊎ ((e ≡ error.IoError) × Rose b.faults n.faults) → (e ≡ error.OutOfMemory) ⊎ ((e ≡ error.IoError) × Rose a.faults n.faults)
+unflushed_parts : {S : Type 0} (s : S) (v v2 : Bool) (q q2 : List QueuedTerm) (r r2 : List Admission) (e e2 d d2 : ℕ) (k : Option FileReconstructionError) (f f2 : Bool) → v ≡ v2 → q ≡ q2 → r ≡ r2 → e ≡ e2 → d ≡ d2 → f ≡ f2 → ◌≡◌ {A = Sequential S} (record { sink = s; vectored = v; queue = q; released = r; expected = e; delivered = d; kept = k; finished = f }) (record { sink = s; vectored = v2; queue = q2; released = r2; expected = e2; delivered = d2; kept = k; finished = f2 })
+unflushed_parts s v v2 q q2 r r2 e e2 d d2 k f f2 hv hq hr he hd hf = rw (hv, hq, hr, he, hd, hf) refl
+
+later : (a b n : SinkTold) (e : FileReconstructionError) → a.faults ≤ b.faults → SinkCause b.faults n.faults e → SinkCause a.faults n.faults e
 later a b n e h (inl x) = inl x
 later a b n e h (inr (x, r)) = inr (x, omega arith)
 
@@ -68,28 +70,15 @@ module _ {S : Type 0} (told : S → SinkTold) (b m n : Sequential S) (k : ℕ) (
   last_err e f =
       let p = wrote.whole.passed in
       let d = f.failed in
-      let x = d.0 in
       let g = f.faults in
       let h = wrote.faults in
-      let l = ap (λ (ps : List (List ℕ)). length (concat ps)) (take-length (ready b.queue)) in
       record {
         done = tt;
-        part = inr (record {
-          terms = length (ready b.queue);
-          passed = record {
-            within = p.within;
-            queue = ap (λ v. v.queue) x ∙ p.queue;
-            released = ap (λ v. v.released) x ∙ p.released;
-            delivered = ap (λ v. v.delivered) x ∙ p.delivered;
-            expected = ap (λ v. v.expected) x ∙ p.expected;
-            finished = ap (λ v. v.finished) x ∙ p.finished;
-            vectored = ap (λ v. v.vectored) x ∙ p.vectored;
-          };
-          took = record { count = length (ready_bytes b.queue); above = omega arith; within = omega arith; took = rw take-length (f.took ∙ wrote.whole.took) };
-          full = λ l. absurd (omega arith);
-          kept = ap (λ v. v.kept) x;
+        part = inr (inr (record {
+          left = d.0 ∙ unflushed_parts n.sink m.vectored b.vectored m.queue [] m.released (b.released ++ admissions b.queue) m.expected b.expected m.delivered b.expected (Some e) m.finished b.finished p.vectored left_empty left_released p.expected (delivered_is ∙ room) p.finished;
+          took = f.took ∙ wrote.whole.took;
           cause = later (told b.sink) (told m.sink) (told n.sink) e h d.1;
-        });
+        }));
         unflushed = f.unflushed ∙ wrote.flushed;
         link = f.link ∙ wrote.link;
         faults = omega arith;
@@ -109,17 +98,29 @@ wanted_drop zero ts w = w
 wanted_drop (suc k) [] w = refl
 wanted_drop (suc k) (t ∷ ts) w = wanted_drop k ts (wanted_tail t ts t.bytes refl w)
 
-either_cause : {S : Type 0} (told : S → SinkTold) (b n : Sequential S) (e : FileReconstructionError) → (e ≡ error.OutOfMemory) ⊎ ((e ≡ error.IoError) × Rose (told b.sink).faults (told n.sink).faults) → (e ≡ error.OutOfMemory) ⊎ (e ≡ error.IoError)
-either_cause told b n e (inl x) = inl x
-either_cause told b n e (inr x) = inr x.0
-
-failed_end : {S : Type 0} (told : S → SinkTold) (b n : Sequential S) (e : FileReconstructionError) → wanted b.queue ≡ [] → ((e ≡ error.OutOfMemory) × (n ≡ b)) ⊎ WrotePart told b n e → FailedEnd (told_of b) (told_of n) e
+failed_end : {S : Type 0} (told : S → SinkTold) (b n : Sequential S) (e : FileReconstructionError) → wanted b.queue ≡ [] → NotEnded told b n e → FailedEnd (told_of b) (told_of n) (told b.sink).faults (told n.sink).faults e
 failed_end told b n e w (inl x) = inl (x.0, ap told_of x.1)
-failed_end told b n e w (inr p) =
+failed_end told b n e w (inr (inl p)) =
     let q = p.passed in
     let r : wanted n.queue ≡ wanted b.queue = ap wanted q.queue ∙ wanted_drop p.terms b.queue w ∙ sym w in
-    inr (rw (q.expected, r, p.kept, q.finished) refl, either_cause told b n e p.cause)
+    inr (rw (q.expected, r, p.kept, q.finished) refl, p.cause)
+failed_end told b n e w (inr (inr u)) = inr (ap told_of u.left ∙ rw w refl, u.cause)
 
-pub failed_any : {S : Type 0} (told : S → SinkTold) (b n : Sequential S) (answer : Result ℕ FileReconstructionError) → wanted b.queue ≡ [] → Last told b n answer → IfErr answer (FailedEnd (told_of b) (told_of n))
+pub failed_any : {S : Type 0} (told : S → SinkTold) (b n : Sequential S) (answer : Result ℕ FileReconstructionError) → wanted b.queue ≡ [] → Last told b n answer → IfErr answer (FailedEnd (told_of b) (told_of n) (told b.sink).faults (told n.sink).faults)
 failed_any told b n (Ok k) w l = tt
 failed_any told b n (Err e) w l = failed_end told b n e w l.part
+
+-- and of one that did not: the answer is the bytes of all terms
+pub done_any : {S : Type 0} (told : S → SinkTold) (b n : Sequential S) (answer : Result ℕ FileReconstructionError) → wanted b.queue ≡ [] → Last told b n answer → IfOk answer (DoneEnd (told_of b) (told_of n) (sums_of told b))
+done_any told b n (Ok k) w l = (ap told_of l.done.left ∙ rw w refl, l.done.all)
+done_any told b n (Err e) w l = tt
+
+same_place : {S : Type 0} (told : S → SinkTold) (b n : Sequential S) (e : FileReconstructionError) → NotEnded told b n e → n.expected ≡ b.expected
+same_place told b n e (inl x) = ap (λ v. v.expected) x.1
+same_place told b n e (inr (inl p)) = p.passed.expected
+same_place told b n e (inr (inr u)) = ap (λ v. v.expected) u.left
+
+-- no end takes a term
+pub same_bytes : {S : Type 0} (told : S → SinkTold) (b n : Sequential S) (answer : Result ℕ FileReconstructionError) → Last told b n answer → n.expected ≡ b.expected
+same_bytes told b n (Ok k) l = ap (λ v. v.expected) l.done.left
+same_bytes told b n (Err e) l = same_place told b n e l.part

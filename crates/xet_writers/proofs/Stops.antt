@@ -1,5 +1,5 @@
 -- Where a write failed: the place among the pieces with bytes, and among the ready terms.
-use Rattle.std.proofs.Common.{◌≡◌, ◌⊎◌, inl, inr, ℕ, zero, suc, ◌+◌, ◌-◌, ◌<◌, ◌≤◌, Bool, true, false, List, [], ◌∷◌, ◌++◌, take, drop, length, get_or, Option, Some, Ok, Err, Result, ap, sym, ◌∙◌, refl, arith, length-append}
+use Rattle.std.proofs.Common.{◌≡◌, inl, inr, ℕ, zero, suc, ◌+◌, ◌-◌, ◌<◌, ◌≤◌, Bool, true, false, List, [], ◌∷◌, ◌++◌, take, drop, length, get_or, Option, Some, Ok, Err, Result, ap, sym, ◌∙◌, refl, arith, length-append}
 use Rattle.std.specs.Prelude.{nat_lt, IsErrOf}
 use Rattle.std.specs.List.{concat}
 use Rattle.std.proofs.Math.Seq.{take-length}
@@ -9,6 +9,7 @@ use Rattle.xet_outside.specs.declared.sink.SinkError.TheVariants as sink_error
 use Rattle.xet_outside.specs.Told.{SinkTold, Rose}
 use Rattle.xet_error.specs.declared.error.FileReconstructionError.TheVariants as error
 use Rattle.xet_error.specs.Errors.{of_sink_error}
+use Rattle.xet_writers.specs.Calls.{SinkCause}
 use Rattle.xet_writers.specs.Pieces.{StoppedAt, StoppedIn, WrotePieces, bytes_before, nonempty}
 use Rattle.xet_writers.specs.Queues.{admissions, ready}
 use Rattle.xet_writers.specs.Sequential.{Sequential, Wrote, most_pieces}
@@ -102,11 +103,23 @@ same_stop (p ∷ ps) (suc j) (suc k) count a b c d =
     let m = length-append p (concat (take k ps)) in
     ap suc (same_stop ps j k (count - length p) (omega arith) (omega arith) (omega arith) (omega arith))
 
+-- a place whose bytes before it were taken is one of the pieces, where a piece stopped within its own
+stop_within : (ps : List (List ℕ)) (j k count : ℕ) → bytes_before j ps ≤ count → count < bytes_before k ps + length (get_or ps k []) → j ≤ length ps → j < length ps
+stop_within [] j zero count a b w = absurd (omega arith)
+stop_within [] j (suc k) count a b w = absurd (omega arith)
+stop_within (p ∷ ps) zero k count a b w = omega arith
+stop_within (p ∷ ps) (suc j) zero count a b w = let l = length-append p (concat (take j ps)) in absurd (omega arith)
+stop_within (p ∷ ps) (suc j) (suc k) count a b w =
+    let l = length-append p (concat (take j ps)) in
+    let m = length-append p (concat (take k ps)) in
+    let r = stop_within ps j k (count - length p) (omega arith) (omega arith) (omega arith) in
+    omega arith
+
 as_error : (most : ℕ) (ps : List (List ℕ)) (k taken : ℕ) (e : SinkError) → StoppedAt most ps k taken (e ≡ sink_error.OutOfMemory) → StoppedAt most ps k taken (of_sink_error e ≡ error.OutOfMemory)
 as_error most ps k taken sink_error.OutOfMemory s = record { next = s.next; memory = λ _. s.memory refl; handed = s.handed }
 as_error most ps k taken sink_error.Failed s = record { next = s.next; memory = λ x. cc; handed = s.handed }
 
-cause_of : (b n : ℕ) (e : SinkError) → (IsErrOf {T = Unit {0}} (Err e) sink_error.Failed → Rose b n) → (of_sink_error e ≡ error.OutOfMemory) ⊎ ((of_sink_error e ≡ error.IoError) × Rose b n)
+cause_of : (b n : ℕ) (e : SinkError) → (IsErrOf {T = Unit {0}} (Err e) sink_error.Failed → Rose b n) → SinkCause b n (of_sink_error e)
 cause_of b n sink_error.OutOfMemory h = inl refl
 cause_of b n sink_error.Failed h = inr (refl, h refl)
 
@@ -118,6 +131,8 @@ wrote_part told b s p n count e w a h =
     let k : n.sink ≡ s = ap (λ v. v.sink) h ∙ a.sink in
     let used = a.used in
     let above = t.took.above in
+    let l = stop_within (ready b.queue) a.terms t.whole count a.used t.inside u.within in
+    let z = same_stop (ready b.queue) a.terms t.whole count a.used (a.stuck l) t.place t.inside in
     record {
       whole = tt;
       part = inr (record {
@@ -132,9 +147,7 @@ wrote_part told b s p n count e w a h =
           vectored = ap (λ v. v.vectored) h ∙ u.vectored;
         };
         took = record { count = t.took.count; above = omega arith; within = t.took.within; took = rw k t.took.took };
-        full = λ l.
-            let z = same_stop (ready b.queue) a.terms t.whole count a.used (a.stuck l) t.place t.inside in
-            rw z (as_error (most_pieces b) (ready b.queue) t.whole t.took.count e t.stopped);
+        stopped = rw z (as_error (most_pieces b) (ready b.queue) t.whole t.took.count e t.stopped);
         kept = ap (λ v. v.kept) h;
         cause = rw k (cause_of (told b.sink).faults (told s).faults e w.failed);
       });

@@ -2,10 +2,10 @@
 use Rattle.std.proofs.Common.{◌≡◌, ◌⊎◌, inl, inr, ℕ, List, [], ◌++◌, length, Option, Some, None, Ok, Err, Result, ap, sym, ◌∙◌, refl, arith}
 use Rattle.std.proofs.lemmas.List.{append-nil}
 use Rattle.std.specs.Prelude.{OnOk, option_map}
-use Rattle.xet_outside.specs.Told.{SinkTold, Took, TookPrefix, Rose}
+use Rattle.xet_outside.specs.Told.{SinkTold, Took, TookPrefix}
 use Rattle.xet_error.specs.declared.error.FileReconstructionError.{FileReconstructionError}
 use Rattle.xet_error.specs.declared.error.FileReconstructionError.TheVariants as error
-use Rattle.xet_writers.specs.Calls.{closed_by}
+use Rattle.xet_writers.specs.Calls.{SinkCause, closed_by}
 use Rattle.xet_writers.specs.Queues.{ready_bytes}
 use Rattle.xet_writers.specs.Sequential.{ReadyCall, Sequential, WindowCall, Wrote, WroteAll, WrotePart, told_of}
 
@@ -20,7 +20,7 @@ part_prefix : {S : Type 0} (told : S → SinkTold) (b n : Sequential S) (e : Fil
 part_prefix told b n e (inl (x, y)) = let z = ap (λ w. (told w.sink).took) y in rw z (nothing (told b.sink).took (ready_bytes b.queue))
 part_prefix told b n e (inr p) = let t = p.took in record { count = t.count; within = t.within; took = t.took }
 
-part_cause : {S : Type 0} (told : S → SinkTold) (b n : Sequential S) (e : FileReconstructionError) → ((e ≡ error.OutOfMemory) × (n ≡ b)) ⊎ WrotePart told b n e → (e ≡ error.OutOfMemory) ⊎ ((e ≡ error.IoError) × Rose (told b.sink).faults (told n.sink).faults)
+part_cause : {S : Type 0} (told : S → SinkTold) (b n : Sequential S) (e : FileReconstructionError) → ((e ≡ error.OutOfMemory) × (n ≡ b)) ⊎ WrotePart told b n e → SinkCause (told b.sink).faults (told n.sink).faults e
 part_cause told b n e (inl (x, y)) = inl x
 part_cause told b n e (inr p) = p.cause
 

@@ -1,5 +1,5 @@
 -- The calls of a writer: their tests in order, and what they leave.
-use Rattle.std.specs.Prelude.{ℕ, ◌≡◌, ◌⊎◌, ◌-◌, ◌==◌, ◌++◌, nat_lt, cond, if◌then◌else◌, length, List, [], ◌∷◌, Bool, true, Option, Some, None, option_map, Result, Err, OnOk, IfErr}
+use Rattle.std.specs.Prelude.{ℕ, ◌≡◌, ◌⊎◌, ◌+◌, ◌-◌, ◌^◌, ◌≤◌, ◌==◌, ◌++◌, min, nat_lt, cond, if◌then◌else◌, length, List, [], ◌∷◌, Bool, true, Option, Some, None, option_map, Result, Ok, Err, OnOk, IfOk, IfErr}
 use Rattle.std.specs.Option.{option_or}
 use Rattle.xet_base.specs.declared.cas_types.FileRange.{FileRange}
 use Rattle.xet_blocks.specs.declared.reconstruction_terms.file_term.DataSource.{DataSource}
@@ -8,6 +8,7 @@ use Rattle.xet_error.specs.declared.error.FileReconstructionError.{FileReconstru
 use Rattle.xet_error.specs.declared.error.FileReconstructionError.TheVariants as error
 use Rattle.xet_error.specs.declared.error.WriterFault.{WriterFault}
 use Rattle.xet_error.specs.declared.error.WriterFault.TheVariants as fault
+use Rattle.xet_outside.specs.Told.{Rose}
 
 -- what every writer tells: where the next term must start, if that is tested; the ranges of the terms that wait for
 -- bytes, in order; the error that it keeps; and whether it was finished
@@ -16,6 +17,12 @@ pub record WriterTold : Type 0 where
   pub wanted : List FileRange
   pub kept : Option FileReconstructionError
   pub finished : Bool
+
+-- what every writer adds up: the bytes of all terms that it took, a sum that stops at u64::MAX, and the faults of the
+-- sink that it writes into, if it has one
+pub record WriterSums : Type 0 where
+  pub bytes : ℕ
+  pub faults : ℕ
 
 -- ---- tests
 
@@ -112,14 +119,31 @@ pub record SupplyCall (before after : WriterTold) (start : ℕ) (bytes : List �
   pub accepted : Accepted as_told before after (supply_fault before.wanted start bytes)
       (record before { wanted = wanted_without start before.wanted }) answer
 
+-- the bytes of a term were added, where it was taken
+abbrev pub SetSums : WriterSums → WriterSums → FileRange → Result (Unit {0}) FileReconstructionError → Type 0
+SetSums before after r (Ok u) =
+    after ≡ record before { bytes = min (before.bytes + (r.end - r.start)) (2 ^ 64 - 1) }
+SetSums before after r (Err e) = after ≡ before
+
+-- the sink found no memory, or it failed, which its faults tell
+abbrev pub SinkCause : ℕ → ℕ → FileReconstructionError → Type 0
+SinkCause before after e = (e ≡ error.OutOfMemory) ⊎ ((e ≡ error.IoError) × Rose before after)
+
 -- an end that fails: an allocation of the writer was refused, or an error of the sink is kept
-abbrev pub FailedEnd : WriterTold → WriterTold → FileReconstructionError → Type 0
-FailedEnd before after e = ((e ≡ error.OutOfMemory) × (after ≡ before))
-    ⊎ ((after ≡ keeping_told before (Some e)) × ((e ≡ error.OutOfMemory) ⊎ (e ≡ error.IoError)))
+abbrev pub FailedEnd : WriterTold → WriterTold → ℕ → ℕ → FileReconstructionError → Type 0
+FailedEnd before after faults more e = ((e ≡ error.OutOfMemory) × (after ≡ before))
+    ⊎ ((after ≡ keeping_told before (Some e)) × SinkCause faults more e)
+
+-- an end answers the bytes of all terms that were taken
+abbrev pub DoneEnd : WriterTold → WriterTold → WriterSums → ℕ → Type 0
+DoneEnd before after sums count = (after ≡ record before { finished = true }) × (count ≡ sums.bytes)
 
 -- one call that ends the writer
-pub record FinishCall (before after : WriterTold) (answer : Result ℕ FileReconstructionError) : Type 0 where
+pub record FinishCall (before after : WriterTold) (sums more : WriterSums)
+    (answer : Result ℕ FileReconstructionError) : Type 0 where
   pub refused : Refused as_told keeping_told before after (finish_fault before.wanted) answer
-  pub done : closed_by before ≡ None → finish_fault before.wanted ≡ None
-      → OnOk answer (after ≡ record before { finished = true })
-  pub failed : closed_by before ≡ None → finish_fault before.wanted ≡ None → IfErr answer (FailedEnd before after)
+  pub done : closed_by before ≡ None → finish_fault before.wanted ≡ None → IfOk answer (DoneEnd before after sums)
+  pub failed : closed_by before ≡ None → finish_fault before.wanted ≡ None
+      → IfErr answer (FailedEnd before after sums.faults more.faults)
+  pub bytes : more.bytes ≡ sums.bytes
+  pub faults : sums.faults ≤ more.faults

@@ -1,15 +1,15 @@
 -- The writer that writes in order.
-use Rattle.std.specs.Prelude.{ℕ, ◌≡◌, ◌⊎◌, ◌+◌, ◌<◌, ◌≤◌, ◌++◌, cond, length, List, [], ◌∷◌, take, drop, Bool, true, Option, Some, None, option_map, Result, Err, IfOk, IfErr, OnErr}
+use Rattle.std.specs.Prelude.{ℕ, ◌≡◌, ◌⊎◌, ◌+◌, ◌≤◌, ◌++◌, cond, length, List, [], ◌∷◌, take, drop, Bool, true, Option, Some, None, option_map, Result, Err, IfOk, IfErr, OnErr}
 use Rattle.std.specs.List.{concat}
 use Rattle.xet_base.specs.declared.cas_types.FileRange.{FileRange}
 use Rattle.xet_run.specs.declared.budget.Admission.{Admission}
-use Rattle.xet_outside.specs.Told.{SinkTold, Took, TookPrefix, Rose}
+use Rattle.xet_outside.specs.Told.{SinkTold, Took, TookPrefix}
 use Rattle.xet_blocks.specs.declared.reconstruction_terms.file_term.DataSource.{DataSource}
 use Rattle.xet_blocks.specs.declared.reconstruction_terms.file_term.DataSource.TheVariants.{Ready, Wanted}
 use Rattle.xet_error.specs.declared.error.FileReconstructionError.{FileReconstructionError}
 use Rattle.xet_error.specs.declared.error.FileReconstructionError.TheVariants as error
 use Rattle.xet_writers.specs.declared.queued_term.QueuedTerm.{QueuedTerm}
-use Rattle.xet_writers.specs.Calls.{WriterTold, Refused, Accepted, closed_by, set_fault, supply_fault, finish_fault}
+use Rattle.xet_writers.specs.Calls.{WriterTold, WriterSums, Refused, Accepted, SinkCause, closed_by, set_fault, supply_fault, finish_fault}
 use Rattle.xet_writers.specs.Pieces.{StoppedAt, TookAtLeast}
 use Rattle.xet_writers.specs.Queues.{admissions, ready, ready_bytes, supplied, wanted}
 
@@ -29,6 +29,10 @@ pub record Sequential (S : Type 0) : Type 0 where
 -- what it tells as every writer does
 abbrev pub told_of : {S : Type 0} → Sequential S → WriterTold
 told_of w = record { next = Some w.expected; wanted = wanted w.queue; kept = w.kept; finished = w.finished }
+
+-- what it adds up as every writer does: each term starts where the one before it ends, so the next place is their bytes
+abbrev pub sums_of : {S : Type 0} → (S → SinkTold) → Sequential S → WriterSums
+sums_of told w = record { bytes = w.expected; faults = (told w.sink).faults }
 
 abbrev pub keeping : {S : Type 0} → Sequential S → Option FileReconstructionError → Sequential S
 keeping w e = record w { kept = e }
@@ -81,19 +85,18 @@ pub record WroteAll {S : Type 0} (told : S → SinkTold) (before after : Sequent
   pub took : Took (told before.sink).took (told after.sink).took (ready_bytes before.queue)
   pub kept : after.kept ≡ before.kept
 
--- the sink took no more, and the error is kept. The terms that were passed are just those that were taken wholly by
--- writes that were answered, so their admissions came back; of the ready bytes the sink took none out of order, and
--- past these terms none but of the pieces that the write was handed which failed
+-- a write failed, and the error is kept. The terms that were passed are those that answered writes took wholly, so
+-- their admissions came back; of the ready bytes the sink took none out of order, and past these terms none but of the
+-- pieces that the failed write was handed
 pub record WrotePart {S : Type 0} (told : S → SinkTold) (before after : Sequential S)
     (e : FileReconstructionError) : Type 0 where
   pub terms : ℕ
   pub passed : Passed before after terms
   pub took : TookAtLeast (told before.sink).took (told after.sink).took
       (length (concat (take terms (ready before.queue)))) (ready_bytes before.queue)
-  pub full : terms < length (ready before.queue)
-      → StoppedAt (most_pieces before) (ready before.queue) terms took.count (e ≡ error.OutOfMemory)
+  pub stopped : StoppedAt (most_pieces before) (ready before.queue) terms took.count (e ≡ error.OutOfMemory)
   pub kept : after.kept ≡ Some e
-  pub cause : (e ≡ error.OutOfMemory) ⊎ ((e ≡ error.IoError) × Rose (told before.sink).faults (told after.sink).faults)
+  pub cause : SinkCause (told before.sink).faults (told after.sink).faults e
 
 -- a write of what is ready
 pub record Wrote {S : Type 0} (told : S → SinkTold) (before after : Sequential S)
@@ -116,7 +119,7 @@ pub record WindowCall (before after : SinkTold) (window : List ℕ)
     (answer : Result ℕ FileReconstructionError) : Type 0 where
   pub took : IfOk answer (λ k. Took before.took after.took window × (k ≡ length window))
   pub prefix : OnErr answer (TookPrefix before.took after.took window)
-  pub cause : IfErr answer (λ e. (e ≡ error.OutOfMemory) ⊎ ((e ≡ error.IoError) × Rose before.faults after.faults))
+  pub cause : IfErr answer (SinkCause before.faults after.faults)
   pub flushed : after.flushed ≡ before.flushed
   pub link : after.link ≡ before.link
   pub faults : before.faults ≤ after.faults
@@ -135,6 +138,24 @@ pub record Ended {S : Type 0} (told : S → SinkTold) (before after : Sequential
   pub took : Took (told before.sink).took (told after.sink).took (ready_bytes before.queue)
   pub flushed : (told after.sink).flushed ≡ option_map length (told after.sink).took
 
+-- an end whose flush failed: all was written, each admission came back, and the error is kept
+pub record Unflushed {S : Type 0} (told : S → SinkTold) (before after : Sequential S)
+    (e : FileReconstructionError) : Type 0 where
+  pub left : after ≡ record before {
+    sink = after.sink;
+    queue = [];
+    released = before.released ++ admissions before.queue;
+    delivered = before.expected;
+    kept = Some e;
+  }
+  pub took : Took (told before.sink).took (told after.sink).took (ready_bytes before.queue)
+  pub cause : SinkCause (told before.sink).faults (told after.sink).faults e
+
+-- an end that failed: an allocation was refused, a write failed, or the flush did
+abbrev pub NotEnded : {S : Type 0} → (S → SinkTold) → Sequential S → Sequential S → FileReconstructionError → Type 0
+NotEnded told before after e = ((e ≡ error.OutOfMemory) × (after ≡ before)) ⊎ (WrotePart told before after e
+    ⊎ Unflushed told before after e)
+
 -- one call of `finish`
 pub record FinishSequential {S : Type 0} (told : S → SinkTold) (before after : Sequential S)
     (answer : Result ℕ FileReconstructionError) : Type 0 where
@@ -142,7 +163,7 @@ pub record FinishSequential {S : Type 0} (told : S → SinkTold) (before after :
   pub done : closed_by (told_of before) ≡ None → finish_fault (wanted before.queue) ≡ None
       → IfOk answer (Ended told before after)
   pub part : closed_by (told_of before) ≡ None → finish_fault (wanted before.queue) ≡ None
-      → IfErr answer (λ e. ((e ≡ error.OutOfMemory) × (after ≡ before)) ⊎ WrotePart told before after e)
+      → IfErr answer (NotEnded told before after)
   pub unflushed : OnErr answer ((told after.sink).flushed ≡ (told before.sink).flushed)
   pub link : (told after.sink).link ≡ (told before.sink).link
   pub faults : (told before.sink).faults ≤ (told after.sink).faults

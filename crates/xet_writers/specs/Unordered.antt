@@ -7,7 +7,7 @@ use Rattle.xet_blocks.specs.declared.reconstruction_terms.file_term.DataSource.T
 use Rattle.xet_error.specs.declared.error.FileReconstructionError.{FileReconstructionError}
 use Rattle.xet_writers.specs.declared.completed_term.CompletedTerm.{CompletedTerm}
 use Rattle.xet_writers.specs.declared.completed_term.WantedTerm.{WantedTerm}
-use Rattle.xet_writers.specs.Calls.{WriterTold, Refused, Accepted, closed_by, set_fault, supply_fault, finish_fault}
+use Rattle.xet_writers.specs.Calls.{WriterTold, WriterSums, Refused, Accepted, closed_by, set_fault, supply_fault, finish_fault}
 use Rattle.xet_writers.specs.Waits.{first_with, without_first}
 
 -- what contracts see of it: the terms that wait for bytes, in the order in which they came; the completed terms that
@@ -25,6 +25,15 @@ range_of t = t.byte_range
 -- what it tells as every writer does: no place is tested
 abbrev pub told_of : Unordered → WriterTold
 told_of w = record { next = None; wanted = map range_of w.wanted; kept = w.kept; finished = w.finished }
+
+-- the lengths of some terms, summed
+abbrev pub total_length : List WantedTerm → ℕ
+total_length [] = 0
+total_length (t ∷ ts) = (t.byte_range.end - t.byte_range.start) + total_length ts
+
+-- what it adds up as every writer does: the completed terms and the wanted ones, and it has no sink
+abbrev pub sums_of : Unordered → WriterSums
+sums_of w = record { bytes = min (w.total + total_length w.wanted) (2 ^ 64 - 1); faults = 0 }
 
 abbrev pub keeping : Unordered → Option FileReconstructionError → Unordered
 keeping w e = record w { kept = e }
@@ -76,8 +85,3 @@ abbrev pub Taken : Unordered → Unordered → Option CompletedTerm → Type 0
 Taken before after None = (before.completed ≡ []) × (after ≡ before)
 Taken before after (Some t) = (before.completed ≡ t ∷ after.completed)
     × (after ≡ record before { completed = after.completed })
-
--- the lengths of some terms, summed
-abbrev pub total_length : List WantedTerm → ℕ
-total_length [] = 0
-total_length (t ∷ ts) = (t.byte_range.end - t.byte_range.start) + total_length ts

@@ -1,5 +1,6 @@
 //! What every writer of terms does.
-ghost use Rattle.xet_writers.specs.Calls.{FinishCall, SetCall, SupplyCall, WriterTold};
+ghost use Rattle.std.specs.Prelude.{◌≡◌};
+ghost use Rattle.xet_writers.specs.Calls.{FinishCall, SetCall, SetSums, SupplyCall, WriterSums, WriterTold};
 
 use bytes::Bytes;
 use std::alloc::Global;
@@ -23,6 +24,9 @@ pub trait DataWriter {
     /// more.
     ghost told: { Self → WriterTold };
 
+    /// The bytes of all terms that it took, and the faults of its sink, if it has one.
+    ghost sums: { Self → WriterSums };
+
     /// Takes the next term, whose bytes stand in the half-open range. The tests are, in this order: the kept error;
     /// `Finished` after the end; `Reversed` where the range's end is below its start; of a writer in order
     /// `NotSequential` where the term starts elsewhere than the one before it ends; and, where the bytes are there,
@@ -36,7 +40,8 @@ pub trait DataWriter {
         admission: Option<Admission>,
         source: DataSource,
     ) -> Result<()>
-        ensures { SetCall (told self.old) (told self.new) byte_range source result };
+        ensures told { SetCall (told self.old) (told self.new) byte_range source result }
+        ensures sums { SetSums (sums self.old) (sums self.new) byte_range result };
 
     /// Gives the first wanted term with this start its bytes. The tests are, in this order: the kept error; `Finished`
     /// after the end; `NotWanted` where no wanted term has this start; and `Length` where the bytes are not as many as
@@ -44,12 +49,14 @@ pub trait DataWriter {
     ///
     /// In the Rust crate the future of the term gives them.
     fn supply(&mut self, alloc: Global, start: u64, bytes: Bytes) -> Result<()>
-        ensures { SupplyCall (told self.old) (told self.new) start bytes result };
+        ensures told { SupplyCall (told self.old) (told self.new) start bytes result }
+        ensures sums { sums self.new ≡ sums self.old };
 
-    /// Ends the writer, and answers the bytes delivered. The tests are, in this order: the kept error; `Finished` after
+    /// Ends the writer, and answers the bytes delivered, which are those of all terms that it took, a sum that stops at
+    /// `u64::MAX`. The tests are, in this order: the kept error; `Finished` after
     /// the end; and `StillWanted`, with the start of the first term in order that waits for bytes.
     ///
     /// In the Rust crate: `file_reconstruction::data_writer::DataWriter::finish`.
     fn finish(&mut self, alloc: Global) -> Result<u64>
-        ensures { FinishCall (told self.old) (told self.new) result };
+        ensures { FinishCall (told self.old) (told self.new) (sums self.old) (sums self.new) result };
 }

@@ -135,8 +135,8 @@ pub(crate) struct Batch {
     pub(crate) sent: Sent,
 }
 
-/// Writes the terms from number `at` on, up to the first wanted one, at most 24 that have bytes. Their bytes are lent to
-/// the list for the write, and stand in the queue again after it.
+/// Writes the terms from number `at` on, up to the first wanted one, at most 24 that have bytes. Their bytes are lent
+/// to the list for the write, and stand in the queue again after it.
 pub(crate) fn write_batch<S: Sink>(
     sink: &mut S,
     queue: &mut VecDeque<QueuedTerm>,

@@ -8,7 +8,8 @@ use xet_blocks::DataSource;
 use xet_error::{FileReconstructionError, Result, WriterFault};
 use xet_outside::{Sink, SinkError};
 use xet_run::Admission;
-use xet_writers::DataWriter;
+use xet_sinks::VecSink;
+use xet_writers::{DataWriter, SequentialWriter};
 
 /// One call of a writer.
 #[derive(Clone, Copy, Debug)]
@@ -44,6 +45,28 @@ pub(crate) fn make<W: DataWriter>(alloc: Global, writer: &mut W, call: Call) -> 
     }
 }
 
+/// A call of a writer in order, none being `write_ready`, and the answer that is wanted.
+pub(crate) type Row = (Option<Call>, Result<u64>);
+
+/// Makes the calls in turn, and answers the number of the first with another answer than the wanted one.
+pub(crate) fn first_wrong<S: Sink>(
+    alloc: Global,
+    writer: &mut SequentialWriter<S>,
+    rows: &[Row],
+) -> Option<usize> {
+    for i in 0..rows.len() {
+        let (call, wanted) = rows[i];
+        let answer = match call {
+            Some(call) => make(alloc, writer, call),
+            None => writer.write_ready(alloc),
+        };
+        if answer != wanted {
+            return Some(i);
+        }
+    }
+    None
+}
+
 /// Takes a term with an admission of its length.
 pub(crate) fn admitted<W: DataWriter>(
     alloc: Global,
@@ -73,10 +96,11 @@ fn empty_ones(pieces: &[Bytes]) -> usize {
     count
 }
 
-/// Counts the pieces and the taken bytes of its first writes, and the empty pieces of all.
+/// Counts the pieces and the taken bytes of its first writes, the empty pieces of all, and its flushes.
 #[derive(Drop)]
 pub(crate) struct Counting<S> {
     pub(crate) inner: S,
+    pub(crate) flushes: usize,
     pub(crate) count: usize,
     pub(crate) empty: usize,
     pub(crate) calls: [(usize, usize); 6],
@@ -86,6 +110,7 @@ impl<S> Counting<S> {
     pub(crate) fn new(inner: S) -> Counting<S> {
         Counting {
             inner,
+            flushes: 0,
             count: 0,
             empty: 0,
             calls: [(0, 0); 6],
@@ -107,11 +132,15 @@ impl<S: Sink> Sink for Counting<S> {
 
     fn write(&mut self, piece: &[u8]) -> std::result::Result<usize, SinkError> {
         let answer = self.inner.write(piece);
+        if piece.is_empty() {
+            self.empty = self.empty.saturating_add(1);
+        }
         self.note(1, answer.unwrap_or(0));
         answer
     }
 
     fn flush(&mut self) -> std::result::Result<(), SinkError> {
+        self.flushes = self.flushes.saturating_add(1);
         self.inner.flush()
     }
 
@@ -147,5 +176,54 @@ impl Sink for Unflushed {
     fn flush(&mut self) -> std::result::Result<(), SinkError> {
         self.faults = self.faults.saturating_add(1);
         Err(SinkError::Failed)
+    }
+}
+
+/// A sink that finds no memory at one of its writes, the one with this number.
+#[derive(Drop)]
+pub(crate) struct Refusing {
+    pub(crate) inner: VecSink,
+    calls: u64,
+    refused: u64,
+}
+
+impl Refusing {
+    pub(crate) fn new(alloc: Global, refused: u64) -> Refusing {
+        Refusing {
+            inner: VecSink::new(alloc),
+            calls: 0,
+            refused,
+        }
+    }
+
+    /// Whether this write finds no memory.
+    fn is_refused(&mut self) -> bool
+        ensures { self.new.inner ≡ self.old.inner }
+    {
+        let call = self.calls;
+        self.calls = self.calls.saturating_add(1);
+        call == self.refused
+    }
+}
+
+impl Sink for Refusing {
+    ghost told = { λ s. ⟦<VecSink as Sink>⟧.told s.inner };
+
+    fn write(&mut self, piece: &[u8]) -> std::result::Result<usize, SinkError> {
+        if self.is_refused() {
+            return Err(SinkError::OutOfMemory);
+        }
+        self.inner.write(piece)
+    }
+
+    fn flush(&mut self) -> std::result::Result<(), SinkError> {
+        self.inner.flush()
+    }
+
+    fn write_vectored(&mut self, pieces: &[Bytes]) -> std::result::Result<usize, SinkError> {
+        if self.is_refused() {
+            return Err(SinkError::OutOfMemory);
+        }
+        self.inner.write_vectored(pieces)
     }
 }

@@ -5,6 +5,8 @@
 #[cfg(test)]
 mod calls;
 #[cfg(test)]
+mod failing;
+#[cfg(test)]
 mod over_std;
 #[cfg(test)]
 mod sequential;

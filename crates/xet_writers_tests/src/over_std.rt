@@ -3,8 +3,9 @@ use crate::calls::{Call, make};
 use std::alloc::Global;
 use std::fs::{self, File};
 use std::io::{self, ErrorKind, Write};
+use std::test::Fail;
 use xet_error::FileReconstructionError;
-use xet_sinks::{FileSink, WriteSink};
+use xet_sinks::{BufferedSink, FileSink, WriteSink};
 use xet_writers::{DataWriter, SequentialWriter};
 
 /// A writer that is interrupted so often before each write, which then takes at most so many bytes.
@@ -46,6 +47,27 @@ impl Write for Interrupted {
     }
 }
 
+/// A writer that counts its writes and takes all.
+#[derive(Drop)]
+struct Counted {
+    calls: usize,
+    taken: Vec<u8>,
+}
+
+impl Write for Counted {
+    fn write(&mut self, piece: &[u8]) -> io::Result<usize> {
+        self.calls = self.calls.saturating_add(1);
+        if self.taken.extend_from_slice(piece).is_err() {
+            return Err(ErrorKind::OutOfMemory.into());
+        }
+        Ok(piece.len())
+    }
+
+    fn flush(&mut self) -> io::Result<()> {
+        Ok(())
+    }
+}
+
 /// Takes three terms.
 fn take_terms<W: DataWriter>(alloc: Global, writer: &mut W) -> bool {
     make(alloc, writer, Call::Ready(0, 5, b"Hello")).is_ok()
@@ -76,6 +98,36 @@ fn interrupted_writes_are_tried_again(rt: HostRuntime) {
             assert!(rt; inner.taken.as_slice() == taken);
         }
     }
+}
+
+/// Writes thirty terms of one byte, and ends. Whether each call was answered so.
+fn write_thirty<W: DataWriter>(alloc: Global, writer: &mut W) -> bool {
+    for i in 0..30u64 {
+        if make(alloc, writer, Call::Ready(i, i + 1, b"x")).is_err() {
+            return false;
+        }
+    }
+    writer.finish(alloc) == Ok(30)
+}
+
+#[test]
+fn a_buffer_saves_calls(rt: HostRuntime) -> std::result::Result<(), Fail> {
+    let alloc = rt.alloc();
+    for use_vectorized in [false, true] {
+        for (capacity, calls) in [(1, 30), (8, 4), (64, 1)] {
+            let mut inner = Counted {
+                calls: 0,
+                taken: Vec::new(alloc),
+            };
+            let sink = BufferedSink::new(alloc, WriteSink::new(&mut inner), capacity)?;
+            let mut writer = SequentialWriter::new(alloc, sink, use_vectorized);
+            assert!(rt; write_thirty(alloc, &mut writer));
+            let _sink = writer.into_inner().into_inner();
+            assert_eq!(rt; inner.calls, calls);
+            assert_eq!(rt; inner.taken.len(), 30);
+        }
+    }
+    Ok(())
 }
 
 #[test]

@@ -121,6 +121,7 @@ fn admissions_come_back_in_order(rt: HostRuntime) -> Result<(), Fail> {
     assert_eq!(rt; admitted(alloc, &mut writer, 0, first, b"Hello"), Ok(()));
     assert_eq!(rt; admitted(alloc, &mut writer, 5, empty, b""), Ok(()));
     assert!(rt; writer.take_released().is_none());
+    assert_eq!(rt; writer.next_start(), 5);
     assert_eq!(rt; writer.write_ready(alloc), Ok(5));
     assert_eq!(rt; admitted(alloc, &mut writer, 5, last, b"-"), Ok(()));
     assert_eq!(rt; writer.finish(alloc), Ok(6));

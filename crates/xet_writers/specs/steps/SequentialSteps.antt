@@ -1,14 +1,13 @@
 -- The steps of the writer in order.
-use Rattle.std.specs.Prelude.{ℕ, zero, suc, ◌≡◌, ◌⊎◌, ◌+◌, ◌<◌, ◌≤◌, ◌++◌, length, get_or, List, [], ◌∷◌, true, Option, Some, None, option_map, option_to_list, Result, IfOk, IfErr, OnErr}
-use Rattle.xet_outside.specs.Told.{SinkTold, Rose}
+use Rattle.std.specs.Prelude.{ℕ, zero, suc, ◌≡◌, ◌+◌, ◌<◌, ◌≤◌, ◌++◌, length, get_or, List, [], ◌∷◌, true, Option, Some, None, option_map, option_to_list, Result, IfOk, IfErr, OnErr}
+use Rattle.xet_outside.specs.Told.{SinkTold}
 use Rattle.xet_error.specs.declared.error.FileReconstructionError.{FileReconstructionError}
-use Rattle.xet_error.specs.declared.error.FileReconstructionError.TheVariants as error
 use Rattle.xet_error.specs.declared.error.WriterFault.{WriterFault}
 use Rattle.xet_writers.specs.declared.queued_term.QueuedTerm.{QueuedTerm}
-use Rattle.xet_writers.specs.Calls.{supply_fault, wanted_without}
+use Rattle.xet_writers.specs.Calls.{SinkCause, supply_fault, wanted_without}
 use Rattle.xet_writers.specs.Pieces.{bytes_before}
 use Rattle.xet_writers.specs.Queues.{ready, ready_bytes, supplied, wanted}
-use Rattle.xet_writers.specs.Sequential.{Sequential, Ended, Passed, WrotePart}
+use Rattle.xet_writers.specs.Sequential.{Sequential, Ended, NotEnded, Passed}
 
 -- a term of the queue has these bytes now
 abbrev pub with_bytes : List QueuedTerm → ℕ → List ℕ → List QueuedTerm
@@ -63,7 +62,7 @@ pub record Flushed {S : Type 0} (told : S → SinkTold) (before after : Sequenti
   pub done : IfOk answer (λ k. (after ≡ record before { sink = after.sink; finished = true }) × (k ≡ before.delivered)
       × ((told after.sink).flushed ≡ option_map length (told after.sink).took))
   pub failed : IfErr answer (λ e. (after ≡ record before { sink = after.sink; kept = Some e })
-      × ((e ≡ error.OutOfMemory) ⊎ ((e ≡ error.IoError) × Rose (told before.sink).faults (told after.sink).faults)))
+      × SinkCause (told before.sink).faults (told after.sink).faults e)
   pub unflushed : OnErr answer ((told after.sink).flushed ≡ (told before.sink).flushed)
   pub link : (told after.sink).link ≡ (told before.sink).link
   pub faults : (told before.sink).faults ≤ (told after.sink).faults
@@ -72,7 +71,7 @@ pub record Flushed {S : Type 0} (told : S → SinkTold) (before after : Sequenti
 pub record Last {S : Type 0} (told : S → SinkTold) (before after : Sequential S)
     (answer : Result ℕ FileReconstructionError) : Type 0 where
   pub done : IfOk answer (Ended told before after)
-  pub part : IfErr answer (λ e. ((e ≡ error.OutOfMemory) × (after ≡ before)) ⊎ WrotePart told before after e)
+  pub part : IfErr answer (NotEnded told before after)
   pub unflushed : OnErr answer ((told after.sink).flushed ≡ (told before.sink).flushed)
   pub link : (told after.sink).link ≡ (told before.sink).link
   pub faults : (told before.sink).faults ≤ (told after.sink).faults

@@ -4,10 +4,10 @@ ghost use Rattle.std.specs.Prelude.{◌≡◌, ◌+◌, ◌<◌, ◌≤◌, ◌^
 ghost use Rattle.std.specs.VecDeque.{deque_capacity, deque_len};
 ghost use Rattle.xet_error.specs.declared.error.FileReconstructionError.TheVariants as error;
 ghost use Rattle.xet_error.specs.Errors.{of_sink_error};
-ghost use Rattle.xet_writers.specs.Calls.{FinishCall, SetCall, SupplyCall, closed_by, finish_fault, kept_fault};
+ghost use Rattle.xet_writers.specs.Calls.{FinishCall, SetCall, SetSums, SupplyCall, closed_by, finish_fault, kept_fault};
 ghost use Rattle.xet_writers.specs.Pieces.{WrotePieces, nonempty};
 ghost use Rattle.xet_writers.specs.Queues.{fits, is_wanted_at, ready, ready_bytes, wanted};
-ghost use Rattle.xet_writers.specs.Sequential.{FinishSequential, ReadyCall, SetSequential, SupplySequential, TookReleased, WindowCall, Wrote, told_of};
+ghost use Rattle.xet_writers.specs.Sequential.{FinishSequential, ReadyCall, SetSequential, SupplySequential, TookReleased, WindowCall, Wrote, sums_of, told_of};
 ghost use Rattle.xet_writers.specs.steps.SequentialSteps.{Flushed, GiveCall, Last, PassedAll, PassedFront, with_bytes};
 ghost use Rattle.xet_writers.specs.steps.WantedPlaces.{places_of};
 
@@ -194,6 +194,13 @@ impl<S> SequentialWriter<S> {
         ensures { TookReleased self.old self.new result }
     {
         self.released.pop_front()
+    }
+
+    /// The place at which the next term must start, which is the bytes of all terms that were taken.
+    pub fn next_start(&self) -> u64
+        ensures { result ≡ self.now.expected }
+    {
+        self.expected
     }
 
     /// The places of the queue: the terms follow one another from the written bytes to the next term's start.
@@ -399,6 +406,8 @@ impl<S: Sink> SequentialWriter<S> {
 impl<S: Sink> DataWriter for SequentialWriter<S> {
     ghost told = { λ w. told_of w };
 
+    ghost sums = { λ w. sums_of S.told w };
+
     fn set_next_term_data_source(
         &mut self,
         alloc: Global,
@@ -407,6 +416,7 @@ impl<S: Sink> DataWriter for SequentialWriter<S> {
         source: DataSource,
     ) -> Result<()>
         ensures told { SetCall (told_of self.old) (told_of self.new) byte_range source result }
+        ensures sums { SetSums (sums_of S.told self.old) (sums_of S.told self.new) byte_range result }
         ensures call { SetSequential self.old self.new byte_range admission source result }
     {
         let _ = alloc;
@@ -429,6 +439,7 @@ impl<S: Sink> DataWriter for SequentialWriter<S> {
 
     fn supply(&mut self, alloc: Global, start: u64, bytes: Bytes) -> Result<()>
         ensures told { SupplyCall (told_of self.old) (told_of self.new) start bytes result }
+        ensures sums { sums_of S.told self.new ≡ sums_of S.told self.old }
         ensures call { SupplySequential self.old self.new start bytes result }
     {
         let _ = alloc;
@@ -442,7 +453,8 @@ impl<S: Sink> DataWriter for SequentialWriter<S> {
     }
 
     fn finish(&mut self, alloc: Global) -> Result<u64>
-        ensures told { FinishCall (told_of self.old) (told_of self.new) result }
+        ensures told { FinishCall (told_of self.old) (told_of self.new) (sums_of S.told self.old)
+            (sums_of S.told self.new) result }
         ensures call { FinishSequential S.told self.old self.new result }
     {
         if let Some(error) = self.closed() {

@@ -1,7 +1,7 @@
 //! The writer that gives terms out in the order of completion.
 ghost use Rattle.std.specs.Prelude.{◌≡◌, ◌^◌, ◌-◌, ◌++◌, [], ◌∷◌, IfErr, None, OnOk, false, length, map, min};
 ghost use Rattle.xet_error.specs.declared.error.FileReconstructionError.TheVariants as error;
-ghost use Rattle.xet_writers.specs.Calls.{FinishCall, SetCall, SupplyCall, closed_by, finish_fault, kept_fault, supply_fault};
+ghost use Rattle.xet_writers.specs.Calls.{FinishCall, SetCall, SetSums, SupplyCall, closed_by, finish_fault, kept_fault, supply_fault};
 ghost use Rattle.xet_writers.specs.Unordered.{
   FinishUnordered,
   SetUnordered,
@@ -9,6 +9,7 @@ ghost use Rattle.xet_writers.specs.Unordered.{
   Taken,
   completed_with,
   range_of,
+  sums_of,
   told_of,
   total_length,
 };
@@ -240,6 +241,8 @@ impl UnorderedWriter {
 impl DataWriter for UnorderedWriter {
     ghost told = { λ w. told_of w };
 
+    ghost sums = { λ w. sums_of w };
+
     fn set_next_term_data_source(
         &mut self,
         alloc: Global,
@@ -248,6 +251,7 @@ impl DataWriter for UnorderedWriter {
         source: DataSource,
     ) -> Result<()>
         ensures told { SetCall (told_of self.old) (told_of self.new) byte_range source result }
+        ensures sums { SetSums (sums_of self.old) (sums_of self.new) byte_range result }
         ensures call { SetUnordered self.old self.new byte_range admission source result }
     {
         let _ = alloc;
@@ -265,6 +269,7 @@ impl DataWriter for UnorderedWriter {
 
     fn supply(&mut self, alloc: Global, start: u64, bytes: Bytes) -> Result<()>
         ensures told { SupplyCall (told_of self.old) (told_of self.new) start bytes result }
+        ensures sums { sums_of self.new ≡ sums_of self.old }
         ensures call { SupplyUnordered self.old self.new start bytes result }
     {
         let _ = alloc;
@@ -278,7 +283,7 @@ impl DataWriter for UnorderedWriter {
     }
 
     fn finish(&mut self, alloc: Global) -> Result<u64>
-        ensures told { FinishCall (told_of self.old) (told_of self.new) result }
+        ensures told { FinishCall (told_of self.old) (told_of self.new) (sums_of self.old) (sums_of self.new) result }
         ensures call { FinishUnordered self.old self.new result }
     {
         let _ = alloc;
