@@ -31,7 +31,7 @@ use Rattle.xet_ties.specs.Setup.{AllTell, IsOver, RunTold, Setup}
 use Rattle.xet_ties.specs.steps.Moves.{heard_first}
 use Rattle.xet_ties.specs.steps.Parts.{AskedSaid, plan_query}
 use Rattle.xet_ties.specs.Ties.{CutsRange, EachLane, MayBeAsked, Slack, Ties}
-use Rattle.xet_ties.proofs.CallerLemmas.{all_told, ask_said, file_missing, first_tells, if_some, plan_fails, missing_file}
+use Rattle.xet_ties.proofs.CallerLemmas.{all_told, ask_said, corrupted, file_missing, first_tells, if_some, plan_fails, missing_file}
 use Rattle.xet_parts.specs.PlanAsks.{AskPlanCall, PlanFails, QueryFails}
 
 -- ---- counts
@@ -105,10 +105,7 @@ rose_cause g b at es sl c n cs is t r = first_rose es b.clients c n cs sl.hidden
 pub failed_cause : (g : Setup) (b at : RunTold) (es : List Event) (sl : Slack) (c n : ClientTold) (cs : List ClientTold) (q : FileRange) (a : PlanAnswer) (k : Corruption) → at.clients ≡ c ∷ cs → Ties g b at es None sl
     → QueryAnswered c n (g.file, q) a → AskedSaid g b at es sl (n ∷ cs) q a → ((s : Store) → IsOver s b.clients → IsHonest s g.file q a → ⊥) → SomeFailed g (heard_first ((g.file, q) ∷ []) (said.Plan a ∷ []) sl.heard) k
     → Cause g b (record at { clients = n ∷ cs }) (error.CorruptedReconstruction k)
-failed_cause g b at es sl c n cs q a k is t answered heard untrue failed = record {
-  untrue = λ s over. untrue s over (answered.honest s (tells_now s g b at es sl c cs is t over.tell));
-  failed = told_of_all b.clients (n ∷ cs) (heard_first ((g.file, q) ∷ []) (said.Plan a ∷ []) sl.heard) (λ xs. SomeFailed g xs k) heard.ties.heard failed;
-}
+failed_cause g b at es sl c n cs q a k is t answered heard untrue failed = corrupted g b (record at { clients = n ∷ cs }) es None _ k heard.ties (λ s over. untrue s over (answered.honest s (tells_now s g b at es sl c cs is t over.tell))) failed
 
 -- ---- asking
 

@@ -18,6 +18,7 @@ use Rattle.xet_blocks.specs.TermBlocks.{covered}
 use Rattle.xet_blocks.specs.TermBlockCalls.{QueryAnswered}
 use Rattle.xet_fetch.specs.Refreshes.{Extent, IsRefused, MayAsk, Refresh, RefreshCause, failed_refresh, plan_extents, refusal_of}
 use Rattle.xet_run.specs.declared.event.Event.{Event}
+use Rattle.xet_run.specs.Events.{is_stale}
 use Rattle.xet_ties.specs.Causes.{Cause}
 use Rattle.xet_ties.specs.History.{range_at}
 use Rattle.xet_ties.specs.Saids.{InStep, IsPlanAccepted}
@@ -47,29 +48,29 @@ refused_missing q multi bs (Found p) h = absurd (by (nat_eq (length p.terms) 0) 
 
 -- what is asked again is what the plan's own refresh asks
 plan_cause : (g : Setup) (b at : RunTold) (es : List Event) (sl : Slack) (number : ℕ) (p : Plan) (q : FileRange) (c n : ClientTold) (cs : List ClientTold) (e : FileReconstructionError)
-    → at.clients ≡ c ∷ cs → MayAsk (plan_refresh g p q) c n → RefreshCause (plan_refresh g p q) c n e → sl.lost ≡ [] → InStep sl.heard → range_at es number ≡ covered (shape p) q ∷ [] → g.range.start < g.range.end
+    → at.clients ≡ c ∷ cs → MayAsk (plan_refresh g p q) c n → RefreshCause (plan_refresh g p q) c n e → sl.lost ≡ [] → InStep sl.heard → range_at es number ≡ covered (shape p) q ∷ [] → is_stale es number ≡ true → g.range.start < g.range.end
     → IsPlanAccepted g sl.heard p q
     → ((s : Store) → IsOver s b.clients → (a : PlanAnswer) → IsHonest s g.file (covered (shape p) q) a → refusal_of (covered (shape p) q) g.multirange (plan_extents (shape p) g.multirange) a ≡ None)
     → Ties g b at es None sl → Cause g b (record at { clients = n ∷ cs }) e
-plan_cause g b at es sl number p q c n cs error.OutOfMemory is may h none step at_range some accepted honest t = tt
-plan_cause g b at es sl number p q c n cs error.ClientError is may h none step at_range some accepted honest t = rose_cause g b at es sl c n cs is t h
-plan_cause g b at es sl number p q c n cs error.FileNotFound is may h none step at_range some accepted honest t =
+plan_cause g b at es sl number p q c n cs error.OutOfMemory is may h none step at_range stale some accepted honest t = tt
+plan_cause g b at es sl number p q c n cs error.ClientError is may h none step at_range stale some accepted honest t = rose_cause g b at es sl c n cs is t h
+plan_cause g b at es sl number p q c n cs error.FileNotFound is may h none step at_range stale some accepted honest t =
     let r = plan_refresh g p q in
     let no_file : h.answer ≡ NoFile = refused_missing r.range r.multirange r.blocks h.answer h.refused in
     missing_cause g b at es sl c n cs r.range is t some (subst (QueryAnswered c n (g.file, r.range)) no_file h.answered)
-    (subst (AskedSaid g b at es sl (n ∷ cs) r.range) no_file (refresh_said g b at es sl number r c n cs h.answer is none step may h.answered at_range refl t))
-plan_cause g b at es sl number p q c n cs error.UrlExpired is may h none step at_range some accepted honest t = absurd h
-plan_cause g b at es sl number p q c n cs error.IoError is may h none step at_range some accepted honest t = absurd h
-plan_cause g b at es sl number p q c n cs (error.CorruptedReconstruction k) is may h none step at_range some accepted honest t =
+    (subst (AskedSaid g b at es sl (n ∷ cs) r.range) no_file (refresh_said g b at es sl number r c n cs h.answer is none step may h.answered at_range stale refl t))
+plan_cause g b at es sl number p q c n cs error.UrlExpired is may h none step at_range stale some accepted honest t = absurd h
+plan_cause g b at es sl number p q c n cs error.IoError is may h none step at_range stale some accepted honest t = absurd h
+plan_cause g b at es sl number p q c n cs (error.CorruptedReconstruction k) is may h none step at_range stale some accepted honest t =
     let r = plan_refresh g p q in
     let heard = heard_first ((g.file, r.range) ∷ []) (said.Plan h.answer ∷ []) sl.heard in
-    let said_now = refresh_said g b at es sl number r c n cs h.answer is none step may h.answered at_range refl t in
+    let said_now = refresh_said g b at es sl number r c n cs h.answer is none step may h.answered at_range stale refl t in
     failed_cause g b at es sl c n cs r.range h.answer k is t h.answered said_now
     (λ s over true_of. let unrefused = honest s over h.answer true_of in let refused = h.refused in cc)
     (refresh_fails g heard p q h.answer k (accepted_more g sl.heard heard p q (grew_first ((g.file, r.range) ∷ []) (said.Plan h.answer ∷ []) sl.heard) accepted) said_now.own h.refused)
-plan_cause g b at es sl number p q c n cs (error.ConfigurationError k) is may h none step at_range some accepted honest t = absurd h
-plan_cause g b at es sl number p q c n cs error.Cancelled is may h none step at_range some accepted honest t = absurd h
-plan_cause g b at es sl number p q c n cs (error.InternalWriterError k) is may h none step at_range some accepted honest t = absurd h
+plan_cause g b at es sl number p q c n cs (error.ConfigurationError k) is may h none step at_range stale some accepted honest t = absurd h
+plan_cause g b at es sl number p q c n cs error.Cancelled is may h none step at_range stale some accepted honest t = absurd h
+plan_cause g b at es sl number p q c n cs (error.InternalWriterError k) is may h none step at_range stale some accepted honest t = absurd h
 
 -- each error of a refresh of an accepted plan has its cause, where a valid store's answers to it are not refused
 pub refresh_cause : (g : Setup) (b at : RunTold) (es fs : List Event) (sl : Slack) (number : ℕ) (t u : TermBlock) (multi : Bool) (p : Plan) (q : FileRange) (c n : ClientTold) (cs : List ClientTold) (e : FileReconstructionError)
@@ -78,4 +79,4 @@ pub refresh_cause : (g : Setup) (b at : RunTold) (es fs : List Event) (sl : Slac
     → ((s : Store) → IsOver s b.clients → (a : PlanAnswer) → IsHonest s g.file (covered (shape p) q) a → refusal_of (covered (shape p) q) g.multirange (plan_extents (shape p) g.multirange) a ≡ None)
     → Ties g b at es None sl → Cause g b (record at { clients = n ∷ cs }) e
 refresh_cause g b at es fs sl number t u multi p q c n cs e is call same none step at_range some accepted honest ties =
-    plan_cause g b at es sl number p q c n cs e is (subst (λ (r : Refresh). MayAsk r c n) same call.may) (subst (λ (r : Refresh). RefreshCause r c n e) same call.cause) none step at_range some accepted honest ties
+    plan_cause g b at es sl number p q c n cs e is (subst (λ (r : Refresh). MayAsk r c n) same call.may) (subst (λ (r : Refresh). RefreshCause r c n e) same call.cause) none step at_range call.stale some accepted honest ties

@@ -22,10 +22,10 @@ pub refreshed_ties : (g : Setup) (b at : RunTold) (es fs : List Event) (sl : Sla
     → Ties g b at es None sl
     → (let heard = heard_first ((g.file, t.urls.byte_range) ∷ []) (said.Plan (Found call.took.answered.plan) ∷ []) sl.heard in Ties g b (record at { clients = n ∷ cs }) fs None (record sl { heard = heard; lost = [] }) × InStep heard)
 refreshed_ties g b at es fs sl p t u multi c n cs is call none step at_range file ties =
-    refresh_ties g b at es fs sl p (again t multi) u.urls.retrieval_urls c n cs is call.may call.took.answered call.recorded none step at_range file ties
+    refresh_ties g b at es fs sl p (again t multi) u.urls.retrieval_urls c n cs is call.may call.took.answered call.recorded none step at_range call.stale file ties
 
 -- where it isn't recorded its query is lost
 pub refresh_fails_ties : (g : Setup) (b at : RunTold) (es fs : List Event) (sl : Slack) (p : ℕ) (t u : TermBlock) (multi : Bool) (c n : ClientTold) (cs : List ClientTold) (e : FileReconstructionError)
     → at.clients ≡ c ∷ cs → RefreshPlanCall t u c n es fs p multi (Err e) → sl.lost ≡ [] → range_at es p ≡ t.urls.byte_range ∷ [] → t.urls.file_hash ≡ g.file → Ties g b at es None sl → AskedShort g b at fs sl (n ∷ cs)
 refresh_fails_ties g b at es fs sl p t u multi c n cs e is call none at_range file ties =
-    subst (λ (l : List Event). AskedShort g b at l sl (n ∷ cs)) (sym call.unrecorded) (refresh_short g b at es sl p (again t multi) c n cs is none call.may at_range file ties)
+    subst (λ (l : List Event). AskedShort g b at l sl (n ∷ cs)) (sym call.unrecorded) (refresh_short g b at es sl p (again t multi) c n cs is none call.may at_range call.stale file ties)

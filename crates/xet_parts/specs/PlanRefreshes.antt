@@ -1,5 +1,5 @@
 -- What asking for the URLs of a plan again does to its table, a connection and a history.
-use Rattle.std.specs.Prelude.{ℕ, ◌≡◌, ◌⊎◌, Bool, List, [], ◌∷◌, ◌++◌, Result, OnOk, OnErr, IfErr, IsErrOf}
+use Rattle.std.specs.Prelude.{ℕ, ◌≡◌, ◌⊎◌, Bool, true, List, [], ◌∷◌, ◌++◌, Result, OnOk, OnErr, IfErr, IsErrOf}
 use Rattle.xet_outside.specs.Told.{ClientTold}
 use Rattle.xet_error.specs.declared.error.FileReconstructionError.{FileReconstructionError}
 use Rattle.xet_error.specs.declared.error.FileReconstructionError.TheVariants as error
@@ -7,6 +7,7 @@ use Rattle.xet_blocks.specs.declared.reconstruction_terms.file_term.TermBlock.{T
 use Rattle.xet_fetch.specs.Refreshes.{IsRefreshed, MayAsk, Refresh, RefreshCause, next_id, refresh_of}
 use Rattle.xet_run.specs.declared.event.Event.{Event}
 use Rattle.xet_run.specs.declared.event.Event.TheVariants.{Refreshed}
+use Rattle.xet_run.specs.Events.{is_stale}
 
 -- what is asked again for a plan
 abbrev pub again : TermBlock → Bool → Refresh
@@ -25,6 +26,8 @@ pub record TookUrls (t u : TermBlock) (before after : ClientTold) (multi : Bool)
 -- one call of `refresh_table` for the plan of this number
 pub record RefreshPlanCall (t u : TermBlock) (before after : ClientTold) (es fs : List Event) (number : ℕ)
     (multi : Bool) (answer : Result (Unit {0}) FileReconstructionError) : Type 0 where
+  -- the plan is stale, so its URLs may be asked for again
+  pub stale : is_stale es number ≡ true
   pub may : MayAsk (again t multi) before after
   pub unsaid : IsErrOf answer error.ClientError → after.said ≡ before.said
   pub took : OnOk answer (TookUrls t u before after multi)

@@ -1,5 +1,5 @@
 -- The ties after a plan was asked for, or its URLs asked for again, and that is recorded.
-use Rattle.std.proofs.Common.{◌≡◌, ℕ, ◌+◌, ◌-◌, ◌<◌, ◌≤◌, min, Bool, List, [], ◌∷◌, ◌++◌, length, refl, sym, subst, ◌∙◌, ap, arith, inl, inr, ⊎_elim, Some, None, Option}
+use Rattle.std.proofs.Common.{true, ◌≡◌, ℕ, ◌+◌, ◌-◌, ◌<◌, ◌≤◌, min, Bool, List, [], ◌∷◌, ◌++◌, length, refl, sym, subst, ◌∙◌, ap, arith, inl, inr, ⊎_elim, Some, None, Option}
 use Rattle.std.specs.Prelude.{IsSome, map, Result, Ok}
 use Rattle.std.specs.List.{enumerate_from}
 use Rattle.xet_base.specs.declared.cas_types.FileRange.{FileRange}
@@ -34,7 +34,7 @@ use Rattle.xet_run.specs.declared.event.Event.{Event}
 use Rattle.xet_run.specs.declared.event.Event.TheVariants.{Planned, Refreshed}
 use Rattle.xet_run.specs.declared.event.PlannedBlock.{PlannedBlock}
 use Rattle.xet_run.specs.declared.event.PlannedTerm.{PlannedTerm}
-use Rattle.xet_run.specs.Events.{last_of, plan_count}
+use Rattle.xet_run.specs.Events.{is_stale, last_of, plan_count}
 use Rattle.xet_history.specs.TrueHistory.{IsTrueEvent, planned_block, planned_term, queries}
 use Rattle.xet_ties.specs.History.{actual_range, range_at}
 use Rattle.xet_ties.specs.InCall.{Exchange}
@@ -59,7 +59,7 @@ blocks_are : (p : Plan) (query : PlanQuery) (t : TermBlock) → IsTermBlock p qu
 blocks_are p query t i = ap (λ (l : List XorbBlock). map planned_of l) i.blocks ∙ planned_listed (shape p) query.multirange 0 (blocks_of (shape p) query.multirange)
 
 -- a plan without terms has no blocks
-none_terms : (p : Shape) (q : FileRange) (multi : Bool) → p.terms ≡ [] → terms_of p q multi ≡ []
+pub none_terms : (p : Shape) (q : FileRange) (multi : Bool) → p.terms ≡ [] → terms_of p q multi ≡ []
 none_terms p q multi e = ap (λ (l : List PlanTerm). terms_from p q multi q.start p.offset l) e
 
 none_blocks : (p : Shape) (multi : Bool) → p.terms ≡ [] → blocks_of p multi ≡ []
@@ -179,6 +179,7 @@ ask_ties g b at es fs sl spare c n cs q id o is call recorded none polls step cu
       subst (λ (l : List Event). Ties g b (record at { clients = n ∷ cs }) l None (record sl { heard = heard; lost = []; spare = spare })) (sym recorded)
           (tie_planned g b (record at { clients = n ∷ cs }) es (record sl { heard = heard; lost = sl.lost ++ qs }) spare (plan_count es + 1) q (terms_in o) (blocks_of_answer o) lost polls cuts
           (made_within g q (terms_in o) (blocks_of_answer o) a (cut_order g (queries es) q cuts) made)
+          refl
           (first_event g sl.heard q a (plan_count es + 1) (terms_in o) (blocks_of_answer o) step made)
           (λ s over. made_true s g q (plan_count es + 1) (terms_in o) (blocks_of_answer o) a (past_none s over.valid g.file q) (from.honest s (tells s over.tell)) made)
           (λ s h. made_stored s g q (terms_in o) (blocks_of_answer o) a (from.honest s (tells s h)) made)
@@ -188,10 +189,10 @@ ask_ties g b at es fs sl spare c n cs q id o is call recorded none polls step cu
 
 -- after the URLs of a plan were asked for again, and that was recorded
 pub refresh_ties : (g : Setup) (b at : RunTold) (es fs : List Event) (sl : Slack) (p : ℕ) (r : Refresh) (us : List RetrievalUrl) (c n : ClientTold) (cs : List ClientTold)
-    → at.clients ≡ c ∷ cs → MayAsk r c n → (new : IsRefreshed r c n us) → fs ≡ es ++ Refreshed p ∷ [] → sl.lost ≡ [] → InStep sl.heard → range_at es p ≡ r.range ∷ [] → r.file ≡ g.file
+    → at.clients ≡ c ∷ cs → MayAsk r c n → (new : IsRefreshed r c n us) → fs ≡ es ++ Refreshed p ∷ [] → sl.lost ≡ [] → InStep sl.heard → range_at es p ≡ r.range ∷ [] → is_stale es p ≡ true → r.file ≡ g.file
     → Ties g b at es None sl
     → (let heard = heard_first ((g.file, r.range) ∷ []) (said.Plan (Found new.plan) ∷ []) sl.heard in Ties g b (record at { clients = n ∷ cs }) fs None (record sl { heard = heard; lost = [] }) × InStep heard)
-refresh_ties g b at es fs sl p r us c n cs is may new recorded none step at_range file t =
+refresh_ties g b at es fs sl p r us c n cs is may new recorded none step at_range stale file t =
     let qs : List Query = (g.file, r.range) ∷ [] in
     let all : List Said = said.Plan (Found new.plan) ∷ [] in
     let heard = heard_first qs all sl.heard in
@@ -199,7 +200,7 @@ refresh_ties g b at es fs sl p r us c n cs is may new recorded none step at_rang
     let asked : QueryStep c n qs all = record { goes_on = record { store = may.store; link = may.link; faults = may.faults; expiries = may.expiries }; asked = grew; said = new.answered.said; quiet = refl; late = refl; served = may.served } in
     let first : Ties g b (record at { clients = c ∷ cs }) es None sl = subst (λ (v : List ClientTold). Ties g b (record at { clients = v }) es None sl) is t in
     let lost : sl.lost ++ qs ≡ qs = ap (λ (l : List Query). l ++ qs) none in
-    let told = tie_query g b (record at { clients = c ∷ cs }) es sl (n ∷ cs) qs all (asked, refl) (subst (λ (l : List Query). IsLost g es l) (sym lost) (refl, inr (p, at_range))) first in (
+    let told = tie_query g b (record at { clients = c ∷ cs }) es sl (n ∷ cs) qs all (asked, refl) (subst (λ (l : List Query). IsLost g es l) (sym lost) (refl, inr (p, at_range, stale))) first in (
       subst (λ (v : List Event). Ties g b (record at { clients = n ∷ cs }) v None (record sl { heard = heard; lost = [] })) (sym recorded)
           (tie_refreshed g b (record at { clients = n ∷ cs }) es (record sl { heard = heard; lost = sl.lost ++ qs }) p r.range at_range lost told),
       step_query qs all sl.heard refl step,

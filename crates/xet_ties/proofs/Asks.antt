@@ -12,12 +12,14 @@ use Rattle.xet_run.specs.declared.event.Event.{Event}
 use Rattle.xet_run.specs.declared.event.Event.TheVariants.{Planned, Admit, Fetched, Cached, Expired, Refreshed, Wrote, Fail, Cancel}
 use Rattle.xet_run.specs.declared.event.PlannedBlock.{PlannedBlock}
 use Rattle.xet_run.specs.declared.event.PlannedTerm.{PlannedTerm}
+use Rattle.xet_run.specs.Events.{is_stale}
 use Rattle.xet_run.proofs.CallerLemmas.{first_some-push}
 use Rattle.xet_history.specs.Queries.{CutFrom}
 use Rattle.xet_history.specs.TrueHistory.{queries}
 use Rattle.xet_ties.specs.History.{IsWithin, actual_range, asked_by, asked_in, range_at, range_in, telling}
 use Rattle.xet_ties.specs.InCall.{new_in}
-use Rattle.xet_ties.specs.Legal.{AskedCut, AsksCut, FirstAsks, IsShort, LiesInSome}
+use Rattle.xet_ties.specs.Cuts.{AskedCut, LiesInSome}
+use Rattle.xet_ties.specs.Legal.{AsksCut, FirstAsks, IsShort}
 use Rattle.xet_ties.specs.Setup.{Setup}
 use Rattle.xet_ties.specs.Ties.{CutsRange, FirstAsked, IsLost}
 use Rattle.xet_ties.proofs.Told.{if_some, told_new}
@@ -189,7 +191,7 @@ asks_cut g es (q ∷ []) within cuts l =
     let for_q : All (λ (x : Query). x.0 ≡ g.file) (q ∷ []) = All-cons (λ (x : Query). x.0 ≡ g.file) q [] l.0 (All-nil (λ (x : Query). x.0 ≡ g.file)) in
     ⊎_elim
     (λ (c : CutsRange g (queries es ++ q.1 ∷ [])). asks_of g es (q ∷ []) (q.1 ∷ []) within c for_q (λ now h. inl (refl, refl)))
-    (λ (r : (p : ℕ) × (range_at es p ≡ q.1 ∷ [])). asks_of g es (q ∷ []) [] within (subst (λ (qs : List FileRange). CutsRange g qs) (sym (append-nil (queries es))) cuts) for_q (λ now h. (h r.0 q.1 r.1, refl)))
+    (λ (r : (p : ℕ) × (range_at es p ≡ q.1 ∷ []) × (is_stale es p ≡ true)). asks_of g es (q ∷ []) [] within (subst (λ (qs : List FileRange). CutsRange g qs) (sym (append-nil (queries es))) cuts) for_q (λ now h. (h r.0 q.1 r.1, refl)))
     l.1
 asks_cut g es (q ∷ r ∷ qs) within cuts l = absurd l
 

@@ -1,6 +1,6 @@
 -- The ties after a step of the cache.
-use Rattle.std.proofs.Common.{◌≡◌, ℕ, ◌+◌, ◌≤◌, ◌==◌, ◌&&◌, Bool, true, false, cond, List, [], ◌∷◌, ◌++◌, length, refl, sym, subst, ◌∙◌, ap, arith, append_assoc, Some, None, Option}
-use Rattle.std.specs.Prelude.{count_by, option_map}
+use Rattle.std.proofs.Common.{◌≡◌, ℕ, ◌+◌, ◌≤◌, ◌==◌, ◌&&◌, Bool, true, false, cond, List, [], ◌∷◌, ◌++◌, length, refl, sym, subst, ◌∙◌, ap, arith, append_assoc, ◌⊎◌, ⊎_elim, Some, None, Option}
+use Rattle.std.specs.Prelude.{All, Contains, IfSome, count_by, option_map}
 use Rattle.std.proofs.lemmas.Bool.{and_parts, eqb-true}
 use Rattle.xet_base.specs.declared.cas_types.ChunkRange.{ChunkRange}
 use Rattle.xet_base.specs.declared.merklehash.MerkleHash.{MerkleHash}
@@ -10,23 +10,25 @@ use Rattle.xet_base.specs.Store.{Store}
 use Rattle.xet_outside.proofs.CallerLemmas.{count_by-cons}
 use Rattle.xet_outside.specs.declared.block.BlockBytes.{BlockBytes}
 use Rattle.xet_outside.specs.Plan.{block_of}
-use Rattle.xet_outside.specs.Told.{CacheTold, Grew, Added, ClientTold, SinkTold}
+use Rattle.xet_outside.specs.Told.{CacheEntry, CacheTold, Grew, Added, ClientTold, SinkTold}
 use Rattle.xet_blocks.specs.Blocks.{range_eq}
 use Rattle.xet_run.specs.declared.event.Event.{Event}
 use Rattle.xet_run.specs.declared.event.Event.TheVariants.{Cached}
 use Rattle.xet_run.specs.declared.event.PlannedBlock.{PlannedBlock}
 use Rattle.xet_run.proofs.CallerLemmas.{count_by-push}
-use Rattle.xet_ties.specs.History.{IsOneCached, IsRenewed, block_at, cached_in, fetched_in, kept_in, telling, IsWithin}
+use Rattle.xet_ties.specs.History.{IsNumberedNext, IsOneCached, IsRenewed, block_at, cached_in, fetched_in, kept_in, telling, IsWithin}
 use Rattle.xet_ties.specs.steps.Moves.{LookStep, PutStep}
 use Rattle.xet_ties.specs.Setup.{IsOver, RunTold, Setup, download_of}
 use Rattle.xet_ties.specs.InCall.{Look, EachGrew, Exchange}
-use Rattle.xet_ties.specs.Ties.{Reaches, Slack, Ties, gave, is_look, is_one, is_range, lacks, missed, IsTaken}
+use Rattle.xet_ties.specs.Ties.{IsEntryOf, Reaches, Slack, Ties, gave, is_look, is_one, is_range, lacks, missed, IsTaken}
 use Rattle.xet_ties.proofs.Lanes.{served_same}
 use Rattle.xet_ties.proofs.Lates.{expired_same}
 use Rattle.xet_ties.proofs.Pushes.{first_push, limited_same, offered_push, polled_push, reaches_more, recorded_same, stored_same, taken_push, tried_push, true_same, cuts_same, lost_push}
+use Rattle.xet_ties.proofs.Numbers.{heard_push}
+use Rattle.xet_ties.proofs.Told.{if_some}
 use Rattle.xet_ties.proofs.Telling.{each-push, telling-push, telling-same}
 use Rattle.std.proofs.lemmas.List.{append-nil}
-use Rattle.std.proofs.lemmas.List.Elements.{All-push}
+use Rattle.std.proofs.lemmas.List.Elements.{All-push, All-weaker, Contains-append_left}
 use Rattle.xet_ties.proofs.Heard.{grew_none, said_push, tested_grew}
 
 range_eq-true : (a b : ChunkRange) → range_eq a b ≡ true → a ≡ b
@@ -78,6 +80,32 @@ lacks_key s X g x r given h = go (is_look X g (x.xorb, r, given)) refl
         let range : r ≡ g = range_eq-true r g p.1 in
         sym (ap (λ (y : MerkleHash). lacks (block_of s y (g ∷ [])) given) (sym hash) ∙ ap (λ (q : ChunkRange). lacks (block_of s x.xorb (q ∷ [])) given) (sym range) ∙ h)
 
+-- ---- the entries that looks gave
+
+contains_more : (o : Option (List CacheEntry)) (c : CacheEntry) (k : CacheEntry) → IfSome o (λ es. Contains es k) → IfSome (option_map (λ es. es ++ c ∷ []) o) (λ es. Contains es k)
+contains_more None c k h = tt
+contains_more (Some es) c k h = Contains-append_left es (c ∷ []) k h
+
+entry_more : (o : Option (List CacheEntry)) (c : CacheEntry) (l : Look) → IsEntryOf o l → IsEntryOf (option_map (λ es. es ++ c ∷ []) o) l
+entry_more o c l h = if_some l.2 (λ e. IfSome o (λ es. Contains es (l.0, l.1, e))) (λ e. IfSome (option_map (λ es. es ++ c ∷ []) o) (λ es. Contains es (l.0, l.1, e))) (λ e k. contains_more o c (l.0, l.1, e) k) h
+
+pub entries_same : (before after : CacheTold) (looks : List Look) → after.entries ≡ before.entries → All (IsEntryOf before.entries) looks → All (IsEntryOf after.entries) looks
+entries_same before after looks e a = subst (λ (o : Option (List CacheEntry)). All (IsEntryOf o) looks) (sym e) a
+
+-- one more look
+pub entries_more : (before after : CacheTold) (looks : List Look) (l : Look) → after.entries ≡ before.entries → IsEntryOf before.entries l → All (IsEntryOf before.entries) looks → All (IsEntryOf after.entries) (looks ++ l ∷ [])
+entries_more before after looks l e h a = entries_same before after (looks ++ l ∷ []) e (All-push (IsEntryOf before.entries) looks l a h)
+
+-- one more entry, or none
+entries_put : (before after : CacheTold) (looks : List Look) → (after.entries ≡ before.entries) ⊎ ((c : CacheEntry) × Grew before.entries after.entries c) → All (IsEntryOf before.entries) looks → All (IsEntryOf after.entries) looks
+entries_put before after looks h a =
+    ⊎_elim
+    (λ (e : after.entries ≡ before.entries). entries_same before after looks e a)
+    (λ (e : (c : CacheEntry) × Grew before.entries after.entries c).
+    subst (λ (o : Option (List CacheEntry)). All (IsEntryOf o) looks) (sym e.1)
+    (All-weaker (IsEntryOf before.entries) (IsEntryOf (option_map (λ es. es ++ e.0 ∷ []) before.entries)) (λ l k. entry_more before.entries e.0 l k) looks a))
+    h
+
 -- a look that didn't find the block
 pub tie_missed : (g : Setup) (b n : RunTold) (es : List Event) (sl : Slack) (to : CacheTold) (x : PlannedBlock) (r : ChunkRange) (given : Option BlockBytes) → LookStep n.cache to x r given
     → ((s : Store) → IsOver s b.clients → lacks (block_of s x.xorb (r ∷ [])) given ≡ true) → Ties g b n es None sl → Ties g b (record n { cache = to }) es None (record sl { looks = sl.looks ++ (x.xorb, r, given) ∷ []; pending = x ∷ sl.pending })
@@ -86,10 +114,12 @@ tie_missed g b n es sl to x r given l miss t = record {
   true_of = t.true_of;
   cuts = t.cuts;
   within = t.within;
+  numbers = t.numbers;
   stored = t.stored;
   served = t.served;
   expired = t.expired;
   asked = t.asked;
+  heard_asked = t.heard_asked;
   lost = t.lost;
   said = t.said;
   tried = t.tried;
@@ -115,6 +145,7 @@ tie_missed g b n es sl to x r given l miss t = record {
               omega (arith, c2, one, m, key, k);
         };
   };
+  looked_entries = entries_more n.cache to sl.looks (x.xorb, r, given) l.entries l.among t.looked_entries;
   offered = record { puts = t.offered.puts; offers = subst (λ (o : Option ℕ). Reaches b.cache.offers o t.offered.puts) (sym l.offers) t.offered.offers; cover = t.offered.cover };
   polled = t.polled;
   limited = t.limited;
@@ -132,11 +163,13 @@ tie_cached g b n es sl to p k x r entry l at t =
       true_of = λ s o. true_same s (download_of g) es e refl tt (t.true_of s o);
       cuts = cuts_same g es e refl t.cuts;
       within = All-push IsWithin es e t.within tt;
+      numbers = each-push IsNumberedNext es e t.numbers tt;
       stored = stored_same g.file es e b.clients refl t.stored;
       served = served_same es e sl.hidden sl.late b.clients n.clients (λ l. refl) (λ l. refl) (λ p k. refl) (λ m. tt) t.served;
       expired = expired_same es e 0 sl.heard sl.late (λ l w. refl) t.expired;
       asked = first_push g.file es e sl.lost sl.lost b.clients n.clients refl t.asked;
-      lost = lost_push g es e sl.lost [] sl.lost refl refl t.lost;
+      heard_asked = heard_push g.file es e sl.lost sl.lost sl.heard refl t.heard_asked;
+      lost = lost_push g es e sl.lost [] sl.lost refl refl refl t.lost;
       said = said_push g es e sl.heard (λ x. tt) t.said;
       tried = tried_push g.tries es e (λ p k. let a = t.tried.at_most p k in omega (arith, a));
       renewed = each-push IsRenewed es e t.renewed tt;
@@ -161,6 +194,7 @@ tie_cached g b n es sl to p k x r entry l at t =
               honest = λ s o. let c2 = c.honest s o in let m = count_by-push (missed s X q) sl.looks (x.xorb, r, Some entry) in omega (arith, c2, fetched, m);
             };
       };
+      looked_entries = entries_more n.cache to sl.looks (x.xorb, r, Some entry) l.entries l.among t.looked_entries;
       offered = offered_push es e sl.due sl.due b.cache to (omega arith) (record { puts = t.offered.puts; offers = subst (λ (o : Option ℕ). Reaches b.cache.offers o t.offered.puts) (sym l.offers) t.offered.offers; cover = t.offered.cover });
       polled = polled_push es e sl.spare sl.spare b.signal n.signal (omega arith) t.polled;
       limited = limited_same es e b.limits n.limits refl t.limited;
@@ -179,16 +213,19 @@ tie_put g b n es sl to due p d t = record {
   true_of = t.true_of;
   cuts = t.cuts;
   within = t.within;
+  numbers = t.numbers;
   stored = t.stored;
   served = t.served;
   expired = t.expired;
   asked = t.asked;
+  heard_asked = t.heard_asked;
   lost = t.lost;
   said = t.said;
   tried = t.tried;
   renewed = t.renewed;
   one_cached = t.one_cached;
   looked = record { looked = p.looked ∙ t.looked.looked; cover = t.looked.cover };
+  looked_entries = entries_put n.cache to sl.looks p.entries t.looked_entries;
   offered = record {
     puts = t.offered.puts + 1;
     offers = reaches_more b.cache.offers n.cache.offers to.offers t.offered.puts p.offers t.offered.offers;

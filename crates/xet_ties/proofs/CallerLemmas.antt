@@ -48,7 +48,9 @@ pub use Rattle.xet_ties.proofs.Heard.{FirstEvent, query_answer_more, accepted_mo
 pub use Rattle.xet_ties.proofs.SaidTies.{fetch_entry, step_data, SaidBlock, block_said}
 pub use Rattle.xet_ties.proofs.SaidCauses.{accepted_said, step_fails, block_fails, term_fails, end_fails, plan_fails}
 pub use Rattle.xet_ties.proofs.SaidCauses.{file_missing, refresh_fails}
+pub use Rattle.xet_ties.proofs.Plannings.{starts_at}
 pub use Rattle.xet_ties.proofs.FileCauses.{missing_file}
+pub use Rattle.xet_ties.proofs.FirstCauses.{corrupted}
 pub use Rattle.xet_ties.proofs.Told.{told_new, if_some, all_told}
 -- the answer and the measure
 pub use Rattle.xet_ties.proofs.Headline.{exact, is_stored, prefix}

@@ -9,10 +9,11 @@ use Rattle.xet_run.specs.declared.event.Event.{Event}
 use Rattle.xet_run.specs.declared.event.Event.TheVariants.{Planned}
 use Rattle.xet_run.specs.declared.event.PlannedBlock.{PlannedBlock}
 use Rattle.xet_run.specs.declared.event.PlannedTerm.{PlannedTerm}
+use Rattle.xet_run.specs.Events.{plan_count}
 use Rattle.xet_history.specs.TrueHistory.{IsTrueEvent, queries}
 use Rattle.xet_base.specs.declared.cas_types.FileRange.{FileRange}
 use Rattle.xet_base.specs.declared.merklehash.MerkleHash.{MerkleHash}
-use Rattle.xet_ties.specs.History.{IsOneCached, IsRenewed, asked_by, served_by, fetches, IsWithin}
+use Rattle.xet_ties.specs.History.{IsNumberedNext, IsOneCached, IsRenewed, asked_by, served_by, fetches, IsWithin}
 use Rattle.xet_ties.specs.steps.Moves.{EachJoined, FirstQuery, JoinStep, QueryStep, no_hidden, no_late, heard_first, heard_join}
 use Rattle.xet_ties.specs.Setup.{AllTell, ClientGoesOn, IsOver, RunTold, Setup, download_of}
 use Rattle.xet_ties.specs.Ties.{AllAre, EachUnasked, all_of, is_pair, EachLane, FirstAsked, IsLane, Slack, Ties, CutsRange, IsLost, IsPlannedEntry}
@@ -20,6 +21,7 @@ use Rattle.xet_ties.proofs.Lanes.{served_same}
 use Rattle.xet_ties.specs.InCall.{expired_said}
 use Rattle.xet_ties.proofs.Lates.{expired_join, expired_query, expired_same, joined_late, none_late}
 use Rattle.xet_ties.proofs.Pushes.{first_push, limited_same, looked_push, offered_push, polled_push, recorded_same, taken_push, tried_push, true_push, cuts_push}
+use Rattle.xet_ties.proofs.Numbers.{heard_joined, heard_push, heard_query}
 use Rattle.xet_ties.proofs.Telling.{each-push}
 use Rattle.std.proofs.lemmas.List.Elements.{All-push}
 use Rattle.xet_outside.specs.declared.said.Said.{Said}
@@ -82,16 +84,19 @@ tie_query g b n es sl to qs all s l t = record {
   true_of = t.true_of;
   cuts = t.cuts;
   within = t.within;
+  numbers = t.numbers;
   stored = t.stored;
   served = record { lanes = lanes_query es qs all b.clients n.clients to sl.hidden sl.late s t.served.lanes; once = t.served.once; planned = t.served.planned; on_lanes = t.served.on_lanes };
   expired = expired_query es qs all sl.heard sl.late (first_late n.clients to qs all s) t.expired;
   asked = asked_query g.file es qs all sl.lost b.clients n.clients to s t.asked;
+  heard_asked = heard_query g.file es qs all sl.lost sl.heard t.heard_asked;
   lost = l;
   said = said_query g es qs all sl.heard t.said;
   tried = t.tried;
   renewed = t.renewed;
   one_cached = t.one_cached;
   looked = t.looked;
+  looked_entries = t.looked_entries;
   offered = t.offered;
   polled = t.polled;
   limited = t.limited;
@@ -101,27 +106,30 @@ tie_query g b n es sl to qs all s l t = record {
 
 -- the plan of a query is recorded
 pub tie_planned : (g : Setup) (b n : RunTold) (es : List Event) (sl : Slack) (spare plan : ℕ) (query : FileRange) (terms : List PlannedTerm) (blocks : List PlannedBlock)
-    → sl.lost ≡ (g.file, query) ∷ [] → sl.spare ≡ spare + 1 → CutsRange g (queries es ++ query ∷ []) → IsWithin (Planned plan query terms blocks) → FirstEvent g sl.heard (Planned plan query terms blocks)
+    → sl.lost ≡ (g.file, query) ∷ [] → sl.spare ≡ spare + 1 → CutsRange g (queries es ++ query ∷ []) → IsWithin (Planned plan query terms blocks) → plan ≡ plan_count es + 1 → FirstEvent g sl.heard (Planned plan query terms blocks)
     → ((s : Store) → IsOver s b.clients → IsTrueEvent s g.file g.multirange (Planned plan query terms blocks))
     → ((s : Store) → AllTell s b.clients → IsSome (file_of s g.file))
     → Ties g b n es None sl → Ties g b n (es ++ Planned plan query terms blocks ∷ []) None (record sl { lost = []; spare = spare })
-tie_planned g b n es sl spare plan query terms blocks lost polls cuts within said honest stored t =
+tie_planned g b n es sl spare plan query terms blocks lost polls cuts within next said honest stored t =
     let e : Event = Planned plan query terms blocks in
     record {
       heard = t.heard;
       true_of = λ s o. true_push s (download_of g) es e cuts (honest s o) (t.true_of s o);
       cuts = cuts_push g es e query refl cuts;
       within = All-push IsWithin es e t.within within;
+      numbers = each-push IsNumberedNext es e t.numbers next;
       stored = λ s tell k. stored s tell;
       served = served_same es e sl.hidden sl.late b.clients n.clients (λ l. refl) (λ l. refl) (λ p k. refl) (λ m. tt) t.served;
       expired = expired_same es e 0 sl.heard sl.late (λ l w. refl) t.expired;
       asked = first_push g.file es e sl.lost [] b.clients n.clients lost t.asked;
+      heard_asked = heard_push g.file es e sl.lost [] sl.heard lost t.heard_asked;
       lost = tt;
       said = said_planned g es e sl.heard said t.said;
       tried = tried_push g.tries es e (λ p k. let a = t.tried.at_most p k in omega (arith, a));
       renewed = each-push IsRenewed es e t.renewed tt;
       one_cached = each-push IsOneCached es e t.one_cached tt;
       looked = looked_push es e sl.pending sl.pending sl.looks b.clients b.cache n.cache refl (λ x r. omega arith) t.looked;
+      looked_entries = t.looked_entries;
       offered = offered_push es e sl.due sl.due b.cache n.cache (omega arith) t.offered;
       polled = polled_push es e sl.spare spare b.signal n.signal (omega (arith, polls)) t.polled;
       limited = limited_same es e b.limits n.limits refl t.limited;
@@ -187,6 +195,7 @@ tie_join g b n es sl to hs alls ks j once planned no_h no_k t =
       true_of = t.true_of;
       cuts = t.cuts;
       within = t.within;
+      numbers = t.numbers;
       stored = t.stored;
       served = record {
         lanes = lanes_join es 0 b.clients n.clients to hs alls ks j (subst (λ (l : List ℕ). EachLane es 0 b.clients n.clients (no_hidden b.clients) l) no_k (subst (λ (l : List (List Served)). EachLane es 0 b.clients n.clients l sl.late) no_h t.served.lanes));
@@ -196,12 +205,14 @@ tie_join g b n es sl to hs alls ks j once planned no_h no_k t =
       };
       expired = expired_join es 0 hs alls ks sl.late sl.heard match (joined_late n.clients to hs alls ks j) (subst (λ (l : List ℕ). AllAre 0 l) (sym no_k) (none_late b.clients)) t.expired;
       asked = asked_join g.file es sl.lost b.clients n.clients to hs alls ks j t.asked;
+      heard_asked = heard_joined g.file es sl.lost hs alls sl.heard match t.heard_asked;
       lost = t.lost;
       said = said_join g es hs alls sl.heard match t.said;
       tried = t.tried;
       renewed = t.renewed;
       one_cached = t.one_cached;
       looked = t.looked;
+      looked_entries = t.looked_entries;
       offered = t.offered;
       polled = t.polled;
       limited = t.limited;

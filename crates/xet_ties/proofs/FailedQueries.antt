@@ -1,5 +1,5 @@
 -- The ties after a query that failed, or whose answer isn't recorded.
-use Rattle.std.proofs.Common.{◌≡◌, ℕ, List, [], ◌∷◌, ◌++◌, refl, sym, subst, ◌∙◌, ap, inl, inr, ⊎_elim, None}
+use Rattle.std.proofs.Common.{◌≡◌, ℕ, List, [], ◌∷◌, ◌++◌, true, refl, sym, subst, ◌∙◌, ap, inl, inr, ⊎_elim, None}
 use Rattle.xet_base.specs.declared.cas_types.FileRange.{FileRange}
 use Rattle.xet_base.specs.declared.merklehash.MerkleHash.{MerkleHash}
 use Rattle.xet_outside.specs.declared.plan.PlanAnswer.{PlanAnswer}
@@ -10,6 +10,7 @@ use Rattle.xet_base.specs.declared.unique_id.UniqueId.{UniqueId}
 use Rattle.xet_blocks.specs.TermBlockCalls.{Answer, AskedAtMostOnce, FromSaid, QueryAnswered, TermBlockCall}
 use Rattle.xet_fetch.specs.Refreshes.{Answered, MayAsk, Refresh}
 use Rattle.xet_run.specs.declared.event.Event.{Event}
+use Rattle.xet_run.specs.Events.{is_stale}
 use Rattle.xet_history.specs.TrueHistory.{queries}
 use Rattle.xet_ties.specs.History.{range_at}
 use Rattle.xet_ties.specs.InCall.{Exchange}
@@ -81,15 +82,15 @@ ask_said g b at es sl c n cs q id answer made is none step call from cuts t =
 
 -- the URLs of a plan were asked for again, and that failed or isn't recorded
 pub refresh_short : (g : Setup) (b at : RunTold) (es : List Event) (sl : Slack) (p : ℕ) (r : Refresh) (c n : ClientTold) (cs : List ClientTold)
-    → at.clients ≡ c ∷ cs → sl.lost ≡ [] → MayAsk r c n → range_at es p ≡ r.range ∷ [] → r.file ≡ g.file → Ties g b at es None sl
+    → at.clients ≡ c ∷ cs → sl.lost ≡ [] → MayAsk r c n → range_at es p ≡ r.range ∷ [] → is_stale es p ≡ true → r.file ≡ g.file → Ties g b at es None sl
     → AskedShort g b at es sl (n ∷ cs)
-refresh_short g b at es sl p r c n cs is none call at_range file t =
+refresh_short g b at es sl p r c n cs is none call at_range stale file t =
     asked_short g b at es sl c n cs r.range is none (record { store = call.store; link = call.link; faults = call.faults; expiries = call.expiries }) call.served
-    (subst (λ (x : MerkleHash). AskedAtMostOnce c n (x, r.range)) file call.asks) (inr (p, at_range)) t
+    (subst (λ (x : MerkleHash). AskedAtMostOnce c n (x, r.range)) file call.asks) (inr (p, at_range, stale)) t
 
 pub refresh_said : (g : Setup) (b at : RunTold) (es : List Event) (sl : Slack) (p : ℕ) (r : Refresh) (c n : ClientTold) (cs : List ClientTold) (a : PlanAnswer)
-    → at.clients ≡ c ∷ cs → sl.lost ≡ [] → InStep sl.heard → MayAsk r c n → Answered r c n a → range_at es p ≡ r.range ∷ [] → r.file ≡ g.file → Ties g b at es None sl
+    → at.clients ≡ c ∷ cs → sl.lost ≡ [] → InStep sl.heard → MayAsk r c n → Answered r c n a → range_at es p ≡ r.range ∷ [] → is_stale es p ≡ true → r.file ≡ g.file → Ties g b at es None sl
     → AskedSaid g b at es sl (n ∷ cs) r.range a
-refresh_said g b at es sl p r c n cs a is none step call from at_range file t =
+refresh_said g b at es sl p r c n cs a is none step call from at_range stale file t =
     asked_said g b at es sl c n cs r.range a is none step (record { store = call.store; link = call.link; faults = call.faults; expiries = call.expiries }) call.served
-    (subst (λ (x : MerkleHash). Grew c.asked n.asked (x, r.range)) file from.asked) from.said (inr (p, at_range)) t
+    (subst (λ (x : MerkleHash). Grew c.asked n.asked (x, r.range)) file from.asked) from.said (inr (p, at_range, stale)) t

@@ -1,5 +1,5 @@
 -- The first connection's queries: those that cut the range, and no more others than expired answers.
-use Rattle.std.proofs.Common.{◌≡◌, ◌⊎◌, ℕ, ◌+◌, ◌≤◌, Bool, cond, List, [], ◌∷◌, ◌++◌, length, drop, refl, sym, subst, ◌∙◌, ap, arith, inl, inr, length-append, ⊎_elim, Some, None, Option}
+use Rattle.std.proofs.Common.{◌≡◌, ℕ, ◌+◌, ◌≤◌, true, cond, List, [], ◌∷◌, ◌++◌, length, drop, refl, sym, subst, ◌∙◌, ap, arith, inl, length-append, ⊎_elim, Some, None, Option}
 use Rattle.std.specs.Prelude.{All, IfSome, count_by, map, option_map, option_to_list}
 use Rattle.std.proofs.lemmas.List.{append-nil, length-map}
 use Rattle.xet_base.specs.Lists.{first_some}
@@ -10,18 +10,20 @@ use Rattle.xet_outside.proofs.CallerLemmas.{count_by-cons}
 use Rattle.xet_run.specs.declared.event.Event.{Event}
 use Rattle.xet_run.specs.declared.event.Event.TheVariants.{Planned, Admit, Fetched, Cached, Expired, Refreshed, Wrote, Fail, Cancel}
 use Rattle.xet_run.specs.Allowed.{IsAllowedHistory}
+use Rattle.xet_run.specs.Events.{is_stale}
 use Rattle.xet_history.specs.TrueHistory.{queries, queries_in}
 use Rattle.xet_ties.specs.Causes.{expired_answers}
-use Rattle.xet_ties.specs.History.{IsWithin, asked_by, asked_in, is_refresh, range_at, range_in, telling}
+use Rattle.xet_ties.specs.History.{IsWithin, asked_by, asked_in, is_expiry, is_refresh, range_at, range_in, telling}
 use Rattle.xet_ties.specs.InCall.{EachExchange, Exchange, all_exchanges, exchange, new_in, with_exchange}
-use Rattle.xet_ties.specs.Legal.{AskedCut, AsksFew, FirstAsksFew}
+use Rattle.xet_ties.specs.Cuts.{AskedCut}
+use Rattle.xet_ties.specs.Legal.{AsksFew, FirstAsksFew}
 use Rattle.xet_ties.specs.Setup.{RunTold, Setup}
 use Rattle.xet_ties.specs.Ties.{CutsRange, FirstAsked, IsLost, Slack, Stop, Ties}
 use Rattle.xet_ties.specs.steps.Moves.{no_exchange}
 use Rattle.xet_ties.proofs.Asks.{AreIn, asked_cut, none_in}
 use Rattle.xet_ties.proofs.Expiries.{all_expired}
 use Rattle.xet_ties.proofs.Heard.{exchange_start}
-use Rattle.xet_ties.proofs.Renewals.{refreshes_few}
+use Rattle.xet_ties.proofs.Renewals.{refreshes_few, stale_few}
 use Rattle.xet_ties.proofs.Starts.{first_start}
 use Rattle.xet_ties.proofs.Told.{all_told, drop_front, if_some}
 
@@ -58,7 +60,7 @@ asked_few f before (e ∷ es) =
 -- ---- with one that no event says
 
 few_of : (g : Setup) (es : List Event) (tail : List Query) (cut : List FileRange) (more : ℕ) (xs : List Exchange) → All IsWithin es → CutsRange g (queries es ++ cut) → ((now : List FileRange) → AreIn g.file es now → AskedCut now tail cut)
-    → count_by is_refresh es ≤ expired_answers xs → length tail ≤ length cut + more → AsksFew g more xs (asked_by g.file es ++ tail)
+    → count_by is_refresh es + more ≤ expired_answers xs → length tail ≤ length cut + more → AsksFew g xs (asked_by g.file es ++ tail)
 few_of g es tail cut more xs within cuts rest few short =
     let q = asked_few g.file [] es in
     let a = length-append (asked_by g.file es) tail in
@@ -70,15 +72,20 @@ few_of g es tail cut more xs within cuts rest few short =
       few = omega (arith, q, a, c, few, short);
     }
 
-asks_few : (g : Setup) (es : List Event) (lost : List Query) (more : ℕ) (xs : List Exchange) → All IsWithin es → CutsRange g (queries es) → IsLost g es lost → count_by is_refresh es ≤ expired_answers xs → length lost ≤ more
-    → AsksFew g more xs (asked_by g.file es ++ lost)
-asks_few g es [] more xs within cuts l few short = few_of g es [] [] more xs within (subst (λ (qs : List FileRange). CutsRange g qs) (sym (append-nil (queries es))) cuts) (λ now h. refl) few (omega arith)
-asks_few g es (q ∷ []) more xs within cuts l few short =
+-- a lost query of a stale plan has an expired answer of its own
+asks_few : (g : Setup) (es : List Event) (lost : List Query) (xs : List Exchange) → IsAllowedHistory es → All IsWithin es → CutsRange g (queries es) → IsLost g es lost → count_by is_expiry es ≤ expired_answers xs
+    → AsksFew g xs (asked_by g.file es ++ lost)
+asks_few g es [] xs a within cuts l few =
+    let r = refreshes_few es a in
+    few_of g es [] [] 0 xs within (subst (λ (qs : List FileRange). CutsRange g qs) (sym (append-nil (queries es))) cuts) (λ now h. refl) (omega (arith, r, few)) (omega arith)
+asks_few g es (q ∷ []) xs a within cuts l few =
     ⊎_elim
-    (λ (c : CutsRange g (queries es ++ q.1 ∷ [])). few_of g es (q ∷ []) (q.1 ∷ []) more xs within c (λ now h. inl (refl, refl)) few (omega arith))
-    (λ (r : (p : ℕ) × (range_at es p ≡ q.1 ∷ [])). few_of g es (q ∷ []) [] more xs within (subst (λ (qs : List FileRange). CutsRange g qs) (sym (append-nil (queries es))) cuts) (λ now h. (h r.0 q.1 r.1, refl)) few (omega (arith, short)))
+    (λ (c : CutsRange g (queries es ++ q.1 ∷ [])). let r = refreshes_few es a in few_of g es (q ∷ []) (q.1 ∷ []) 0 xs within c (λ now h. inl (refl, refl)) (omega (arith, r, few)) (omega arith))
+    (λ (s : (p : ℕ) × (range_at es p ≡ q.1 ∷ []) × (is_stale es p ≡ true)).
+    let r = stale_few es s.0 a s.2 in
+    few_of g es (q ∷ []) [] 1 xs within (subst (λ (qs : List FileRange). CutsRange g qs) (sym (append-nil (queries es))) cuts) (λ now h. (h s.0 q.1 s.1, refl)) (omega (arith, r, few)) (omega arith))
     l.1
-asks_few g es (q ∷ r ∷ qs) more xs within cuts l few short = absurd l
+asks_few g es (q ∷ r ∷ qs) xs a within cuts l few = absurd l
 
 -- ---- by what is told
 
@@ -88,33 +95,24 @@ same_added b n l xs ys e h k =
     let v : l ++ xs ≡ l ++ ys = cc in
     sym (drop_front l xs) ∙ ap (λ z. drop (length l) z) v ∙ drop_front l ys
 
-first_few : (g : Setup) (es : List Event) (lost : List Query) (more : ℕ) (bs ns : List ClientTold) (xs : List Exchange) → EachExchange bs ns xs → FirstAsked g.file es lost bs ns → AsksFew g more xs (asked_by g.file es ++ lost)
-    → IfSome (all_exchanges bs ns) (FirstAsksFew g more)
-first_few g es lost more [] ns xs h t few = absurd t
-first_few g es lost more (b ∷ bs) [] xs h t few = absurd t
-first_few g es lost more (b ∷ bs) (n ∷ ns) [] h t few = absurd h
-first_few g es lost more (b ∷ bs) (n ∷ ns) (x ∷ xs) h t few = go b.asked refl
+first_few : (g : Setup) (es : List Event) (lost : List Query) (bs ns : List ClientTold) (xs : List Exchange) → EachExchange bs ns xs → FirstAsked g.file es lost bs ns → AsksFew g xs (asked_by g.file es ++ lost)
+    → IfSome (all_exchanges bs ns) (FirstAsksFew g)
+first_few g es lost [] ns xs h t few = absurd t
+first_few g es lost (b ∷ bs) [] xs h t few = absurd t
+first_few g es lost (b ∷ bs) (n ∷ ns) [] h t few = absurd h
+first_few g es lost (b ∷ bs) (n ∷ ns) (x ∷ xs) h t few = go b.asked refl
   where
-    go : (o : Option (List Query)) → b.asked ≡ o → IfSome (all_exchanges (b ∷ bs) (n ∷ ns)) (FirstAsksFew g more)
-    go None e = subst (λ (o : Option (List Query)). IfSome (with_exchange (exchange (new_in o n.asked) (new_in b.served n.served) (new_in b.said n.said)) (all_exchanges bs ns)) (FirstAsksFew g more)) (sym e) tt
+    go : (o : Option (List Query)) → b.asked ≡ o → IfSome (all_exchanges (b ∷ bs) (n ∷ ns)) (FirstAsksFew g)
+    go None e = subst (λ (o : Option (List Query)). IfSome (with_exchange (exchange (new_in o n.asked) (new_in b.served n.served) (new_in b.said n.said)) (all_exchanges bs ns)) (FirstAsksFew g)) (sym e) tt
     go (Some l) e =
         let same : x.asked ≡ asked_by g.file es ++ lost = same_added b.asked n.asked l x.asked (asked_by g.file es ++ lost) e h.0.asks t.0.asked in
-        if_some (all_exchanges (b ∷ bs) (n ∷ ns)) (λ ys. ys ≡ x ∷ xs) (FirstAsksFew g more)
-        (λ ys w. subst (λ (v : List Exchange). FirstAsksFew g more v) (sym w) (subst (λ (q : List Query). AsksFew g more (x ∷ xs) q) (sym same) few)) (all_told (b ∷ bs) (n ∷ ns) (x ∷ xs) h)
+        if_some (all_exchanges (b ∷ bs) (n ∷ ns)) (λ ys. ys ≡ x ∷ xs) (FirstAsksFew g)
+        (λ ys w. subst (λ (v : List Exchange). FirstAsksFew g v) (sym w) (subst (λ (q : List Query). AsksFew g (x ∷ xs) q) (sym same) few)) (all_told (b ∷ bs) (n ∷ ns) (x ∷ xs) h)
 
-pub run_few : (g : Setup) (b n : RunTold) (es : List Event) (stop : Stop) (sl : Slack) (more : ℕ) → IsAllowedHistory es → Ties g b n es stop sl → length sl.lost ≤ more → IfSome (all_exchanges b.clients n.clients) (FirstAsksFew g more)
-run_few g b n es stop sl more a t short =
-    let r = refreshes_few es a in
-    let x = all_expired g b n es stop sl t in
-    first_few g es sl.lost more b.clients n.clients sl.heard t.heard t.asked (asks_few g es sl.lost more sl.heard t.within t.cuts t.lost (omega (arith, r, x)) short)
-
--- one query at most is lost
-pub lost_one : (g : Setup) (es : List Event) (lost : List Query) → IsLost g es lost → length lost ≤ 1
-lost_one g es [] l = omega arith
-lost_one g es (q ∷ []) l = omega arith
-lost_one g es (q ∷ r ∷ qs) l = absurd l
+pub run_few : (g : Setup) (b n : RunTold) (es : List Event) (stop : Stop) (sl : Slack) → IsAllowedHistory es → Ties g b n es stop sl → IfSome (all_exchanges b.clients n.clients) (FirstAsksFew g)
+run_few g b n es stop sl a t = first_few g es sl.lost b.clients n.clients sl.heard t.heard t.asked (asks_few g es sl.lost sl.heard a t.within t.cuts t.lost (all_expired g b n es stop sl t))
 
 -- nothing was asked
-pub none_few : (g : Setup) (bs : List ClientTold) → IfSome (all_exchanges bs bs) (FirstAsksFew g 1)
+pub none_few : (g : Setup) (bs : List ClientTold) → IfSome (all_exchanges bs bs) (FirstAsksFew g)
 none_few g [] = tt
-none_few g (b ∷ bs) = first_few g [] [] 1 (b ∷ bs) (b ∷ bs) (no_exchange (b ∷ bs)) (exchange_start (b ∷ bs)) (first_start g.file b bs) (record { cut = []; cuts = tt; asked = refl; few = omega arith })
+none_few g (b ∷ bs) = first_few g [] [] (b ∷ bs) (b ∷ bs) (no_exchange (b ∷ bs)) (exchange_start (b ∷ bs)) (first_start g.file b bs) (record { cut = []; cuts = tt; asked = refl; few = omega arith })

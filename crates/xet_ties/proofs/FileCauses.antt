@@ -1,6 +1,6 @@
 -- A missing file by what the first connection said.
-use Rattle.std.proofs.Common.{◌≡◌, ℕ, ◌<◌, List, [], ◌∷◌, sym, subst, ◌∙◌, ap, Some, None, Option}
-use Rattle.std.specs.Prelude.{IfSome, IsNone, slice_get}
+use Rattle.std.proofs.Common.{◌≡◌, ℕ, ◌<◌, List, [], ◌∷◌, sym, subst, ◌∙◌, ap, Some}
+use Rattle.std.specs.Prelude.{IsNone, slice_get}
 use Rattle.xet_base.specs.Store.{Store, file_of}
 use Rattle.xet_base.specs.declared.cas_types.FileRange.{FileRange}
 use Rattle.xet_base.specs.declared.merklehash.MerkleHash.{MerkleHash}

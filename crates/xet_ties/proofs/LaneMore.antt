@@ -1,6 +1,6 @@
 -- One more step keeps what is said of a lane: each step's data is of the answer to its own request.
 use Rattle.std.proofs.Common.{ℕ, ◌≡◌, ◌⊎◌, ◌+◌, ◌-◌, ◌^◌, ◌≤◌, min, true, List, [], ◌∷◌, ◌++◌, length, refl, sym, ap, ◌∙◌, subst, inl, inr, ⊎_elim, arith, append_assoc, length-append, Some, false, None, Option}
-use Rattle.std.specs.Prelude.{Result, Ok, Err, count_by, slice_get}
+use Rattle.std.specs.Prelude.{Result, Ok, Err, slice_get}
 use Rattle.std.proofs.lemmas.List.{append-nil}
 use Rattle.xet_outside.specs.declared.block.BlockAnswer.{BlockAnswer}
 use Rattle.xet_outside.specs.declared.block.BlockBytes.{BlockBytes}

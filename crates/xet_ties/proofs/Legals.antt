@@ -1,7 +1,7 @@
 -- A run that is tied gives a legal answer.
-use Rattle.std.proofs.Common.{◌≡◌, ℕ, ◌+◌, ◌≤◌, List, [], ◌∷◌, length, take, refl, sym, subst, ◌∙◌, ap, arith, length-append, Some, None, Option}
+use Rattle.std.proofs.Common.{◌≡◌, ℕ, ◌+◌, List, [], ◌∷◌, length, take, refl, sym, subst, ◌∙◌, ap, arith, length-append, Some, None, Option}
 use Rattle.std.specs.Prelude.{All, IfSome, Ok, Err, Result}
-use Rattle.std.specs.List.{AllZip, concat}
+use Rattle.std.specs.List.{concat}
 use Rattle.std.proofs.lemmas.List.{append-nil, take_all, take-append-le}
 use Rattle.std.proofs.lemmas.List.Elements.{All-cons, All-nil, All-weaker}
 use Rattle.xet_base.specs.Store.{window}
@@ -12,21 +12,24 @@ use Rattle.xet_error.specs.declared.error.FileReconstructionError.TheVariants as
 use Rattle.xet_error.specs.declared.error.Setting.{Setting}
 use Rattle.xet_run.specs.declared.event.Event.{Event}
 use Rattle.xet_run.specs.Allowed.{IsAllowedHistory}
-use Rattle.xet_run.specs.Events.{Task}
 use Rattle.xet_ties.specs.Causes.{failing_setting}
 use Rattle.xet_ties.specs.History.{entry_of, IsWithin}
 use Rattle.xet_ties.specs.InCall.{Exchange, Look, all_exchanges, new_in}
-use Rattle.xet_ties.specs.Legal.{AllPlanned, FirstAsks, IsPlannedServed, Legal, SomePiece, TookTested}
-use Rattle.xet_ties.specs.RunCalls.{RunCall}
-use Rattle.xet_ties.specs.Saids.{FirstSaid, IsTaskPiece, IsTested, some_of}
+use Rattle.xet_ties.specs.Cuts.{FirstCut, IsPart, Planning}
+use Rattle.xet_ties.specs.Legal.{AllPlanned, FirstAsks, IsPlannedServed, Legal, TookTested, TookWhole}
+use Rattle.xet_ties.specs.RunCalls.{IsFinished, RunCall, TookAll}
+use Rattle.xet_ties.specs.Saids.{FirstSaid, IsTested}
 use Rattle.xet_ties.specs.Setup.{EachGoesOn, RunTold, Setup}
-use Rattle.xet_ties.specs.Ties.{EachLane, IsPlannedEntry, Slack, Stop, Ties, all_of}
+use Rattle.xet_ties.specs.Ties.{EachLane, HeardAsked, IsPlannedEntry, Slack, Stop, Ties, all_of}
 use Rattle.xet_ties.proofs.Asks.{first_asks}
-use Rattle.xet_ties.proofs.FewAsks.{lost_one, none_few, run_few}
+use Rattle.xet_ties.proofs.FewAsks.{none_few, run_few}
 use Rattle.xet_ties.proofs.Headline as headline
 use Rattle.xet_ties.proofs.Pairs.{served_once, served_planned}
+use Rattle.xet_ties.proofs.Plannings.{PlanningOf, first_pieces, first_plans_all, numbered_at, planning_heard, plans_end, some_pieces}
 use Rattle.xet_ties.proofs.SaidTies.{block_said}
+use Rattle.xet_ties.proofs.ServedChunks.{chunks_told}
 use Rattle.xet_ties.proofs.Told.{all_told, if_some, served_told, told_new}
+use Rattle.xet_ties.proofs.Wholes.{took_all}
 use Rattle.xet_outside.proofs.CallerLemmas.{added_none}
 use Rattle.xet_ties.specs.steps.Moves.{no_exchange, no_hidden, no_late}
 use Rattle.xet_ties.proofs.Heard.{exchange_start}
@@ -48,42 +51,74 @@ stays (b ∷ bs) = (record { store = refl; link = refl; faults = omega arith; ex
 
 -- ---- tested bytes
 
-some_pieces : (g : Setup) (xs : List Exchange) (looks : List Look) (ts : List Task) (pieces : List (List ℕ)) → AllZip (IsTaskPiece g xs looks) ts pieces → All (SomePiece g xs looks) pieces
-some_pieces g xs looks [] [] z = All-nil (SomePiece g xs looks)
-some_pieces g xs looks [] (p ∷ ps) z = absurd z
-some_pieces g xs looks (t ∷ ts) [] z = absurd z
-some_pieces g xs looks (t ∷ ts) (p ∷ ps) z = All-cons (SomePiece g xs looks) p ps (record { number = t.plan; of_plan = z.0.of_plan; piece_of = z.0.piece_of }) (some_pieces g xs looks ts ps z.1)
-
-took_tested : (g : Setup) (xs : List Exchange) (looks : List Look) (es : List Event) (taken : List ℕ) (b n : SinkTold) → Took b.took n.took taken → IsTested g xs looks es taken → TookTested g xs looks b n
-took_tested g xs looks es taken b n took t =
+took_tested : (g : Setup) (xs : List Exchange) (looks : List Look) (es : List Event) (lost : List Query) (p : PlanningOf g xs es lost) (taken : List ℕ) (b n : SinkTold) → Took b.took n.took taken → IsTested g xs looks es taken → TookTested g xs looks b n
+took_tested g xs looks es lost p taken b n took t =
     let whole = concat t.pieces in
     let size : length taken + length t.from.rest ≡ length whole = sym (length-append taken t.from.rest) ∙ ap length t.from.joined in
     let cut : take (length taken) whole ≡ taken = ap (λ (l : List ℕ). take (length taken) l) (sym t.from.joined) ∙ take-append-le (length taken) taken t.from.rest (omega arith) ∙ take_all (length taken) taken (omega arith) in
     record {
+      planning = p.planning;
       pieces = t.pieces;
-      each = some_pieces g xs looks (take (length t.pieces) (some_of es)) t.pieces t.each;
+      each = first_pieces g xs looks es lost p t.pieces t.each;
       took = record { count = length taken; within = omega (arith, size); took = subst (λ (l : List ℕ). Took b.took n.took l) (sym cut) took };
     }
 
-pub tested_told : (g : Setup) (b n : RunTold) (es : List Event) (stop : Stop) (sl : Slack) → Ties g b n es stop sl
-    → IfSome (all_exchanges b.clients n.clients) (λ xs. IfSome (new_in b.cache.looked n.cache.looked) (λ ls. TookTested g xs ls b.sink n.sink))
-tested_told g b n es stop sl t =
-    if_some (all_exchanges b.clients n.clients) (λ xs. xs ≡ sl.heard) (λ xs. IfSome (new_in b.cache.looked n.cache.looked) (λ ls. TookTested g xs ls b.sink n.sink))
+-- what holds of what was heard and looked for holds of what is told
+lists_told : (g : Setup) (b n : RunTold) (es : List Event) (stop : Stop) (sl : Slack) (P : List Exchange → List Look → Type 0) → Ties g b n es stop sl → P sl.heard sl.looks
+    → IfSome (all_exchanges b.clients n.clients) (λ xs. IfSome (new_in b.cache.looked n.cache.looked) (λ ls. P xs ls))
+lists_told g b n es stop sl P t h =
+    if_some (all_exchanges b.clients n.clients) (λ xs. xs ≡ sl.heard) (λ xs. IfSome (new_in b.cache.looked n.cache.looked) (λ ls. P xs ls))
     (λ xs e.
-    if_some (new_in b.cache.looked n.cache.looked) (λ ls. ls ≡ sl.looks) (λ ls. TookTested g xs ls b.sink n.sink)
-    (λ ls h. subst (λ (l : List Look). TookTested g xs l b.sink n.sink) (sym h) (subst (λ (l : List Exchange). TookTested g l sl.looks b.sink n.sink) (sym e) (took_tested g sl.heard sl.looks es t.taken.taken b.sink n.sink t.taken.took t.taken.tested)))
+    if_some (new_in b.cache.looked n.cache.looked) (λ ls. ls ≡ sl.looks) (λ ls. P xs ls)
+    (λ ls k. subst (λ (l : List Look). P xs l) (sym k) (subst (λ (l : List Exchange). P l sl.looks) (sym e) h))
     (told_new b.cache.looked n.cache.looked sl.looks t.looked.looked))
     (all_told b.clients n.clients sl.heard t.heard)
+
+pub tested_told : (g : Setup) (b n : RunTold) (es : List Event) (stop : Stop) (sl : Slack) → IsAllowedHistory es → Ties g b n es stop sl
+    → IfSome (all_exchanges b.clients n.clients) (λ xs. IfSome (new_in b.cache.looked n.cache.looked) (λ ls. TookTested g xs ls b.sink n.sink))
+tested_told g b n es stop sl a t =
+    let p = planning_heard g b n es stop sl a t in
+    lists_told g b n es stop sl (λ xs ls. TookTested g xs ls b.sink n.sink) t (took_tested g sl.heard sl.looks es sl.lost p t.taken.taken b.sink n.sink t.taken.took t.taken.tested)
+
+-- on Ok the pieces of all terms
+took_whole : (g : Setup) (b n : RunTold) (es : List Event) (k : ℕ) (sl : Slack) → IsAllowedHistory es → Ties g b n es None sl → sl.lost ≡ [] → IsFinished g es k → TookAll g es sl b.sink n.sink k → TookWhole g sl.heard sl.looks b.sink n.sink k
+took_whole g b n es k sl a t lost f w =
+    let p = planning_heard g b n es None sl a t in
+    record {
+      all = record { planning = p.planning; none = p.none lost; ends = plans_end g sl.heard es sl.lost k p f };
+      pieces = w.pieces;
+      each = some_pieces g sl.heard sl.looks es sl.lost p w.pieces w.each;
+      took = w.took;
+      total = w.total;
+    }
+
+whole_told : (g : Setup) (b n : RunTold) (es : List Event) (k : ℕ) (sl : Slack) → IsAllowedHistory es → Ties g b n es None sl → sl.lost ≡ [] → sl.ahead ≡ 0 → IsFinished g es k
+    → IfSome (all_exchanges b.clients n.clients) (λ xs. IfSome (new_in b.cache.looked n.cache.looked) (λ ls. TookWhole g xs ls b.sink n.sink k))
+whole_told g b n es k sl a t lost none f = lists_told g b n es None sl (λ xs ls. TookWhole g xs ls b.sink n.sink k) t (took_whole g b n es k sl a t lost f (took_all g b n es k sl t none f))
+
+-- nothing is said of an error
+no_whole : (g : Setup) (b n : RunTold) → IfSome (all_exchanges b.clients n.clients) (λ xs. IfSome (new_in b.cache.looked n.cache.looked) (λ ls. Unit {0}))
+no_whole g b n = outer (all_exchanges b.clients n.clients)
+  where
+    inner : (o : Option (List Look)) → IfSome o (λ ls. Unit {0})
+    inner None = tt
+    inner (Some ls) = tt
+
+    outer : (o : Option (List Exchange)) → IfSome o (λ xs. IfSome (new_in b.cache.looked n.cache.looked) (λ ls. Unit {0}))
+    outer None = tt
+    outer (Some xs) = inner (new_in b.cache.looked n.cache.looked)
 
 -- ---- served blocks
 
 entry_served : (g : Setup) (es : List Event) (xs : List Exchange) (x : Exchange) (rest : List Exchange) → xs ≡ x ∷ rest → (b n : RunTold) (stop : Stop) (sl : Slack) → sl.heard ≡ xs → Ties g b n es stop sl → (e : Served) → IsPlannedEntry es e → IsPlannedServed g xs e
 entry_served g es xs x rest is b n stop sl heard t e h =
     let said : FirstSaid g es (x ∷ rest) = subst (λ (l : List Exchange). FirstSaid g es l) (heard ∙ is) t.said in
-    let s = block_said g es x rest e.plan e.index h.0 t.cuts said.0 h.1 in
+    let asked : HeardAsked g.file es sl.lost (x ∷ rest) = subst (λ (l : List Exchange). HeardAsked g.file es sl.lost l) (heard ∙ is) t.heard_asked in
+    let s = block_said g es x rest e.plan e.index h.0 t.cuts t.numbers said.0 h.1 in
     subst (λ (l : List Exchange). IsPlannedServed g l e) (sym is)
     (record {
       of_plan = s.place;
+      numbered = numbered_at g es sl.lost (x ∷ rest) e.plan s.query_place s.place.query t.within t.cuts t.lost asked s.query_at s.numbered;
       is = h.2 ∙ ap (λ (k : ℕ). entry_of e.plan k h.0) (sym s.number) ∙ ap (λ (y : _). entry_of e.plan s.place.number y) (sym s.is);
     })
 
@@ -124,6 +159,14 @@ asks_start : (g : Setup) (bs : List ClientTold) → FirstAsks g bs bs
 asks_start g [] = tt
 asks_start g (b ∷ bs) = first_asks g [] [] (b ∷ bs) (b ∷ bs) (All-nil IsWithin) tt tt (first_start g.file b bs)
 
+-- nothing was planned
+plans_nothing : (g : Setup) (bs : List ClientTold) → Planning g (no_exchange bs)
+plans_nothing g bs = record { parts = []; more = []; few = omega arith; is_cut = record { cuts = tt; asked = by bs }; said = All-nil (IsPart g (no_exchange bs)); adjoin = tt }
+  where
+    by : (l : List ClientTold) → FirstCut (no_exchange l) []
+    by [] = refl
+    by (b ∷ l) = refl
+
 -- a run that its settings refuse
 legal_refused : (g : Setup) (b : RunTold) (x : Setting) → failing_setting g b.clients ≡ Some x → Legal g b b (Err (error.ConfigurationError x))
 legal_refused g b x h = record {
@@ -134,31 +177,30 @@ legal_refused g b x h = record {
       if_some (all_exchanges b.clients b.clients) (λ xs. xs ≡ no_exchange b.clients) (λ xs. IfSome (new_in b.cache.looked b.cache.looked) (λ ls. TookTested g xs ls b.sink b.sink))
       (λ xs e.
       if_some (new_in b.cache.looked b.cache.looked) (λ ls. ls ≡ []) (λ ls. TookTested g xs ls b.sink b.sink)
-      (λ ls k. record { pieces = []; each = All-nil (SomePiece g xs ls); took = none_took b.sink.took [] })
+      (λ ls k. subst (λ (l : List Exchange). TookTested g l ls b.sink b.sink) (sym e) (record { planning = plans_nothing g b.clients; pieces = []; each = tt; took = none_took b.sink.took [] }))
       (told_new b.cache.looked b.cache.looked [] (added_none b.cache.looked b.cache.looked refl)))
       (all_told b.clients b.clients (no_exchange b.clients) (exchange_start b.clients));
+  whole = no_whole g b b;
   total = tt;
   flushed = tt;
   cancelled = λ i. tt;
   cause = h;
   settings = λ e i. let j : x ≡ e = cc in (ap (λ (y : Setting). let r : Result ℕ FileReconstructionError = Err (error.ConfigurationError y) in r) j, refl);
-  unasked = λ i. record { clients = refl; cache = refl; signal = refl };
+  empty = λ i. record { untouched = record { clients = refl; cache = refl; signal = refl; limits = refl }; took = refl; none = tt; error = tt };
   asked = asks_start g b.clients;
+  all_asked = tt;
   refreshed = none_few g b.clients;
-  all_refreshed = tt;
   served = served_once [] b.clients b.clients (no_hidden b.clients) (no_late b.clients) (served_start b.clients);
   planned =
       if_some (all_exchanges b.clients b.clients) (λ xs. xs ≡ no_exchange b.clients) (AllPlanned g)
       (λ xs e. subst (λ (l : List Exchange). AllPlanned g l) (sym e) (told_nothing g b.clients))
       (all_told b.clients b.clients (no_exchange b.clients) (exchange_start b.clients));
+  chunks = λ s o e. tt;
   goes_on = stays b.clients;
   cache_later = λ s o c. c;
   sink_later = omega arith;
   link = refl;
 }
-
-no_length : (lost : List Query) → lost ≡ [] → length lost ≤ 0
-no_length lost e = let n = ap (λ (l : List Query). length l) e in omega (arith, n)
 
 legal_ran : (g : Setup) (b n : RunTold) (es : List Event) (answer : Result ℕ FileReconstructionError) → failing_setting g b.clients ≡ None → IsAllowedHistory es → RunCall g b n es answer → Legal g b n answer
 legal_ran g b n es (Ok k) h a r =
@@ -168,18 +210,20 @@ legal_ran g b n es (Ok k) h a r =
       exact = λ s o c. headline.exact g b n es k t.slack a t.ties none r.finished s o c;
       prefix = λ s o c. headline.prefix g b n es None t.slack t.ties s o c;
       stored = λ s o. headline.is_stored g b n es k t.slack a t.ties none r.finished s o;
-      tested = tested_told g b n es None t.slack t.ties;
+      tested = tested_told g b n es None t.slack a t.ties;
+      whole = whole_told g b n es k t.slack a t.ties (t.left.none refl).lost none r.finished;
       total = record { bytes = t.ties.taken.taken; took = t.ties.taken.took; total = let c = t.ties.taken.counted in let f = r.finished.count in omega (arith, c, f, none) };
       flushed = r.flushed;
       cancelled = r.cancelled;
       cause = tt;
       settings = λ e i. absurd (cc);
-      unasked = r.unasked;
+      empty = r.empty;
       asked = first_asks g es t.slack.lost b.clients n.clients t.ties.within t.ties.cuts t.ties.lost t.ties.asked;
-      refreshed = run_few g b n es None t.slack 1 a t.ties (lost_one g es t.slack.lost t.ties.lost);
-      all_refreshed = run_few g b n es None t.slack 0 a t.ties (no_length t.slack.lost (t.left.none refl).lost);
+      all_asked = first_plans_all g b n es k t.slack a t.ties (t.left.none refl).lost r.finished;
+      refreshed = run_few g b n es None t.slack a t.ties;
       served = served_once es b.clients n.clients t.slack.hidden t.slack.late t.ties.served;
       planned = planned_told g b n es None t.slack t.ties;
+      chunks = λ s o e. chunks_told g b n es k t.slack a t.ties none r.finished s o e;
       goes_on = goes_on es 0 b.clients n.clients t.slack.hidden t.slack.late t.ties.served.lanes;
       cache_later = r.cache_later;
       sink_later = t.ties.taken.faults;
@@ -191,18 +235,20 @@ legal_ran g b n es (Err e) h a r =
       exact = λ s o c. tt;
       prefix = λ s o c. headline.prefix g b n es (Some e) t.slack t.ties s o c;
       stored = λ s o. tt;
-      tested = tested_told g b n es (Some e) t.slack t.ties;
+      tested = tested_told g b n es (Some e) t.slack a t.ties;
+      whole = no_whole g b n;
       total = tt;
       flushed = tt;
       cancelled = λ i. tt;
       cause = r.cause;
       settings = λ x i. absurd (cc);
-      unasked = r.unasked;
+      empty = r.empty;
       asked = first_asks g es t.slack.lost b.clients n.clients t.ties.within t.ties.cuts t.ties.lost t.ties.asked;
-      refreshed = run_few g b n es (Some e) t.slack 1 a t.ties (lost_one g es t.slack.lost t.ties.lost);
-      all_refreshed = tt;
+      all_asked = tt;
+      refreshed = run_few g b n es (Some e) t.slack a t.ties;
       served = served_once es b.clients n.clients t.slack.hidden t.slack.late t.ties.served;
       planned = planned_told g b n es (Some e) t.slack t.ties;
+      chunks = λ s o i. tt;
       goes_on = goes_on es 0 b.clients n.clients t.slack.hidden t.slack.late t.ties.served.lanes;
       cache_later = r.cache_later;
       sink_later = t.ties.taken.faults;

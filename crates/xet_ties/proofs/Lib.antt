@@ -6,9 +6,11 @@ mod ClientMoves
 mod Expiries
 mod FewAsks
 mod FileCauses
+mod FirstCauses
 mod FailedQueries
 mod Headline
 mod Heard
+mod HonestSizes
 mod LaneJoins
 mod LaneMore
 mod Lanes
@@ -19,9 +21,11 @@ mod Measures
 mod Missing
 mod Moves
 mod NewPairs
+mod Numbers
 mod Pairs
 mod PartTies
 mod PastEnds
+mod Plannings
 mod Pushes
 mod Recording
 mod Records
@@ -33,6 +37,7 @@ mod RoundTies
 mod RoundTries
 mod SaidCauses
 mod SaidTies
+mod ServedChunks
 mod Starts
 mod Telling
 mod Told

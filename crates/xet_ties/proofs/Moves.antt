@@ -1,6 +1,6 @@
 -- The ties after one step.
 use Rattle.std.proofs.Common.{◌≡◌, ℕ, ◌+◌, ◌≤◌, Bool, false, cond, List, [], ◌∷◌, ◌++◌, length, refl, sym, subst, ◌∙◌, ap, arith, append_assoc, length-append, inl, inr, ⊎_elim, Some, None, Option}
-use Rattle.std.specs.Prelude.{IfSome, count_by, option_map}
+use Rattle.std.specs.Prelude.{All, IfSome, count_by, option_map}
 use Rattle.std.proofs.lemmas.List.Elements.{All-push}
 use Rattle.std.specs.Option.{option_or}
 use Rattle.xet_base.specs.Store.{Store}
@@ -13,16 +13,17 @@ use Rattle.xet_run.specs.Events.{expires, first_error, is_plan}
 use Rattle.xet_history.specs.Laws.{IsPrefix}
 use Rattle.xet_history.specs.TrueHistory.{pieces}
 use Rattle.xet_run.proofs.CallerLemmas.{error-push, flat-push}
-use Rattle.xet_ties.specs.History.{IsOneCached, IsRenewed, IsWithin, asked_in, limit_in, limits_of}
+use Rattle.xet_ties.specs.History.{IsNumberedNext, IsOneCached, IsRenewed, IsWithin, asked_in, limit_in, limits_of}
 use Rattle.xet_ties.specs.InCall.{EachExchange, Exchange, Look}
 use Rattle.xet_ties.specs.Saids.{FirstSaid, IsTested}
 use Rattle.xet_ties.proofs.Heard.{said_push}
 use Rattle.xet_ties.specs.steps.Moves.{Fits}
 use Rattle.xet_ties.specs.Setup.{CacheTells, IsOver, RunTold, Setup, download_of}
-use Rattle.xet_ties.specs.Ties.{AllAre, EachExpired, IsAmong, IsLooked, IsTaken, Slack, Ties}
+use Rattle.xet_ties.specs.Ties.{AllAre, EachExpired, HeardAsked, IsAmong, IsEntryOf, IsLooked, IsTaken, Slack, Ties}
 use Rattle.xet_ties.proofs.Lanes.{served_same}
 use Rattle.xet_ties.proofs.Lates.{expired_same}
 use Rattle.xet_ties.proofs.Pushes.{cuts_same, first_push, lost_push, limited_same, looked_push, offered_push, polled_push, reaches_more, recorded_same, stored_same, taken_push, tried_push, true_same}
+use Rattle.xet_ties.proofs.Numbers.{heard_push, next_same}
 use Rattle.xet_ties.proofs.Telling.{count-same, each-push}
 use Rattle.xet_error.specs.declared.error.FileReconstructionError.TheVariants as error
 
@@ -34,16 +35,19 @@ tie_event g b n es e sl to f t = record {
   true_of = λ s o. true_same s (download_of g) es e f.query (f.true_of s) (t.true_of s o);
   cuts = cuts_same g es e f.query t.cuts;
   within = All-push IsWithin es e t.within f.within;
+  numbers = each-push IsNumberedNext es e t.numbers (next_same es e f.plan);
   stored = stored_same g.file es e b.clients f.plan t.stored;
   served = f.served b.clients n.clients t.served;
   expired = f.expired to.heard (subst (λ (l : List Exchange). EachExpired es 0 l sl.late) (sym f.heard) t.expired);
   asked = first_push g.file es e sl.lost to.lost b.clients n.clients f.asked t.asked;
-  lost = lost_push g es e sl.lost (asked_in g.file es e) to.lost f.query f.asked t.lost;
+  heard_asked = subst (λ (l : List Exchange). HeardAsked g.file (es ++ e ∷ []) to.lost l) (sym f.heard) (heard_push g.file es e sl.lost to.lost sl.heard f.asked t.heard_asked);
+  lost = lost_push g es e sl.lost (asked_in g.file es e) to.lost f.query refl f.asked t.lost;
   said = subst (λ (l : List Exchange). FirstSaid g (es ++ e ∷ []) l) (sym f.heard) (said_push g es e sl.heard f.said t.said);
   tried = tried_push g.tries es e f.tried;
   renewed = each-push IsRenewed es e t.renewed f.renewed;
   one_cached = each-push IsOneCached es e t.one_cached f.one_cached;
   looked = subst (λ (l : List Look). IsLooked (es ++ e ∷ []) to.pending l b.clients b.cache n.cache) (sym f.looks) (looked_push es e sl.pending to.pending sl.looks b.clients b.cache n.cache f.cached f.pending t.looked);
+  looked_entries = subst (λ (l : List Look). All (IsEntryOf n.cache.entries) l) (sym f.looks) t.looked_entries;
   offered = offered_push es e sl.due to.due b.cache n.cache f.due t.offered;
   polled = polled_push es e sl.spare to.spare b.signal n.signal (as_is (cond (is_plan e) 1 0 + to.spare) (ap (λ (c : Bool). cond c 1 0 + to.spare) f.plan)) t.polled;
   limited = limited_same es e b.limits n.limits f.limit t.limited;
@@ -63,16 +67,19 @@ tie_poll g b n es sl to a t = record {
   true_of = t.true_of;
   cuts = t.cuts;
   within = t.within;
+  numbers = t.numbers;
   stored = t.stored;
   served = t.served;
   expired = t.expired;
   asked = t.asked;
+  heard_asked = t.heard_asked;
   lost = t.lost;
   said = t.said;
   tried = t.tried;
   renewed = t.renewed;
   one_cached = t.one_cached;
   looked = t.looked;
+  looked_entries = t.looked_entries;
   offered = t.offered;
   polled = record {
     polls = t.polled.polls + 1;
@@ -116,16 +123,19 @@ tie_limit g b n es sl to l c t = record {
   true_of = t.true_of;
   cuts = t.cuts;
   within = t.within;
+  numbers = t.numbers;
   stored = t.stored;
   served = t.served;
   expired = t.expired;
   asked = t.asked;
+  heard_asked = t.heard_asked;
   lost = t.lost;
   said = t.said;
   tried = t.tried;
   renewed = t.renewed;
   one_cached = t.one_cached;
   looked = t.looked;
+  looked_entries = t.looked_entries;
   offered = t.offered;
   polled = t.polled;
   limited = record {
@@ -149,16 +159,19 @@ tie_admit g b n es sl to l c t =
       true_of = λ s o. true_same s (download_of g) es e refl tt (t.true_of s o);
       cuts = cuts_same g es e refl t.cuts;
       within = All-push IsWithin es e t.within tt;
+      numbers = each-push IsNumberedNext es e t.numbers tt;
       stored = stored_same g.file es e b.clients refl t.stored;
       served = served_same es e sl.hidden sl.late b.clients n.clients (λ l. refl) (λ l. refl) (λ p k. refl) (λ m. tt) t.served;
       expired = expired_same es e 0 sl.heard sl.late (λ l w. refl) t.expired;
       asked = first_push g.file es e sl.lost sl.lost b.clients n.clients refl t.asked;
-      lost = lost_push g es e sl.lost [] sl.lost refl refl t.lost;
+      heard_asked = heard_push g.file es e sl.lost sl.lost sl.heard refl t.heard_asked;
+      lost = lost_push g es e sl.lost [] sl.lost refl refl refl t.lost;
       said = said_push g es e sl.heard (λ x. tt) t.said;
       tried = tried_push g.tries es e (λ p k. let a = t.tried.at_most p k in omega (arith, a));
       renewed = each-push IsRenewed es e t.renewed tt;
       one_cached = each-push IsOneCached es e t.one_cached tt;
       looked = looked_push es e sl.pending sl.pending sl.looks b.clients b.cache n.cache refl (λ x r. omega arith) t.looked;
+      looked_entries = t.looked_entries;
       offered = offered_push es e sl.due sl.due b.cache n.cache (omega arith) t.offered;
       polled = polled_push es e sl.spare sl.spare b.signal n.signal (omega arith) t.polled;
       limited = record {
@@ -187,16 +200,19 @@ tie_window g b n es sl to bytes took faults link t p q = record {
   true_of = t.true_of;
   cuts = t.cuts;
   within = t.within;
+  numbers = t.numbers;
   stored = t.stored;
   served = t.served;
   expired = t.expired;
   asked = t.asked;
+  heard_asked = t.heard_asked;
   lost = t.lost;
   said = t.said;
   tried = t.tried;
   renewed = t.renewed;
   one_cached = t.one_cached;
   looked = t.looked;
+  looked_entries = t.looked_entries;
   offered = t.offered;
   polled = t.polled;
   limited = t.limited;
@@ -230,11 +246,13 @@ tie_fail g b n es sl x spent t =
       true_of = λ s o. true_same s (download_of g) es e refl tt (t.true_of s o);
       cuts = cuts_same g es e refl t.cuts;
       within = All-push IsWithin es e t.within tt;
+      numbers = each-push IsNumberedNext es e t.numbers tt;
       stored = stored_same g.file es e b.clients refl t.stored;
       served = served_same es e sl.hidden sl.late b.clients n.clients (λ l. refl) (λ l. refl) (λ p k. refl) (λ m. tt) t.served;
       expired = expired_same es e 0 sl.heard sl.late (λ l w. refl) t.expired;
       asked = first_push g.file es e sl.lost sl.lost b.clients n.clients refl t.asked;
-      lost = lost_push g es e sl.lost [] sl.lost refl refl t.lost;
+      heard_asked = heard_push g.file es e sl.lost sl.lost sl.heard refl t.heard_asked;
+      lost = lost_push g es e sl.lost [] sl.lost refl refl refl t.lost;
       said = said_push g es e sl.heard (λ x. tt) t.said;
       tried = record {
         at_most = λ p k. let a = t.tried.at_most p k in let c = count-same (expires p k) es e refl in omega (arith, a, c);
@@ -243,6 +261,7 @@ tie_fail g b n es sl x spent t =
       renewed = each-push IsRenewed es e t.renewed tt;
       one_cached = each-push IsOneCached es e t.one_cached tt;
       looked = looked_push es e sl.pending sl.pending sl.looks b.clients b.cache n.cache refl (λ y r. omega arith) t.looked;
+      looked_entries = t.looked_entries;
       offered = offered_push es e sl.due sl.due b.cache n.cache (omega arith) t.offered;
       polled = polled_push es e sl.spare sl.spare b.signal n.signal (omega arith) t.polled;
       limited = limited_same es e b.limits n.limits refl t.limited;
@@ -261,16 +280,19 @@ tie_short g b n es sl t = record {
   true_of = t.true_of;
   cuts = t.cuts;
   within = t.within;
+  numbers = t.numbers;
   stored = t.stored;
   served = t.served;
   expired = t.expired;
   asked = t.asked;
+  heard_asked = t.heard_asked;
   lost = t.lost;
   said = t.said;
   tried = record { at_most = t.tried.at_most; spent = λ h. absurd (cc) };
   renewed = t.renewed;
   one_cached = t.one_cached;
   looked = t.looked;
+  looked_entries = t.looked_entries;
   offered = t.offered;
   polled = t.polled;
   limited = t.limited;

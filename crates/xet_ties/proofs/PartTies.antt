@@ -1,5 +1,5 @@
 -- The ties after a part of a turn that touches one object.
-use Rattle.std.proofs.Common.{◌≡◌, ℕ, ◌+◌, ◌-◌, ◌≤◌, ◌^◌, ◌==◌, ◌&&◌, min, Bool, true, false, not, cond, List, [], ◌∷◌, ◌++◌, length, take, ◌<◌, refl, sym, subst, ◌∙◌, ap, arith, ⊎_elim, Some, None, Option}
+use Rattle.std.proofs.Common.{inl, inr, ◌≡◌, ℕ, ◌+◌, ◌-◌, ◌≤◌, ◌^◌, ◌==◌, ◌&&◌, min, Bool, true, false, not, cond, List, [], ◌∷◌, ◌++◌, length, take, ◌<◌, refl, sym, subst, ◌∙◌, ap, arith, ⊎_elim, Some, None, Option}
 use Rattle.std.specs.Prelude.{count_by, get_or, map, nat_eq, option_map, Ok}
 use Rattle.std.proofs.lemmas.Bool.{and_parts, eqb-true}
 use Rattle.xet_base.specs.declared.cas_types.ChunkRange.{ChunkRange}
@@ -21,8 +21,8 @@ use Rattle.xet_ties.specs.steps.Moves.{LookStep}
 use Rattle.xet_ties.specs.steps.Parts.{FoundBlock, LookedShort, LookedUp, OfferOneCall, OffersCall, PollCall, offers_in, offers_of, total, looks_after, pending_after}
 use Rattle.xet_ties.specs.Saids.{planned_of}
 use Rattle.xet_ties.specs.Setup.{IsOver, RunTold, Setup}
-use Rattle.xet_ties.specs.Ties.{Reaches, Slack, Ties, gave, has_one, is_look, is_one, is_range, lacks, missed, same_bytes}
-use Rattle.xet_ties.proofs.CacheMoves.{tie_cached, tie_missed, tie_put, looked_more, taken_grew}
+use Rattle.xet_ties.specs.Ties.{IsEntryOf, Reaches, Slack, Ties, gave, has_one, is_look, is_one, is_range, lacks, missed, same_bytes}
+use Rattle.xet_ties.proofs.CacheMoves.{entries_more, entries_same, tie_cached, tie_missed, tie_put, looked_more, taken_grew}
 use Rattle.xet_ties.proofs.Moves.{tie_poll}
 use Rattle.xet_ties.proofs.Pushes.{reaches_more}
 use Rattle.xet_ties.proofs.Recording.{tie_rest}
@@ -46,16 +46,19 @@ stop_ties g b at es sl m n is c t =
         true_of = t.true_of;
         cuts = t.cuts;
         within = t.within;
+        numbers = t.numbers;
         stored = t.stored;
         served = t.served;
         expired = t.expired;
         asked = t.asked;
+        heard_asked = t.heard_asked;
         lost = t.lost;
         said = t.said;
         tried = t.tried;
         renewed = t.renewed;
         one_cached = t.one_cached;
         looked = t.looked;
+        looked_entries = t.looked_entries;
         offered = t.offered;
         polled = record {
           polls = t.polled.polls + 1;
@@ -115,10 +118,12 @@ tie_looked g b n es sl to x r given l t = record {
   true_of = t.true_of;
   cuts = t.cuts;
   within = t.within;
+  numbers = t.numbers;
   stored = t.stored;
   served = t.served;
   expired = t.expired;
   asked = t.asked;
+  heard_asked = t.heard_asked;
   lost = t.lost;
   said = t.said;
   tried = t.tried;
@@ -138,6 +143,7 @@ tie_looked g b n es sl to x r given l t = record {
           honest = λ s o. let c2 = c.honest s o in let m = count_by-push (missed s X q) sl.looks (x.xorb, r, given) in omega (arith, c2, m);
         };
   };
+  looked_entries = entries_more n.cache to sl.looks (x.xorb, r, given) l.entries l.among t.looked_entries;
   offered = record { puts = t.offered.puts; offers = subst (λ (o : Option ℕ). Reaches b.cache.offers o t.offered.puts) (sym l.offers) t.offered.offers; cover = t.offered.cover };
   polled = t.polled;
   limited = t.limited;
@@ -146,22 +152,25 @@ tie_looked g b n es sl to x r given l t = record {
 }
 
 -- the same cache, by what it tells of looks and offers
-tie_cache_same : (g : Setup) (b n : RunTold) (es : List Event) (sl : Slack) (to : CacheTold) → to.looked ≡ n.cache.looked → to.offers ≡ n.cache.offers → Ties g b n es None sl → Ties g b (record n { cache = to }) es None sl
-tie_cache_same g b n es sl to looked offers t = record {
+tie_cache_same : (g : Setup) (b n : RunTold) (es : List Event) (sl : Slack) (to : CacheTold) → to.looked ≡ n.cache.looked → to.offers ≡ n.cache.offers → to.entries ≡ n.cache.entries → Ties g b n es None sl → Ties g b (record n { cache = to }) es None sl
+tie_cache_same g b n es sl to looked offers entries t = record {
   heard = t.heard;
   true_of = t.true_of;
   cuts = t.cuts;
   within = t.within;
+  numbers = t.numbers;
   stored = t.stored;
   served = t.served;
   expired = t.expired;
   asked = t.asked;
+  heard_asked = t.heard_asked;
   lost = t.lost;
   said = t.said;
   tried = t.tried;
   renewed = t.renewed;
   one_cached = t.one_cached;
   looked = record { looked = looked ∙ t.looked.looked; cover = t.looked.cover };
+  looked_entries = entries_same n.cache to sl.looks entries t.looked_entries;
   offered = record { puts = t.offered.puts; offers = subst (λ (o : Option ℕ). Reaches b.cache.offers o t.offered.puts) (sym offers) t.offered.offers; cover = t.offered.cover };
   polled = t.polled;
   limited = t.limited;
@@ -180,6 +189,8 @@ look_up_ties g b at es fs sl m n x y p is l planned honest t = by_ranges x.chunk
       one = e;
       looked = subst (λ (c : CacheTold). Grew c.looked n.looked (x.xorb_hash, r, given)) (sym is) k.0;
       offers = k.1 ∙ ap (λ (c : CacheTold). c.offers) (sym is);
+      entries = k.2 ∙ ap (λ (c : CacheTold). c.entries) (sym is);
+      among = subst (λ (c : CacheTold). IsEntryOf c.entries (x.xorb_hash, r, given)) (sym is) k.4;
     }
 
     unlooked : (found : Option XorbBlockData) → n ≡ m → ((r : ChunkRange) → is_range r x.chunk_ranges ≡ false) → found ≡ None → FoundBlock x y p es fs found → Ties g b (record at { cache = n }) fs None (record sl { pending = pending_after found (planned_of x) sl.pending })
@@ -187,7 +198,7 @@ look_up_ties g b at es fs sl m n x y p is l planned honest t = by_ranges x.chunk
     unlooked None e many none i =
         subst (λ (h : List Event). Ties g b (record at { cache = n }) h None (record sl { pending = planned_of x ∷ sl.pending })) (sym i.1)
         (tie_rest g b (record at { cache = n }) es sl (planned_of x ∷ sl.pending) sl.spare (λ X r. many_count X r (planned_of x) sl.pending (many r)) (omega arith)
-        (tie_cache_same g b at es sl n (ap (λ (c : CacheTold). c.looked) (e ∙ sym is)) (ap (λ (c : CacheTold). c.offers) (e ∙ sym is)) t))
+        (tie_cache_same g b at es sl n (ap (λ (c : CacheTold). c.looked) (e ∙ sym is)) (ap (λ (c : CacheTold). c.offers) (e ∙ sym is)) (ap (λ (c : CacheTold). c.entries) (e ∙ sym is)) t))
 
     one : (r : ChunkRange) (given : Option BlockBytes) (found : Option XorbBlockData) → x.chunk_ranges ≡ r ∷ [] → LookedFor x (r ∷ []) m n given → FoundIn x given found → FoundBlock x y p es fs found
         → Ties g b (record at { cache = n }) fs None (record sl { looks = sl.looks ++ (x.xorb_hash, r, given) ∷ []; pending = pending_after found (planned_of x) sl.pending })
@@ -227,15 +238,26 @@ look_short_ties g b at es fs sl m n x is l t = by_ranges x.chunk_ranges refl l.l
     offers : n.offers ≡ at.cache.offers
     offers = l.keeps.offers ∙ ap (λ (c : CacheTold). c.offers) (sym is)
 
+    entries : n.entries ≡ at.cache.entries
+    entries = l.keeps.entries ∙ ap (λ (c : CacheTold). c.entries) (sym is)
+
     still : n.looked ≡ m.looked → (more : List Look) × Ties g b (record at { cache = n }) fs None (record sl { looks = sl.looks ++ more })
-    still e = ([], at_events [] (subst (λ (ls : List Look). Ties g b (record at { cache = n }) es None (record sl { looks = ls })) (sym (append-nil sl.looks)) (tie_cache_same g b at es sl n (e ∙ ap (λ (c : CacheTold). c.looked) (sym is)) offers t)))
+    still e = ([], at_events [] (subst (λ (ls : List Look). Ties g b (record at { cache = n }) es None (record sl { looks = ls })) (sym (append-nil sl.looks)) (tie_cache_same g b at es sl n (e ∙ ap (λ (c : CacheTold). c.looked) (sym is)) offers entries t)))
 
     by_ranges : (rs : List ChunkRange) → x.chunk_ranges ≡ rs → MaybeLooked x x.chunk_ranges m n → (more : List Look) × Ties g b (record at { cache = n }) fs None (record sl { looks = sl.looks ++ more })
     by_ranges [] e k = still (subst (λ (rs : List ChunkRange). MaybeLooked x rs m n) e k)
     by_ranges (r ∷ []) e k =
         ⊎_elim still
-        (λ (h : (o : Option BlockBytes) × Looked x r m n o).
-        ((x.xorb_hash, r, h.0) ∷ [], at_events ((x.xorb_hash, r, h.0) ∷ []) (tie_looked g b at es sl n (planned_of x) r h.0 (record { one = e; looked = subst (λ (c : CacheTold). Grew c.looked n.looked (x.xorb_hash, r, h.0)) (sym is) h.1.0; offers = offers }) t)))
+        (λ (h : (o : Option BlockBytes) × Looked x r m n o). (
+          (x.xorb_hash, r, h.0) ∷ [],
+          at_events ((x.xorb_hash, r, h.0) ∷ []) (tie_looked g b at es sl n (planned_of x) r h.0 (record {
+            one = e;
+            looked = subst (λ (c : CacheTold). Grew c.looked n.looked (x.xorb_hash, r, h.0)) (sym is) h.1.0;
+            offers = offers;
+            entries = entries;
+            among = subst (λ (c : CacheTold). IsEntryOf c.entries (x.xorb_hash, r, h.0)) (sym is) h.1.4;
+          }) t),
+        ))
         (subst (λ (rs : List ChunkRange). MaybeLooked x rs m n) e k)
     by_ranges (r ∷ q ∷ rs) e k = still (subst (λ (ss : List ChunkRange). MaybeLooked x ss m n) e k)
 
@@ -250,16 +272,19 @@ offers_none m = record { ties = λ g b at es sl due is d t. let h : sl.due ≤ d
       true_of = t.true_of;
       cuts = t.cuts;
       within = t.within;
+      numbers = t.numbers;
       stored = t.stored;
       served = t.served;
       expired = t.expired;
       asked = t.asked;
+      heard_asked = t.heard_asked;
       lost = t.lost;
       said = t.said;
       tried = t.tried;
       renewed = t.renewed;
       one_cached = t.one_cached;
       looked = t.looked;
+      looked_entries = t.looked_entries;
       offered = record { puts = t.offered.puts; offers = t.offered.offers; cover = let c = t.offered.cover in omega (arith, c, d) };
       polled = t.polled;
       limited = t.limited;
@@ -285,7 +310,17 @@ offers_one x m n e o = by_ranges x.chunk_ranges refl
     by_ranges (r ∷ []) h =
         let q : IsOffered x (r ∷ []) m n e = subst (λ (rs : List ChunkRange). IsOffered x rs m n e) h o in
         subst (λ (rs : List ChunkRange). OffersCall m n (cond (nat_eq (length rs) 1) 1 0)) (sym h)
-        (record { ties = λ g b at es sl due is d t. tie_put g b at es sl n due (record { looked = q.1 ∙ ap (λ (c : CacheTold). c.looked) (sym is); offers = q.2 ∙ ap (λ (c : CacheTold). option_map (λ i. min (i + 1) (2 ^ 64 - 1)) c.offers) (sym is) }) d t })
+        (record {
+          ties = λ g b at es sl due is d t. tie_put g b at es sl n due (record {
+            looked = q.1 ∙ ap (λ (c : CacheTold). c.looked) (sym is);
+            offers = q.2 ∙ ap (λ (c : CacheTold). option_map (λ i. min (i + 1) (2 ^ 64 - 1)) c.offers) (sym is);
+            entries =
+                ⊎_elim
+                (λ (v : n.entries ≡ m.entries). inl (v ∙ ap (λ (c : CacheTold). c.entries) (sym is)))
+                (λ (v : Grew m.entries n.entries (x.xorb_hash, r, e)). inr ((x.xorb_hash, r, e), subst (λ (c : CacheTold). Grew c.entries n.entries (x.xorb_hash, r, e)) (sym is) v))
+                q.0;
+          }) d t;
+        })
     by_ranges (r ∷ s ∷ rs) h =
         let many : cond {A = ℕ} (nat_eq (length x.chunk_ranges) 1) 1 0 ≡ 0 = (let k : length x.chunk_ranges ≡ length rs + 2 = ap (λ (l : List ChunkRange). length l) h ∙ omega arith in off (length x.chunk_ranges) (length rs) k) in
         subst (λ (c : ℕ). OffersCall m n c) (sym many) (none (subst (λ (ss : List ChunkRange). IsOffered x ss m n e) h o))

@@ -1,6 +1,7 @@
 -- Each of the other ties after one more event.
-use Rattle.std.proofs.Common.{◌≡◌, ℕ, ◌+◌, ◌-◌, ◌^◌, ◌≤◌, ◌<◌, length, take, inl, inr, ⊎_elim, min, false, cond, List, [], ◌∷◌, ◌++◌, refl, sym, subst, ◌∙◌, ap, arith, append_assoc, Some, None, Option}
-use Rattle.std.specs.Prelude.{All, IfSome, IsSome, count_by, filter, option_map}
+use Rattle.std.proofs.Common.{◌≡◌, ℕ, ◌+◌, ◌-◌, ◌^◌, ◌≤◌, ◌<◌, length, take, inl, inr, ⊎_elim, min, ◌==◌, Bool, true, false, cond, List, [], ◌∷◌, ◌++◌, refl, sym, subst, ◌∙◌, ap, arith, append_assoc, Some, None, Option}
+use Rattle.std.specs.Prelude.{All, IfSome, IsSome, count_by, filter, map, option_map}
+use Rattle.std.proofs.lemmas.Bool.{eqb-true}
 use Rattle.std.specs.Option.{option_or}
 use Rattle.std.specs.List.{flat_map}
 use Rattle.std.specs.List.{AllZip}
@@ -15,11 +16,12 @@ use Rattle.xet_base.specs.Store.{Store, file_of}
 use Rattle.xet_outside.specs.Told.{CacheTold, ClientTold, Counted, Query, SignalTold, SinkTold}
 use Rattle.xet_history.specs.Queries.{CutFrom}
 use Rattle.xet_run.specs.declared.event.Event.{Event}
+use Rattle.xet_run.specs.declared.event.Event.TheVariants.{Planned, Admit, Fetched, Cached, Expired, Refreshed, Wrote, Fail, Cancel}
 use Rattle.xet_run.specs.declared.event.PlannedBlock.{PlannedBlock}
 use Rattle.xet_run.specs.Budgets.{LimitTold}
-use Rattle.xet_run.specs.Events.{error_in, expires, first_error, Task, is_plan, plan_count, planned, taken_in, tasks_in}
+use Rattle.xet_run.specs.Events.{error_in, expires, first_error, Task, is_plan, is_stale, last_of, plan_count, planned, taken_in, tasks_in}
 use Rattle.xet_history.specs.TrueHistory.{Download, IsTrueEvent, IsTrueHistory, pieces, queries, queries_in, task_piece}
-use Rattle.xet_run.proofs.CallerLemmas.{count_by-push, error-push, flat-push, planned-push, written-push}
+use Rattle.xet_run.proofs.CallerLemmas.{count_by-push, error-push, flat-push, planned-push, stale-push, written-push}
 use Rattle.xet_ties.specs.History.{asked_by, asked_in, cached_in, fetched_in, kept_in, limit_in, limits_of, range_at, telling}
 use Rattle.xet_ties.specs.InCall.{Exchange, Look}
 use Rattle.xet_ties.specs.Saids.{IsTaskPiece, IsTested, has_bytes, some_of}
@@ -55,27 +57,50 @@ cuts_same g es e none c = subst (λ (qs : List FileRange). CutsRange g qs) (sym 
 pub cuts_push : (g : Setup) (es : List Event) (e : Event) (q : FileRange) → queries_in e ≡ q ∷ [] → CutsRange g (queries es ++ q ∷ []) → CutsRange g (queries (es ++ e ∷ []))
 cuts_push g es e q one c = subst (λ (qs : List FileRange). CutsRange g qs) (sym (flat-push queries_in es e ∙ ap (λ (qs : List FileRange). queries es ++ qs) one)) c
 
+-- a plan stays stale after an event that doesn't refresh it
+stale_stays : (f : MerkleHash) (es : List Event) (e : Event) (p : ℕ) (r : FileRange) → asked_in f es e ≡ [] → range_at es p ≡ r ∷ [] → is_stale es p ≡ true → is_stale (es ++ e ∷ []) p ≡ true
+stale_stays f es (Refreshed q) p r none at h = stale-push es (Refreshed q) p ∙ by (q == p) refl
+  where
+    by : (v : Bool) → (q == p) ≡ v → last_of (is_stale es p) (filter (λ _. v) (false ∷ [])) ≡ true
+    by false e = h
+    by true e =
+        let same : range_at es q ≡ r ∷ [] = ap (λ (i : ℕ). range_at es i) (eqb-true q p e) ∙ at in
+        let z : ◌≡◌ {A = List Query} ((f, r) ∷ []) [] = sym (ap (λ (l : List FileRange). map (λ v. (f, v)) l) same) ∙ none in
+        absurd (cc)
+stale_stays f es (Expired lane q k) p r none at h = stale-push es (Expired lane q k) p ∙ by (q == p)
+  where
+    by : (v : Bool) → last_of (is_stale es p) (filter (λ _. v) (true ∷ [])) ≡ true
+    by false = h
+    by true = refl
+stale_stays f es (Planned plan query terms blocks) p r none at h = stale-push es (Planned plan query terms blocks) p ∙ h
+stale_stays f es (Admit limit) p r none at h = stale-push es (Admit limit) p ∙ h
+stale_stays f es (Fetched lane plan block) p r none at h = stale-push es (Fetched lane plan block) p ∙ h
+stale_stays f es (Cached plan block) p r none at h = stale-push es (Cached plan block) p ∙ h
+stale_stays f es (Wrote taken) p r none at h = stale-push es (Wrote taken) p ∙ h
+stale_stays f es (Fail error) p r none at h = stale-push es (Fail error) p ∙ h
+stale_stays f es Cancel p r none at h = stale-push es Cancel p ∙ h
+
 -- a query whose answer isn't recorded may be asked after one more event
-lost_same : (g : Setup) (es : List Event) (e : Event) (lost : List Query) → queries_in e ≡ [] → IsLost g es lost → IsLost g (es ++ e ∷ []) lost
-lost_same g es e [] none h = tt
-lost_same g es e (q ∷ []) none h = (
+lost_same : (g : Setup) (es : List Event) (e : Event) (lost : List Query) → queries_in e ≡ [] → asked_in g.file es e ≡ [] → IsLost g es lost → IsLost g (es ++ e ∷ []) lost
+lost_same g es e [] none quiet h = tt
+lost_same g es e (q ∷ []) none quiet h = (
   h.0,
   ⊎_elim
       (λ (c : CutsRange g (queries es ++ q.1 ∷ [])). inl (subst (λ (qs : List FileRange). CutsRange g (qs ++ q.1 ∷ [])) (sym (queries-same es e none)) c))
-      (λ (r : (p : ℕ) × (range_at es p ≡ q.1 ∷ [])). inr (r.0, range_at-push es e r.0 q.1 r.1))
+      (λ (r : (p : ℕ) × (range_at es p ≡ q.1 ∷ []) × (is_stale es p ≡ true)). inr (r.0, range_at-push es e r.0 q.1 r.1, stale_stays g.file es e r.0 q.1 quiet r.1 r.2))
       h.1,
 )
-lost_same g es e (q ∷ r ∷ qs) none h = absurd h
+lost_same g es e (q ∷ r ∷ qs) none quiet h = absurd h
 
 -- and none is left where it was recorded
-lost_rest : (g : Setup) (es : List Event) (xs to : List Query) → IsLost g es (xs ++ to) → IsLost g es to
-lost_rest g es [] to h = h
-lost_rest g es (a ∷ []) [] h = tt
-lost_rest g es (a ∷ []) (q ∷ to) h = absurd h
-lost_rest g es (a ∷ c ∷ xs) to h = absurd h
+lost_rest : (g : Setup) (es : List Event) (e : Event) (xs to : List Query) → queries_in e ≡ [] → asked_in g.file es e ≡ xs → IsLost g es (xs ++ to) → IsLost g (es ++ e ∷ []) to
+lost_rest g es e [] to none is h = lost_same g es e to none is h
+lost_rest g es e (a ∷ []) [] none is h = tt
+lost_rest g es e (a ∷ []) (q ∷ to) none is h = absurd h
+lost_rest g es e (a ∷ c ∷ xs) to none is h = absurd h
 
-pub lost_push : (g : Setup) (es : List Event) (e : Event) (lost xs to : List Query) → queries_in e ≡ [] → lost ≡ xs ++ to → IsLost g es lost → IsLost g (es ++ e ∷ []) to
-lost_push g es e lost xs to none is h = lost_same g es e to none (lost_rest g es xs to (subst (λ (l : List Query). IsLost g es l) is h))
+pub lost_push : (g : Setup) (es : List Event) (e : Event) (lost xs to : List Query) → queries_in e ≡ [] → asked_in g.file es e ≡ xs → lost ≡ xs ++ to → IsLost g es lost → IsLost g (es ++ e ∷ []) to
+lost_push g es e lost xs to none said is h = lost_rest g es e xs to none said (subst (λ (l : List Query). IsLost g es l) is h)
 
 -- the queries of an event are recorded
 asked_push : (f : MerkleHash) (es : List Event) (e : Event) (lost rest : List Query) (b n : ClientTold) → lost ≡ asked_in f es e ++ rest → IsAsked f es lost b n → IsAsked f (es ++ e ∷ []) rest b n

@@ -160,10 +160,12 @@ tie_rest g b n es sl rest spare fewer less t = record {
   true_of = t.true_of;
   cuts = t.cuts;
   within = t.within;
+  numbers = t.numbers;
   stored = t.stored;
   served = t.served;
   expired = t.expired;
   asked = t.asked;
+  heard_asked = t.heard_asked;
   lost = t.lost;
   said = t.said;
   tried = t.tried;
@@ -177,6 +179,7 @@ tie_rest g b n es sl rest spare fewer less t = record {
         let c0 = c.kept in
         record { kept = omega (arith, c0, f); cached = c.cached; honest = λ s o. let c2 = c.honest s o in omega (arith, c2, f) };
   };
+  looked_entries = t.looked_entries;
   offered = t.offered;
   polled = record { polls = t.polled.polls; asks = t.polled.asks; cover = let c = t.polled.cover in omega (arith, c, less); later = t.polled.later };
   limited = t.limited;

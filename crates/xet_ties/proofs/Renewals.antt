@@ -1,6 +1,6 @@
 -- No more refreshes than expired answers: each refresh is of a plan that is stale, and one expired answer makes one plan
 -- stale.
-use Rattle.std.proofs.Common.{◌≡◌, ℕ, ◌+◌, ◌≤◌, ◌==◌, ◌||◌, Bool, true, false, cond, List, [], ◌∷◌, ◌++◌, length, refl, sym, subst, ◌∙◌, ap, arith}
+use Rattle.std.proofs.Common.{◌≡◌, ℕ, ◌+◌, ◌≤◌, ◌==◌, ◌||◌, Bool, true, false, cond, List, [], ◌∷◌, ◌++◌, length, refl, sym, ◌∙◌, ap, arith}
 use Rattle.std.specs.Prelude.{count_by, filter}
 use Rattle.std.specs.List.{list_any}
 use Rattle.std.proofs.lemmas.Bool.{eq-eqb, eqb-true}
@@ -100,8 +100,19 @@ stale_after es (Wrote taken) a s = stale_same es (Wrote taken) refl refl (λ p. 
 stale_after es (Fail error) a s = stale_same es (Fail error) refl refl (λ p. refl) s
 stale_after es Cancel a s = stale_same es Cancel refl refl (λ p. refl) s
 
+stale_ones : (es : List Event) → IsAllowedHistory es → StaleOnes es
+stale_ones es a = kept_along StaleOnes stale_after (record { plans = []; few = omega arith; all = λ p h. absurd (cc) }) es a
+
+-- with one more for a plan that is stale
+pub stale_few : (es : List Event) (p : ℕ) → IsAllowedHistory es → is_stale es p ≡ true → count_by is_refresh es + 1 ≤ count_by is_expiry es
+stale_few es p a h =
+    let s = stale_ones es a in
+    let f = s.few in
+    let l = without_less p s.plans (s.all p h) in
+    omega (arith, f, l)
+
 pub refreshes_few : (es : List Event) → IsAllowedHistory es → count_by is_refresh es ≤ count_by is_expiry es
 refreshes_few es a =
-    let s = kept_along StaleOnes stale_after (record { plans = []; few = omega arith; all = λ p h. absurd (cc) }) es a in
+    let s = stale_ones es a in
     let f = s.few in
     omega (arith, f)

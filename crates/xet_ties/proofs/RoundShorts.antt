@@ -1,5 +1,5 @@
 -- The ties where memory is wanting while a round is recorded: the first of its events are.
-use Rattle.std.proofs.Common.{◌≡◌, ◌⊎◌, ℕ, zero, suc, ◌+◌, ◌-◌, ◌<◌, ◌≤◌, Bool, true, false, cond, List, [], ◌∷◌, ◌++◌, length, take, drop, map, refl, sym, subst, ◌∙◌, ap, arith, append_assoc, length-append, ⊎_elim, None}
+use Rattle.std.proofs.Common.{◌≡◌, ℕ, zero, suc, ◌+◌, ◌-◌, ◌<◌, ◌≤◌, Bool, true, false, cond, List, [], ◌∷◌, ◌++◌, length, take, drop, map, refl, sym, subst, ◌∙◌, ap, arith, append_assoc, length-append, ⊎_elim, None}
 use Rattle.std.specs.Prelude.{All, count_by, nat_lt}
 use Rattle.std.specs.List.{flat_map}
 use Rattle.std.proofs.Math.Seq.{take-append-add, take-nil}
@@ -20,7 +20,7 @@ use Rattle.xet_ties.specs.declared.lane_step.LaneStep.{LaneStep}
 use Rattle.xet_ties.specs.steps.Moves.{no_hidden, no_late}
 use Rattle.xet_ties.specs.steps.Parts.{total}
 use Rattle.xet_ties.specs.steps.Records.{AreFresh, EachFresh, EachMayExpire, IsFreshAsk, Key, MayExpire, Place, asks_for, blocks_all, entries_all, expired_all, expired_on, fetched_all, fetched_on, key_of, lane_events, lanes_entries, lanes_expired, lanes_fetched, lanes_late, places_of, wrote_of}
-use Rattle.xet_ties.proofs.LaneJoins.{are_joined, fetched_among}
+use Rattle.xet_ties.proofs.LaneJoins.{are_joined}
 use Rattle.xet_ties.proofs.LaneTies.{tie_lanes_expired, tie_lanes_fetched}
 use Rattle.xet_ties.proofs.Recording.{tie_wrote}
 use Rattle.xet_ties.proofs.RoundTies.{fetched_slack, joined_slack, late_places, round_fetched, round_joined}

@@ -26,6 +26,7 @@ use Rattle.xet_fetch.specs.Refreshes.{plan_extents, refusal_of}
 use Rattle.xet_run.specs.declared.event.PlannedBlock.{PlannedBlock}
 use Rattle.xet_run.specs.declared.event.PlannedTerm.{PlannedTerm}
 use Rattle.xet_ties.specs.Causes.{BlockFailsIn, EndFails, SomeFailed, TermFailsIn}
+use Rattle.xet_ties.specs.Cuts.{StartsAt}
 use Rattle.xet_ties.specs.History.{entry_of}
 use Rattle.xet_ties.specs.InCall.{Exchange, SomeOne}
 use Rattle.xet_ties.specs.Lanes.{Ask, BytesFail, IsFor}
@@ -61,11 +62,11 @@ step_fails g xs place b x h more a k same own block number t =
       fails = subst (λ (y : XorbBlock). failed_check y t.given ≡ Some k) (sym block) t.fails;
     }
 
-pub block_fails : (g : Setup) (xs : List Exchange) (k : Corruption) (place : BlockOfPlan g xs) (p : ℕ) → SomeOne (BlockFailsIn g xs place p k) xs → SomeFailed g xs k
-block_fails g xs k place p h = inr (inr (inl (record { place = place; number = p; bytes = h })))
+pub block_fails : (g : Setup) (xs : List Exchange) (k : Corruption) (place : BlockOfPlan g xs) (p : ℕ) → StartsAt g xs p place.query.start → SomeOne (BlockFailsIn g xs place p k) xs → SomeFailed g xs k
+block_fails g xs k place p s h = inr (inr (inl (record { place = place; number = p; numbered = s; bytes = h })))
 
-pub term_fails : (g : Setup) (xs : List Exchange) (k : Corruption) (place : TermOfPlan g xs) (p : ℕ) → SomeOne (TermFailsIn g xs place p k) xs → SomeFailed g xs k
-term_fails g xs k place p h = inr (inr (inr (inl (record { place = place; number = p; bytes = h }))))
+pub term_fails : (g : Setup) (xs : List Exchange) (k : Corruption) (place : TermOfPlan g xs) (p : ℕ) → StartsAt g xs p place.place.query.start → SomeOne (TermFailsIn g xs place p k) xs → SomeFailed g xs k
+term_fails g xs k place p s h = inr (inr (inr (inl (record { place = place; number = p; numbered = s; bytes = h }))))
 
 pub end_fails : (g : Setup) (xs : List Exchange) (k : Corruption) → EndFails g xs k → SomeFailed g xs k
 end_fails g xs k h = inr (inr (inr (inr h)))

@@ -1,9 +1,8 @@
 -- Data and blocks by what was said.
-use Rattle.std.proofs.Common.{◌≡◌, ℕ, zero, suc, ◌+◌, ◌≤◌, ◌==◌, Bool, true, false, cond, List, [], ◌∷◌, ◌++◌, length, refl, sym, subst, ◌∙◌, ap, arith, ⊎_elim, Some, None, Option}
+use Rattle.std.proofs.Common.{◌≡◌, ℕ, zero, suc, ◌+◌, ◌≤◌, List, [], ◌∷◌, ◌++◌, length, refl, sym, subst, ◌∙◌, ap, arith, ⊎_elim, Some, None, Option}
 use Rattle.std.specs.Prelude.{All, map, option_to_list, slice_get}
 use Rattle.std.specs.List.{enumerate_from, flat_map}
 use Rattle.std.proofs.lemmas.List.{append-nil}
-use Rattle.std.proofs.lemmas.List.Elements.{All-head, All-tail}
 use Rattle.xet_base.specs.declared.cas_types.ChunkRange.{ChunkRange}
 use Rattle.xet_base.specs.declared.cas_types.FileRange.{FileRange}
 use Rattle.xet_base.specs.declared.merklehash.MerkleHash.{MerkleHash}
@@ -21,18 +20,17 @@ use Rattle.xet_blocks.specs.declared.reconstruction_terms.xorb_block.XorbBlockDa
 use Rattle.xet_blocks.specs.Blocks.{PlanBlock, blocks_of}
 use Rattle.xet_blocks.specs.TermBlocks.{xorb_block}
 use Rattle.xet_run.specs.declared.event.Event.{Event}
-use Rattle.xet_run.specs.declared.event.Event.TheVariants.{Planned, Admit, Fetched, Cached, Expired, Refreshed, Wrote, Fail, Cancel}
 use Rattle.xet_run.specs.declared.event.PlannedBlock.{PlannedBlock}
 use Rattle.xet_run.specs.declared.event.PlannedTerm.{PlannedTerm}
-use Rattle.xet_history.specs.Queries.{CutFrom}
 use Rattle.xet_history.specs.TrueHistory.{planned_block, queries}
-use Rattle.xet_ties.specs.History.{block_at, blocks_in, entry_of}
+use Rattle.xet_ties.specs.History.{EachAfter, IsNumberedNext, block_at, blocks_in, entry_of}
 use Rattle.xet_ties.specs.InCall.{Exchange}
 use Rattle.xet_ties.specs.Lanes.{Ask, IsFor, IsOf}
 use Rattle.xet_ties.specs.Saids.{BlockOfPlan, IsEventSaid, IsMadeOf, IsMadeOfPlan, IsPlanAccepted, IsPlannedBy, IsQueryAnswer, IsServedData, planned_of}
 use Rattle.xet_ties.specs.Setup.{Setup}
 use Rattle.xet_ties.specs.Ties.{CutsRange}
 use Rattle.xet_ties.specs.declared.lane_step.LaneStep.TheVariants as step
+use Rattle.xet_ties.proofs.Numbers.{PlanAt, cut_within, plan_at, reads_blocks}
 
 -- ---- the data of a lane's step
 
@@ -58,37 +56,8 @@ step_data b n x h more a p k d same own is =
 
 -- ---- planned blocks
 
--- the Planned event of a plan that was planned
-pub record PlanEvent (g : Setup) (x : Exchange) (bs : List PlannedBlock) : Type 0 where
-  pub query : FileRange
-  pub terms : List PlannedTerm
-  pub by : IsPlannedBy g x query terms bs
-  pub from : g.range.start ≤ query.start
-  pub to : query.end ≤ g.range.end
-
-pub plan_event_of : (g : Setup) (x : Exchange) (p : ℕ) (place bound : ℕ) (es : List Event) (bs : List PlannedBlock) → g.range.start ≤ place → CutFrom place g.range.end bound (queries es) → All (IsEventSaid g x) es → first_some (map (blocks_in p) es) ≡ Some bs
-    → PlanEvent g x bs
-plan_event_of g x p place bound [] bs low c a h = absurd (cc)
-plan_event_of g x p place bound (Planned plan query terms blocks ∷ es) bs low c a h = by (plan == p) refl (λ k. plan_event_of g x p query.end bound es bs (let u = c.0 in let v = c.1 in omega (arith, low, u, v)) c.4 (All-tail (IsEventSaid g x) (Planned plan query terms blocks) es a) k)
-  where
-    by : (v : Bool) → (plan == p) ≡ v → (first_some (map (blocks_in p) es) ≡ Some bs → PlanEvent g x bs) → PlanEvent g x bs
-    by true e more =
-        let same : Some blocks ≡ Some bs = sym (ap (λ (w : Bool). first_some (cond w (Some blocks) None ∷ map (blocks_in p) es)) e) ∙ h in
-        let is : blocks ≡ bs = cc in
-        subst (λ (l : List PlannedBlock). PlanEvent g x l) is
-        (record { query = query; terms = terms; by = All-head (IsEventSaid g x) (Planned plan query terms blocks) es a; from = (let u = c.0 in omega (arith, low, u)); to = c.2 })
-    by false e more = more (sym (ap (λ (w : Bool). first_some (cond w (Some blocks) None ∷ map (blocks_in p) es)) e) ∙ h)
-plan_event_of g x p place bound (Admit limit ∷ es) bs low c a h = plan_event_of g x p place bound es bs low c (All-tail (IsEventSaid g x) (Admit limit) es a) h
-plan_event_of g x p place bound (Fetched lane plan block ∷ es) bs low c a h = plan_event_of g x p place bound es bs low c (All-tail (IsEventSaid g x) (Fetched lane plan block) es a) h
-plan_event_of g x p place bound (Cached plan block ∷ es) bs low c a h = plan_event_of g x p place bound es bs low c (All-tail (IsEventSaid g x) (Cached plan block) es a) h
-plan_event_of g x p place bound (Expired lane plan block ∷ es) bs low c a h = plan_event_of g x p place bound es bs low c (All-tail (IsEventSaid g x) (Expired lane plan block) es a) h
-plan_event_of g x p place bound (Refreshed plan ∷ es) bs low c a h = plan_event_of g x p place bound es bs low c (All-tail (IsEventSaid g x) (Refreshed plan) es a) h
-plan_event_of g x p place bound (Wrote taken ∷ es) bs low c a h = plan_event_of g x p place bound es bs low c (All-tail (IsEventSaid g x) (Wrote taken) es a) h
-plan_event_of g x p place bound (Fail error ∷ es) bs low c a h = plan_event_of g x p place bound es bs low c (All-tail (IsEventSaid g x) (Fail error) es a) h
-plan_event_of g x p place bound (Cancel ∷ es) bs low c a h = plan_event_of g x p place bound es bs low c (All-tail (IsEventSaid g x) Cancel es a) h
-
 -- a place of a mapped list
-map_at : (bs : List PlanBlock) (k : ℕ) (pb : PlannedBlock) → slice_get (map planned_block bs) k ≡ Some pb → (b : PlanBlock) × (slice_get bs k ≡ Some b) × (planned_block b ≡ pb)
+pub map_at : (bs : List PlanBlock) (k : ℕ) (pb : PlannedBlock) → slice_get (map planned_block bs) k ≡ Some pb → (b : PlanBlock) × (slice_get bs k ≡ Some b) × (planned_block b ≡ pb)
 map_at [] k pb h = absurd (cc)
 map_at (b ∷ bs) zero pb h = (b, refl, (let e : planned_block b ≡ pb = cc in e))
 map_at (b ∷ bs) (suc k) pb h = map_at bs k pb h
@@ -101,44 +70,53 @@ listed_at f n zero (c ∷ bs) b h =
     ap (λ (y : PlanBlock). Some (f (n, y))) same ∙ ap (λ (i : ℕ). Some (f (i, b))) z
 listed_at f n (suc k) (c ∷ bs) b h = let z : (n + 1) + k ≡ n + suc k = omega arith in listed_at f (n + 1) k bs b h ∙ ap (λ (i : ℕ). Some (f (i, b))) z
 
--- a planned block is a block of a plan that was said and passes its tests
-pub record SaidBlock (g : Setup) (xs : List Exchange) (k : ℕ) (pb : PlannedBlock) : Type 0 where
+-- a planned block is a block of a plan that was said and passes its tests, and the plan's number is its query's place
+pub record SaidBlock (g : Setup) (xs : List Exchange) (es : List Event) (p k : ℕ) (pb : PlannedBlock) : Type 0 where
   pub place : BlockOfPlan g xs
   pub number : place.number ≡ k
   pub is : planned_of place.block ≡ pb
+  pub query_place : ℕ
+  pub query_at : slice_get (queries es) query_place ≡ Some place.query
+  pub numbered : p ≡ query_place + 1
 
-at_block : (bs : List PlannedBlock) (k : ℕ) (pb : PlannedBlock) → flat_map (λ (l : List PlannedBlock). option_to_list (slice_get l k)) (option_to_list (Some bs)) ≡ pb ∷ [] → slice_get bs k ≡ Some pb
+pub at_block : (bs : List PlannedBlock) (k : ℕ) (pb : PlannedBlock) → flat_map (λ (l : List PlannedBlock). option_to_list (slice_get l k)) (option_to_list (Some bs)) ≡ pb ∷ [] → slice_get bs k ≡ Some pb
 at_block bs k pb h = go (slice_get bs k) refl
   where
     go : (o : Option PlannedBlock) → slice_get bs k ≡ o → slice_get bs k ≡ Some pb
     go None e = absurd (let z : [] ≡ pb ∷ [] = sym (append-nil (option_to_list None)) ∙ ap (λ (o : Option PlannedBlock). option_to_list o ++ []) (sym e) ∙ h in cc)
     go (Some y) e = let z : y ∷ [] ≡ pb ∷ [] = ap (λ (o : Option PlannedBlock). option_to_list o ++ []) (sym e) ∙ h in let is : y ≡ pb = cc in e ∙ ap (λ (v : PlannedBlock). Some v) is
 
-pub block_said : (g : Setup) (es : List Event) (x : Exchange) (xs : List Exchange) (p k : ℕ) (pb : PlannedBlock) → CutsRange g (queries es) → All (IsEventSaid g x) es → block_at es p k ≡ pb ∷ [] → SaidBlock g (x ∷ xs) k pb
-block_said g es x xs p k pb cuts a h = by (first_some (map (blocks_in p) es)) refl
+pub block_said : (g : Setup) (es : List Event) (x : Exchange) (xs : List Exchange) (p k : ℕ) (pb : PlannedBlock) → CutsRange g (queries es) → EachAfter IsNumberedNext [] es → All (IsEventSaid g x) es → block_at es p k ≡ pb ∷ [] → SaidBlock g (x ∷ xs) es p k pb
+block_said g es x xs p k pb cuts numbers a h = by (first_some (map (blocks_in p) es)) refl
   where
     of : Option (List PlannedBlock) → List PlannedBlock
     of o = flat_map (λ (l : List PlannedBlock). option_to_list (slice_get l k)) (option_to_list o)
 
-    made : (bs : List PlannedBlock) → slice_get bs k ≡ Some pb → (v : PlanEvent g x bs) → (answer : PlanAnswer) → IsQueryAnswer g.file (x ∷ xs) v.query answer → IsMadeOf g v.query v.terms bs answer → SaidBlock g (x ∷ xs) k pb
-    made bs at v NoFile s m = absurd m
-    made bs at v PastEnd s m = absurd (let z : slice_get [] k ≡ Some pb = subst (λ (l : List PlannedBlock). slice_get l k ≡ Some pb) m.1 at in cc)
-    made bs at v (Found plan) s m =
+    bs_of : FileRange → List PlannedTerm → List PlannedBlock → List PlannedBlock
+    bs_of q ts bs = bs
+
+    made : (bs : List PlannedBlock) → slice_get bs k ≡ Some pb → (v : PlanAt bs_of (IsEventSaid g x) 0 p es bs) → (g.range.start ≤ v.query.start) × (v.query.end ≤ g.range.end) → (answer : PlanAnswer) → IsQueryAnswer g.file (x ∷ xs) v.query answer → IsMadeOf g v.query v.terms bs answer → SaidBlock g (x ∷ xs) es p k pb
+    made bs at v lies NoFile s m = absurd m
+    made bs at v lies PastEnd s m = absurd (let z : slice_get [] k ≡ Some pb = subst (λ (l : List PlannedBlock). slice_get l k ≡ Some pb) m.1 at in cc)
+    made bs at v lies (Found plan) s m =
         ⊎_elim
         (λ (e : (plan.terms ≡ []) × (v.terms ≡ []) × (bs ≡ [])). absurd (let z : slice_get [] k ≡ Some pb = subst (λ (l : List PlannedBlock). slice_get l k ≡ Some pb) e.2 at in cc))
         (λ (e : IsMadeOfPlan g v.query v.terms bs plan).
         let listed = map_at (blocks_of (shape plan) g.multirange) k pb (subst (λ (l : List PlannedBlock). slice_get l k ≡ Some pb) e.blocks at) in
         let b : XorbBlock = xorb_block (shape plan) g.multirange (0 + k, listed.0) in
-        let accepted : IsPlanAccepted g (x ∷ xs) plan v.query = record { said = record { answer = s; some = e.some; from = v.from; to = v.to }; passes = e.passes } in
+        let accepted : IsPlanAccepted g (x ∷ xs) plan v.query = record { said = record { answer = s; some = e.some; from = lies.0; to = lies.1 }; passes = e.passes } in
         let place : BlockOfPlan g (x ∷ xs) = record { plan = plan; query = v.query; accepted = accepted; number = k; block = b; numbered = listed_at (xorb_block (shape plan) g.multirange) 0 k (blocks_of (shape plan) g.multirange) listed.0 listed.1 } in
-        record { place = place; number = refl; is = listed.2 })
+        record { place = place; number = refl; is = listed.2; query_place = v.place; query_at = v.at; numbered = (let n = v.number in omega (arith, n)) })
         m
 
     none : of None ≡ pb ∷ [] → ⊥
     none e = cc
 
-    by : (o : Option (List PlannedBlock)) → first_some (map (blocks_in p) es) ≡ o → SaidBlock g (x ∷ xs) k pb
+    by : (o : Option (List PlannedBlock)) → first_some (map (blocks_in p) es) ≡ o → SaidBlock g (x ∷ xs) es p k pb
     by None e = absurd (none (sym (ap of e) ∙ h))
     by (Some bs) e =
-        let v = plan_event_of g x p g.range.start (g.greatest + g.least) es bs (omega arith) cuts a e in
-        made bs (at_block bs k pb (sym (ap of e) ∙ h)) v v.by.answer v.by.said v.by.made
+        let v = plan_at bs_of (IsEventSaid g x) p (blocks_in p) (reads_blocks p) es bs numbers a e in
+        let lies = cut_within g.range.start g.range.end (g.greatest + g.least) (queries es) v.place v.query cuts v.at in
+        let same : v.blocks ≡ bs = v.is in
+        let said : IsPlannedBy g x v.query v.terms bs = subst (λ (l : List PlannedBlock). IsPlannedBy g x v.query v.terms l) same v.holds in
+        made bs (at_block bs k pb (sym (ap of e) ∙ h)) v lies said.answer said.said said.made

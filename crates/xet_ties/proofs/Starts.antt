@@ -17,15 +17,16 @@ use Rattle.xet_run.specs.declared.event.Event.TheVariants.{Cancel, Admit}
 use Rattle.xet_run.specs.Events.{expires, first_error}
 use Rattle.xet_history.specs.TrueHistory.{IsTrueEvent}
 use Rattle.xet_run.proofs.CallerLemmas.{error-push}
-use Rattle.xet_ties.specs.History.{IsOneCached, IsRenewed, IsOnLane, IsWithin}
+use Rattle.xet_ties.specs.History.{IsNumberedNext, IsOneCached, IsRenewed, IsOnLane, IsWithin}
 use Rattle.xet_ties.specs.steps.Moves.{no_slack, no_hidden, no_late, no_exchange}
 use Rattle.xet_ties.specs.Causes.{failing_setting}
 use Rattle.xet_ties.specs.Setup.{RunTold, Setup, download_of}
-use Rattle.xet_ties.specs.Ties.{AllAre, all_of, is_pair, EachLane, EachUnasked, FirstAsked, IsLane, MayLeave, Slack, Ties, IsPlannedEntry, LeavesNothing, IsServed}
+use Rattle.xet_ties.specs.Ties.{AllAre, all_of, is_pair, EachLane, EachUnasked, FirstAsked, HeardAsked, IsEntryOf, IsLane, MayLeave, Slack, Ties, IsPlannedEntry, LeavesNothing, IsServed}
 use Rattle.xet_ties.proofs.Lanes.{served_same}
 use Rattle.xet_ties.proofs.Lates.{expired_same, expired_start}
-use Rattle.xet_ties.proofs.Moves.{tie_fail, tie_short, tie_admit, tie_limit}
+use Rattle.xet_ties.proofs.Moves.{tie_fail, tie_admit, tie_limit}
 use Rattle.xet_ties.proofs.Pushes.{first_push, limited_same, looked_push, offered_push, polled_push, reaches_start, stored_same, taken_push, true_same, cuts_same, lost_push}
+use Rattle.xet_ties.proofs.Numbers.{heard_push}
 use Rattle.xet_ties.proofs.Telling.{count-same, each-push}
 use Rattle.xet_error.specs.declared.error.FileReconstructionError.TheVariants as error
 use Rattle.xet_terms.specs.Settings as settings
@@ -58,6 +59,10 @@ none_hidden_count : (p k : ℕ) (bs : List ClientTold) → count_by (is_pair p k
 none_hidden_count p k [] = refl
 none_hidden_count p k (b ∷ bs) = none_hidden_count p k bs
 
+heard_start : (g : Setup) (bs : List ClientTold) → failing_setting g bs ≡ None → HeardAsked g.file [] [] (no_exchange bs)
+heard_start g [] h = absurd (cc)
+heard_start g (b ∷ bs) h = refl
+
 unasked_none : (bs : List ClientTold) → All IsUnasked (no_exchange bs)
 unasked_none [] = All-nil IsUnasked
 unasked_none (b ∷ bs) = All-cons IsUnasked _ (no_exchange bs) (record { asked = refl; plans = refl }) (unasked_none bs)
@@ -83,16 +88,19 @@ tie_start g b h = record {
   true_of = λ s o. record { cuts = tt; plans = All-nil (IsTrueEvent s g.file g.multirange) };
   cuts = tt;
   within = All-nil IsWithin;
+  numbers = tt;
   stored = λ s tell k. absurd (omega arith);
   served = served_start b.clients;
   expired = expired_start 0 b.clients;
   asked = asked_start g b.clients h;
+  heard_asked = heard_start g b.clients h;
   lost = tt;
   said = said_start g b.clients h;
   tried = record { at_most = λ p k. omega arith; spent = λ e. absurd (cc) };
   renewed = tt;
   one_cached = tt;
   looked = record { looked = same_list b.cache.looked; cover = λ x r. record { kept = omega arith; cached = omega arith; honest = λ s o. omega arith } };
+  looked_entries = All-nil (IsEntryOf b.cache.entries);
   offered = record { puts = 0; offers = reaches_start b.cache.offers; cover = omega arith };
   polled = record { polls = 0; asks = reaches_start b.signal.asks; cover = omega arith; later = omega arith };
   limited = record { answers = []; listed = same_list b.limits.limits; among = tt; fixed = none_are b.limits.fixed; same = refl };
@@ -117,16 +125,19 @@ tie_cancel g b n es sl t =
       true_of = λ s o. true_same s (download_of g) es e refl tt (t.true_of s o);
       cuts = cuts_same g es e refl t.cuts;
       within = All-push IsWithin es e t.within tt;
+      numbers = each-push IsNumberedNext es e t.numbers tt;
       stored = stored_same g.file es e b.clients refl t.stored;
       served = served_same es e sl.hidden sl.late b.clients n.clients (λ l. refl) (λ l. refl) (λ p k. refl) (λ m. tt) t.served;
       expired = expired_same es e 0 sl.heard sl.late (λ l w. refl) t.expired;
       asked = first_push g.file es e sl.lost sl.lost b.clients n.clients refl t.asked;
-      lost = lost_push g es e sl.lost [] sl.lost refl refl t.lost;
+      heard_asked = heard_push g.file es e sl.lost sl.lost sl.heard refl t.heard_asked;
+      lost = lost_push g es e sl.lost [] sl.lost refl refl refl t.lost;
       said = said_push g es e sl.heard (λ x. tt) t.said;
       tried = record { at_most = λ p k. let a = t.tried.at_most p k in let c = count-same (expires p k) es e refl in omega (arith, a, c); spent = λ h. absurd (cc) };
       renewed = each-push IsRenewed es e t.renewed tt;
       one_cached = each-push IsOneCached es e t.one_cached tt;
       looked = looked_push es e sl.pending sl.pending sl.looks b.clients b.cache n.cache refl (λ y r. omega arith) t.looked;
+      looked_entries = t.looked_entries;
       offered = offered_push es e sl.due sl.due b.cache n.cache (omega arith) t.offered;
       polled = polled_push es e sl.spare sl.spare b.signal n.signal (omega arith) t.polled;
       limited = limited_same es e b.limits n.limits refl t.limited;
@@ -166,16 +177,19 @@ tie_flush g b n es sl to took faults link t = record {
   true_of = t.true_of;
   cuts = t.cuts;
   within = t.within;
+  numbers = t.numbers;
   stored = t.stored;
   served = t.served;
   expired = t.expired;
   asked = t.asked;
+  heard_asked = t.heard_asked;
   lost = t.lost;
   said = t.said;
   tried = t.tried;
   renewed = t.renewed;
   one_cached = t.one_cached;
   looked = t.looked;
+  looked_entries = t.looked_entries;
   offered = t.offered;
   polled = t.polled;
   limited = t.limited;

@@ -7,7 +7,7 @@ use Rattle.xet_outside.specs.declared.served.Served.{Served}
 use Rattle.xet_outside.specs.Told.{Added, ClientTold, Query}
 use Rattle.xet_run.specs.declared.event.Event.{Event}
 use Rattle.xet_ties.specs.History.{served_by}
-use Rattle.xet_ties.specs.InCall.{EachExchange, Exchange, IsExchange, all_exchanges, exchange, exchange_of, new_in, with_exchange}
+use Rattle.xet_ties.specs.InCall.{EachExchange, Exchange, IsExchange, all_exchanges, answers_of, exchange, exchange_of, new_in, with_exchange}
 use Rattle.xet_ties.specs.Ties.{EachLane, all_of}
 use Rattle.xet_ties.proofs.Telling.{all_left, all_right}
 
@@ -39,6 +39,13 @@ exchange_is (Some qs) (Some es) (Some all) x a b c =
 
 one_told : (b n : ClientTold) (x : Exchange) → IsExchange b n x → IfSome (exchange_of b n) (λ y. y ≡ x)
 one_told b n x h = exchange_is (new_in b.asked n.asked) (new_in b.served n.served) (new_in b.said n.said) x (told_new b.asked n.asked x.asked h.asks) (told_new b.served n.served x.served h.serves) (told_new b.said n.said x.said h.says)
+
+-- what it was asked and said
+abbrev pub bare : Exchange → Exchange
+bare x = record { asked = x.asked; served = []; said = x.said }
+
+pub answers_told : (b n : ClientTold) (x : Exchange) → IsExchange b n x → IfSome (answers_of b n) (λ y. y ≡ bare x)
+answers_told b n x h = exchange_is (new_in b.asked n.asked) (Some []) (new_in b.said n.said) (bare x) (told_new b.asked n.asked x.asked h.asks) refl (told_new b.said n.said x.said h.says)
 
 -- ---- all connections
 

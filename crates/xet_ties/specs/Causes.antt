@@ -1,5 +1,5 @@
 -- What each error of a run shows of what its arguments tell.
-use Rattle.std.specs.Prelude.{ℕ, ◌≡◌, ◌⊎◌, ◌+◌, ◌-◌, ◌^◌, ◌<◌, ◌≤◌, List, [], ◌∷◌, cond, nat_eq, nat_lt, Option, Some, None, IsNone, IfSome, slice_get, length, count_by, Contains}
+use Rattle.std.specs.Prelude.{ℕ, ◌≡◌, ◌⊎◌, ◌+◌, ◌-◌, ◌^◌, ◌<◌, ◌≤◌, List, [], ◌∷◌, cond, nat_eq, nat_lt, Option, Some, None, IsNone, IfSome, slice_get, length, count_by}
 use Rattle.xet_base.specs.declared.cas_types.FileRange.{FileRange}
 use Rattle.xet_base.specs.Store.{Store, file_of}
 use Rattle.xet_outside.specs.Answers.{plans_in}
@@ -10,7 +10,7 @@ use Rattle.xet_outside.specs.declared.plan.Plan.{Plan}
 use Rattle.xet_outside.specs.declared.plan.PlanAnswer.{PlanAnswer}
 use Rattle.xet_outside.specs.declared.plan.PlanAnswer.TheVariants.{Found, NoFile, PastEnd}
 use Rattle.xet_error.specs.declared.error.Corruption.{Corruption}
-use Rattle.xet_error.specs.declared.error.Corruption.TheVariants.{PastKnownEnd}
+use Rattle.xet_error.specs.declared.error.Corruption.TheVariants.{BlockLength, OffsetCount, OffsetOrder, PastKnownEnd, TermPastBlock}
 use Rattle.xet_error.specs.declared.error.FileReconstructionError.{FileReconstructionError}
 use Rattle.xet_error.specs.declared.error.FileReconstructionError.TheVariants as error
 use Rattle.xet_error.specs.declared.error.Setting.{Setting}
@@ -21,7 +21,8 @@ use Rattle.xet_blocks.specs.Extracts.{failed_term_test}
 use Rattle.xet_blocks.specs.PlanChecks.{failed_test}
 use Rattle.xet_blocks.specs.TermBlocks.{covered}
 use Rattle.xet_fetch.specs.Refreshes.{plan_extents, refusal_of}
-use Rattle.xet_ties.specs.InCall.{Exchange, SomeOne, all_exchanges, expired_said, new_in}
+use Rattle.xet_ties.specs.Cuts.{StartsAt}
+use Rattle.xet_ties.specs.InCall.{Exchange, SomeOne, all_exchanges, answers_of, expired_said, new_in}
 use Rattle.xet_ties.specs.Saids.{BlockOfPlan, IsBlockAnswer, IsPlanAccepted, IsPlanSaid, IsQueryAnswer, TermOfPlan}
 use Rattle.xet_ties.specs.Setup.{AllTell, IsOver, RunTold, Setup}
 
@@ -94,10 +95,11 @@ pub record BlockFailsIn (g : Setup) (xs : List Exchange) (b : BlockOfPlan g xs) 
   pub answer : IsBlockAnswer x p b.number b.block given
   pub fails : failed_check b.block given ≡ Some k
 
--- so the bytes of a block of an accepted plan
+-- so the bytes of a block of an accepted plan, under that plan's number
 pub record BlockFails (g : Setup) (xs : List Exchange) (k : Corruption) : Type 0 where
   pub place : BlockOfPlan g xs
   pub number : ℕ
+  pub numbered : StartsAt g xs number place.query.start
   pub bytes : SomeOne (BlockFailsIn g xs place number k) xs
 
 -- in bytes that a connection said in answer to a block's own request, and that pass its tests, a term fails this test
@@ -108,10 +110,11 @@ pub record TermFailsIn (g : Setup) (xs : List Exchange) (t : TermOfPlan g xs) (p
   pub passes : failed_check t.place.block given ≡ None
   pub fails : failed_term_test t.term (block_data t.place.block.chunk_ranges given) ≡ Some k
 
--- so a term of an accepted plan
+-- so a term of an accepted plan, under that plan's number
 pub record TermFails (g : Setup) (xs : List Exchange) (k : Corruption) : Type 0 where
   pub place : TermOfPlan g xs
   pub number : ℕ
+  pub numbered : StartsAt g xs number place.place.query.start
   pub bytes : SomeOne (TermFailsIn g xs place number k) xs
 
 -- by this answer to a query the file ends here: it was past the end or without terms, or its terms end before the query
@@ -139,6 +142,26 @@ abbrev pub SomeFailed : Setup → List Exchange → Corruption → Type 0
 SomeFailed g xs k =
     PlanFails g xs k ⊎ RefreshFails g xs k ⊎ BlockFails g xs k ⊎ TermFails g xs k ⊎ EndFails g xs k
 
+-- ---- what the first connection alone tells of it
+
+-- the tests of a block's bytes, and of the terms in them
+abbrev pub IsBlockTest : Corruption → Type 0
+IsBlockTest (OffsetCount expected actual) = Unit {0}
+IsBlockTest (OffsetOrder place) = Unit {0}
+IsBlockTest (BlockLength expected actual) = Unit {0}
+IsBlockTest (TermPastBlock end length) = Unit {0}
+IsBlockTest k = ⊥
+
+-- an answer to a query failed this test: a plan's or a refresh's, or terms came past an end that was told
+abbrev pub QueryFailed : Setup → List Exchange → Corruption → Type 0
+QueryFailed g xs k = PlanFails g xs k ⊎ RefreshFails g xs k ⊎ EndFails g xs k
+
+-- so it is by what the first connection was asked and said, where it tells that, unless the test is of a block
+abbrev pub FirstFailed : Setup → List ClientTold → List ClientTold → Corruption → Type 0
+FirstFailed g [] ns k = ⊥
+FirstFailed g (b ∷ bs) [] k = ⊥
+FirstFailed g (b ∷ bs) (n ∷ ns) k = IfSome (answers_of b n) (λ x. QueryFailed g (x ∷ []) k ⊎ IsBlockTest k)
+
 -- ---- causes
 
 -- the first connection, where it tells what it said, answered a query that there is no such file
@@ -160,6 +183,8 @@ pub record IsMissingFile (g : Setup) (before after : List ClientTold) : Type 0 w
 pub record IsCorrupted (g : Setup) (before after : List ClientTold) (k : Corruption) : Type 0 where
   pub untrue : (s : Store) → IsOver s before → ⊥
   pub failed : IfSome (all_exchanges before after) (λ xs. SomeFailed g xs k)
+  -- whatever the other connections tell
+  pub first : FirstFailed g before after k
 
 -- the cause of each error; want of memory is free, and a run is never at fault itself
 abbrev pub Cause : Setup → RunTold → RunTold → FileReconstructionError → Type 0

@@ -1,5 +1,5 @@
 -- What a history says, each event read after those before it.
-use Rattle.std.specs.Prelude.{ℕ, ◌≡◌, ◌<◌, ◌≤◌, ◌==◌, ◌&&◌, Bool, true, false, cond, List, [], ◌∷◌, ◌++◌, map, length, count_by, Option, Some, None, option_to_list, slice_get}
+use Rattle.std.specs.Prelude.{ℕ, ◌≡◌, ◌+◌, ◌<◌, ◌≤◌, ◌==◌, ◌&&◌, Bool, true, false, cond, List, [], ◌∷◌, ◌++◌, map, length, count_by, Option, Some, None, option_to_list, slice_get}
 use Rattle.std.specs.List.{flat_map}
 use Rattle.xet_base.specs.declared.cas_types.FileRange.{FileRange}
 use Rattle.xet_base.specs.declared.merklehash.MerkleHash.{MerkleHash}
@@ -10,7 +10,7 @@ use Rattle.xet_run.specs.declared.event.Event.{Event}
 use Rattle.xet_run.specs.declared.event.Event.TheVariants.{Planned, Admit, Fetched, Cached, Expired, Refreshed}
 use Rattle.xet_run.specs.declared.event.PlannedBlock.{PlannedBlock}
 use Rattle.xet_run.specs.declared.event.PlannedTerm.{PlannedTerm}
-use Rattle.xet_run.specs.Events.{last_of}
+use Rattle.xet_run.specs.Events.{last_of, plan_count}
 
 -- what the events say, each read after those before it
 abbrev pub telling : {A : Type 0} → (List Event → Event → List A) → List Event → List Event → List A
@@ -128,6 +128,11 @@ range_in p _ = None
 -- as a list of one, of a plan that was planned
 abbrev pub range_at : List Event → ℕ → List FileRange
 range_at es p = option_to_list (first_some (map (range_in p) es))
+
+-- a plan's number is that of the plan before it plus one
+abbrev pub IsNumberedNext : List Event → Event → Type 0
+IsNumberedNext before (Planned plan query terms blocks) = plan ≡ plan_count before + 1
+IsNumberedNext before _ = Unit {0}
 
 -- a plan's terms end within its query
 abbrev pub IsWithin : Event → Type 0

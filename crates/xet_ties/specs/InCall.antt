@@ -95,6 +95,10 @@ abbrev pub exchange_of : ClientTold → ClientTold → Option Exchange
 exchange_of before after = exchange (new_in before.asked after.asked) (new_in before.served after.served)
     (new_in before.said after.said)
 
+-- what one connection was asked and said, where it tells that
+abbrev pub answers_of : ClientTold → ClientTold → Option Exchange
+answers_of before after = exchange (new_in before.asked after.asked) (Some []) (new_in before.said after.said)
+
 -- one more, where all are told
 abbrev pub with_exchange : Option Exchange → Option (List Exchange) → Option (List Exchange)
 with_exchange (Some x) (Some xs) = Some (x ∷ xs)

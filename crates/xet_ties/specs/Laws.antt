@@ -22,6 +22,7 @@ use Rattle.xet_blocks.specs.declared.reconstruction_terms.file_term.TermBlock.{T
 use Rattle.xet_blocks.specs.declared.reconstruction_terms.retrieval_urls.RetrievalUrl.{RetrievalUrl}
 use Rattle.xet_blocks.specs.declared.reconstruction_terms.xorb_block.XorbBlock.{XorbBlock}
 use Rattle.xet_blocks.specs.declared.reconstruction_terms.xorb_block.XorbBlockData.{XorbBlockData}
+use Rattle.xet_blocks.specs.ServedChunks.{AllServed}
 use Rattle.xet_blocks.specs.TermBlockCalls.{FromSaid, TermBlockCall}
 use Rattle.xet_fetch.specs.CachedBlocks.{IsOffered, entry_of, passes_cached}
 use Rattle.xet_fetch.specs.Refreshes.{Answered, IsRefreshed, MayAsk, Refresh}
@@ -29,10 +30,10 @@ use Rattle.xet_run.specs.declared.event.Event.{Event}
 use Rattle.xet_run.specs.declared.event.Event.TheVariants.{Admit, Cached, Expired, Fetched, Refreshed}
 use Rattle.xet_run.specs.Allowed.{AllowedAfter, IsAllowedHistory, IsRunning}
 use Rattle.xet_run.specs.Budgets.{LimitCall, LimitTold}
-use Rattle.xet_run.specs.Events.{Task, expires, is_admit, is_kept, needs, planned, size, unfinished}
+use Rattle.xet_run.specs.Events.{Task, expires, is_admit, is_kept, is_stale, needs, planned, size, unfinished}
 use Rattle.xet_history.specs.Laws.{IsPrefix}
 use Rattle.xet_history.specs.TrueHistory.{pieces, queries}
-use Rattle.xet_ties.specs.Causes.{BlockFailsIn, HaveExpired, IsMissingFile, SomeFailed, failing_setting}
+use Rattle.xet_ties.specs.Causes.{BlockFailsIn, HaveExpired, IsCorrupted, IsMissingFile, SomeFailed, failing_setting}
 use Rattle.xet_ties.specs.History.{block_at, fetches, is_expiry, is_refresh, range_at}
 use Rattle.xet_ties.specs.InCall.{EachGrew, Exchange, Look, all_exchanges, all_served, new_in}
 use Rattle.xet_ties.specs.Lanes.{AnswerStep, Ask, BytesFail, DrewApart, IsFor, IsOf, LaneDid, StepDid}
@@ -81,7 +82,8 @@ TiesAskCut = (g : Setup) (before after : RunTold) (es : List Event) (stop : Stop
 -- the writer took tested bytes alone
 abbrev pub TiesTakeTested : Type 0
 TiesTakeTested = (g : Setup) (before after : RunTold) (es : List Event) (stop : Stop) (slack : Slack)
-    → Ties g before after es stop slack → IfSome (all_exchanges before.clients after.clients) (λ xs.
+    → IsAllowedHistory es → Ties g before after es stop slack
+    → IfSome (all_exchanges before.clients after.clients) (λ xs.
     IfSome (new_in before.cache.looked after.cache.looked) (λ ls. TookTested g xs ls before.sink after.sink))
 
 -- over one valid store and a cache that tells it, a tied run that is finished took exactly the window
@@ -95,6 +97,14 @@ abbrev pub FinishedIsWhole : Type 0
 FinishedIsWhole = (g : Setup) (before after : RunTold) (es : List Event) (k : ℕ) (slack : Slack)
     → Ties g before after es None slack → slack.ahead ≡ 0 → IsFinished g es k
     → TookAll g es slack before.sink after.sink k
+
+-- over one valid store, where the cache has no entries afterwards, each chunk with a byte in the window lies in a block
+-- that was served
+abbrev pub FinishedServesChunks : Type 0
+FinishedServesChunks = (g : Setup) (before after : RunTold) (es : List Event) (k : ℕ) (slack : Slack)
+    → IsAllowedHistory es → Ties g before after es None slack → slack.ahead ≡ 0 → IsFinished g es k
+    → (s : Store) → IsOver s before.clients → after.cache.entries ≡ Some []
+    → IfSome (all_served before.clients after.clients) (AllServed s g.file g.range)
 
 -- where a block has as many Expired events as tries, the expired answers of all connections grew by so many
 abbrev pub ExpiriesCounted : Type 0
@@ -244,7 +254,7 @@ abbrev pub RefreshesTied : Type 0
 RefreshesTied = (g : Setup) (b at : RunTold) (es : List Event) (sl : Slack) (p : ℕ) (r : Refresh)
     (us : List RetrievalUrl) (c n : ClientTold) (cs : List ClientTold)
     → at.clients ≡ c ∷ cs → MayAsk r c n → IsRefreshed r c n us → sl.lost ≡ [] → InStep sl.heard
-    → range_at es p ≡ r.range ∷ [] → r.file ≡ g.file → Ties g b at es None sl
+    → range_at es p ≡ r.range ∷ [] → is_stale es p ≡ true → r.file ≡ g.file → Ties g b at es None sl
     → (heard : List Exchange) × Ties g b (record at { clients = n ∷ cs }) (es ++ Refreshed p ∷ []) None
     (record sl { heard = heard; lost = [] }) × InStep heard × EachGrew sl.heard heard
 
@@ -259,7 +269,7 @@ AsksLeft = (g : Setup) (b at : RunTold) (es : List Event) (sl : Slack) (c n : Cl
 abbrev pub RefreshesLeft : Type 0
 RefreshesLeft = (g : Setup) (b at : RunTold) (es : List Event) (sl : Slack) (p : ℕ) (r : Refresh) (c n : ClientTold)
     (cs : List ClientTold) → at.clients ≡ c ∷ cs → sl.lost ≡ [] → MayAsk r c n → range_at es p ≡ r.range ∷ []
-    → r.file ≡ g.file → Ties g b at es None sl → AskedShort g b at es sl (n ∷ cs)
+    → is_stale es p ≡ true → r.file ≡ g.file → Ties g b at es None sl → AskedShort g b at es sl (n ∷ cs)
 
 -- and where a query was answered, the answer is its own
 abbrev pub AsksSaid : Type 0
@@ -272,7 +282,8 @@ AsksSaid = (g : Setup) (b at : RunTold) (es : List Event) (sl : Slack) (c n : Cl
 abbrev pub RefreshesSaid : Type 0
 RefreshesSaid = (g : Setup) (b at : RunTold) (es : List Event) (sl : Slack) (p : ℕ) (r : Refresh) (c n : ClientTold)
     (cs : List ClientTold) (a : PlanAnswer) → at.clients ≡ c ∷ cs → sl.lost ≡ [] → InStep sl.heard → MayAsk r c n
-    → Answered r c n a → range_at es p ≡ r.range ∷ [] → r.file ≡ g.file → Ties g b at es None sl
+    → Answered r c n a → range_at es p ≡ r.range ∷ [] → is_stale es p ≡ true → r.file ≡ g.file
+    → Ties g b at es None sl
     → AskedSaid g b at es sl (n ∷ cs) r.range a
 
 -- the source of limits was asked, and a term admitted
@@ -362,6 +373,12 @@ abbrev pub FilesAreMissing : Type 0
 FilesAreMissing = (g : Setup) (b n : RunTold) (es : List Event) (stop : Stop) (sl : Slack) (q : FileRange)
     → Ties g b n es stop sl → g.range.start < g.range.end → IsQueryAnswer g.file sl.heard q NoFile
     → ((s : Store) → AllTell s b.clients → IsNone (file_of s g.file)) → IsMissingFile g b.clients n.clients
+
+-- an answer that fails a test is the cause, where the connections don't tell one valid store
+abbrev pub FailuresAreCauses : Type 0
+FailuresAreCauses = (g : Setup) (b n : RunTold) (es : List Event) (stop : Stop) (sl : Slack) (k : Corruption)
+    → Ties g b n es stop sl → ((s : Store) → IsOver s b.clients → ⊥) → SomeFailed g sl.heard k
+    → IsCorrupted g b.clients n.clients k
 
 -- a failed step's bytes fail as those of a block of an accepted plan, by the answer to the block's own request
 abbrev pub StepsFail : Type 0

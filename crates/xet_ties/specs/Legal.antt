@@ -1,6 +1,6 @@
 -- Which answers of a run are legal, by what its arguments tell before and after.
-use Rattle.std.specs.Prelude.{ℕ, ◌≡◌, ◌⊎◌, ◌+◌, ◌-◌, ◌<◌, ◌≤◌, List, [], ◌∷◌, length, All, Contains, Some, IsSome, IfSome, OnOk, option_map, count_by, Result, Err, IfOk, IfErr}
-use Rattle.std.specs.List.{concat}
+use Rattle.std.specs.Prelude.{ℕ, ◌≡◌, ◌⊎◌, ◌+◌, ◌-◌, ◌<◌, ◌≤◌, List, [], ◌∷◌, length, take, All, Some, IsSome, IfSome, OnOk, option_map, count_by, Result, Err, IfOk, IfErr}
+use Rattle.std.specs.List.{AllZip, concat}
 use Rattle.xet_base.specs.declared.cas_types.FileRange.{FileRange}
 use Rattle.xet_base.specs.Store.{Store, file_of, window}
 use Rattle.xet_outside.specs.declared.served.Served.{Served}
@@ -8,11 +8,13 @@ use Rattle.xet_outside.specs.Told.{ClientTold, Query, SinkTold, Took, TookPrefix
 use Rattle.xet_error.specs.declared.error.FileReconstructionError.{FileReconstructionError}
 use Rattle.xet_error.specs.declared.error.FileReconstructionError.TheVariants as error
 use Rattle.xet_error.specs.declared.error.Setting.{Setting}
+use Rattle.xet_blocks.specs.ServedChunks.{AllServed}
 use Rattle.xet_ties.specs.Causes.{Cause, expired_answers, failing_setting}
+use Rattle.xet_ties.specs.Cuts.{AskedCut, IsNumbered, IsSaidPiece, Planning, PlansAll, some_said}
 use Rattle.xet_ties.specs.History.{entry_of}
-use Rattle.xet_ties.specs.InCall.{Exchange, Look, all_exchanges, all_served, new_in}
-use Rattle.xet_ties.specs.RunCalls.{IsUntouched}
-use Rattle.xet_ties.specs.Saids.{BlockOfPlan, IsPiece, TermOfPlan, planned_of}
+use Rattle.xet_ties.specs.InCall.{Exchange, Look, all_exchanges, all_served, answers_of, new_in}
+use Rattle.xet_ties.specs.RunCalls.{DidNothing}
+use Rattle.xet_ties.specs.Saids.{BlockOfPlan, planned_of}
 use Rattle.xet_ties.specs.Setup.{AllTell, CacheTells, EachGoesOn, IsEmptyRange, IsOver, RunTold, Setup}
 use Rattle.xet_ties.specs.Ties.{CutsRange, EachUnasked, is_pair}
 
@@ -30,35 +32,27 @@ pub record TookCounted (before after : SinkTold) (k : ℕ) : Type 0 where
   pub took : Took before.took after.took bytes
   pub total : k ≡ length bytes
 
--- a term's bytes in tested data of its block
-pub record SomePiece (g : Setup) (xs : List Exchange) (looks : List Look) (piece : List ℕ) : Type 0 where
-  pub number : ℕ
-  pub of_plan : TermOfPlan g xs
-  pub piece_of : IsPiece g xs looks number of_plan piece
-
--- nothing but tested bytes: a prefix of joined pieces
+-- nothing but tested bytes: a prefix of the joined pieces of the first terms with bytes of plans that were said
 pub record TookTested (g : Setup) (xs : List Exchange) (looks : List Look) (before after : SinkTold) : Type 0 where
+  pub planning : Planning g xs
   pub pieces : List (List ℕ)
-  pub each : All (SomePiece g xs looks) pieces
+  pub each : AllZip (IsSaidPiece g xs looks) (take (length pieces) (some_said g planning.parts)) pieces
   pub took : TookPrefix before.took after.took (concat pieces)
+
+-- the pieces of all terms with bytes, of plans up to the end of the range or of the file, and they were counted
+pub record TookWhole (g : Setup) (xs : List Exchange) (looks : List Look) (before after : SinkTold)
+    (k : ℕ) : Type 0 where
+  pub all : PlansAll g xs
+  pub pieces : List (List ℕ)
+  pub each : AllZip (IsSaidPiece g xs looks) (some_said g all.planning.parts) pieces
+  pub took : Took before.took after.took (concat pieces)
+  pub total : k ≡ length (concat pieces)
 
 -- ---- queries
 
 -- a query is shorter than the greatest and the least size together
 abbrev pub IsShort : Setup → Query → Type 0
 IsShort g q = (q.0 ≡ g.file) × (q.1.end - q.1.start < g.greatest + g.least)
-
--- a query lies in one of these
-abbrev pub LiesInSome : List FileRange → Query → Type 0
-LiesInSome qs q = (p : FileRange) × Contains qs p × (p.start ≤ q.1.start) × (q.1.end ≤ p.end)
-
--- the queries that cut a range stand in order among those that were asked, and each other one lies in one of those
--- before it
-abbrev pub AskedCut : List FileRange → List Query → List FileRange → Type 0
-AskedCut before [] cut = cut ≡ []
-AskedCut before (q ∷ qs) [] = LiesInSome before q × AskedCut before qs []
-AskedCut before (q ∷ qs) (c ∷ cs) =
-    ((q.1 ≡ c) × AskedCut (c ∷ before) qs cs) ⊎ (LiesInSome before q × AskedCut before qs (c ∷ cs))
 
 -- the queries are for the file, each is short, and but for refreshes they cut the range
 pub record AsksCut (g : Setup) (qs : List Query) : Type 0 where
@@ -74,17 +68,29 @@ FirstAsks g [] (n ∷ ns) = ⊥
 FirstAsks g (b ∷ bs) [] = ⊥
 FirstAsks g (b ∷ bs) (n ∷ ns) = IfSome (new_in b.asked n.asked) (AsksCut g) × EachUnasked bs ns
 
--- queries that cut the range, and no more others than expired answers came and so many
-pub record AsksFew (g : Setup) (more : ℕ) (xs : List Exchange) (qs : List Query) : Type 0 where
+-- queries that cut the range, and no more others than expired answers came
+pub record AsksFew (g : Setup) (xs : List Exchange) (qs : List Query) : Type 0 where
   pub cut : List FileRange
   pub cuts : CutsRange g cut
   pub asked : AskedCut [] qs cut
-  pub few : length qs ≤ length cut + (expired_answers xs + more)
+  pub few : length qs ≤ length cut + expired_answers xs
 
 -- so the first connection was asked, by what all connections said
-abbrev pub FirstAsksFew : Setup → ℕ → List Exchange → Type 0
-FirstAsksFew g more [] = Unit {0}
-FirstAsksFew g more (x ∷ xs) = AsksFew g more (x ∷ xs) x.asked
+abbrev pub FirstAsksFew : Setup → List Exchange → Type 0
+FirstAsksFew g [] = Unit {0}
+FirstAsksFew g (x ∷ xs) = AsksFew g (x ∷ xs) x.asked
+
+-- a query was asked where the range has bytes
+abbrev pub AsksSome : Setup → List Query → Type 0
+AsksSome g qs = g.range.start < g.range.end → 0 < length qs
+
+-- of the first connection: by its queries one was asked where the range has bytes, and by these and the answers to them
+-- the range was planned to its end or the file's
+abbrev pub FirstPlansAll : Setup → List ClientTold → List ClientTold → Type 0
+FirstPlansAll g [] ns = ⊥
+FirstPlansAll g (b ∷ bs) [] = ⊥
+FirstPlansAll g (b ∷ bs) (n ∷ ns) = IfSome (new_in b.asked n.asked) (AsksSome g)
+    × IfSome (answers_of b n) (λ x. PlansAll g (x ∷ []))
 
 -- ---- served blocks
 
@@ -92,9 +98,10 @@ FirstAsksFew g more (x ∷ xs) = AsksFew g more (x ∷ xs) x.asked
 abbrev pub ServedOnce : List Served → Type 0
 ServedOnce es = (p k : ℕ) → count_by (is_pair p k) es ≤ 1
 
--- this is the entry of a block of a plan that was said and passes its tests
+-- this is the entry of a block of a plan that was said and passes its tests, under that plan's number
 pub record IsPlannedServed (g : Setup) (xs : List Exchange) (e : Served) : Type 0 where
   pub of_plan : BlockOfPlan g xs
+  pub numbered : IsNumbered g xs e.plan of_plan.query
   pub is : e ≡ entry_of e.plan of_plan.number (planned_of of_plan.block)
 
 -- so is each that was served
@@ -116,6 +123,10 @@ pub record Legal (g : Setup) (before after : RunTold) (answer : Result ℕ FileR
   -- over connections and a cache that tell their lists, the writer took tested bytes and no others, whatever the answer
   pub tested : IfSome (all_exchanges before.clients after.clients) (λ xs.
       IfSome (new_in before.cache.looked after.cache.looked) (λ ls. TookTested g xs ls before.sink after.sink))
+  -- and on Ok those of all terms of plans that cut the range, up to its end or one that an answer told
+  pub whole : IfSome (all_exchanges before.clients after.clients) (λ xs.
+      IfSome (new_in before.cache.looked after.cache.looked) (λ ls.
+      IfOk answer (TookWhole g xs ls before.sink after.sink)))
   -- whatever is told, Ok counts what the writer took
   pub total : IfOk answer (TookCounted before.sink after.sink)
   -- on Ok all that the writer took is flushed
@@ -127,19 +138,24 @@ pub record Legal (g : Setup) (before after : RunTold) (answer : Result ℕ FileR
   -- a failing setting is always told, before all else
   pub settings : (e : Setting) → failing_setting g before.clients ≡ Some e
       → (answer ≡ Err (error.ConfigurationError e)) × (after ≡ before)
-  -- an empty range asks nothing of the connections, the cache and the signal
-  pub unasked : IsEmptyRange g.range → IsUntouched before after
+  -- over an empty range nothing is asked of connections, cache, signal and limits, nothing taken and counted, and an
+  -- error is want of memory, a failing setting or the flush's
+  pub empty : IsEmptyRange g.range → DidNothing before after answer
   -- whatever the first connection tells of a store, the queries that it was asked are short, and but for refreshes they
   -- cut the range
   pub asked : FirstAsks g before.clients after.clients
-  -- over connections that tell their lists, no plan's URLs were asked for again without an expired answer, but for one
-  -- query at most of a run that failed
-  pub refreshed : IfSome (all_exchanges before.clients after.clients) (FirstAsksFew g 1)
-  pub all_refreshed : OnOk answer (IfSome (all_exchanges before.clients after.clients) (FirstAsksFew g 0))
+  -- on Ok it was planned to the range's end or the file's, by what the first connection alone tells
+  pub all_asked : OnOk answer (FirstPlansAll g before.clients after.clients)
+  -- over connections that tell their lists, no plan's URLs were asked for again without an expired answer
+  pub refreshed : IfSome (all_exchanges before.clients after.clients) (FirstAsksFew g)
   -- no block of a plan was served twice
   pub served : IfSome (all_served before.clients after.clients) ServedOnce
   -- and each is a block of a plan that was said and passes its tests
   pub planned : IfSome (all_exchanges before.clients after.clients) (AllPlanned g)
+  -- on Ok over connections that tell one valid store and a cache that has no entries afterwards, each chunk of the file
+  -- with a byte in the window lies in a served block
+  pub chunks : (s : Store) → IsOver s before.clients → after.cache.entries ≡ Some []
+      → OnOk answer (IfSome (all_served before.clients after.clients) (AllServed s g.file g.range))
   -- connections go on telling what they told, as does a cache that told the store, and the writer what it works through
   pub goes_on : EachGoesOn before.clients after.clients
   pub cache_later : (s : Store) → IsOver s before.clients → CacheTells s before.cache → CacheTells s after.cache

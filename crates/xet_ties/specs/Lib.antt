@@ -1,4 +1,5 @@
 pub mod Causes
+pub mod Cuts
 pub mod History
 pub mod InCall
 pub mod Lanes

@@ -39,6 +39,21 @@ pub record IsUntouched (before after : RunTold) : Type 0 where
   pub clients : after.clients ≡ before.clients
   pub cache : after.cache ≡ before.cache
   pub signal : after.signal ≡ before.signal
+  pub limits : after.limits ≡ before.limits
+
+-- the errors that come without a connection: want of memory, a failing setting, and the writer's, as in a flush
+abbrev pub IsLocal : FileReconstructionError → Type 0
+IsLocal error.OutOfMemory = Unit {0}
+IsLocal error.IoError = Unit {0}
+IsLocal (error.ConfigurationError e) = Unit {0}
+IsLocal e = ⊥
+
+-- nothing was asked, taken and counted, and an error needs no connection
+pub record DidNothing (before after : RunTold) (answer : Result ℕ FileReconstructionError) : Type 0 where
+  pub untouched : IsUntouched before after
+  pub took : after.sink.took ≡ before.sink.took
+  pub none : IfOk answer (λ k. k ≡ 0)
+  pub error : IfErr answer IsLocal
 
 -- the ties at the end of a run, with what it left that no event says
 pub record RunTies (g : Setup) (before after : RunTold) (es : List Event) (stop : Stop) : Type 0 where
@@ -62,5 +77,5 @@ pub record RunCall (g : Setup) (before after : RunTold) (es : List Event)
   pub flushed : OnOk answer (after.sink.flushed ≡ option_map length after.sink.took)
   pub cancelled : before.signal.yes < after.signal.yes → OnOk answer ⊥
   pub cause : IfErr answer (Cause g before after)
-  pub unasked : IsEmptyRange g.range → IsUntouched before after
+  pub empty : IsEmptyRange g.range → DidNothing before after answer
   pub cache_later : (s : Store) → IsOver s before.clients → CacheTells s before.cache → CacheTells s after.cache

@@ -1,5 +1,5 @@
 -- How a run's history is tied to what the run's arguments tell before and after.
-use Rattle.std.specs.Prelude.{ℕ, ◌≡◌, ◌⊎◌, ◌+◌, ◌-◌, ◌^◌, ◌<◌, ◌≤◌, ◌==◌, ◌&&◌, ◌≢◌, min, Bool, true, false, not, List, [], ◌∷◌, ◌++◌, length, count_by, nat_eq, Option, Some, None, IfSome, IsSome, All}
+use Rattle.std.specs.Prelude.{ℕ, ◌≡◌, ◌⊎◌, ◌+◌, ◌-◌, ◌^◌, ◌<◌, ◌≤◌, ◌==◌, ◌&&◌, ◌≢◌, min, Bool, true, false, not, List, [], ◌∷◌, ◌++◌, length, count_by, nat_eq, Option, Some, None, IfSome, IsSome, All, Contains}
 use Rattle.std.specs.List.{flat_map}
 use lib.Pointwise.{pointwise}
 use Rattle.xet_base.specs.declared.cas_types.ChunkRange.{ChunkRange}
@@ -10,18 +10,18 @@ use Rattle.xet_base.specs.Store.{Store, file_of}
 use Rattle.xet_outside.specs.declared.block.BlockBytes.{BlockBytes}
 use Rattle.xet_outside.specs.declared.served.Served.{Served}
 use Rattle.xet_outside.specs.Plan.{block_of}
-use Rattle.xet_outside.specs.Told.{Added, CacheTold, ClientTold, Query, SignalTold, SinkTold, Took}
+use Rattle.xet_outside.specs.Told.{Added, CacheEntry, CacheTold, ClientTold, Query, SignalTold, SinkTold, Took}
 use Rattle.xet_error.specs.declared.error.FileReconstructionError.{FileReconstructionError}
 use Rattle.xet_error.specs.declared.error.FileReconstructionError.TheVariants as error
 use Rattle.xet_blocks.specs.Blocks.{range_eq}
 use Rattle.xet_run.specs.declared.event.Event.{Event}
 use Rattle.xet_run.specs.declared.event.PlannedBlock.{PlannedBlock}
 use Rattle.xet_run.specs.Budgets.{LimitTold}
-use Rattle.xet_run.specs.Events.{expires, first_error, plan_count, written}
+use Rattle.xet_run.specs.Events.{expires, first_error, is_stale, plan_count, written}
 use Rattle.xet_history.specs.Laws.{IsPrefix}
 use Rattle.xet_history.specs.Queries.{CutFrom}
 use Rattle.xet_history.specs.TrueHistory.{IsTrueHistory, pieces, queries}
-use Rattle.xet_ties.specs.History.{EachAfter, IsOnLane, IsOneCached, IsRenewed, IsWithin, asked_by, block_at, cached_in, entry_of, expired_by, fetched_in, fetches, kept_in, limits_of, range_at, served_by, telling}
+use Rattle.xet_ties.specs.History.{EachAfter, IsNumberedNext, IsOnLane, IsOneCached, IsRenewed, IsWithin, asked_by, block_at, cached_in, entry_of, expired_by, fetched_in, fetches, kept_in, limits_of, range_at, served_by, telling}
 use Rattle.xet_ties.specs.InCall.{EachExchange, Exchange, Look, expired_said}
 use Rattle.xet_ties.specs.Saids.{FirstSaid, IsTested}
 use Rattle.xet_ties.specs.Setup.{AllTell, CacheTells, ClientGoesOn, IsOver, RunTold, Setup, download_of}
@@ -107,6 +107,11 @@ EachUnasked (b ∷ bs) (n ∷ ns) = (n.asked ≡ b.asked) × EachUnasked bs ns
 EachUnasked [] (n ∷ ns) = ⊥
 EachUnasked (b ∷ bs) [] = ⊥
 
+-- and what was heard of the first connection is that it was asked so
+abbrev pub HeardAsked : MerkleHash → List Event → List Query → List Exchange → Type 0
+HeardAsked f es lost [] = ⊥
+HeardAsked f es lost (x ∷ xs) = x.asked ≡ asked_by f es ++ lost
+
 -- both together
 abbrev pub FirstAsked : MerkleHash → List Event → List Query → List ClientTold → List ClientTold → Type 0
 FirstAsked f es lost (b ∷ bs) (n ∷ ns) = IsAsked f es lost b n × EachUnasked bs ns
@@ -117,9 +122,11 @@ FirstAsked f es lost (b ∷ bs) [] = ⊥
 abbrev pub CutsRange : Setup → List FileRange → Type 0
 CutsRange g qs = CutFrom g.range.start g.range.end (g.greatest + g.least) qs
 
--- a query that may be asked: the next one of the cut, or the actual range of a plan
+-- a query that may be asked: the next one of the cut, or the actual range of a plan with an expired answer since it was
+-- asked for last
 abbrev pub MayBeAsked : Setup → List Event → FileRange → Type 0
-MayBeAsked g es q = CutsRange g (queries es ++ q ∷ []) ⊎ ((p : ℕ) × (range_at es p ≡ q ∷ []))
+MayBeAsked g es q =
+    CutsRange g (queries es ++ q ∷ []) ⊎ ((p : ℕ) × (range_at es p ≡ q ∷ []) × (is_stale es p ≡ true))
 
 -- at most one query's answer isn't recorded, and that query may be asked
 abbrev pub IsLost : Setup → List Event → List Query → Type 0
@@ -172,6 +179,10 @@ pub record LooksCover (es : List Event) (pending : List PlannedBlock) (clients :
   pub honest : (s : Store) → IsOver s clients
       → count_by (is_one x r) (telling fetched_in [] es) + count_by (is_one x r) pending
       ≤ count_by (missed s x r) looks
+
+-- the entry that a look gave is among those of a cache that tells them
+abbrev pub IsEntryOf : Option (List CacheEntry) → Look → Type 0
+IsEntryOf entries l = IfSome l.2 (λ e. IfSome entries (λ es. Contains es (l.0, l.1, e)))
 
 pub record IsLooked (es : List Event) (pending : List PlannedBlock) (looks : List Look) (clients : List ClientTold)
     (before after : CacheTold) : Type 0 where
@@ -259,17 +270,21 @@ pub record Ties (g : Setup) (before after : RunTold) (es : List Event) (stop : S
   -- whatever they tell, the queries cut the range, and a plan's terms end within its query
   pub cuts : CutsRange g (queries es)
   pub within : All IsWithin es
+  -- and the plans are numbered in their order, from 1
+  pub numbers : EachAfter IsNumberedNext [] es
   -- over connections that tell a store, valid or not, a plan is of a stored file
   pub stored : (s : Store) → AllTell s before.clients → 0 < plan_count es → IsSome (file_of s g.file)
   pub served : IsServed es slack.hidden slack.late before.clients after.clients
   pub expired : EachExpired es 0 slack.heard slack.late
   pub asked : FirstAsked g.file es slack.lost before.clients after.clients
+  pub heard_asked : HeardAsked g.file es slack.lost slack.heard
   pub lost : IsLost g es slack.lost
   pub said : FirstSaid g es slack.heard
   pub tried : IsTried g.tries es stop
   pub renewed : EachAfter IsRenewed [] es
   pub one_cached : EachAfter IsOneCached [] es
   pub looked : IsLooked es slack.pending slack.looks before.clients before.cache after.cache
+  pub looked_entries : All (IsEntryOf after.cache.entries) slack.looks
   pub offered : IsOffered es slack.due before.cache after.cache
   pub polled : IsPolled es slack.spare before.signal after.signal
   pub limited : IsLimited es before.limits after.limits

@@ -1,5 +1,5 @@
 //! Laws of ties and of runs, as functions whose contracts state them.
-ghost use Rattle.xet_ties.specs.Laws.{AdmitsTied, AnswersStep, AsksTied, CachedFall, CancelsTied, ExpiriesCounted, ExpiriesFall, FetchesFall, FilesAreMissing, FilesMissing, FinishedIsExact, FinishedIsWhole, LanesGoOn, LooksTied, MissingExpired, MissingFetched, NoneRises, OffersTied, PairsAreNew, PlansFail, PollsTied, RefreshesTied, RoundsAllowed, RoundsMayExpire, RoundsTied, RunsAreLegal, ShortLooksTied, ShortRoundsTied, ShortWritesTied, StartsTied, StepsFail, StepsServe, StopsTied, TakesTied, TiesAskCut, TiesServeOnce, TiesServePlanned, TiesTakeTested, TriesLeft, WritesTied, AsksLeft, AsksSaid, RefreshesLeft, RefreshesSaid, WantedAre, WindowsAllowed, WindowsTested, RefreshesFew};
+ghost use Rattle.xet_ties.specs.Laws.{AdmitsTied, AnswersStep, AsksTied, CachedFall, CancelsTied, ExpiriesCounted, ExpiriesFall, FailuresAreCauses, FetchesFall, FilesAreMissing, FilesMissing, FinishedIsExact, FinishedIsWhole, FinishedServesChunks, LanesGoOn, LooksTied, MissingExpired, MissingFetched, NoneRises, OffersTied, PairsAreNew, PlansFail, PollsTied, RefreshesTied, RoundsAllowed, RoundsMayExpire, RoundsTied, RunsAreLegal, ShortLooksTied, ShortRoundsTied, ShortWritesTied, StartsTied, StepsFail, StepsServe, StopsTied, TakesTied, TiesAskCut, TiesServeOnce, TiesServePlanned, TiesTakeTested, TriesLeft, WritesTied, AsksLeft, AsksSaid, RefreshesLeft, RefreshesSaid, WantedAre, WindowsAllowed, WindowsTested, RefreshesFew};
 
 /// Before a run all is tied; after an error that is recorded, or want of memory, it stays so.
 pub fn starts_and_stops()
@@ -9,8 +9,8 @@ pub fn starts_and_stops()
 
 /// A run whose history is allowed and that is tied gives a legal answer: over one valid store and a cache that tells
 /// it the window exactly, and over connections that tell their lists, whatever store they tell, no block of a plan
-/// served twice, each served block one of a plan that was said and passes its tests, and short queries that, but for
-/// refreshes, cut the range.
+/// served twice, each served block one of a plan that was said and passes its tests, under its plan's number, short
+/// queries that, but for refreshes, cut the range, and on Ok the tested bytes of all terms up to an end.
 pub fn runs_are_legal()
     ensures { RunsAreLegal }
 {}
@@ -26,10 +26,12 @@ pub fn ties_are_told()
 {}
 
 /// A tied run that is finished took exactly the window over one valid store and a cache that tells it, and over any
-/// connections the tested pieces of all planned terms.
+/// connections the tested pieces of all planned terms. Where the cache has no entries afterwards, each chunk with a
+/// byte in the window lies in a served block.
 pub fn finished_is_exact()
     ensures exact { FinishedIsExact }
     ensures whole { FinishedIsWhole }
+    ensures chunks { FinishedServesChunks }
 {}
 
 /// Where one block has as many Expired events as tries, all connections together gave so many expired answers at least.
@@ -120,5 +122,6 @@ pub fn answers_are_causes()
     ensures plan { PlansFail }
     ensures file { FilesMissing }
     ensures missing { FilesAreMissing }
+    ensures failed { FailuresAreCauses }
     ensures block { StepsFail }
 {}

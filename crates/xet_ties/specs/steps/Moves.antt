@@ -1,5 +1,5 @@
 -- What one step of a run's leader may do to what its arguments tell.
-use Rattle.std.specs.Prelude.{ℕ, ◌≡◌, ◌+◌, ◌≤◌, ◌^◌, ◌-◌, min, map, false, cond, List, [], ◌∷◌, ◌++◌, count_by, Option, None}
+use Rattle.std.specs.Prelude.{ℕ, ◌≡◌, ◌⊎◌, ◌+◌, ◌≤◌, ◌^◌, ◌-◌, min, map, false, cond, List, [], ◌∷◌, ◌++◌, count_by, Option, None}
 use Rattle.xet_base.specs.declared.cas_types.ChunkRange.{ChunkRange}
 use Rattle.xet_base.specs.declared.merklehash.MerkleHash.{MerkleHash}
 use Rattle.xet_base.specs.Store.{Store}
@@ -7,7 +7,7 @@ use Rattle.xet_outside.specs.declared.block.BlockBytes.{BlockBytes}
 use Rattle.xet_outside.specs.declared.said.Said.{Said}
 use Rattle.xet_outside.specs.declared.served.Served.{Served}
 use Rattle.xet_outside.specs.Answers.{IsPaired, bytes_in, plans_in}
-use Rattle.xet_outside.specs.Told.{Added, CacheTold, ClientTold, Counted, Grew, Query}
+use Rattle.xet_outside.specs.Told.{Added, CacheEntry, CacheTold, ClientTold, Counted, Grew, Query}
 use Rattle.xet_run.specs.declared.event.Event.{Event}
 use Rattle.xet_run.specs.declared.event.PlannedBlock.{PlannedBlock}
 use Rattle.xet_run.specs.Events.{error_in, expires, is_plan, taken_in, tasks_in}
@@ -16,7 +16,7 @@ use Rattle.xet_ties.specs.History.{IsOneCached, IsRenewed, IsWithin, asked_in, c
 use Rattle.xet_ties.specs.InCall.{Exchange, expired_said}
 use Rattle.xet_ties.specs.Saids.{IsEventSaid}
 use Rattle.xet_ties.specs.Setup.{ClientGoesOn, Setup}
-use Rattle.xet_ties.specs.Ties.{EachExpired, IsServed, Slack, has_one, is_one}
+use Rattle.xet_ties.specs.Ties.{EachExpired, IsEntryOf, IsServed, Slack, has_one, is_one}
 
 -- ---- queries
 
@@ -48,11 +48,14 @@ pub record LookStep (before after : CacheTold) (x : PlannedBlock) (r : ChunkRang
   pub one : x.ranges ≡ r ∷ []
   pub looked : Grew before.looked after.looked (x.xorb, r, given)
   pub offers : after.offers ≡ before.offers
+  pub entries : after.entries ≡ before.entries
+  pub among : IsEntryOf before.entries (x.xorb, r, given)
 
 -- a put
 pub record PutStep (before after : CacheTold) : Type 0 where
   pub looked : after.looked ≡ before.looked
   pub offers : Counted before.offers after.offers
+  pub entries : (after.entries ≡ before.entries) ⊎ ((e : CacheEntry) × Grew before.entries after.entries e)
 
 -- ---- events
 
