@@ -15,20 +15,19 @@ use Rattle.xet_terms.specs.Managers.{Manager}
 use Rattle.xet_ties.specs.Causes.{Cause}
 use Rattle.xet_ties.specs.History.{is_expired}
 use Rattle.xet_ties.specs.Setup.{RunTold, Setup}
-use Rattle.xet_ties.specs.steps.Records.{Place}
 use Rattle.xet_ties.specs.Ties.{MayLeave, Slack}
 use Rattle.xet_ties.proofs.CallerLemmas.{short_leaves}
 use Rattle.xet_parts.specs.Admissions.{admits}
 use Rattle.xet_parts.proofs.CallerLemmas.{admits_counted, admits_planned, admitted_ties}
 use Rattle.xet_leader.specs.Admission.{AdmitFails, AdmitLeads, AdmitTurn, AdmittedTerms}
-use Rattle.xet_leader.specs.Led.{AreLedPlans, IsLed, IsLedManager, Led}
+use Rattle.xet_leader.specs.Led.{AreLedPlans, AreStale, IsLed, IsLedManager, Led}
 use Rattle.xet_leader.specs.Steady.{IsFailing, IsGoing, Loose, Moment}
 use Rattle.xet_leader.proofs.PlainEvents.{IsPlain, plain_manager, plain_plans, plain_running, plain_stale}
 
 is_plain : (limit : ℕ) → IsPlain (Admit limit)
-is_plain limit = record { tasks = refl; plan = refl; query = refl; keeps_none = λ p k. refl; expires_none = λ p k. refl; expiry = λ p k. refl; error = refl }
+is_plain limit = record { tasks = refl; plan = refl; query = refl; keeps_none = λ p k. refl; expires_none = λ p k. refl; expiry = λ p k. refl; renews_none = λ p. refl; error = refl }
 
-plans_after : (g : Setup) (b : RunTold) (es : List Event) (ls : List ℕ) (sl : Slack) (stale : List Place) (l : Led) → AreLedPlans g b es sl stale l → AreLedPlans g b (es ++ admits ls) sl stale l
+plans_after : (g : Setup) (b : RunTold) (es : List Event) (ls : List ℕ) (sl : Slack) (stale : List ℕ) (l : Led) → AreLedPlans g b es sl stale l → AreLedPlans g b (es ++ admits ls) sl stale l
 plans_after g b es [] sl stale l a = subst (λ (x : List Event). AreLedPlans g b x sl stale l) (sym (append-nil es)) a
 plans_after g b es (n ∷ ls) sl stale l a =
     subst (λ (x : List Event). AreLedPlans g b x sl stale l) (append_assoc es (Admit n ∷ []) (admits ls))
@@ -53,14 +52,14 @@ written_after es (n ∷ ls) =
     let p : written (es ++ Admit n ∷ []) ≡ written es + 0 = written-push es (Admit n) in
     omega (arith, e, r, p)
 
-stale_after : (es : List Event) (ls : List ℕ) (stale : List Place) → All (λ c. is_expired es c.0 c.1 ≡ true) stale → All (λ c. is_expired (es ++ admits ls) c.0 c.1 ≡ true) stale
-stale_after es [] stale a = subst (λ (x : List Event). All (λ c. is_expired x c.0 c.1 ≡ true) stale) (sym (append-nil es)) a
+stale_after : (es : List Event) (ls : List ℕ) (stale : List ℕ) → AreStale es stale → AreStale (es ++ admits ls) stale
+stale_after es [] stale a = subst (λ (x : List Event). AreStale x stale) (sym (append-nil es)) a
 stale_after es (n ∷ ls) stale a =
-    subst (λ (x : List Event). All (λ c. is_expired x c.0 c.1 ≡ true) stale) (append_assoc es (Admit n ∷ []) (admits ls))
+    subst (λ (x : List Event). AreStale x stale) (append_assoc es (Admit n ∷ []) (admits ls))
     (stale_after (es ++ Admit n ∷ []) ls stale (plain_stale es (Admit n) stale (is_plain n) a))
 
 -- the leader, where so many are left
-led_after : (g : Setup) (b : RunTold) (es : List Event) (ls : List ℕ) (sl : Slack) (stale : List Place) (l : Led) (left : ℕ) → length ls + left ≡ l.planned - l.admitted → IsLed g b es sl stale l
+led_after : (g : Setup) (b : RunTold) (es : List Event) (ls : List ℕ) (sl : Slack) (stale : List ℕ) (l : Led) (left : ℕ) → length ls + left ≡ l.planned - l.admitted → IsLed g b es sl stale l
     → IsLed g b (es ++ admits ls) sl stale (record l { admitted = l.planned - left })
 led_after g b es ls sl stale l left n a =
     let counted = admits_counted es ls in

@@ -1,5 +1,5 @@
 -- What contracts see of a leader, and how it stands to a run's history and to what its arguments tell.
-use Rattle.std.specs.Prelude.{ℕ, ◌≡◌, ◌⊎◌, ◌+◌, ◌^◌, ◌<◌, ◌≤◌, true, false, List, [], ◌∷◌, length, map, take, drop, count_by, All, Contains, Some, None, IfSome}
+use Rattle.std.specs.Prelude.{ℕ, ◌≡◌, ◌⊎◌, ◌+◌, ◌^◌, ◌<◌, ◌≤◌, ◌==◌, true, false, List, [], ◌∷◌, length, map, take, drop, count_by, All, Contains, Some, None, IfSome}
 use Rattle.std.specs.Option.{is_some}
 use Rattle.std.specs.List.{sum_by}
 use Rattle.xet_base.specs.declared.cas_types.FileRange.{FileRange}
@@ -14,14 +14,13 @@ use Rattle.xet_blocks.specs.TermBlocks.{covered, xorb_blocks}
 use Rattle.xet_blocks.specs.Terms.{terms_of}
 use Rattle.xet_run.specs.declared.event.Event.{Event}
 use Rattle.xet_run.specs.Allowed.{IsRunning}
-use Rattle.xet_run.specs.Events.{expires, is_admit, is_kept, plan_count, planned, planned_end, size, tasks_of, written}
+use Rattle.xet_run.specs.Events.{expires, is_admit, is_kept, is_stale, plan_count, planned, planned_end, size, tasks_of, written}
 use Rattle.xet_history.specs.TrueHistory.{SomeEndsEarly, planned_term, queries}
 use Rattle.xet_terms.specs.Managers.{IsManager, Manager, scheduled_end}
 use Rattle.xet_terms.specs.Queries.{end_from}
 use Rattle.xet_ties.specs.History.{blocks_in, is_expired, range_at}
 use Rattle.xet_ties.specs.Saids.{IsLookedData, IsPlanAccepted, IsTestedData, planned_of}
 use Rattle.xet_ties.specs.Setup.{CacheTells, IsOver, RunTold, Setup}
-use Rattle.xet_ties.specs.steps.Records.{Place}
 use Rattle.xet_ties.specs.Ties.{Slack}
 use Rattle.xet_leader.specs.declared.leader.Job.{Job}
 use Rattle.xet_leader.specs.declared.leader.LedPlan.{LedPlan}
@@ -100,10 +99,10 @@ EachLedBlock b es sl p k (t ∷ ts) (x ∷ xs) = IsLedBlock b es sl p k t x × E
 EachLedBlock b es sl p k [] (x ∷ xs) = ⊥
 EachLedBlock b es sl p k (t ∷ ts) [] = ⊥
 
--- a block that may be asked for: it isn't expired, and has tries left
-pub record IsReady (g : Setup) (es : List Event) (p k : ℕ) : Type 0 where
-  pub fresh : is_expired es p k ≡ false
+-- the URL of this block may expire once more, and unless its plan is stale it isn't expired
+pub record IsReady (g : Setup) (es : List Event) (stale : List ℕ) (p k : ℕ) : Type 0 where
   pub left : count_by (expires p k) es < g.tries
+  pub fresh : Contains stale p ⊎ (is_expired es p k ≡ false)
 
 -- ---- plans
 
@@ -121,8 +120,8 @@ pub record IsRecordedPlan (es : List Event) (l : LedPlan) : Type 0 where
   pub tasks : take (length l.block.terms) (drop l.first (planned es))
       ≡ tasks_of l.number (map planned_term l.block.terms) (map planned_of l.block.blocks)
 
--- a plan that was said and passed its tests; each block but some may be asked for
-pub record IsLedPlan (g : Setup) (b : RunTold) (es : List Event) (sl : Slack) (stale : List Place)
+-- a plan that was said and passed its tests; some plans are stale
+pub record IsLedPlan (g : Setup) (b : RunTold) (es : List Event) (sl : Slack) (stale : List ℕ)
     (l : LedPlan) : Type 0 where
   pub plan : Plan
   pub query : FileRange
@@ -133,7 +132,7 @@ pub record IsLedPlan (g : Setup) (b : RunTold) (es : List Event) (sl : Slack) (s
   pub table : IsLedTable g l (covered (shape plan) query)
   pub recorded : IsRecordedPlan es l
   pub each : EachLedBlock b es sl l.number 0 l.tries.items l.block.blocks
-  pub ready : (k : ℕ) → k < length l.block.blocks → Contains stale (l.number, k) ⊎ IsReady g es l.number k
+  pub ready : (k : ℕ) → k < length l.block.blocks → IsReady g es stale l.number k
 
 -- the numbers of plans, and their terms among the planned ones, follow one another
 abbrev pub FollowOn : List LedPlan → Type 0
@@ -160,7 +159,7 @@ BeginsWith finished terms [] = finished ≡ terms
 BeginsWith finished terms (l ∷ ls) = (l.first ≤ finished) × (finished < l.first + length l.block.terms)
 
 -- the plans with terms that aren't written; a plan without terms, which is the last one that is asked, is none of them
-pub record AreLedPlans (g : Setup) (b : RunTold) (es : List Event) (sl : Slack) (stale : List Place)
+pub record AreLedPlans (g : Setup) (b : RunTold) (es : List Event) (sl : Slack) (stale : List ℕ)
     (l : Led) : Type 0 where
   pub each : All (IsLedPlan g b es sl stale) l.plans
   pub follow : FollowOn l.plans
@@ -179,11 +178,16 @@ pub record IsCounted (es : List Event) (l : Led) : Type 0 where
   pub admitted_within : l.admitted ≤ l.planned
   pub written_are : written es ≡ sum_by size (take l.finished (planned es))
 
-pub record IsLed (g : Setup) (b : RunTold) (es : List Event) (sl : Slack) (stale : List Place) (l : Led) : Type 0 where
+-- plans with a URL that expired since they were asked for last, each once
+abbrev pub AreStale : List Event → List ℕ → Type 0
+AreStale es [] = Unit {0}
+AreStale es (p ∷ ps) = (is_stale es p ≡ true) × (count_by (λ q. q == p) ps ≡ 0) × AreStale es ps
+
+pub record IsLed (g : Setup) (b : RunTold) (es : List Event) (sl : Slack) (stale : List ℕ) (l : Led) : Type 0 where
   pub running : IsRunning es
   pub some : g.range.start < g.range.end
   pub tries : 0 < g.tries
-  pub stale_are : All (λ c. is_expired es c.0 c.1 ≡ true) stale
+  pub stale_are : AreStale es stale
   pub manager : IsLedManager g es l.manager
   pub plans : AreLedPlans g b es sl stale l
   pub counted : IsCounted es l

@@ -12,7 +12,6 @@ use Rattle.xet_ties.specs.Causes.{Cause}
 use Rattle.xet_ties.specs.Saids.{InStep}
 use Rattle.xet_ties.specs.Setup.{CacheTells, IsOver, RunTold, Setup}
 use Rattle.xet_ties.specs.steps.Moves.{no_hidden, no_late}
-use Rattle.xet_ties.specs.steps.Records.{Place}
 use Rattle.xet_ties.specs.Ties.{MayLeave, Slack, Ties}
 use Rattle.xet_leader.specs.Led.{IsLed, Led}
 
@@ -22,11 +21,11 @@ pub record Moment : Type 0 where
   pub events : List Event
 
 -- what a part of a turn leaves for the next part: the blocks that are to be fetched, how many fetched ones are to be
--- offered to the cache, and the blocks whose URLs are to be asked for again. Nothing between turns
+-- offered to the cache, and the plans whose URLs are to be asked for again. Nothing between turns
 pub record Loose : Type 0 where
   pub pending : List PlannedBlock
   pub due : ℕ
-  pub stale : List Place
+  pub stale : List ℕ
 
 abbrev pub no_loose : Loose
 no_loose = record { pending = []; due = 0; stale = [] }

@@ -1,7 +1,12 @@
 //! What a leader keeps between the parts of its turns.
+ghost use Rattle.std.specs.Prelude.{◌≡◌, IfErr};
+ghost use Rattle.xet_terms.specs.Managers.{IsManager};
+
+use std::alloc::Global;
 use std::collections::VecDeque;
 use std::marker::Model;
 use xet_base::{FileRange, MerkleHash};
+use xet_error::{FileReconstructionError, Result};
 use xet_progress::ItemProgressUpdater;
 use xet_terms::{FetchPolicy, ReconstructionConfig, ReconstructionTermManager, TermBlock};
 
@@ -61,4 +66,71 @@ impl<P: FetchPolicy> Model for Leader<P> {
     } };
 
     ghost invariant = { λ l. IsManager l.manager };
+}
+
+impl<P: FetchPolicy + Drop> Leader<P> {
+    ghost use Rattle.std.specs.Prelude.{◌≡◌, Err, IfErr, IfOk, MatchOption};
+    ghost use Rattle.xet_terms.specs.Settings.{failing_size};
+    ghost use Rattle.xet_leader.specs.Starts.{LeadStarts, first_led};
+
+    /// A leader at the start of a run: nothing is planned, and the first two queries are scheduled. With progress it
+    /// reports what is planned, transferred and written.
+    ///
+    /// `ConfigurationError` exactly where a fetch size of the settings fails, with the first that does. `OutOfMemory`
+    /// where an allocation was refused.
+    pub fn new(
+        alloc: Global,
+        job: &Job,
+        policy: P,
+        progress: Option<ItemProgressUpdater>,
+    ) -> Result<Leader<P>>
+        ensures fails { MatchOption (failing_size job.now.config)
+            (IfErr result (λ e. e ≡ FileReconstructionError.OutOfMemory))
+            (λ s. result ≡ Err (FileReconstructionError.ConfigurationError s)) }
+        ensures begun { IfOk result (λ l. l ≡ first_led job.now) }
+        ensures starts { IfOk result (λ l. LeadStarts job.now l) }
+    {
+        if let Some(setting) = job.config.failing_size() {
+            return Err(FileReconstructionError::ConfigurationError(setting));
+        }
+        let shared = shared(&progress)?;
+        let manager = ReconstructionTermManager::new(
+            alloc,
+            &job.config,
+            job.file_hash,
+            job.byte_range,
+            policy,
+            shared,
+        )?;
+        check_manager(&manager);
+        Ok(Leader {
+            manager,
+            plans: VecDeque::new(alloc),
+            planned: 0,
+            admitted: 0,
+            finished: 0,
+            fetches: 0,
+            progress,
+        })
+    }
+}
+
+/// What a manager keeps holds of it.
+pub(crate) fn check_manager<P: FetchPolicy>(manager: &ReconstructionTermManager<P>)
+    ensures { IsManager manager.now }
+{
+    let _ = manager.queries();
+}
+
+/// Another updater of the item, where there is one.
+fn shared(progress: &Option<ItemProgressUpdater>) -> Result<Option<ItemProgressUpdater>>
+    ensures { IfErr result (λ e. e ≡ FileReconstructionError.OutOfMemory) }
+{
+    match progress {
+        None => Ok(None),
+        Some(updater) => match updater.share() {
+            Ok(other) => Ok(Some(other)),
+            Err(_) => Err(FileReconstructionError::OutOfMemory),
+        },
+    }
 }

@@ -1,0 +1,96 @@
+-- A leader at the start of its run is as its run wants it.
+use Rattle.std.proofs.Common.{◌≡◌, ℕ, zero, suc, ◌<◌, Bool, true, false, cond, List, [], ◌∷◌, take, refl, sym, subst, ap, arith, None, Some}
+use Rattle.std.specs.Prelude.{nat_eq, nat_lt, Option}
+use Rattle.std.proofs.lemmas.List.Elements.{All-nil}
+use Rattle.xet_base.specs.declared.cas_types.FileRange.{FileRange}
+use Rattle.xet_error.specs.declared.error.Setting.{Setting}
+use Rattle.xet_error.specs.declared.error.Setting.TheVariants.{GreatestBelowLeast, LeastZero, NoTries}
+use Rattle.xet_outside.specs.Told.{ClientTold}
+use Rattle.xet_terms.specs.Managers.{IsManager, Manager, begun}
+use Rattle.xet_terms.specs.Queries.{end_from}
+use Rattle.xet_ties.specs.Causes.{failing_setting}
+use Rattle.xet_ties.specs.Saids.{InStep}
+use Rattle.xet_ties.specs.Setup.{RunTold, Setup}
+use Rattle.xet_ties.specs.steps.Moves.{no_exchange, no_slack}
+use Rattle.xet_ties.proofs.CallerLemmas.{step_start, tie_start}
+use Rattle.xet_leader.specs.declared.leader.Job.{Job}
+use Rattle.xet_leader.specs.declared.leader.LedPlan.{LedPlan}
+use Rattle.xet_leader.specs.Led.{IsLed, IsLedManager, IsLedPlan, setup_of_job}
+use Rattle.xet_leader.specs.Starts.{LeadStarts, first_led}
+
+take_none : (qs : List FileRange) → take 0 qs ≡ []
+take_none [] = refl
+take_none (q ∷ qs) = refl
+
+not_none : (n : ℕ) → nat_eq n 0 ≡ false → 0 < n
+not_none zero e = absurd (cc)
+not_none (suc n) e = omega arith
+
+-- where the settings can be met, a block may be asked for once at least
+tries_some : (g : Setup) (cs : List ClientTold) → failing_setting g cs ≡ None → 0 < g.tries
+tries_some g [] h = absurd (cc)
+tries_some g (c ∷ cs) h = by (nat_eq g.tries 0) refl h
+  where
+    rest : Option Setting
+    rest = cond (nat_eq g.least 0) (Some LeastZero) (cond (nat_lt g.greatest g.least) (Some GreatestBelowLeast) None)
+
+    by : (b : Bool) → nat_eq g.tries 0 ≡ b → cond b (Some NoTries) rest ≡ None → 0 < g.tries
+    by true e k = absurd (cc)
+    by false e k = not_none g.tries e
+
+in_step : (g : Setup) (cs : List ClientTold) → failing_setting g cs ≡ None → InStep (no_exchange cs)
+in_step g [] h = absurd (cc)
+in_step g (c ∷ cs) h = step_start c cs
+
+-- nothing is planned, so nothing is asked
+manager_start : (j : Job) → IsManager (begun j.file_hash j.byte_range j.config) → IsLedManager (setup_of_job j) [] (begun j.file_hash j.byte_range j.config)
+manager_start j k =
+    let none = take_none (begun j.file_hash j.byte_range j.config).queries in
+    record {
+      is_for = record { file = refl; range = refl; least = refl; greatest = refl; multirange = refl };
+      kept = k;
+      queries_are = sym none;
+      idle = refl;
+      none_waits = refl;
+      going = λ h. ap (end_from j.byte_range.start) (sym none);
+      early = λ h. absurd (cc);
+      over = λ h. absurd (cc);
+      covered = λ h. absurd (cc);
+    }
+
+-- it is led
+pub led_start : (j : Job) (b : RunTold) → IsManager (begun j.file_hash j.byte_range j.config) → failing_setting (setup_of_job j) b.clients ≡ None → j.byte_range.start < j.byte_range.end
+    → IsLed (setup_of_job j) b [] (no_slack b.clients) [] (first_led j)
+led_start j b k h some = record {
+  running = refl;
+  some = some;
+  tries = tries_some (setup_of_job j) b.clients h;
+  stale_are = tt;
+  manager = manager_start j k;
+  plans = record { each = All-nil (IsLedPlan (setup_of_job j) b [] (no_slack b.clients) []); follow = tt; numbered = λ e. tt; last = tt; first = refl };
+  counted = record {
+    planned_are = refl;
+    planned_fits = omega arith;
+    admitted_are = refl;
+    finished_within = omega arith;
+    admitted_within = omega arith;
+    written_are = refl;
+  };
+}
+
+-- and its run goes on
+first_starts : (j : Job) → IsManager (begun j.file_hash j.byte_range j.config) → LeadStarts j (first_led j)
+first_starts j k b h some = record {
+  slack = no_slack b.clients;
+  ties = tie_start (setup_of_job j) b h;
+  settled = record { hidden = refl; late = refl; lost = refl; ahead = refl; spare = refl; pending = refl; due = refl; step = in_step (setup_of_job j) b.clients h };
+  led = led_start j b k h some;
+  calm = refl;
+  cache_tells = λ s over tells. tells;
+}
+
+pub lead_starts : (j : Job) (m : Manager) (ls : List LedPlan) → m ≡ begun j.file_hash j.byte_range j.config → ls ≡ [] → IsManager m → LeadStarts j (record { manager = m; plans = ls; planned = 0; admitted = 0; finished = 0; fetches = 0 })
+lead_starts j m ls is none k =
+    let first : LeadStarts j (first_led j) = first_starts j (subst IsManager is k) in
+    subst (λ (x : Manager). LeadStarts j (record { manager = x; plans = ls; planned = 0; admitted = 0; finished = 0; fetches = 0 })) (sym is)
+    (subst (λ (x : List LedPlan). LeadStarts j (record { manager = begun j.file_hash j.byte_range j.config; plans = x; planned = 0; admitted = 0; finished = 0; fetches = 0 })) (sym none) first)

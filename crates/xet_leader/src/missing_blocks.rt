@@ -1,0 +1,144 @@
+//! The blocks that are to be fetched, or found in the cache.
+ghost use Rattle.std.specs.Prelude.{◌≡◌, ◌-◌, [], IfOk, OnOk, slice_get, take, drop};
+ghost use Rattle.xet_leader.specs.Lacking.{first_of, has_some, is_bare, lacked, lacked_by, lacked_in, lacks, missing_of, with_place, with_places};
+
+use crate::leader::{Leader, LedPlan};
+use std::alloc::Global;
+use std::collections::VecDeque;
+use xet_base::{FileRange, Keyed, KeyedList, OutOfMemory};
+use xet_blocks::{FetchPolicy, FileTerm, XorbBlock};
+
+/// A block of a plan.
+#[derive(Clone, Copy, PartialEq, Eq, PartialOrd, Ord, Debug)]
+pub struct BlockAt {
+    /// The plan's number, from 1.
+    pub plan: u64,
+    /// The block's number in its plan, from 0.
+    pub block: usize,
+}
+
+impl Keyed<BlockAt> for BlockAt {
+    ghost key_of = { λ place. place };
+
+    fn key(&self) -> BlockAt {
+        *self
+    }
+}
+
+/// The blocks of the admitted terms that aren't written and have bytes, where these blocks keep nothing: each once, in
+/// the order of their first terms. `OutOfMemory` where memory was refused.
+///
+/// In place of the tasks that wait for a block in the Rust crate.
+pub fn missing<P: FetchPolicy>(
+    alloc: Global,
+    leader: &Leader<P>,
+) -> Result<KeyedList<BlockAt, BlockAt>, OutOfMemory>
+    ensures { IfOk result (λ found. found ≡ missing_of leader.now) }
+{
+    let skip = leader.finished.saturating_sub(terms_before(&leader.plans));
+    let count = leader.admitted.saturating_sub(leader.finished);
+    lacked_blocks(alloc, &leader.plans, skip, count)
+}
+
+/// How many planned terms come before those of the first plan.
+fn terms_before(plans: &VecDeque<LedPlan>) -> u64
+    ensures { result ≡ first_of plans.now.items }
+{
+    match plans.front() {
+        Some(plan) => plan.first,
+        None => 0,
+    }
+}
+
+/// The blocks that some terms of plans lack: so many terms, after those that are passed over.
+fn lacked_blocks(
+    alloc: Global,
+    plans: &VecDeque<LedPlan>,
+    skip: u64,
+    count: u64,
+) -> Result<KeyedList<BlockAt, BlockAt>, OutOfMemory>
+    ensures { IfOk result (λ found. found ≡ with_places [] (lacked skip count plans.now.items)) }
+{
+    let mut found = KeyedList::new(alloc);
+    let mut ahead = skip;
+    let mut left = count;
+    let mut at = 0;
+    while at < plans.len() && 0 < left {
+        let plan = &plans[at];
+        add_lacked(&mut found, plan, ahead, left)?;
+        let terms = plan.block.terms.len() as u64;
+        left = left.saturating_sub(terms.saturating_sub(ahead));
+        ahead = ahead.saturating_sub(terms);
+        at += 1;
+    }
+    Ok(found)
+}
+
+/// Adds the blocks that some terms of a plan lack: so many terms, after those that are passed over.
+fn add_lacked(
+    found: &mut KeyedList<BlockAt, BlockAt>,
+    plan: &LedPlan,
+    skip: u64,
+    count: u64,
+) -> Result<(), OutOfMemory>
+    ensures { OnOk result (found.new
+        ≡ with_places found.old (lacked_by plan.now (take count (drop skip plan.now.block.terms)))) }
+{
+    let terms = plan.block.terms.as_slice();
+    let start = terms.len().min(skip as usize);
+    let end = start + (terms.len() - start).min(count as usize);
+    for term in &terms[start..end] {
+        add_term(found, plan, *term)?;
+    }
+    Ok(())
+}
+
+/// Adds the block that a term lacks, if it lacks one.
+fn add_term(
+    found: &mut KeyedList<BlockAt, BlockAt>,
+    plan: &LedPlan,
+    term: FileTerm,
+) -> Result<(), OutOfMemory>
+    ensures { OnOk result (found.new ≡ with_places found.old (lacked_in plan.now term)) }
+{
+    if !lacks(plan, term) {
+        return Ok(());
+    }
+    let plan = plan.number;
+    let block = term.xorb_block;
+    add_place(found, BlockAt { plan, block })
+}
+
+/// Adds a block, where it isn't listed yet.
+fn add_place(found: &mut KeyedList<BlockAt, BlockAt>, place: BlockAt) -> Result<(), OutOfMemory>
+    ensures { OnOk result (found.new ≡ with_place found.old place) }
+{
+    if found.position(&place).is_some() {
+        return Ok(());
+    }
+    found.push(place)
+}
+
+/// Whether a term has bytes, and its block keeps nothing.
+fn lacks(plan: &LedPlan, term: FileTerm) -> bool
+    ensures { result ≡ lacks plan.now term }
+{
+    has_some(term.byte_range) && is_bare(plan.block.blocks.as_slice(), term.xorb_block)
+}
+
+/// Whether a range has bytes.
+fn has_some(range: FileRange) -> bool
+    ensures { result ≡ has_some range }
+{
+    range.start < range.end
+}
+
+/// Whether there is a block of this number, which keeps nothing.
+fn is_bare(blocks: &[XorbBlock], number: usize) -> bool
+    ensures { result ≡ is_bare (slice_get blocks.now number) }
+{
+    match blocks.get(number) {
+        Some(block) => block.kept.is_none(),
+        None => false,
+    }
+}
