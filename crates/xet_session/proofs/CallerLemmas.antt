@@ -2,4 +2,8 @@
 
 -- what a call keeps, and that a backed session stays backed
 pub use Rattle.xet_session.proofs.Keeping.{keeps-both, keeps-refl, keeps-still, later-both, later-same, stores-later}
-pub use Rattle.xet_session.proofs.Ends.{backs-finalized, backs-kept, new-listed, ordered-grown}
+pub use Rattle.xet_session.proofs.Ends.{backs-finalized, backs-kept, new-backed, new-listed, ordered-grown}
+-- what queries of the uploader keep
+pub use Rattle.xet_session.proofs.Learned.{backs-learned, learns-sound, learns-stands, learns-tells}
+-- the type's fact
+pub use Rattle.xet_session.proofs.Tests.{has-listed}

@@ -1,30 +1,34 @@
 -- The exits of a cut, and those of a call that is given a xorb.
-use Rattle.std.proofs.Common.{◌≡◌, ℕ, ◌⊎◌, inl, inr, true, false, List, [], ◌∷◌, ◌++◌, length, map, refl, sym, ◌∙◌, ap, subst}
-use Rattle.std.specs.Prelude.{Contains, Option, Some, None, is_some, Result, Ok, Err, IfErr, OnOk}
+use Rattle.std.proofs.Common.{◌≡◌, ℕ, ◌<◌, ◌⊎◌, inl, inr, true, false, List, [], ◌∷◌, ◌++◌, length, map, refl, sym, ◌∙◌, ap, subst, arith}
+use Rattle.std.specs.Prelude.{All, Contains, Option, Some, None, IsSome, is_some, Result, Ok, Err, IfErr, OnOk, OnErr}
 use Rattle.std.specs.List.{AllZip}
 use Rattle.std.proofs.lemmas.Bool.{false≢true}
 use Rattle.std.proofs.lemmas.List.{append-nil, nil_from_length}
-use Rattle.std.proofs.lemmas.List.Elements.{All-nil, All-cons, All-contains, Contains-push}
+use Rattle.std.proofs.lemmas.List.Elements.{All-nil, All-cons, All-contains, All-weaker, Contains-append_left, Contains-push}
 use Rattle.xet_base.specs.declared.merklehash.MerkleHash.{MerkleHash}
 use Rattle.xet_base.specs.declared.mdb_shard.Xorb.{Xorb}
 use Rattle.xet_base.specs.declared.mdb_shard.MDBFileInfo.{MDBFileInfo}
 use Rattle.xet_base.specs.declared.mdb_shard.MDBXorbInfo.{MDBXorbInfo}
+use Rattle.xet_base.specs.Records.{Describes}
 use Rattle.xet_outside.specs.declared.client.ClientError.{ClientError}
-use Rattle.xet_uploader.specs.declared.uploader.Put.TheVariants as put
+use Rattle.xet_uploader.specs.Uploads.{UploaderTold, xorbs_in}
 use Rattle.xet_shard_interface.specs.Interfaces.{InterfaceTold}
-use Rattle.xet_shard_interface.specs.Puts.{PutFailed}
+use Rattle.xet_shard_interface.specs.Puts.{PutFailed, puts_of}
 use Rattle.xet_upload.specs.DataErrors.{of_client_error}
+use Rattle.xet_upload.specs.Orders.{names_of}
 use Rattle.xet_upload.specs.Waitings.{AreCounted, IsPending, no_waiting, record_of_file, xorb_of_chunks}
 use Rattle.xet_upload.specs.declared.data_error.DataError.{DataError}
 use Rattle.xet_upload.specs.declared.data_error.DataError.TheVariants as data_error
 use Rattle.xet_upload.specs.declared.raw_xorb.PendingFile.{PendingFile}
 use Rattle.xet_upload.specs.declared.raw_xorb.RawXorbData.{RawXorbData}
 use Rattle.xet_upload.specs.declared.waiting.WaitingFile.{WaitingFile}
-use Rattle.xet_session.specs.Calls.{CountsSent, Cut, CutPut, Keeps, PutsFail, Registers, StoresFail, finalized_error, waiting_hash}
-use Rattle.xet_session.specs.Sessions.{IsListed, SessionTold, Tells, log_of}
-use Rattle.xet_session.specs.steps.SessionSteps.{AddedRecord, FinishedAll, PutFinished, PutGiven, PutRaw, TookWaiting, with_sent}
+use Rattle.xet_session.specs.Calls.{CountsSent, Cut, CutPut, Keeps, PutsFail, Recorded, RegisterStopped, Registers, Says, StoresFail, WasPut, WasRefused, finalized_error, record_of_xorb, waiting_hash, waiting_records, without_waiting}
+use Rattle.xet_session.specs.Sessions.{HasListed, IsListed, SessionTold, log_of, waiting_names}
+use Rattle.xet_session.specs.steps.SessionSteps.{AddedRecord, PutFinished, PutGiven, PutRaw, TookWaiting, with_sent}
 use Rattle.xet_session.proofs.Keeping.{keeps-added, keeps-both, keeps-put, keeps-refl, keeps-still, keeps-unput, put-why}
-use Rattle.xet_session.proofs.Listing.{AreFine, fine-empty, fine-known, listed-after, listed-more, more-listed}
+use Rattle.xet_session.proofs.Recording.{described-is, recorded-is}
+use Rattle.xet_session.proofs.Sounding.{put-contained}
+use Rattle.xet_session.proofs.Listing.{AreFine, fine-empty, fine-known, listed-after, listed-more, names-listed}
 
 pub map-infos : (h : MerkleHash) (fs : List WaitingFile) (ps : List PendingFile) → AllZip (IsPending h) fs ps → map (λ p. p.info) ps ≡ map (record_of_file h) fs
 map-infos h [] [] z = refl
@@ -47,23 +51,38 @@ not-both o e a q = absurd (false≢true (ap (λ (z : Option ClientError). is_som
 none-more : {A : Type 0} (xs : List A) → xs ≡ xs ++ []
 none-more xs = sym (append-nil xs)
 
+-- no failure is kept
+says-none : {A : Type 0} (n : SessionTold) (answer : Result A DataError) → n.failed ≡ None → Says n answer
+says-none n answer none e q = not-both n.failed e none q
+
+-- no failure was kept before
+not-idle : {P : Type 0} (b : SessionTold) → b.failed ≡ None → is_some b.failed ≡ true → P
+not-idle b none q = absurd (false≢true (ap (λ (o : Option ClientError). is_some o) (sym none) ∙ q))
+
+-- the same, of an answer of another kind
+says-err : {A B : Type 0} (n : SessionTold) (e : DataError) → Says {A = A} n (Err e) → Says {A = B} n (Err e)
+says-err n e s g q = let h = s g q in let d : e ≡ of_client_error g = cc in ap (λ (x : DataError). Err x) d
+
 -- ---- a put, after which the files are finished and the record is added or not
 
+kept-some : (o : Option ClientError) (e : ClientError) → o ≡ Some e → is_some o ≡ true
+kept-some o e q = ap (λ (z : Option ClientError). is_some z) q
+
 -- the put failed, and nothing is finished
-pub put-failed : (b n : SessionTold) (x : Xorb) (fs : List MDBFileInfo) (e : DataError) → PutRaw b n x (Err e) → PutFinished b n x fs (Err e)
-put-failed b n x fs e r =
+pub put-failed : (b n : SessionTold) (x : Xorb) (fs : List MDBFileInfo) (now : ℕ) (e : DataError) → PutRaw b n x (Err e) → PutFinished b n x fs now (Err e)
+put-failed b n x fs now e r =
     let is : n ≡ record b { uploader = n.uploader; failed = n.failed } = r.err in
+    let p : PutFailed b.uploader n.uploader n.failed e = r.failed in
     record {
       keeps = keeps-unput b n x e r;
-      waiting = ap (λ (z : SessionTold). z.waiting) is;
-      done = λ none. let p : PutFailed b.uploader n.uploader n.failed e = r.failed in not-both n.failed p.error none p.kept;
-      failed = tt;
-      log = λ t. tt;
+      ok = tt;
+      err = inl (record { same = is; log = r.unput; kept = kept-some n.failed p.error p.kept });
+      said = λ g q. let both : Some p.error ≡ Some g = sym p.kept ∙ q in let one : p.error ≡ g = cc in ap (λ (x : DataError). Err x) (p.told ∙ ap of_client_error one);
       counts = counts-same b n (ap (λ (z : SessionTold). z.metrics) is);
       why = put-why b n x e r;
     }
 
-module _ (b n1 n2 n : SessionTold) (x : Xorb) (h : MDBXorbInfo) (fs : List MDBFileInfo) (u : Unit {0}) (r : PutRaw b n1 x (Ok u)) (finishes : n2 ≡ record n1 { finished = n1.finished ++ fs }) (same_hash : h.hash ≡ x.hash) where
+module _ (b n1 n2 n : SessionTold) (x : Xorb) (h : MDBXorbInfo) (fs : List MDBFileInfo) (now : ℕ) (u : Unit {0}) (r : PutRaw b n1 x (Ok u)) (finishes : n2 ≡ record n1 { finished = n1.finished ++ fs }) (describes : Describes h x) where
   is : n1 ≡ record b { uploader = n1.uploader; listed = b.listed ++ x.hash ∷ []; registered = b.registered ++ x.hash ∷ []; metrics = with_sent b.metrics r.sent }
   is = r.ok
 
@@ -74,110 +93,175 @@ module _ (b n1 n2 n : SessionTold) (x : Xorb) (h : MDBXorbInfo) (fs : List MDBFi
   there =
       let P : List MerkleHash → Type 0 = λ l. Contains l h.hash in
       let Q : MerkleHash → Type 0 = λ z. Contains (b.listed ++ x.hash ∷ []) z in
-      subst P (sym listed2) (subst Q (sym same_hash) (Contains-push b.listed x.hash))
+      subst P (sym listed2) (subst Q (sym describes.hash) (Contains-push b.listed x.hash))
 
   metrics2 : n2.metrics ≡ with_sent b.metrics r.sent
   metrics2 = ap (λ (z : SessionTold). z.metrics) finishes ∙ ap (λ (z : SessionTold). z.metrics) is
 
-  pub put-finished : (answer : Result (Unit {0}) DataError) → AddedRecord n2 n h answer → PutFinished b n x fs answer
-  put-finished answer a =
-      let same = a.same in
-      let one = keeps-put b n1 x u r in
-      let two = keeps-still n1 n2 (ap (λ (z : SessionTold). z.uploader) finishes) (ap (λ (z : SessionTold). z.shards) finishes) (ap (λ (z : SessionTold). z.listed) finishes) (ap (λ (z : SessionTold). z.metrics) finishes) (ap (λ (z : SessionTold). z.failed) finishes) (ap (λ (z : SessionTold). z.finalized) finishes) in
-      let shards : n2.shards ≡ b.shards = ap (λ (z : SessionTold). z.shards) finishes ∙ ap (λ (z : SessionTold). z.shards) is in
-      let log : log_of n ≡ log_of n1 = ap log_of same ∙ ap log_of finishes in
-      record {
-        keeps = keeps-both b n1 n one (keeps-both n1 n2 n two (keeps-added n2 n h answer a there));
-        waiting = ap (λ (z : SessionTold). z.waiting) same ∙ ap (λ (z : SessionTold). z.waiting) finishes ∙ ap (λ (z : SessionTold). z.waiting) is;
-        done = λ q. record {
-          finished = ap (λ (z : SessionTold). z.finished) same ∙ ap (λ (z : SessionTold). z.finished) finishes ∙ ap (λ (z : SessionTold). z.finished ++ fs) is;
-          listed = ap (λ (z : SessionTold). z.listed) same ∙ listed2;
-          registered = ap (λ (z : SessionTold). z.registered) same ∙ ap (λ (z : SessionTold). z.registered) finishes ∙ ap (λ (z : SessionTold). z.registered) is;
-        };
-        failed = on_ok answer (ap (λ (z : SessionTold). z.failed) same ∙ ap (λ (z : SessionTold). z.failed) finishes ∙ ap (λ (z : SessionTold). z.failed) is);
-        log = λ t. on_ok answer (log ∙ r.put t);
-        counts = counted (ap (λ (z : SessionTold). z.metrics) same ∙ metrics2);
-        why = so answer shards a.why;
-      }
+  shards2 : n2.shards ≡ b.shards
+  shards2 = ap (λ (z : SessionTold). z.shards) finishes ∙ ap (λ (z : SessionTold). z.shards) is
+
+  was-put : IsSome n2.uploader.puts → Contains (xorbs_in (log_of n2)) x
+  was-put =
+      let P : UploaderTold → Type 0 = λ v. IsSome v.puts → Contains (xorbs_in (puts_of v)) x in
+      subst P (sym (ap (λ (z : SessionTold). z.uploader) finishes)) (put-contained b.uploader.puts n1.uploader.puts x r.grew)
+
+  module _ (answer : Result (Unit {0}) DataError) (a : AddedRecord n2 n h now answer) where
+    recorded : Recorded b.shards n.shards (record_of_xorb x) now answer
+    recorded =
+        let P : MDBXorbInfo → Type 0 = λ z. Recorded b.shards n.shards z now answer in
+        let Q : InterfaceTold → Type 0 = λ i. Recorded i n.shards h now answer in
+        subst P (described-is h x describes) (subst Q shards2 a.recorded)
+
+    log : log_of n ≡ log_of n1
+    log = ap log_of a.same ∙ ap log_of finishes
+
+    -- all that changed
+    all : SessionTold → SessionTold
+    all z = record b { uploader = z.uploader; shards = z.shards; finished = b.finished ++ fs; listed = b.listed ++ x.hash ∷ []; registered = b.registered ++ x.hash ∷ []; metrics = z.metrics }
+
+    changed : n ≡ record b { uploader = n1.uploader; shards = n.shards; finished = b.finished ++ fs; listed = b.listed ++ x.hash ∷ []; registered = b.registered ++ x.hash ∷ []; metrics = with_sent b.metrics r.sent }
+    changed = a.same ∙ ap (λ (z : SessionTold). record z { shards = n.shards }) finishes ∙ ap (λ (z : SessionTold). record z { finished = z.finished ++ fs; shards = n.shards }) is
+
+    was : WasPut b n x fs now answer
+    was = record { same = whole; log = λ t. log ∙ r.put t; recorded = recorded }
+      where
+        whole : n ≡ record b { uploader = n.uploader; shards = n.shards; finished = b.finished ++ fs; listed = b.listed ++ x.hash ∷ []; registered = b.registered ++ x.hash ∷ []; metrics = n.metrics }
+        whole = changed ∙ ap (λ (z : SessionTold). record b { uploader = z.uploader; shards = z.shards; finished = b.finished ++ fs; listed = b.listed ++ x.hash ∷ []; registered = b.registered ++ x.hash ∷ []; metrics = z.metrics }) (sym changed)
+
+    pub put-finished : PutFinished b n x fs now answer
+    put-finished =
+        let stored = recorded-is n2.shards n.shards h now answer a.recorded in
+        let one = keeps-put b n1 x u r in
+        let two = keeps-still n1 n2 (ap (λ (z : SessionTold). z.uploader) finishes) (ap (λ (z : SessionTold). z.shards) finishes) (ap (λ (z : SessionTold). z.listed) finishes) (ap (λ (z : SessionTold). z.metrics) finishes) (ap (λ (z : SessionTold). z.failed) finishes) (ap (λ (z : SessionTold). z.finalized) finishes) in
+        record {
+          keeps = keeps-both b n1 n one (keeps-both n1 n2 n two (keeps-added n2 n x h answer a.same stored there was-put describes));
+          ok = on_ok answer was;
+          err = on_err answer (inr was);
+          said = says-none n answer (ap (λ (z : SessionTold). z.failed) changed ∙ r.unfailed);
+          counts = counted (ap (λ (z : SessionTold). z.metrics) a.same ∙ metrics2);
+          why = so answer shards2 stored.why;
+        }
+      where
+        on_ok : {P : Type 0} (z : Result (Unit {0}) DataError) → P → OnOk z P
+        on_ok (Ok t) p = p
+        on_ok (Err e) p = tt
+
+        on_err : {P : Type 0} (z : Result (Unit {0}) DataError) → P → OnErr z P
+        on_err (Ok t) p = tt
+        on_err (Err e) p = p
+
+        counted : n.metrics ≡ with_sent b.metrics r.sent → CountsSent b n
+        counted e = e ∙ sym (ap (λ m. record b.metrics { xorb_bytes_uploaded = m.xorb_bytes_uploaded }) e)
+
+        so : (z : Result (Unit {0}) DataError) → n2.shards ≡ b.shards → IfErr z (StoresFail n2.shards n.shards) → IfErr z (PutsFail b n)
+        so (Ok t) e q = tt
+        so (Err d) e q = inl (subst (λ (i : InterfaceTold). StoresFail i n.shards d) e q)
+
+-- ---- what a put leaves of lists and files
+
+pub record FinishedAll (b n : SessionTold) (x : Xorb) (fs : List MDBFileInfo) : Type 0 where
+  pub finished : n.finished ≡ b.finished ++ fs
+  pub listed : n.listed ≡ b.listed ++ x.hash ∷ []
+  pub registered : n.registered ≡ b.registered ++ x.hash ∷ []
+  pub waiting : n.waiting ≡ b.waiting
+  pub failed : n.failed ≡ b.failed
+
+module _ (b n : SessionTold) (x : Xorb) (fs : List MDBFileInfo) (now : ℕ) where
+  pub was-finished : (answer : Result (Unit {0}) DataError) → WasPut b n x fs now answer → FinishedAll b n x fs
+  was-finished answer p = record {
+    finished = ap (λ (z : SessionTold). z.finished) p.same;
+    listed = ap (λ (z : SessionTold). z.listed) p.same;
+    registered = ap (λ (z : SessionTold). z.registered) p.same;
+    waiting = ap (λ (z : SessionTold). z.waiting) p.same;
+    failed = ap (λ (z : SessionTold). z.failed) p.same;
+  }
+
+  -- no put failed
+  pub finished-all : (answer : Result (Unit {0}) DataError) → PutFinished b n x fs now answer → n.failed ≡ None → FinishedAll b n x fs
+  finished-all (Ok u) k none = was-finished (Ok u) k.ok
+  finished-all (Err e) k none = go k.err
     where
-      on_ok : {P : Type 0} (z : Result (Unit {0}) DataError) → P → OnOk z P
-      on_ok (Ok t) p = p
-      on_ok (Err e) p = tt
-
-      counted : n.metrics ≡ with_sent b.metrics r.sent → CountsSent b n
-      counted e = e ∙ sym (ap (λ m. record b.metrics { xorb_bytes_uploaded = m.xorb_bytes_uploaded }) e)
-
-      so : (z : Result (Unit {0}) DataError) → n2.shards ≡ b.shards → IfErr z (StoresFail n2.shards n.shards) → IfErr z (PutsFail b n)
-      so (Ok t) e q = tt
-      so (Err d) e q = inl (subst (λ (i : InterfaceTold). StoresFail i n.shards d) e q)
+      go : WasRefused b n ⊎ WasPut b n x fs now (Err e) → FinishedAll b n x fs
+      go (inl w) = absurd (false≢true (sym (ap (λ (z : Option ClientError). is_some z) none) ∙ w.kept))
+      go (inr p) = was-finished (Err e) p
 
 -- ---- the exits of a cut
 
 -- a put had failed
-pub cut-failed : (b : SessionTold) (e : ClientError) → b.failed ≡ Some e → Cut b b (Err (of_client_error e))
-cut-failed b e f = record {
+pub cut-failed : (b : SessionTold) (now : ℕ) (e : ClientError) → b.failed ≡ Some e → Cut b b now (Err (of_client_error e))
+cut-failed b now e f = record {
   keeps = keeps-refl b b refl;
   listed = λ l q. l;
-  more = tt;
+  ok = tt;
+  err = inl refl;
   emptied = tt;
   finished = tt;
-  put = λ t. tt;
   counts = refl;
   unfailed = tt;
+  idle = λ q. refl;
+  said = λ g q. ap (λ (z : ClientError). Err (of_client_error z)) (let both : Some e ≡ Some g = sym f ∙ q in cc);
   refused = λ g q. ap (λ (z : ClientError). Err (of_client_error z)) (let both : Some e ≡ Some g = sym f ∙ q in cc);
   why = inr (e, f, refl);
 }
 
-pub cut-same : (b n : SessionTold) (e : DataError) → b.failed ≡ None → TookWaiting b n (Err e) → Cut b n (Err e)
-cut-same b n e sound took = record {
+pub cut-same : (b n : SessionTold) (now : ℕ) (e : DataError) → b.failed ≡ None → TookWaiting b n (Err e) → Cut b n now (Err e)
+cut-same b n now e sound took = record {
   keeps = keeps-refl b n took.err;
   listed = λ l q. subst (λ (z : SessionTold). IsListed z) (sym took.err) l;
-  more = tt;
+  ok = tt;
+  err = inl took.err;
   emptied = tt;
   finished = tt;
-  put = λ t. tt;
   counts = counts-same b n (ap (λ (z : SessionTold). z.metrics) took.err);
   unfailed = tt;
+  idle = λ q. took.err;
+  said = says-none n (Err e) (ap (λ (z : SessionTold). z.failed) took.err ∙ sound);
   refused = λ g q. not-both b.failed g sound q;
   why = inl took.why;
 }
 
-module _ (b t n : SessionTold) (r : RawXorbData × List PendingFile) (took : TookWaiting b t (Ok r)) (sound : b.failed ≡ None) where
-  taken : t ≡ record b { waiting = no_waiting }
+module _ (b t n : SessionTold) (now : ℕ) (r : RawXorbData × List PendingFile) (took : TookWaiting b t (Ok r)) (sound : b.failed ≡ None) where
+  taken : t ≡ without_waiting b
   taken = took.ok
 
-  hash : r.0.xorb.hash ≡ waiting_hash b
-  hash = let xorb : r.0.xorb ≡ xorb_of_chunks b.waiting.chunks = took.xorb in ap (λ (x : Xorb). x.hash) xorb
+  xorb : r.0.xorb ≡ xorb_of_chunks b.waiting.chunks
+  xorb = took.xorb
 
-  files : map (λ p. p.info) r.1 ≡ map (record_of_file (waiting_hash b)) b.waiting.files
+  hash : r.0.xorb.hash ≡ waiting_hash b
+  hash = ap (λ (x : Xorb). x.hash) xorb
+
+  files : map (λ p. p.info) r.1 ≡ waiting_records b
   files = took.files
 
+  old : Contains t.registered r.0.xorb.hash → Contains b.registered (waiting_hash b)
+  old c =
+      let P : List MerkleHash → Type 0 = λ l. Contains l r.0.xorb.hash in
+      subst (λ (z : MerkleHash). Contains b.registered z) hash (subst P (ap (λ (z : SessionTold). z.registered) taken) c)
+
   -- nothing was put
-  pub cut-still : (k : ℕ) → k ≡ length b.waiting.chunks → AreCounted (length b.waiting.chunks) b.waiting.files → n ≡ record t { finished = t.finished ++ map (λ p. p.info) r.1 } → (k ≡ 0) ⊎ Contains t.registered r.0.xorb.hash → Cut b n (Ok tt)
+  pub cut-still : (k : ℕ) → k ≡ length b.waiting.chunks → AreCounted (length b.waiting.chunks) b.waiting.files → n ≡ record t { finished = t.finished ++ map (λ p. p.info) r.1 } → (k ≡ 0) ⊎ Contains t.registered r.0.xorb.hash → Cut b n now (Ok tt)
   cut-still k count counted is why =
-      let whole : n ≡ record b { waiting = no_waiting; finished = b.finished ++ map (λ p. p.info) r.1 } = is ∙ ap (λ (z : SessionTold). record z { finished = z.finished ++ map (λ p. p.info) r.1 }) taken in
+      let whole : n ≡ record b { waiting = no_waiting; finished = b.finished ++ waiting_records b } = is ∙ ap (λ (z : SessionTold). record z { finished = z.finished ++ map (λ p. p.info) r.1 }) taken ∙ ap (λ (fs : List MDBFileInfo). record b { waiting = no_waiting; finished = b.finished ++ fs }) files in
       let listed : n.listed ≡ b.listed ++ [] = ap (λ (z : SessionTold). z.listed) whole ∙ none-more b.listed in
       let registered : n.registered ≡ b.registered ++ [] = ap (λ (z : SessionTold). z.registered) whole ∙ none-more b.registered in
-      let finished : n.finished ≡ b.finished ++ map (record_of_file (waiting_hash b)) b.waiting.files = ap (λ (z : SessionTold). z.finished) whole ∙ ap (λ (fs : List MDBFileInfo). b.finished ++ fs) files in
+      let finished : n.finished ≡ b.finished ++ waiting_records b = ap (λ (z : SessionTold). z.finished) whole in
       let waiting : n.waiting ≡ no_waiting = ap (λ (z : SessionTold). z.waiting) whole in
       record {
         keeps = keeps-still b n (ap (λ (z : SessionTold). z.uploader) whole) (ap (λ (z : SessionTold). z.shards) whole) (ap (λ (z : SessionTold). z.listed) whole) (ap (λ (z : SessionTold). z.metrics) whole) (ap (λ (z : SessionTold). z.failed) whole) (ap (λ (z : SessionTold). z.finalized) whole);
         listed = λ l q. listed-after b n [] listed (waiting_hash b) [] waiting finished (fine why l (ap (λ (z : SessionTold). z.listed) whole)) registered (All-nil (Contains n.listed)) l;
-        more = more-listed b n [] listed;
+        ok = inl (record { same = whole; reason = reason why });
+        err = tt;
         emptied = waiting;
         finished = finished;
-        put = λ t. inl (ap log_of whole, reason why);
         counts = counts-same b n (ap (λ (z : SessionTold). z.metrics) whole);
         unfailed = ap (λ (z : SessionTold). z.failed) whole ∙ sound;
+        idle = not-idle b sound;
+        said = says-none n (Ok tt) (ap (λ (z : SessionTold). z.failed) whole ∙ sound);
         refused = λ g q. not-both b.failed g sound q;
         why = tt;
       }
     where
-      old : Contains t.registered r.0.xorb.hash → Contains b.registered (waiting_hash b)
-      old c =
-          let P : List MerkleHash → Type 0 = λ l. Contains l r.0.xorb.hash in
-          subst (λ (z : MerkleHash). Contains b.registered z) hash (subst P (ap (λ (z : SessionTold). z.registered) taken) c)
-
       reason : (k ≡ 0) ⊎ Contains t.registered r.0.xorb.hash → (b.waiting.chunks ≡ []) ⊎ Contains b.registered (waiting_hash b)
       reason (inl e) = inl (nil_from_length b.waiting.chunks (sym count ∙ e))
       reason (inr c) = inr (old c)
@@ -187,99 +271,126 @@ module _ (b t n : SessionTold) (r : RawXorbData × List PendingFile) (took : Too
       fine (inr c) l q = fine-known n.listed (waiting_hash b) (subst (λ (z : List MerkleHash). Contains z (waiting_hash b)) (sym q) (All-contains (Contains b.listed) b.registered (waiting_hash b) l.put (old c))) b.waiting.files
 
   -- the xorb was put, or its put failed
-  pub cut-put : (Contains t.registered r.0.xorb.hash → ⊥) → (answer : Result (Unit {0}) DataError) → PutFinished t n r.0.xorb (map (λ p. p.info) r.1) answer → Cut b n answer
-  cut-put new answer k = go answer refl k k
+  pub cut-put : (k : ℕ) → k ≡ length b.waiting.chunks → 0 < k → (Contains t.registered r.0.xorb.hash → ⊥) → (answer : Result (Unit {0}) DataError) → PutFinished t n r.0.xorb (map (λ p. p.info) r.1) now answer → Cut b n now answer
+  cut-put k count low new answer p = go answer put
     where
-      keeps : Keeps t n → Keeps b n
-      keeps q = keeps-both b t n (keeps-still b t (ap (λ (z : SessionTold). z.uploader) taken) (ap (λ (z : SessionTold). z.shards) taken) (ap (λ (z : SessionTold). z.listed) taken) (ap (λ (z : SessionTold). z.metrics) taken) (ap (λ (z : SessionTold). z.failed) taken) (ap (λ (z : SessionTold). z.finalized) taken)) q
+      h : MerkleHash
+      h = waiting_hash b
 
-      counts : CountsSent t n → CountsSent b n
-      counts c = c ∙ ap (λ (z : SessionTold). record z.metrics { xorb_bytes_uploaded = n.metrics.xorb_bytes_uploaded }) taken
+      x : Xorb
+      x = xorb_of_chunks b.waiting.chunks
+
+      put : PutFinished (without_waiting b) n (xorb_of_chunks b.waiting.chunks) (waiting_records b) now answer
+      put =
+          let P : SessionTold → Type 0 = λ z. PutFinished z n r.0.xorb (map (λ p. p.info) r.1) now answer in
+          let Q : Xorb → Type 0 = λ z. PutFinished (without_waiting b) n z (map (λ p. p.info) r.1) now answer in
+          let R : List MDBFileInfo → Type 0 = λ fs. PutFinished (without_waiting b) n (xorb_of_chunks b.waiting.chunks) fs now answer in
+          subst R files (subst Q xorb (subst P taken p))
+
+      some : 0 < length b.waiting.chunks
+      some = omega (arith, count, low)
 
       fresh : Contains b.registered (waiting_hash b) → ⊥
       fresh c =
           let P : List MerkleHash → Type 0 = λ l. Contains l r.0.xorb.hash in
           new (subst P (sym (ap (λ (z : SessionTold). z.registered) taken)) (subst (λ (z : MerkleHash). Contains b.registered z) (sym hash) c))
 
-      all : n.failed ≡ None → PutFinished t n r.0.xorb (map (λ p. p.info) r.1) answer → FinishedAll b n (xorb_of_chunks b.waiting.chunks) (map (record_of_file (waiting_hash b)) b.waiting.files)
-      all none k =
-          let d = k.done none in
-          record {
-            finished = d.finished ∙ ap (λ (z : SessionTold). z.finished ++ map (λ (p : PendingFile). p.info) r.1) taken ∙ ap (λ (fs : List MDBFileInfo). b.finished ++ fs) files;
-            listed = d.listed ∙ ap (λ (z : SessionTold). z.listed ++ r.0.xorb.hash ∷ []) taken ∙ ap (λ (z : MerkleHash). b.listed ++ z ∷ []) hash;
-            registered = d.registered ∙ ap (λ (z : SessionTold). z.registered ++ r.0.xorb.hash ∷ []) taken ∙ ap (λ (z : MerkleHash). b.registered ++ z ∷ []) hash;
-          }
+      keeps : Keeps (without_waiting b) n → Keeps b n
+      keeps q = keeps-both b (without_waiting b) n (keeps-still b (without_waiting b) refl refl refl refl refl refl) q
 
-      waiting : PutFinished t n r.0.xorb (map (λ p. p.info) r.1) answer → n.waiting ≡ no_waiting
-      waiting k = k.waiting ∙ ap (λ (z : SessionTold). z.waiting) taken
+      listed : FinishedAll (without_waiting b) n (xorb_of_chunks b.waiting.chunks) (waiting_records b) → IsListed b → IsListed n
+      listed d l =
+          let there : Contains n.listed (waiting_hash b) = subst (λ (l : List MerkleHash). Contains l (waiting_hash b)) (sym d.listed) (Contains-push b.listed (waiting_hash b)) in
+          listed-after b n (waiting_hash b ∷ []) d.listed (waiting_hash b) (waiting_hash b ∷ []) d.waiting d.finished (fine-known n.listed (waiting_hash b) there b.waiting.files) d.registered (All-cons (Contains n.listed) (waiting_hash b) [] there (All-nil (Contains n.listed))) l
 
-      listed : PutFinished t n r.0.xorb (map (λ p. p.info) r.1) answer → IsListed b → n.failed ≡ None → IsListed n
-      listed k l none =
-          let h = waiting_hash b in
-          let d = all none k in
-          let there : Contains n.listed h = subst (λ (l : List MerkleHash). Contains l h) (sym d.listed) (Contains-push b.listed h) in
-          listed-after b n (h ∷ []) d.listed h (h ∷ []) (waiting k) d.finished (fine-known n.listed h there b.waiting.files) d.registered (All-cons (Contains n.listed) h [] there (All-nil (Contains n.listed))) l
+      cut-so : (a : Result (Unit {0}) DataError) → WasPut (without_waiting b) n (xorb_of_chunks b.waiting.chunks) (waiting_records b) now a → CutPut b n now a
+      cut-so a w = record { put = w; some = some; new = fresh }
 
-      told : Tells b → Tells t
-      told q = subst (λ (z : SessionTold). Tells z) (sym taken) (record { puts = q.puts; shards = q.shards })
-
-      put-log : Tells b → log_of n ≡ log_of t ++ put.Xorb r.0.xorb ∷ [] → CutPut b n
-      put-log q e =
-          let xorb : r.0.xorb ≡ xorb_of_chunks b.waiting.chunks = took.xorb in
-          inr (e ∙ ap (λ (z : SessionTold). log_of z ++ put.Xorb r.0.xorb ∷ []) taken ∙ ap (λ (x : Xorb). log_of b ++ put.Xorb x ∷ []) xorb, fresh)
-
-      go : (a : Result (Unit {0}) DataError) → a ≡ answer → PutFinished t n r.0.xorb (map (λ p. p.info) r.1) answer → PutFinished t n r.0.xorb (map (λ p. p.info) r.1) a → Cut b n a
-      go (Err e) same w k = record {
-        keeps = keeps k.keeps;
-        listed = listed w;
-        more = tt;
+      go : (a : Result (Unit {0}) DataError) → PutFinished (without_waiting b) n (xorb_of_chunks b.waiting.chunks) (waiting_records b) now a → Cut b n now a
+      go (Err e) w = record {
+        keeps = keeps w.keeps;
+        listed = λ l none. listed (finished-all (without_waiting b) n (xorb_of_chunks b.waiting.chunks) (waiting_records b) now (Err e) w none) l;
+        ok = tt;
+        err = inr (stopped w.err);
         emptied = tt;
         finished = tt;
-        put = λ q. tt;
-        counts = counts k.counts;
+        counts = w.counts;
         unfailed = tt;
+        idle = not-idle b sound;
+        said = w.said;
         refused = λ g q. not-both b.failed g sound q;
-        why = subst (λ (z : SessionTold). PutsFail z n e) taken k.why;
+        why = w.why;
       }
-      go (Ok u) same w k =
-          let none : n.failed ≡ None = k.failed ∙ ap (λ (z : SessionTold). z.failed) taken ∙ sound in
-          let d = all none w in
+        where
+          stopped : WasRefused (without_waiting b) n ⊎ WasPut (without_waiting b) n (xorb_of_chunks b.waiting.chunks) (waiting_records b) now (Err e) → WasRefused (without_waiting b) n ⊎ CutPut b n now (Err e)
+          stopped (inl q) = inl q
+          stopped (inr q) = inr (cut-so (Err e) q)
+      go (Ok u) w =
+          let d = was-finished (without_waiting b) n (xorb_of_chunks b.waiting.chunks) (waiting_records b) now (Ok u) w.ok in
           record {
-            keeps = keeps k.keeps;
-            listed = listed w;
-            more = more-listed b n (waiting_hash b ∷ []) d.listed;
-            emptied = waiting w;
+            keeps = keeps w.keeps;
+            listed = λ l none. listed d l;
+            ok = inr (cut-so (Ok u) w.ok);
+            err = tt;
+            emptied = d.waiting;
             finished = d.finished;
-            put = λ q. put-log q (k.log (told q));
-            counts = counts k.counts;
-            unfailed = none;
+            counts = w.counts;
+            unfailed = d.failed ∙ sound;
+            idle = not-idle b sound;
+            said = w.said;
             refused = λ g q. not-both b.failed g sound q;
             why = tt;
           }
 
 -- ---- a xorb that is given
 
-pub given-refused : (b : SessionTold) (x : Xorb) → PutGiven b b x (Err data_error.OutOfMemory)
-given-refused b x = record { keeps = keeps-refl b b refl; listed = λ l q. l; log = λ t. tt; counts = refl; why = inl (inl (inl refl)) }
+pub given-refused : (b : SessionTold) (x : Xorb) (now : ℕ) → PutGiven b b x now (Err data_error.OutOfMemory)
+given-refused b x now = record { keeps = keeps-refl b b refl; listed = λ l q. l; ok = tt; err = inl refl; said = λ none. says-none b (Err data_error.OutOfMemory) none; counts = refl; why = inl (inl (inl refl)) }
 
-pub given-put : (b n : SessionTold) (x : Xorb) (a : Result (Unit {0}) DataError) → PutFinished b n x [] a → PutGiven b n x a
-given-put b n x a p = record { keeps = p.keeps; listed = listed; log = p.log; counts = p.counts; why = p.why }
+pub given-put : (b n : SessionTold) (x : Xorb) (now : ℕ) (a : Result (Unit {0}) DataError) → PutFinished b n x [] now a → PutGiven b n x now a
+given-put b n x now a p = go a p
   where
-    listed : IsListed b → n.failed ≡ None → IsListed n
-    listed l none =
-        let d = p.done none in
+    listed : FinishedAll b n x [] → IsListed b → IsListed n
+    listed d l =
         let there : Contains n.listed x.hash = subst (λ (l : List MerkleHash). Contains l x.hash) (sym d.listed) (Contains-push b.listed x.hash) in
-        listed-more b n (x.hash ∷ []) d.listed (x.hash ∷ []) p.waiting (d.finished ∙ append-nil b.finished) d.registered (All-cons (Contains n.listed) x.hash [] there (All-nil (Contains n.listed))) l
+        listed-more b n (x.hash ∷ []) d.listed (x.hash ∷ []) d.waiting (d.finished ∙ append-nil b.finished) d.registered (All-cons (Contains n.listed) x.hash [] there (All-nil (Contains n.listed))) l
 
-module _ (b : SessionTold) (x : Xorb) where
-  pub registers-finalized : b.finalized ≡ true → Registers b b x (Err finalized_error)
+    go : (r : Result (Unit {0}) DataError) → PutFinished b n x [] now r → PutGiven b n x now r
+    go (Ok u) k = record { keeps = k.keeps; listed = λ l none. listed (was-finished b n x [] now (Ok u) k.ok) l; ok = k.ok; err = tt; said = λ none. k.said; counts = k.counts; why = tt }
+    go (Err e) k = record { keeps = k.keeps; listed = λ l none. listed (finished-all b n x [] now (Err e) k none) l; ok = tt; err = inr k.err; said = λ none. k.said; counts = k.counts; why = k.why }
+
+-- what a call changes that is given a xorb
+abbrev Changed : SessionTold → SessionTold → Type 0
+Changed b n = n ≡ record b { uploader = n.uploader; shards = n.shards; listed = n.listed; registered = n.registered; metrics = n.metrics; failed = n.failed }
+
+changed-same : (b n : SessionTold) → n ≡ b → Changed b n
+changed-same b n e =
+    e ∙ ap (λ (z : SessionTold). record b { uploader = z.uploader; shards = z.shards; listed = z.listed; registered = z.registered; metrics = z.metrics; failed = z.failed }) (sym e)
+
+changed-put : (b n : SessionTold) (x : Xorb) (now : ℕ) (a : Result (Unit {0}) DataError) → WasPut b n x [] now a → Changed b n
+changed-put b n x now a p =
+    let none : b.finished ++ [] ≡ b.finished = append-nil b.finished in
+    let whole = p.same ∙ ap (λ (fs : List MDBFileInfo). record b { uploader = n.uploader; shards = n.shards; finished = fs; listed = b.listed ++ x.hash ∷ []; registered = b.registered ++ x.hash ∷ []; metrics = n.metrics }) none in
+    whole ∙ ap (λ (z : SessionTold). record b { uploader = z.uploader; shards = z.shards; listed = z.listed; registered = z.registered; metrics = z.metrics; failed = z.failed }) (sym whole)
+
+changed-refused : (b n : SessionTold) → WasRefused b n → Changed b n
+changed-refused b n w =
+    w.same ∙ ap (λ (z : SessionTold). record b { uploader = z.uploader; shards = z.shards; listed = z.listed; registered = z.registered; metrics = z.metrics; failed = z.failed }) (sym w.same)
+
+module _ (b : SessionTold) (x : Xorb) (now : ℕ) where
+  pub registers-finalized : b.finalized ≡ true → Registers b b x now (Err finalized_error)
   registers-finalized f = record {
     keeps = keeps-refl b b refl;
     listed = λ l q. l;
+    same = refl;
     again = tt;
-    log = λ t. tt;
+    new = tt;
+    err = inl refl;
     counts = refl;
     finalized = λ q. (refl, refl);
+    unfailed = tt;
+    said = λ none. says-none b (Err finalized_error) none;
+    refused = λ q. absurd (false≢true (sym q ∙ f));
     why = inl (refl, f);
   }
 
@@ -287,58 +398,144 @@ module _ (b : SessionTold) (x : Xorb) where
     never : {P : Type 0} → b.finalized ≡ true → P
     never h = absurd (false≢true (sym first ∙ h))
 
-    pub registers-again : Contains b.registered x.hash → Registers b b x (Ok false)
+    pub registers-again : Contains b.registered x.hash → Registers b b x now (Ok false)
     registers-again old = record {
       keeps = keeps-refl b b refl;
       listed = λ l q. l;
+      same = refl;
       again = λ q. (old, refl);
-      log = λ t q. absurd (false≢true q);
+      new = λ q. absurd (false≢true q);
+      err = tt;
       counts = refl;
       finalized = never;
+      unfailed = λ q. absurd (false≢true q);
+      said = λ none. says-none b (Ok false) none;
+      refused = λ q new. absurd (new old);
       why = tt;
     }
 
-    module _ (new : Contains b.registered x.hash → ⊥) where
-      pub registers-empty : length x.chunks ≡ 0 → Registers b b x (Ok true)
+    module _ (fresh : Contains b.registered x.hash → ⊥) where
+      pub registers-empty : length x.chunks ≡ 0 → Registers b b x now (Ok true)
       registers-empty none = record {
         keeps = keeps-refl b b refl;
         listed = λ l q. l;
+        same = refl;
         again = λ q. absurd (false≢true (sym q));
-        log = λ t q. (new, inl (nil_from_length x.chunks none, refl));
+        new = λ q. record { new = fresh; put = inl (nil_from_length x.chunks none, refl) };
+        err = tt;
         counts = refl;
         finalized = never;
+        unfailed = λ q some. absurd (omega (arith, none, some));
+        said = λ sound. says-none b (Ok true) sound;
+        refused = λ q new some. absurd (omega (arith, none, some));
         why = tt;
       }
 
-      pub registers-failed : (e : ClientError) → b.failed ≡ Some e → Registers b b x (Err (of_client_error e))
+      pub registers-failed : (e : ClientError) → b.failed ≡ Some e → Registers b b x now (Err (of_client_error e))
       registers-failed e f = record {
         keeps = keeps-refl b b refl;
         listed = λ l q. l;
+        same = refl;
         again = tt;
-        log = λ t. tt;
+        new = tt;
+        err = inl refl;
         counts = refl;
         finalized = never;
+        unfailed = tt;
+        said = λ none. says-none b (Err (of_client_error e)) none;
+        refused = λ q new some g h. ap (λ (z : ClientError). Err (of_client_error z)) (let both : Some e ≡ Some g = sym f ∙ h in cc);
         why = inr (inr (e, f, refl));
       }
 
-      pub registers-err : (n : SessionTold) (e : DataError) → PutGiven b n x (Err e) → Registers b n x (Err e)
-      registers-err n e p = record {
-        keeps = p.keeps;
-        listed = p.listed;
-        again = tt;
-        log = λ t. tt;
-        counts = p.counts;
-        finalized = never;
-        why = inr p.why;
-      }
+      module _ (sound : b.failed ≡ None) where
+        pub registers-err : (n : SessionTold) (e : DataError) → PutGiven b n x now (Err e) → Registers b n x now (Err e)
+        registers-err n e p = record {
+          keeps = p.keeps;
+          listed = p.listed;
+          same = go p.err;
+          again = tt;
+          new = tt;
+          err = p.err;
+          counts = p.counts;
+          finalized = never;
+          unfailed = tt;
+          said = λ none. says-err n e (p.said none);
+          refused = λ q new some g h. not-both b.failed g sound h;
+          why = inr p.why;
+        }
+          where
+            go : RegisterStopped b n x now e → Changed b n
+            go (inl q) = changed-same b n q
+            go (inr (inl w)) = changed-refused b n w
+            go (inr (inr w)) = changed-put b n x now (Err e) w
 
-      pub registers-put : (n : SessionTold) (u : Unit {0}) → PutGiven b n x (Ok u) → Registers b n x (Ok true)
-      registers-put n u p = record {
-        keeps = p.keeps;
-        listed = p.listed;
-        again = λ q. absurd (false≢true (sym q));
-        log = λ t q. (new, inr (p.log t));
-        counts = p.counts;
-        finalized = never;
-        why = tt;
-      }
+        pub registers-put : (n : SessionTold) (u : Unit {0}) → 0 < length x.chunks → PutGiven b n x now (Ok u) → Registers b n x now (Ok true)
+        registers-put n u some p =
+            let put : WasPut b n x [] now (Ok tt) = p.ok in
+            record {
+              keeps = p.keeps;
+              listed = p.listed;
+              same = changed-put b n x now (Ok tt) put;
+              again = λ q. absurd (false≢true (sym q));
+              new = λ q. record { new = fresh; put = inr (some, put) };
+              err = tt;
+              counts = p.counts;
+              finalized = never;
+              unfailed = λ q low. ap (λ (z : SessionTold). z.failed) put.same ∙ sound;
+              said = λ none. says-none n (Ok true) (ap (λ (z : SessionTold). z.failed) put.same ∙ sound);
+              refused = λ q new low g h. not-both b.failed g sound h;
+              why = tt;
+            }
+
+-- ---- the names of the files that are finished
+
+-- a xorb was put, and its files name it or what is listed
+pub named-put : (b n : SessionTold) (x : Xorb) (u : Unit {0}) → PutRaw b n x (Ok u) → (hs : List MerkleHash) → (b.finalized ≡ false → All (Contains (b.listed ++ x.hash ∷ [])) hs) → n.failed ≡ None → n.finalized ≡ false → All (Contains n.listed) hs
+named-put b n x u r hs named f z =
+    let is : n ≡ record b { uploader = n.uploader; listed = b.listed ++ x.hash ∷ []; registered = b.registered ++ x.hash ∷ []; metrics = with_sent b.metrics r.sent } = r.ok in
+    let P : List MerkleHash → Type 0 = λ l. All (Contains l) hs in
+    subst P (sym (ap (λ (t : SessionTold). t.listed) is)) (named (sym (ap (λ (t : SessionTold). t.finalized) is) ∙ z))
+
+module _ (b t : SessionTold) (r : RawXorbData × List PendingFile) (took : TookWaiting b t (Ok r)) (sound : b.failed ≡ None) (has : HasListed b) where
+  took-same : t ≡ without_waiting b
+  took-same = took.ok
+
+  took-hash : r.0.xorb.hash ≡ waiting_hash b
+  took-hash = let xorb : r.0.xorb ≡ xorb_of_chunks b.waiting.chunks = took.xorb in ap (λ (x : Xorb). x.hash) xorb
+
+  took-files : map (λ p. p.info) r.1 ≡ waiting_records b
+  took-files = took.files
+
+  listed-before : t.finalized ≡ false → IsListed b
+  listed-before z = has sound (sym (ap (λ (s : SessionTold). s.finalized) took-same) ∙ z)
+
+  same-list : t.listed ≡ b.listed
+  same-list = ap (λ (s : SessionTold). s.listed) took-same
+
+  -- what waits is to be put
+  pub names-cut : t.finalized ≡ false → All (Contains (t.listed ++ r.0.xorb.hash ∷ [])) (names_of (map (λ p. p.info) r.1))
+  names-cut z =
+      let l = b.listed ++ waiting_hash b ∷ [] in
+      let waits = All-weaker (Contains b.listed) (Contains l) (λ h c. Contains-append_left b.listed (waiting_hash b ∷ []) h c) (waiting_names b.waiting.files) (listed-before z).waiting in
+      let all = names-listed l (waiting_hash b) b.waiting.files (fine-known l (waiting_hash b) (Contains-push b.listed (waiting_hash b)) b.waiting.files) waits in
+      let P : List MDBFileInfo → Type 0 = λ fs. All (Contains (t.listed ++ r.0.xorb.hash ∷ [])) (names_of fs) in
+      let Q : MerkleHash → Type 0 = λ h. All (Contains (t.listed ++ h ∷ [])) (names_of (waiting_records b)) in
+      let R : List MerkleHash → Type 0 = λ hs. All (Contains (hs ++ waiting_hash b ∷ [])) (names_of (waiting_records b)) in
+      subst P (sym took-files) (subst Q (sym took-hash) (subst R (sym same-list) all))
+
+  -- nothing is to be put
+  pub names-still : (k : ℕ) → k ≡ length b.waiting.chunks → AreCounted (length b.waiting.chunks) b.waiting.files → (k ≡ 0) ⊎ Contains t.registered r.0.xorb.hash → t.failed ≡ None → t.finalized ≡ false → All (Contains t.listed) (names_of (map (λ p. p.info) r.1))
+  names-still k count counted why f z =
+      let all = names-listed b.listed (waiting_hash b) b.waiting.files (fine why) (listed-before z).waiting in
+      let P : List MDBFileInfo → Type 0 = λ fs. All (Contains t.listed) (names_of fs) in
+      let R : List MerkleHash → Type 0 = λ hs. All (Contains hs) (names_of (waiting_records b)) in
+      subst P (sym took-files) (subst R (sym same-list) all)
+    where
+      known : Contains t.registered r.0.xorb.hash → Contains b.registered (waiting_hash b)
+      known c =
+          let P : List MerkleHash → Type 0 = λ l. Contains l r.0.xorb.hash in
+          subst (λ (h : MerkleHash). Contains b.registered h) took-hash (subst P (ap (λ (s : SessionTold). s.registered) took-same) c)
+
+      fine : (k ≡ 0) ⊎ Contains t.registered r.0.xorb.hash → AreFine b.listed (waiting_hash b) b.waiting.files
+      fine (inl e) = fine-empty b.listed (waiting_hash b) b.waiting.files (subst (λ (j : ℕ). AreCounted j b.waiting.files) (sym count ∙ e) counted)
+      fine (inr c) = fine-known b.listed (waiting_hash b) (All-contains (Contains b.listed) b.registered (waiting_hash b) (listed-before z).put (known c)) b.waiting.files

@@ -1,6 +1,6 @@
 -- The exits of the end of a session, and the order of its log.
 use Rattle.std.proofs.Common.{◌≡◌, ℕ, ◌≤◌, ◌⊎◌, inl, inr, Bool, true, false, List, [], ◌∷◌, ◌++◌, length, map, take, refl, sym, ◌∙◌, ap, subst, arith}
-use Rattle.std.specs.Prelude.{All, Contains, Option, Some, None, IsSome, IfSome, is_some, option_map, unwrap_or, Result, Ok, Err, OnOk, IfOk, IfErr}
+use Rattle.std.specs.Prelude.{All, Contains, Option, Some, None, IsSome, IfSome, is_some, option_map, unwrap_or, Result, Ok, Err, OnOk, OnErr, IfOk, IfErr}
 use Rattle.std.proofs.lemmas.Bool.{false≢true}
 use Rattle.std.proofs.lemmas.List.{append-nil, append_assoc, length-map, get_or-map, take-take}
 use Rattle.std.proofs.lemmas.List.Concat.{flat_map-append}
@@ -24,14 +24,14 @@ use Rattle.xet_shard_interface.specs.declared.shard_interface.ShardRules.{ShardR
 use Rattle.xet_shard_interface.proofs.CallerLemmas.{files-in, files_of, in-shard, log-grown, names-take, ordered-shards}
 use Rattle.xet_upload.specs.DataErrors.{of_client_error}
 use Rattle.xet_upload.specs.Orders.{IsOrdered, IsThere, names_of}
-use Rattle.xet_upload.specs.Waitings.{Waiting, no_waiting, record_of_file}
+use Rattle.xet_upload.specs.Waitings.{Waiting, no_waiting}
 use Rattle.xet_upload.specs.declared.data_error.DataError.{DataError}
 use Rattle.xet_upload.specs.declared.metrics.DeduplicationMetrics.{DeduplicationMetrics}
 use Rattle.xet_upload.proofs.CallerLemmas.{ordered-none, ordered-xorb}
-use Rattle.xet_session.specs.Calls.{Backs, Counted, Cut, Finalizes, GrewByXorbs, GrewToEnd, HasFiles, IsPut, Keeps, KeepsFailed, PutsFail, ResumedKept, StoresFail, end_counts, finalized_error, waiting_hash}
+use Rattle.xet_session.specs.Calls.{AllPut, Backs, Counted, Cut, EndsCut, EndsSo, EndsUncut, Finalizes, GrewByXorbs, GrewToEnd, HasFiles, IsPut, Keeps, KeepsFailed, NoQueries, PutsFail, ResumedKept, Says, StoresFail, end_counts, finalized_error, new_session, waiting_records}
 use Rattle.xet_session.specs.Sessions.{HasListed, IsBackedSession, IsListed, SessionTold, Stands, Tells, known_of, log_of, waiting_names}
 use Rattle.xet_session.specs.steps.SessionSteps.{AddedFinished, PutRecords}
-use Rattle.xet_session.proofs.Keeping.{failed-same, later-both, later-same, stores-later}
+use Rattle.xet_session.proofs.Keeping.{failed-same, keeps-refl, later-both, later-same, queries-same, stores-later}
 
 -- ---- the order
 
@@ -122,13 +122,22 @@ uploads-tell u v b n x z a h puts t = (
 
 -- ---- the exits
 
+-- no failure is kept
+says-none : {A : Type 0} (n : SessionTold) (answer : Result A DataError) → n.failed ≡ None → Says n answer
+says-none n answer none e q = absurd (false≢true (ap (λ (o : Option ClientError). is_some o) (sym none ∙ q)))
+
+-- a failure that is kept is answered, by an answer of another kind too
+says-err : {A B : Type 0} (n : SessionTold) (e : DataError) → Says {A = A} n (Err e) → Says {A = B} n (Err e)
+says-err n e s g q = let h = s g q in let d : e ≡ of_client_error g = cc in ap (λ (x : DataError). Err x) d
+
 cache-none : (o : Option ShardRecord) → o ≡ all_with_shards o []
 cache-none None = refl
 cache-none (Some r) = refl
 
 -- the second call
-pub finalizes-again : {A : Type 0} (b : SessionTold) → b.finalized ≡ true → Finalizes {A = A} b b (Err finalized_error)
-finalizes-again b e = record {
+pub finalizes-again : {A : Type 0} (b : SessionTold) (now : ℕ) → b.finalized ≡ true → Finalizes {A = A} b b now (Err finalized_error)
+finalizes-again b now e = record {
+  ends = λ f. absurd (false≢true (sym f ∙ e));
   tells = λ t. t;
   ordered = λ t s l. ordered-none (log_of b) (known_of b);
   finalized = e;
@@ -139,14 +148,16 @@ finalizes-again b e = record {
   grew = λ t. record { xorbs = []; shards = []; grown = sym (append-nil (log_of b)); kept = 0; cached = cache-none b.shards.cache.records; resumed = inl refl; sent = λ few. omega (arith, few) };
   dry = λ t d. record { xorbs = []; grown = sym (append-nil (log_of b)); sent = λ few. omega (arith, few) };
   quiet = λ f. refl;
+  queries = queries-same b b refl;
   failed = failed-same b b refl refl;
   stores = later-same b.shards b.shards refl;
   again = λ f. (refl, refl);
+  said = λ f. absurd (false≢true (sym f ∙ e));
   refused = λ f g q. absurd (false≢true (sym f ∙ e));
   why = inl (refl, e);
 }
 
-module _ (b n1 : SessionTold) (first : b.finalized ≡ false) where
+module _ (b n1 : SessionTold) (now : ℕ) (first : b.finalized ≡ false) where
   begun : Tells b → Tells (record b { finalized = true })
   begun t = record { puts = t.puts; shards = t.shards }
 
@@ -184,8 +195,9 @@ module _ (b n1 : SessionTold) (first : b.finalized ≡ false) where
   }
 
   -- the cut failed
-  pub finalizes-cut : {A : Type 0} (e : DataError) → Cut (record b { finalized = true }) n1 (Err e) → Finalizes {A = A} b n1 (Err e)
+  pub finalizes-cut : {A : Type 0} (e : DataError) → Cut (record b { finalized = true }) n1 now (Err e) → Finalizes {A = A} b n1 now (Err e)
   finalizes-cut e c = record {
+    ends = λ f. inl (e, refl, c);
     tells = λ t. c.keeps.tells (begun t);
     ordered = λ t s l. ordered-grown b n1 (known_of b) (grew-so n1 refl refl (c.keeps.grew (begun t)));
     finalized = c.keeps.finalized;
@@ -196,14 +208,16 @@ module _ (b n1 : SessionTold) (first : b.finalized ≡ false) where
     grew = λ t. grew-end n1 [] (sym (append-nil (log_of n1))) refl 0 (cached-none n1 c.keeps.known) (inl (resumed-same n1 c.keeps.known)) (c.keeps.grew (begun t));
     dry = λ t d. grew-so n1 refl refl (c.keeps.grew (begun t));
     quiet = c.keeps.quiet;
+    queries = record { asked = c.keeps.queries.asked; answered = c.keeps.queries.answered };
     failed = failed-so n1 refl refl c.keeps.failed;
     stores = c.keeps.stores;
     again = never;
+    said = λ f. says-err n1 e c.said;
     refused = λ f g q. let same = c.refused g q in let d : e ≡ of_client_error g = cc in ap (λ (x : DataError). Err x) d;
     why = inr c.why;
   }
 
-  module _ (n2 : SessionTold) (u : Unit {0}) (cut : Cut (record b { finalized = true }) n1 (Ok u)) where
+  module _ (n2 : SessionTold) (u : Unit {0}) (cut : Cut (record b { finalized = true }) n1 now (Ok u)) where
     unfailed1 : n1.failed ≡ None
     unfailed1 = cut.unfailed
 
@@ -211,16 +225,32 @@ module _ (b n1 : SessionTold) (first : b.finalized ≡ false) where
     sound : {P : Type 0} → is_some b.failed ≡ true → P
     sound f = absurd (false≢true (sym (ap (λ (o : Option ClientError). is_some o) unfailed1) ∙ ap (λ (o : Option ClientError). is_some o) (cut.keeps.failed.stays f) ∙ f))
 
+    queries-so : (n : SessionTold) → n.uploader ≡ n1.uploader → NoQueries b n
+    queries-so n u = record {
+      asked = ap (λ (v : UploaderTold). v.asked) u ∙ cut.keeps.queries.asked;
+      answered = ap (λ (v : UploaderTold). v.answered) u ∙ cut.keeps.queries.answered;
+    }
+
     unrefused : {P : Type 0} (e : ClientError) → b.failed ≡ Some e → P
     unrefused e q = absurd (let f = cut.refused e q in cc)
 
     -- the records could not be added
-    pub finalizes-added : {A : Type 0} (e : DataError) → AddedFinished n1 n2 (Err e) → Finalizes {A = A} b n2 (Err e)
-    finalizes-added e a =
+    pub finalizes-added : {A : Type 0} (e : DataError) → AddedFinished n1 n2 (Err e) → Finalizes {A = A} b n2 now (Err e)
+    finalizes-added {A = A} e a =
         let same = a.same in
+        let uncached : EndsCut {A = A} n1 n2 (Err e) = record {
+          same = same ∙ ap (λ (z : SessionTold). record n1 { uploader = z.uploader; shards = z.shards; metrics = z.metrics; failed = z.failed }) (sym same);
+          stores = a.stores ∙ ap (λ (i : InterfaceTold). record n1.shards { resumed = i.resumed; session = i.session; cache = i.cache }) (sym a.stores);
+          all = tt;
+          recorded = tt;
+          records = inl a.kept;
+          dry = λ d. a.known;
+          resumed = inl (ap (λ (i : InterfaceTold). resumed_records i.resumed) a.stores);
+        } in
         let log : log_of n2 ≡ log_of n1 = ap log_of same in
         let m = ap (λ (z : SessionTold). z.metrics.xorb_bytes_uploaded) same in
         record {
+          ends = λ f. inr (n1, cut, uncached);
           tells = λ t.
               let told1 = cut.keeps.tells (begun t) in
               record { puts = subst (λ (s : SessionTold). IsSome s.uploader.puts) (sym same) told1.puts; shards = a.tells told1 };
@@ -233,18 +263,22 @@ module _ (b n1 : SessionTold) (first : b.finalized ≡ false) where
           grew = λ t. grew-end n2 [] (log ∙ sym (append-nil (log_of n1))) m 0 (cached-none n2 (a.known ∙ cut.keeps.known)) (inl (resumed-same n2 (a.known ∙ cut.keeps.known))) (cut.keeps.grew (begun t));
           dry = λ t d. grew-so n2 log m (cut.keeps.grew (begun t));
           quiet = sound;
+          queries = queries-so n2 (ap (λ (z : SessionTold). z.uploader) same);
+          said = λ f. says-none n2 (Err e) (ap (λ (z : SessionTold). z.failed) same ∙ unfailed1);
           failed = failed-so n2 (ap (λ (z : SessionTold). z.failed) same) (ap (λ (z : SessionTold). z.uploader) same) cut.keeps.failed;
-          stores = later-both b.shards n1.shards n2.shards cut.keeps.stores a.stores;
+          stores = later-both b.shards n1.shards n2.shards cut.keeps.stores a.faults;
           again = never;
           refused = λ f g q. unrefused g q;
           why = inr (inl (stores-later b.shards n1.shards n2.shards e cut.keeps.stores a.why));
         }
 
     module _ (v : Unit {0}) (a : AddedFinished n1 n2 (Ok v)) (n z : SessionTold) (answer : Result ℕ DataError) (p : PutRecords n2 n answer) (ends : z ≡ record n { metrics = z.metrics }) (sent : z.metrics.xorb_bytes_uploaded ≡ n.metrics.xorb_bytes_uploaded) where
-      told2 : Tells b → Tells n2
-      told2 t =
-          let told1 = cut.keeps.tells (begun t) in
+      from1 : Tells n1 → Tells n2
+      from1 told1 =
           record { puts = subst (λ (s : SessionTold). IsSome s.uploader.puts) (sym a.same) told1.puts; shards = a.tells told1 }
+
+      told2 : Tells b → Tells n2
+      told2 t = from1 (cut.keeps.tells (begun t))
 
       told-end : Tells b → Tells z
       told-end t =
@@ -257,8 +291,8 @@ module _ (b n1 : SessionTold) (first : b.finalized ≡ false) where
       log2 : log_of n2 ≡ log_of n1
       log2 = ap log_of a.same
 
-      log-put : (ss : List ShardRecord) → Tells b → n.uploader.puts ≡ with_puts n2.uploader.puts ss → log_of z ≡ log_of n2 ++ map put.Shard ss
-      log-put ss t e = ap puts_of uploader ∙ ap (λ (o : Option (List Put)). unwrap_or o []) e ∙ log-grown n2.uploader.puts (map put.Shard ss) (told2 t).puts
+      log-put : (ss : List ShardRecord) → Tells n2 → n.uploader.puts ≡ with_puts n2.uploader.puts ss → log_of z ≡ log_of n2 ++ map put.Shard ss
+      log-put ss t e = ap puts_of uploader ∙ ap (λ (o : Option (List Put)). unwrap_or o []) e ∙ log-grown n2.uploader.puts (map put.Shard ss) t.puts
 
       rules : n2.shards.rules ≡ b.shards.rules
       rules = a.rules ∙ cut.keeps.rules
@@ -273,7 +307,7 @@ module _ (b n1 : SessionTold) (first : b.finalized ≡ false) where
       failed2 = ap (λ (s : SessionTold). s.failed) a.same ∙ unfailed1
 
       some : Tells b → log_of z ≡ log_of n2 ++ map put.Shard (take p.uploads.count (shards_of n2.shards))
-      some t = log-put (take p.uploads.count (shards_of n2.shards)) t (p.uploads.some (told2 t).shards.session)
+      some t = log-put (take p.uploads.count (shards_of n2.shards)) (told2 t) (p.uploads.some (told2 t).shards.session)
 
       ordered : Tells b → Stands b → IsListed b → IsOrdered (log_of z) (length (log_of b)) (known_of b)
       ordered t s l =
@@ -312,7 +346,15 @@ module _ (b n1 : SessionTold) (first : b.finalized ≡ false) where
       stores : LaterFaults b.shards z.shards
       stores =
           let ended : LaterFaults n2.shards z.shards = subst (λ (i : InterfaceTold). LaterFaults n2.shards i) (sym (ap (λ (s : SessionTold). s.shards) ends)) p.uploads.faults in
-          later-both b.shards n2.shards z.shards (later-both b.shards n1.shards n2.shards cut.keeps.stores a.stores) ended
+          later-both b.shards n2.shards z.shards (later-both b.shards n1.shards n2.shards cut.keeps.stores a.faults) ended
+
+      queries : NoQueries b z
+      queries =
+          let before = queries-so n2 (ap (λ (s : SessionTold). s.uploader) a.same) in
+          record {
+            asked = ap (λ (v : UploaderTold). v.asked) uploader ∙ p.uploads.asked ∙ before.asked;
+            answered = ap (λ (v : UploaderTold). v.answered) uploader ∙ p.uploads.answered ∙ before.answered;
+          }
 
       faults : b.uploader.faults ≤ n2.uploader.faults
       faults = subst (λ (w : UploaderTold). b.uploader.faults ≤ w.faults) (sym (ap (λ (s : SessionTold). s.uploader) a.same)) cut.keeps.failed.faults
@@ -355,21 +397,69 @@ module _ (b n1 : SessionTold) (first : b.finalized ≡ false) where
       recorded : Tells b → (records_of z.shards.session).files ≡ (records_of b.shards.session).files ++ z.finished
       recorded t = ap (λ (r : ShardRecord). r.files) records-same ∙ a.files (cut.keeps.tells (begun t)) ∙ ap (λ (fs : List MDBFileInfo). fs ++ n1.finished) cut.keeps.files ∙ ap (λ (fs : List MDBFileInfo). (records_of b.shards.session).files ++ fs) (sym finished)
 
+      -- what the end left of the stores after the cut
+      end-same : z ≡ record n1 { uploader = z.uploader; shards = z.shards; metrics = z.metrics; failed = z.failed }
+      end-same =
+          let whole = ends ∙ ap (λ (s : SessionTold). record s { metrics = z.metrics }) p.same ∙ ap (λ (s : SessionTold). record s { uploader = n.uploader; shards = n.shards; failed = n.failed; metrics = z.metrics }) a.same in
+          whole ∙ ap (λ (s : SessionTold). record n1 { uploader = s.uploader; shards = s.shards; metrics = s.metrics; failed = s.failed }) (sym whole)
+
+      end-stores : z.shards ≡ record n1.shards { resumed = z.shards.resumed; session = z.shards.session; cache = z.shards.cache }
+      end-stores =
+          let whole = ap (λ (s : SessionTold). s.shards) ends ∙ p.uploads.same ∙ ap (λ (i : InterfaceTold). record i { resumed = n.shards.resumed; session = n.shards.session; cache = n.shards.cache }) a.stores in
+          whole ∙ ap (λ (i : InterfaceTold). record n1.shards { resumed = i.resumed; session = i.session; cache = i.cache }) (sym whole)
+
+      known-dry : n1.shards.rules.dry_run ≡ true → known_told z.shards ≡ known_told n1.shards
+      known-dry d = ap (λ (s : SessionTold). known_told s.shards) ends ∙ (p.uploads.dry (ap (λ (r : ShardRules). r.dry_run) a.rules ∙ d)).1 ∙ a.known
+
+      resumed2 : resumed_records n2.shards.resumed ≡ resumed_records n1.shards.resumed
+      resumed2 = ap (λ (i : InterfaceTold). resumed_records i.resumed) a.stores
+
+      cache2 : n2.shards.cache.records ≡ n1.shards.cache.records
+      cache2 = ap (λ (i : InterfaceTold). i.cache.records) a.stores
+
+      resumed-so : (resumed_records n.shards.resumed ≡ resumed_records n2.shards.resumed) ⊎ (resumed_records n.shards.resumed ≡ forgotten (resumed_records n2.shards.resumed)) → AllPut n1 z
+          → (resumed_records z.shards.resumed ≡ resumed_records n1.shards.resumed) ⊎ ((resumed_records z.shards.resumed ≡ forgotten (resumed_records n1.shards.resumed)) × AllPut n1 z)
+      resumed-so (inl e) all = inl (ap (λ (s : SessionTold). resumed_records s.shards.resumed) ends ∙ e ∙ resumed2)
+      resumed-so (inr e) all = inr (ap (λ (s : SessionTold). resumed_records s.shards.resumed) ends ∙ e ∙ ap forgotten resumed2, all)
+
+      all-put : (k : ℕ) → answer ≡ Ok k → AllPut n1 z
+      all-put k is t d =
+          let t2 = from1 t in
+          let live : n2.shards.rules.dry_run ≡ false = ap (λ (r : ShardRules). r.dry_run) a.rules ∙ d in
+          let sent-all = subst (λ (r : Result ℕ DataError). OnOk r (n.uploader.puts ≡ with_puts n2.uploader.puts (shards_of n2.shards))) is (p.uploads.ok t2.shards.session live) in
+          let learned = subst (λ (r : Result ℕ DataError). OnOk r (n.shards.cache.records ≡ all_with_shards n2.shards.cache.records (shards_of n2.shards))) is (p.uploads.learned t2.shards.session live) in (
+            log-put (shards_of n2.shards) t2 sent-all ∙ ap (λ (ps : List Put). ps ++ map put.Shard (shards_of n2.shards)) log2 ∙ ap (λ (ss : List ShardRecord). log_of n1 ++ map put.Shard ss) shards-same,
+            ap (λ (s : SessionTold). s.shards.cache.records) ends ∙ learned ∙ ap (λ (o : Option ShardRecord). all_with_shards o (shards_of n2.shards)) cache2 ∙ ap (all_with_shards n1.shards.cache.records) shards-same,
+          )
+
       -- all was put
-      finalizes-ok : {A : Type 0} (m : A) (k : ℕ) → answer ≡ Ok k → Finalizes b z (Ok m)
-      finalizes-ok m k is =
+      finalizes-ok : {A : Type 0} (m : A) (k : ℕ) → answer ≡ Ok k → Finalizes b z now (Ok m)
+      finalizes-ok {A = A} m k is =
+          let all : AllPut n1 z = all-put k is in
+          let end : EndsCut {A = A} n1 z (Ok m) = record {
+            same = end-same;
+            stores = end-stores;
+            all = all;
+            recorded = session-same ∙ a.recorded;
+            records = inr (session-same ∙ a.recorded);
+            dry = known-dry;
+            resumed = resumed-so p.uploads.resumed all;
+          } in
           let same : n.failed ≡ n2.failed = subst (λ (r : Result ℕ DataError). OnOk r (n.failed ≡ n2.failed)) is p.uploads.failure.ok in
           record {
+            ends = λ f. inr (n1, cut, end);
             tells = told-end;
             ordered = ordered;
             finalized = finalized;
             unfailed = ap (λ (s : SessionTold). s.failed) ends ∙ same ∙ failed2;
             finished = finished ∙ cut.finished;
             recorded = recorded;
-            put = λ t d. is-put (log-put (shards_of n2.shards) t (subst (λ (r : Result ℕ DataError). OnOk r (n.uploader.puts ≡ with_puts n2.uploader.puts (shards_of n2.shards))) is (p.uploads.ok (told2 t).shards.session (ap (λ (r : ShardRules). r.dry_run) rules ∙ d)))) (a.files (cut.keeps.tells (begun t)));
+            put = λ t d. is-put (log-put (shards_of n2.shards) (told2 t) (subst (λ (r : Result ℕ DataError). OnOk r (n.uploader.puts ≡ with_puts n2.uploader.puts (shards_of n2.shards))) is (p.uploads.ok (told2 t).shards.session (ap (λ (r : ShardRules). r.dry_run) rules ∙ d)))) (a.files (cut.keeps.tells (begun t)));
             grew = grew;
             dry = dry;
             quiet = sound;
+            queries = queries;
+            said = λ f. says-none z (Ok m) (ap (λ (s : SessionTold). s.failed) ends ∙ same ∙ failed2);
             failed = failed-end (inl same);
             stores = stores;
             again = never;
@@ -378,8 +468,9 @@ module _ (b n1 : SessionTold) (first : b.finalized ≡ false) where
           }
 
       -- a put failed, or a store
-      finalizes-err : {A : Type 0} (e : DataError) → answer ≡ Err e → Finalizes {A = A} b z (Err e)
-      finalizes-err e is = record {
+      finalizes-err : {A : Type 0} (e : DataError) → answer ≡ Err e → Finalizes {A = A} b z now (Err e)
+      finalizes-err {A = A} e is = record {
+        ends = λ f. inr (n1, cut, stopped);
         tells = told-end;
         ordered = ordered;
         finalized = finalized;
@@ -390,6 +481,8 @@ module _ (b n1 : SessionTold) (first : b.finalized ≡ false) where
         grew = grew;
         dry = dry;
         quiet = sound;
+        queries = queries;
+        said = λ f. says so;
         failed = failed-end (kept so);
         stores = stores;
         again = never;
@@ -397,12 +490,32 @@ module _ (b n1 : SessionTold) (first : b.finalized ≡ false) where
         why = inr (why so);
       }
         where
+          stopped : EndsCut {A = A} n1 z (Err e)
+          stopped =
+              let unforgotten : resumed_records n.shards.resumed ≡ resumed_records n2.shards.resumed = subst (λ (r : Result ℕ DataError). OnErr r (resumed_records n.shards.resumed ≡ resumed_records n2.shards.resumed)) is p.uploads.unforgotten in
+              record {
+                same = end-same;
+                stores = end-stores;
+                all = tt;
+                recorded = tt;
+                records = inr (session-same ∙ a.recorded);
+                dry = known-dry;
+                resumed = inl (ap (λ (s : SessionTold). resumed_records s.shards.resumed) ends ∙ unforgotten ∙ resumed2);
+              }
+
           so : FailsSo n2.uploader n.uploader n2.failed n.failed (UploadFails n2.shards n.shards) e
           so = subst (λ (r : Result ℕ DataError). IfErr r (FailsSo n2.uploader n.uploader n2.failed n.failed (UploadFails n2.shards n.shards))) is p.uploads.failure.err
 
           kept : FailsSo n2.uploader n.uploader n2.failed n.failed (UploadFails n2.shards n.shards) e → (n.failed ≡ n2.failed) ⊎ (n.failed ≡ Some client_error.Failed → Rose n2.uploader.faults n.uploader.faults)
           kept (inl q) = inl q.0
           kept (inr f) = inr (λ q. f.rose (let both : Some f.error ≡ Some client_error.Failed = sym f.kept ∙ q in cc))
+
+          failed-same-end : z.failed ≡ n.failed
+          failed-same-end = ap (λ (s : SessionTold). s.failed) ends
+
+          says : FailsSo n2.uploader n.uploader n2.failed n.failed (UploadFails n2.shards n.shards) e → Says {A = A} z (Err e)
+          says (inl q) = says-none z (Err e) (failed-same-end ∙ q.0 ∙ failed2)
+          says (inr f) = λ g h. let both : Some f.error ≡ Some g = sym f.kept ∙ sym failed-same-end ∙ h in let one : f.error ≡ g = cc in ap (λ (x : DataError). Err x) (f.told ∙ ap of_client_error one)
 
           shards : z.shards ≡ n.shards
           shards = ap (λ (s : SessionTold). s.shards) ends
@@ -412,16 +525,16 @@ module _ (b n1 : SessionTold) (first : b.finalized ≡ false) where
           store (inr q) = inr (inr (inl q))
 
           why : FailsSo n2.uploader n.uploader n2.failed n.failed (UploadFails n2.shards n.shards) e → PutsFail b z e
-          why (inl q) = inl (stores-later b.shards n2.shards z.shards e (later-both b.shards n1.shards n2.shards cut.keeps.stores a.stores) (subst (λ (i : InterfaceTold). StoresFail n2.shards i e) (sym shards) (store q.1)))
+          why (inl q) = inl (stores-later b.shards n2.shards z.shards e (later-both b.shards n1.shards n2.shards cut.keeps.stores a.faults) (subst (λ (i : InterfaceTold). StoresFail n2.shards i e) (sym shards) (store q.1)))
           why (inr f) = inr (f.error, ap (λ (s : SessionTold). s.failed) ends ∙ f.kept, f.told)
 
     module _ (v : Unit {0}) (a : AddedFinished n1 n2 (Ok v)) (n : SessionTold) where
       -- a put of records failed
-      pub finalizes-unput : {A : Type 0} (e : DataError) → PutRecords n2 n (Err e) → Finalizes {A = A} b n (Err e)
+      pub finalizes-unput : {A : Type 0} (e : DataError) → PutRecords n2 n (Err e) → Finalizes {A = A} b n now (Err e)
       finalizes-unput e p = finalizes-err v a n n (Err e) p refl refl e refl
 
       -- all was put, and then the counts were taken
-      pub finalizes-put : (z : SessionTold) (k : ℕ) → PutRecords n2 n (Ok k) → z ≡ record n { metrics = end_counts n.metrics k } → (m : DeduplicationMetrics) → m ≡ z.metrics → Finalizes b z (Ok m) × Counted b z m
+      pub finalizes-put : (z : SessionTold) (k : ℕ) → PutRecords n2 n (Ok k) → z ≡ record n { metrics = end_counts n.metrics k } → (m : DeduplicationMetrics) → m ≡ z.metrics → Finalizes b z now (Ok m) × Counted b z m
       finalizes-put z k p is m taken =
           let counts : z.metrics ≡ end_counts n.metrics k = ap (λ (s : SessionTold). s.metrics) is in
           let ends : z ≡ record n { metrics = z.metrics } = is ∙ ap (λ (c : DeduplicationMetrics). record n { metrics = c }) (sym counts) in
@@ -445,8 +558,9 @@ module _ (b n1 : SessionTold) (first : b.finalized ≡ false) where
               f ∙ sym (ap (λ (c : DeduplicationMetrics). record b.metrics { xorb_bytes_uploaded = c.xorb_bytes_uploaded; shard_bytes_uploaded = c.shard_bytes_uploaded; total_bytes_uploaded = c.total_bytes_uploaded }) f)
 
 -- the same error, of an answer of another kind
-pub retold : {A B : Type 0} (b n : SessionTold) (e : DataError) → Finalizes {A = A} b n (Err e) → Finalizes {A = B} b n (Err e)
-retold b n e k = record {
+pub retold : {A B : Type 0} (b n : SessionTold) (now : ℕ) (e : DataError) → Finalizes {A = A} b n now (Err e) → Finalizes {A = B} b n now (Err e)
+retold {A = A} {B = B} b n now e k = record {
+  ends = λ f. go (k.ends f);
   tells = k.tells;
   ordered = k.ordered;
   finalized = k.finalized;
@@ -457,16 +571,49 @@ retold b n e k = record {
   grew = k.grew;
   dry = k.dry;
   quiet = k.quiet;
+  queries = k.queries;
   failed = k.failed;
   stores = k.stores;
   again = λ f. let h = (k.again f).0 in let d : e ≡ finalized_error = cc in (ap (λ (x : DataError). Err x) d, (k.again f).1);
+  said = λ f. says-err n e (k.said f);
   refused = λ f g q. let h = k.refused f g q in let d : e ≡ of_client_error g = cc in ap (λ (x : DataError). Err x) d;
   why = k.why;
 }
+  where
+    go : EndsUncut {A = A} b n now (Err e) ⊎ EndsSo {A = A} b n now (Err e) → EndsUncut {A = B} b n now (Err e) ⊎ EndsSo {A = B} b n now (Err e)
+    go (inl (d, is, c)) = inl (d, ap (λ (x : DataError). Err x) (let h : Err e ≡ Err d = is in cc), c)
+    go (inr (m, c, s)) = inr (m, c, record { same = s.same; stores = s.stores; all = tt; recorded = tt; records = s.records; dry = s.dry; resumed = s.resumed })
+
+-- the same end, of an answer of another kind
+pub retold-ok : {A B : Type 0} (b n : SessionTold) (now : ℕ) (x : A) (y : B) → Finalizes b n now (Ok x) → Finalizes b n now (Ok y)
+retold-ok {A = A} {B = B} b n now x y k = record {
+  ends = λ f. go (k.ends f);
+  tells = k.tells;
+  ordered = k.ordered;
+  finalized = k.finalized;
+  unfailed = k.unfailed;
+  finished = k.finished;
+  recorded = k.recorded;
+  put = k.put;
+  grew = k.grew;
+  dry = k.dry;
+  quiet = k.quiet;
+  queries = k.queries;
+  failed = k.failed;
+  stores = k.stores;
+  again = λ f. let e = (k.again f).0 in absurd cc;
+  said = λ f. says-none n (Ok y) k.unfailed;
+  refused = λ f g q. let e = k.refused f g q in absurd cc;
+  why = tt;
+}
+  where
+    go : EndsUncut b n now (Ok x) ⊎ EndsSo b n now (Ok x) → EndsUncut b n now (Ok y) ⊎ EndsSo b n now (Ok y)
+    go (inl (d, is, c)) = absurd (let h : Ok x ≡ Err d = is in cc)
+    go (inr (m, c, s)) = inr (m, c, record { same = s.same; stores = s.stores; all = s.all; recorded = s.recorded; records = s.records; dry = s.dry; resumed = s.resumed })
 
 -- ---- the file records after the end
 
-module _ (b m n : SessionTold) (x : DeduplicationMetrics) (k : Finalizes b m (Ok x)) (same : n ≡ record m { shards = n.shards }) (answer : Result (List MDBFileInfo) DataError) (l : ListsFiles m.shards n.shards answer) where
+module _ (b m n : SessionTold) (now : ℕ) (x : DeduplicationMetrics) (k : Finalizes b m now (Ok x)) (same : n ≡ record m { shards = n.shards }) (answer : Result (List MDBFileInfo) DataError) (l : ListsFiles m.shards n.shards answer) where
   log-listed : log_of n ≡ log_of m
   log-listed = ap log_of same
 
@@ -511,14 +658,59 @@ module _ (b m n : SessionTold) (x : DeduplicationMetrics) (k : Finalizes b m (Ok
         faults = subst (λ (v : UploaderTold). b.uploader.faults ≤ v.faults) (sym u) k.failed.faults;
       }
 
-  ended : {A : Type 0} (said : Result A DataError) → OnOk said (n.failed ≡ None) → OnOk said (n.finished ≡ b.finished ++ map (record_of_file (waiting_hash b)) b.waiting.files)
+  shards-listed : shards_of m.shards ≡ shards_of n.shards
+  shards-listed =
+      ap (λ (r : ShardRules). shards_in r.shard_max_target_size (records_of m.shards.session)) (sym rules-listed)
+      ∙ ap (shards_in n.shards.rules.shard_max_target_size) (sym records-listed)
+
+  -- the end came, since it was answered
+  ends-listed : {A : Type 0} (said : Result A DataError) → EndsUncut b m now (Ok x) ⊎ EndsSo b m now (Ok x) → EndsSo b n now said
+  ends-listed said (inl (d, is, c)) = absurd (let h : Ok x ≡ Err d = is in cc)
+  ends-listed {A = A} said (inr (c, cut, s)) = (
+    c,
+    cut,
+    record {
+      same = whole ∙ ap (λ (z : SessionTold). record c { uploader = z.uploader; shards = z.shards; metrics = z.metrics; failed = z.failed }) (sym whole);
+      stores = stores ∙ ap (λ (i : InterfaceTold). record c.shards { resumed = i.resumed; session = i.session; cache = i.cache }) (sym stores);
+      all = on_ok said all;
+      recorded = on_ok said (l.records ∙ s.recorded);
+      records = inr (l.records ∙ s.recorded);
+      dry = λ d. ap known_told l.same ∙ s.dry d;
+      resumed = resumed s.resumed;
+    },
+  )
+    where
+      on_ok : {P : Type 0} (r : Result A DataError) → P → OnOk r P
+      on_ok (Ok y) p = p
+      on_ok (Err e) p = tt
+
+      whole : n ≡ record c { uploader = m.uploader; shards = n.shards; metrics = m.metrics; failed = m.failed }
+      whole = same ∙ ap (λ (z : SessionTold). record z { shards = n.shards }) s.same
+
+      stores : n.shards ≡ record c.shards { resumed = m.shards.resumed; session = n.shards.session; cache = m.shards.cache }
+      stores = l.same ∙ ap (λ (i : InterfaceTold). record i { session = n.shards.session }) s.stores
+
+      all : AllPut c n
+      all t d =
+          let h = s.all t d in (
+            log-listed ∙ h.0 ∙ ap (λ (ss : List ShardRecord). log_of c ++ map put.Shard ss) shards-listed,
+            cache-listed ∙ h.1 ∙ ap (all_with_shards c.shards.cache.records) shards-listed,
+          )
+
+      resumed : (resumed_records m.shards.resumed ≡ resumed_records c.shards.resumed) ⊎ ((resumed_records m.shards.resumed ≡ forgotten (resumed_records c.shards.resumed)) × AllPut c m)
+          → (resumed_records n.shards.resumed ≡ resumed_records c.shards.resumed) ⊎ ((resumed_records n.shards.resumed ≡ forgotten (resumed_records c.shards.resumed)) × AllPut c n)
+      resumed (inl e) = inl (ap (λ (i : InterfaceTold). resumed_records i.resumed) l.same ∙ e)
+      resumed (inr e) = inr (ap (λ (i : InterfaceTold). resumed_records i.resumed) l.same ∙ e.0, all)
+
+  ended : {A : Type 0} (said : Result A DataError) → OnOk said (n.failed ≡ None) → OnOk said (n.finished ≡ b.finished ++ waiting_records b)
       → (Tells b → OnOk said ((records_of n.shards.session).files ≡ (records_of b.shards.session).files ++ n.finished))
       → (Tells b → b.shards.rules.dry_run ≡ false → OnOk said ((f : MDBFileInfo) → Contains n.finished f → IsPut (log_of n) f))
       → IfErr said (λ e. ((e ≡ finalized_error) × (b.finalized ≡ true)) ⊎ PutsFail b n e)
-      → (b.finalized ≡ true → ⊥) → ((e : ClientError) → b.failed ≡ Some e → ⊥) → Finalizes b n said
+      → (b.finalized ≡ true → ⊥) → ((e : ClientError) → b.failed ≡ Some e → ⊥) → Finalizes b n now said
   ended said unfailed finished recorded put why never kept =
       let P : List Put → Type 0 = λ ps. IsOrdered ps (length (log_of b)) (known_of b) in
       record {
+        ends = λ f. inr (ends-listed said (k.ends f));
         tells = λ t. told-listed (k.tells t);
         ordered = λ t s i. subst P (sym log-listed) (k.ordered t s i);
         finalized = ap (λ (z : SessionTold). z.finalized) same ∙ k.finalized;
@@ -529,6 +721,8 @@ module _ (b m n : SessionTold) (x : DeduplicationMetrics) (k : Finalizes b m (Ok
         grew = λ t. let g = k.grew t in record { xorbs = g.xorbs; shards = g.shards; grown = log-listed ∙ g.grown; kept = g.kept; cached = cache-listed ∙ g.cached; resumed = resumed-listed g.resumed; sent = λ few. ap (λ (z : SessionTold). z.metrics.xorb_bytes_uploaded) same ∙ g.sent few };
         dry = λ t d. grew-listed (k.dry t d);
         quiet = λ f. log-listed ∙ k.quiet f;
+        queries = record { asked = ap (λ (z : SessionTold). z.uploader.asked) same ∙ k.queries.asked; answered = ap (λ (z : SessionTold). z.uploader.answered) same ∙ k.queries.answered };
+        said = λ f. says-none n said (ap (λ (z : SessionTold). z.failed) same ∙ k.unfailed);
         failed = failed-listed;
         stores = later-both b.shards m.shards n.shards k.stores stores-listed;
         again = λ f. absurd (never f);
@@ -548,7 +742,7 @@ module _ (b m n : SessionTold) (x : DeduplicationMetrics) (k : Finalizes b m (Ok
   finished-listed : n.finished ≡ m.finished
   finished-listed = ap (λ (z : SessionTold). z.finished) same
 
-  pub listed-ok : (fs : List MDBFileInfo) → answer ≡ Ok fs → Finalizes {A = DeduplicationMetrics × List MDBFileInfo} b n (Ok (x, fs))
+  pub listed-ok : (fs : List MDBFileInfo) → answer ≡ Ok fs → Finalizes {A = DeduplicationMetrics × List MDBFileInfo} b n now (Ok (x, fs))
   listed-ok fs is =
       let D : List Put → Type 0 = λ ps. (f : MDBFileInfo) → Contains n.finished f → IsPut ps f in
       let F : List MDBFileInfo → Type 0 = λ gs. (f : MDBFileInfo) → Contains gs f → IsPut (log_of m) f in
@@ -558,20 +752,17 @@ module _ (b m n : SessionTold) (x : DeduplicationMetrics) (k : Finalizes b m (Ok
       (λ t d. subst D (sym log-listed) (subst F (sym finished-listed) (k.put t d)))
       tt once unkept
 
-  pub listed-err : {A : Type 0} (e : DataError) → answer ≡ Err e → Finalizes {A = A} b n (Err e)
+  pub listed-err : {A : Type 0} (e : DataError) → answer ≡ Err e → Finalizes {A = A} b n now (Err e)
   listed-err e is =
       let why : StoreFails m.shards.session.faults n.shards.session.faults e = subst (λ (r : Result (List MDBFileInfo) DataError). IfErr r (StoreFails m.shards.session.faults n.shards.session.faults)) is l.why in
       ended (Err e) tt tt (λ t. tt) (λ t d. tt) (inr (inl (stores-later b.shards m.shards n.shards e k.stores (inr (inl why))))) once unkept
 
   pub listed-counted : Counted b m x → Counted b n x
   listed-counted c =
-      let shards : shards_of m.shards ≡ shards_of n.shards =
-      ap (λ (r : ShardRules). shards_in r.shard_max_target_size (records_of m.shards.session)) (sym rules-listed)
-      ∙ ap (shards_in n.shards.rules.shard_max_target_size) (sym records-listed) in
       record {
         counts = c.counts ∙ sym (ap (λ (z : SessionTold). z.metrics) same);
         same = c.same;
-        shards = λ t. c.shards t ∙ ap (λ (ss : List ShardRecord). end_counts x (sizes ss)) shards;
+        shards = λ t. c.shards t ∙ ap (λ (ss : List ShardRecord). end_counts x (sizes ss)) shards-listed;
       }
 
   pub listed-files : (fs : List MDBFileInfo) → answer ≡ Ok fs → HasFiles b n fs
@@ -594,11 +785,11 @@ case-bool true = inl refl
 case-bool false = inr refl
 
 -- a call that puts xorbs alone
-pub backs-kept : (b n : SessionTold) → Keeps b n → (IsListed b → n.failed ≡ None → IsListed n) → Backs b n
-backs-kept b n k keep = record {
-  listed = λ h f g. keep (h (sound f (case b.failed)) (sym k.finalized ∙ g)) f;
-  backed = λ t l s f g. k.stands t (s (sound f (case b.failed)) (sym k.finalized ∙ g));
-  ordered = λ t l s. ordered-grown b n (known_of b) (k.grew t);
+pub backs-kept : (b n : SessionTold) → HasListed b → Keeps b n → (IsListed b → n.failed ≡ None → IsListed n) → Backs b n
+backs-kept b n h k keep = record {
+  listed = λ f g. keep (h (sound f (case b.failed)) (sym k.finalized ∙ g)) f;
+  backed = λ t s f g. k.stands t (s (sound f (case b.failed)) (sym k.finalized ∙ g));
+  ordered = λ t s. ordered-grown b n (known_of b) (k.grew t);
 }
   where
     -- no put had failed, since none has now
@@ -606,12 +797,16 @@ backs-kept b n k keep = record {
     sound f (inr e) = e
     sound f (inl e) = absurd (false≢true (ap (λ (o : Option ClientError). is_some o) (sym f ∙ k.failed.stays e) ∙ e))
 
+-- a call that changed nothing
+pub backs-same : (b n : SessionTold) → n ≡ b → HasListed b → Backs b n
+backs-same b n e h = backs-kept b n h (keeps-refl b n e) (λ l f. subst (λ (t : SessionTold). IsListed t) (sym e) l)
+
 -- the end of a session
-pub backs-finalized : {A : Type 0} (b n : SessionTold) (answer : Result A DataError) → Finalizes b n answer → Backs b n
-backs-finalized b n answer k = record {
-  listed = λ h f g. absurd (false≢true (sym g ∙ k.finalized));
-  backed = λ t l s f g. absurd (false≢true (sym g ∙ k.finalized));
-  ordered = λ t l s. go (case b.failed) (case-bool b.finalized) t l s;
+pub backs-finalized : {A : Type 0} (b n : SessionTold) (now : ℕ) (answer : Result A DataError) → HasListed b → Finalizes b n now answer → Backs b n
+backs-finalized b n now answer l k = record {
+  listed = λ f g. absurd (false≢true (sym g ∙ k.finalized));
+  backed = λ t s f g. absurd (false≢true (sym g ∙ k.finalized));
+  ordered = λ t s. go (case b.failed) (case-bool b.finalized) t l s;
 }
   where
     P : List Put → Type 0
@@ -621,6 +816,25 @@ backs-finalized b n answer k = record {
     go (inl e) g t l s = subst P (sym (k.quiet e)) (ordered-none (log_of b) (known_of b))
     go (inr e) (inl g) t l s = subst P (sym (ap log_of (k.again g).1)) (ordered-none (log_of b) (known_of b))
     go (inr e) (inr g) t l s = k.ordered t (s e g) (l e g)
+
+-- a new session over a store without records is backed
+pub new-backed : (t : SessionTold) → t.listed ≡ [] → records_of t.shards.session ≡ no_records → IsBackedSession t
+new-backed t l r p q =
+    let L : List MerkleHash → Type 0 = λ hs. All (IsThere (log_of t) (known_of t)) hs in
+    let X : ShardRecord → Type 0 = λ s. All (λ (x : MDBXorbInfo). IsThere (log_of t) (known_of t) x.hash) s.xorbs in
+    let F : ShardRecord → Type 0 = λ s. All (IsThere (log_of t) (known_of t)) (names_of s.files) in
+    record {
+      on_list = subst L (sym l) (All-nil (IsThere (log_of t) (known_of t)));
+      described = subst X (sym r) (All-nil (λ (x : MDBXorbInfo). IsThere (log_of t) (known_of t) x.hash));
+      named = subst F (sym r) (All-nil (IsThere (log_of t) (known_of t)));
+    }
+
+-- the session that a call made is backed, if its store has no records
+pub made-backed : {A E : Type 0} (told : A → SessionTold) (u : UploaderTold) (i j : InterfaceTold) (q : Bool) (r : Result A E) → i ≡ j → IfOk r (λ s. told s ≡ new_session u i q) → IfOk r (λ s. records_of j.session ≡ no_records → IsBackedSession (told s))
+made-backed told u i j q (Ok s) same e =
+    let P : SessionTold → Type 0 = λ t. IsBackedSession t in
+    λ none. subst P (sym e) (new-backed (new_session u i q) refl (ap (λ (k : InterfaceTold). records_of k.session) same ∙ none))
+made-backed told u i j q (Err x) same e = tt
 
 -- a new session
 pub new-listed : (t : SessionTold) → t.finished ≡ [] → t.waiting ≡ no_waiting → t.registered ≡ [] → HasListed t

@@ -10,12 +10,13 @@ use Rattle.xet_base.specs.declared.mdb_shard.Xorb.{Xorb}
 use Rattle.xet_base.specs.declared.mdb_shard.MDBFileInfo.{MDBFileInfo}
 use Rattle.xet_base.specs.declared.mdb_shard.MDBXorbInfo.{MDBXorbInfo}
 use Rattle.xet_base.specs.declared.mdb_shard.ShardRecord.{ShardRecord}
+use Rattle.xet_base.specs.Records.{Describes}
 use Rattle.xet_outside.specs.declared.client.ClientError.{ClientError}
 use Rattle.xet_outside.specs.declared.client.ClientError.TheVariants as client_error
 use Rattle.xet_outside.specs.Told.{Rose}
 use Rattle.xet_uploader.specs.declared.uploader.Put.{Put}
 use Rattle.xet_uploader.specs.declared.uploader.Put.TheVariants as put
-use Rattle.xet_uploader.specs.Uploads.{PutXorbCall, UploaderTold}
+use Rattle.xet_uploader.specs.Uploads.{PutXorbCall, UploaderTold, xorbs_in}
 use Rattle.xet_shards.specs.Shards.{no_records, with_records}
 use Rattle.xet_shard_interface.specs.Interfaces.{InterfaceTold, LaterFaults, StoresTell, known_told, known_xorbs, records_of, resumed_faults}
 use Rattle.xet_shard_interface.specs.Puts.{PutFailed, puts_of}
@@ -25,9 +26,11 @@ use Rattle.xet_upload.specs.Orders.{IsBacked, IsThere, names_of}
 use Rattle.xet_upload.specs.declared.data_error.DataError.{DataError}
 use Rattle.xet_upload.specs.declared.metrics.DeduplicationMetrics.{DeduplicationMetrics}
 use Rattle.xet_upload.proofs.CallerLemmas.{backed-more, put-there}
-use Rattle.xet_session.specs.Calls.{GrewByXorbs, Keeps, KeepsFailed, PutsFail, StoresFail, xorb_bytes}
+use Rattle.xet_session.specs.Calls.{GrewByXorbs, Keeps, KeepsFailed, NoQueries, PutsFail, StoresFail, one_xorb, xorb_bytes}
 use Rattle.xet_session.specs.Sessions.{SessionTold, Stands, Tells, known_of, log_of}
-use Rattle.xet_session.specs.steps.SessionSteps.{AddedRecord, MaybeAdded, PutRaw, one_xorb, with_sent}
+use Rattle.xet_session.specs.steps.SessionSteps.{MaybeAdded, PutRaw, with_sent}
+use Rattle.xet_session.proofs.Recording.{IsRecorded}
+use Rattle.xet_session.proofs.Sounding.{agree-before, searched-same, sound-added, sound-grown, sound-same}
 
 -- ---- failures
 
@@ -76,6 +79,9 @@ failed-same b n e u = record {
   faults = subst (λ (v : UploaderTold). b.uploader.faults ≤ v.faults) (sym u) (omega arith);
 }
 
+pub queries-same : (b n : SessionTold) → n.uploader ≡ b.uploader → NoQueries b n
+queries-same b n u = record { asked = ap (λ (v : UploaderTold). v.asked) u; answered = ap (λ (v : UploaderTold). v.answered) u }
+
 -- ---- the log and the list
 
 pub stands-at : (t : SessionTold) (log : List Put) (known listed : List MerkleHash) (r : ShardRecord) → log_of t ≡ log → known_of t ≡ known → t.listed ≡ listed → records_of t.shards.session ≡ r
@@ -111,10 +117,12 @@ keeps-still b n u i l m f z = record {
   tells = λ t. record { puts = subst (λ (v : UploaderTold). IsSome v.puts) (sym u) t.puts; shards = subst (λ (j : InterfaceTold). StoresTell j) (sym i) t.shards };
   grew = λ t. none-put b n u m;
   stands = λ t s. stands-at n (log_of b) (known_of b) b.listed (records_of b.shards.session) (ap puts_of u) (ap (λ (j : InterfaceTold). map (λ (r : MDBXorbInfo). r.hash) (known_xorbs (known_told j))) i) l (ap (λ (j : InterfaceTold). records_of j.session) i) s;
+  sound = λ k t a s. sound-same k b n (ap puts_of u) (searched-same b n i) s;
   known = ap known_told i;
   rules = ap (λ (j : InterfaceTold). j.rules) i;
   files = ap (λ (j : InterfaceTold). (records_of j.session).files) i;
   quiet = λ q. ap puts_of u;
+  queries = queries-same b n u;
   failed = failed-same b n f u;
   stores = later-same b.shards n.shards i;
   finalized = z;
@@ -144,10 +152,12 @@ keeps-both b m n h k = record {
   tells = λ t. k.tells (h.tells t);
   grew = λ t. grew-both b m n (h.grew t) (k.grew (h.tells t));
   stands = λ t s. k.stands (h.tells t) (h.stands t s);
+  sound = λ w t a s. let g = k.grew (h.tells t) in k.sound w (h.tells t) a (h.sound w t (agree-before w (log_of m) (log_of n) (map put.Xorb g.xorbs) g.grown a) s);
   known = k.known ∙ h.known;
   rules = k.rules ∙ h.rules;
   files = k.files ∙ h.files;
   quiet = λ f. k.quiet (ap (λ (o : Option ClientError). is_some o) (h.failed.stays f) ∙ f) ∙ h.quiet f;
+  queries = record { asked = k.queries.asked ∙ h.queries.asked; answered = k.queries.answered ∙ h.queries.answered };
   failed = failed-both b m n h.failed k.failed;
   stores = later-both b.shards m.shards n.shards h.stores k.stores;
   finalized = k.finalized ∙ h.finalized;
@@ -175,10 +185,12 @@ keeps-put b n x u r =
       stands = λ t s. stands-at n (log_of b ++ put.Xorb x ∷ []) (known_of b) (b.listed ++ x.hash ∷ []) (records_of b.shards.session) (r.put t) (ap known_of is) (ap (λ (z : SessionTold). z.listed) is) (ap (λ (z : SessionTold). records_of z.shards.session) is)
           (backed-grown (log_of b) (put.Xorb x ∷ []) (known_of b) b.listed (x.hash ∷ []) (records_of b.shards.session) (records_of b.shards.session) [] (sym (append-nil (records_of b.shards.session).xorbs)) refl
           (All-cons (IsThere (log_of b ++ put.Xorb x ∷ []) (known_of b)) x.hash [] (put-there (log_of b) (known_of b) x) (All-nil _)) (All-nil _) s);
+      sound = λ k t a s. sound-grown k b n (put.Xorb x ∷ []) (r.put t) (searched-same b n (ap (λ (z : SessionTold). z.shards) is)) s;
       known = ap (λ (z : SessionTold). known_told z.shards) is;
       rules = ap (λ (z : SessionTold). z.shards.rules) is;
       files = ap (λ (z : SessionTold). (records_of z.shards.session).files) is;
       quiet = λ f. never-kept b.failed r.unfailed f;
+      queries = r.queries;
       failed = record { stays = λ f. never-kept b.failed r.unfailed f; met = λ q. inl (sym (ap (λ (z : SessionTold). z.failed) is) ∙ q); faults = r.faults };
       stores = later-same b.shards n.shards (ap (λ (z : SessionTold). z.shards) is);
       finalized = ap (λ (z : SessionTold). z.finalized) is;
@@ -193,10 +205,12 @@ keeps-unput b n x e r =
       tells = r.tells;
       grew = λ t. record { xorbs = []; grown = log ∙ sym (append-nil (log_of b)); sent = λ few. ap (λ (z : SessionTold). z.metrics.xorb_bytes_uploaded) is ∙ omega (arith, few) };
       stands = λ t s. stands-at n (log_of b) (known_of b) b.listed (records_of b.shards.session) log (ap known_of is) (ap (λ (z : SessionTold). z.listed) is) (ap (λ (z : SessionTold). records_of z.shards.session) is) s;
+      sound = λ k t a s. sound-same k b n log (searched-same b n (ap (λ (z : SessionTold). z.shards) is)) s;
       known = ap (λ (z : SessionTold). known_told z.shards) is;
       rules = ap (λ (z : SessionTold). z.shards.rules) is;
       files = ap (λ (z : SessionTold). (records_of z.shards.session).files) is;
       quiet = λ f. log;
+      queries = r.queries;
       failed = record { stays = λ f. never-kept b.failed r.unfailed f; met = λ q. inr (rose r.failed q); faults = r.faults };
       stores = later-same b.shards n.shards (ap (λ (z : SessionTold). z.shards) is);
       finalized = ap (λ (z : SessionTold). z.finalized) is;
@@ -216,7 +230,9 @@ put-refused b n x e f c is none told =
       ok = tt;
       bytes = λ t. tt;
       err = is ∙ ap (λ (o : Option ClientError). record b { uploader = n.uploader; failed = o }) (sym kept);
+      grew = tt;
       put = λ t. tt;
+      queries = record { asked = c.asked; answered = c.answered };
       unput = ap (λ (o : Option (List Put)). unwrap_or o []) refused;
       unfailed = none;
       faults = c.faults;
@@ -236,19 +252,21 @@ grown-files o p x (inl e) = ap (λ (z : Option ShardRecord). (unwrap_or z no_rec
 grown-files None p x (inr e) = ap (λ (z : Option ShardRecord). (unwrap_or z no_records).files) e
 grown-files (Some r) p x (inr e) = ap (λ (z : Option ShardRecord). (unwrap_or z no_records).files) e ∙ append-nil r.files
 
-pub keeps-added : (b n : SessionTold) (h : MDBXorbInfo) (answer : Result (Unit {0}) DataError) → AddedRecord b n h answer → Contains b.listed h.hash → Keeps b n
-keeps-added b n h answer a there =
-    let is = a.same in
+pub keeps-added : (b n : SessionTold) (x : Xorb) (h : MDBXorbInfo) (answer : Result (Unit {0}) DataError) → n ≡ record b { shards = n.shards } → IsRecorded b.shards n.shards h answer → Contains b.listed h.hash
+    → (IsSome b.uploader.puts → Contains (xorbs_in (log_of b)) x) → Describes h x → Keeps b n
+keeps-added b n x h answer is a there was-put describes =
     let u : n.uploader ≡ b.uploader = ap (λ (z : SessionTold). z.uploader) is in
     let log : log_of n ≡ log_of b = ap log_of is in
     record {
-      tells = λ t. record { puts = subst (λ (v : UploaderTold). IsSome v.puts) (sym u) t.puts; shards = a.tells t };
+      tells = λ t. record { puts = subst (λ (v : UploaderTold). IsSome v.puts) (sym u) t.puts; shards = a.tells t.shards };
       grew = λ t. none-put b n u (ap (λ (z : SessionTold). z.metrics) is);
       stands = λ t s. go a.added t s;
+      sound = λ k t agree s. sound-added k b n x h log (was-put t.puts) describes agree a.known a.added s;
       known = a.known;
       rules = a.rules;
       files = grown-files b.shards.session.records n.shards.session.records h a.added;
       quiet = λ f. log;
+      queries = queries-same b n u;
       failed = failed-same b n (ap (λ (z : SessionTold). z.failed) is) u;
       stores = a.stores;
       finalized = ap (λ (z : SessionTold). z.finalized) is;
@@ -262,7 +280,7 @@ keeps-added b n h answer a there =
     with-one (Some r) p s e = ap (λ (z : Option ShardRecord). unwrap_or z no_records) e
 
     go : MaybeAdded b n h → Tells b → Stands b → Stands n
-    go (inl e) t s = stands-at n (log_of b) (known_of b) b.listed (records_of b.shards.session) (ap log_of a.same) known (ap (λ (z : SessionTold). z.listed) a.same) (ap (λ (o : Option ShardRecord). unwrap_or o no_records) e) s
+    go (inl e) t s = stands-at n (log_of b) (known_of b) b.listed (records_of b.shards.session) (ap log_of is) known (ap (λ (z : SessionTold). z.listed) is) (ap (λ (o : Option ShardRecord). unwrap_or o no_records) e) s
     go (inr e) t s =
         let r = records_of b.shards.session in
         let one : IsThere (log_of b) (known_of b) h.hash = All-contains (IsThere (log_of b) (known_of b)) b.listed h.hash s.on_list there in
@@ -271,5 +289,5 @@ keeps-added b n h answer a there =
         let new : IsBacked (log_of b ++ []) (known_of b) (b.listed ++ []) (with_records r (one_xorb h)) =
         backed-grown (log_of b) [] (known_of b) b.listed [] r (with_records r (one_xorb h)) (h ∷ []) refl (append-nil r.files) (All-nil _)
         (All-cons (λ (x : MDBXorbInfo). IsThere (log_of b ++ []) (known_of b) x.hash) h [] (subst P (sym same) one) (All-nil _)) s in
-        stands-at n (log_of b ++ []) (known_of b) (b.listed ++ []) (with_records r (one_xorb h)) (ap log_of a.same ∙ sym same) known (ap (λ (z : SessionTold). z.listed) a.same ∙ sym (append-nil b.listed))
+        stands-at n (log_of b ++ []) (known_of b) (b.listed ++ []) (with_records r (one_xorb h)) (ap log_of is ∙ sym same) known (ap (λ (z : SessionTold). z.listed) is ∙ sym (append-nil b.listed))
         (with-one b.shards.session.records n.shards.session.records t.shards.session e) new

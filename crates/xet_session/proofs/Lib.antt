@@ -3,5 +3,9 @@ pub mod Cuts
 pub mod Ends
 pub mod Hashes
 pub mod Keeping
+pub mod Learned
 pub mod Listing
 pub mod Queries
+pub mod Recording
+pub mod Sounding
+pub mod Tests

@@ -48,7 +48,7 @@ module _ (l : List MerkleHash) (h : MerkleHash) where
       (one-listed t.xorb t.from t.to (All-head (IsFine l h) t ts o) (All-append_left (Contains l) (named_by t.xorb) (flat_map (λ (t : WaitingTerm). named_by t.xorb) ts) w))
       (terms-listed ts (All-tail (IsFine l h) t ts o) (All-append_right (Contains l) (named_by t.xorb) (flat_map (λ (t : WaitingTerm). named_by t.xorb) ts) w))
 
-  names-listed : (fs : List WaitingFile) → AreFine l h fs → All (Contains l) (waiting_names fs) → All (Contains l) (names_of (map (record_of_file h) fs))
+  pub names-listed : (fs : List WaitingFile) → AreFine l h fs → All (Contains l) (waiting_names fs) → All (Contains l) (names_of (map (record_of_file h) fs))
   names-listed [] o w = All-nil (Contains l)
   names-listed (f ∷ fs) o w =
       All-append (Contains l) (map (λ e. e.xorb) (map (named h) f.terms)) (names_of (map (record_of_file h) fs))

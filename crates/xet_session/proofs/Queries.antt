@@ -4,7 +4,7 @@ use Rattle.std.specs.Prelude.{All, Contains, Option, Some, None, IsSome, IfSome,
 use Rattle.std.specs.Option.{option_or}
 use Rattle.std.proofs.lemmas.Option.{none-some, same_Some}
 use Rattle.std.proofs.lemmas.List.{append-nil, length-map, get_or-map}
-use Rattle.std.proofs.lemmas.List.Elements.{All-nil, All-cons, All-append, All-contains, Contains-append_left, Contains-append_right}
+use Rattle.std.proofs.lemmas.List.Elements.{All-nil, All-cons, All-append, All-contains, Contains-append_left, Contains-append_right, Contains-push}
 use Rattle.xet_base.specs.declared.merklehash.MerkleHash.{MerkleHash}
 use Rattle.xet_base.specs.declared.mdb_shard.FileDataSequenceEntry.{FileDataSequenceEntry}
 use Rattle.xet_base.specs.declared.mdb_shard.MDBXorbInfo.{MDBXorbInfo}
@@ -12,15 +12,17 @@ use Rattle.xet_base.specs.declared.mdb_shard.ShardRecord.{ShardRecord}
 use Rattle.xet_shards.specs.Runs.{find_in}
 use Rattle.xet_shards.specs.Shards.{no_records}
 use Rattle.xet_shards.proofs.CallerLemmas.{find_in-at}
-use Rattle.xet_shard_interface.specs.Interfaces.{InterfaceTold, LaterFaults, Looks, SearchFails, Searches, StoresTell, found_in, known_told, known_xorbs, noted, records_of, resumed_records, resumed_xorbs, searched_resumed}
+use Rattle.xet_shard_interface.specs.Interfaces.{InterfaceTold, LaterFaults, Looks, SearchTells, Searches, StoresTell, found_in, known_told, known_xorbs, noted, records_of, resumed_records, resumed_xorbs, searched_resumed}
 use Rattle.xet_shard_interface.specs.Puts.{puts_of}
 use Rattle.xet_upload.specs.Orders.{IsThere}
 use Rattle.xet_upload.specs.declared.data_error.DataError.{DataError}
 use Rattle.xet_upload.specs.declared.data_error.DataError.TheVariants as data_error
-use Rattle.xet_session.specs.Calls.{Keeps, Queries, StoresFail}
+use Rattle.xet_session.specs.Calls.{Keeps, Queries}
 use Rattle.xet_session.specs.Sessions.{IsListed, SessionTold, Stands, Tells, known_of, log_of}
 use Rattle.xet_session.specs.steps.SessionSteps.{OnList}
-use Rattle.xet_session.proofs.Keeping.{failed-same, keeps-refl, none-put, stands-at}
+use Rattle.xet_session.proofs.Keeping.{failed-same, keeps-refl, later-same, none-put, queries-same, stands-at}
+use Rattle.xet_session.specs.Sounds.{searched}
+use Rattle.xet_session.proofs.Sounding.{sound-same}
 use Rattle.xet_session.proofs.Listing.{listed-more}
 
 -- ---- what is found is there
@@ -100,16 +102,21 @@ module _ (b n : SessionTold) (extra : List MerkleHash) (looks : Looks b.shards n
   records : records_of n.shards.session ≡ records_of b.shards.session
   records = ap (λ (o : Option ShardRecord). unwrap_or o no_records) looks.session
 
+  found : searched n ≡ searched b
+  found = ap (λ (r : ShardRecord). r.xorbs ++ known_xorbs (known_told n.shards)) records ∙ ap (λ (k : Option (Option ShardRecord) × Option ShardRecord). (records_of b.shards.session).xorbs ++ known_xorbs k) looks.known
+
   pub keeps-looked : Keeps b n
   keeps-looked = record {
     tells = λ t. record { puts = subst (λ v. IsSome v.puts) (sym uploader) t.puts; shards = looks-tell b.shards n.shards looks t.shards };
     grew = λ t. none-put b n uploader (ap (λ (z : SessionTold). z.metrics) is);
     stands = λ t s. stands-at n (log_of b) (known_of b) (b.listed ++ extra) (records_of b.shards.session) (ap puts_of uploader) known listed records
         (record { on_list = All-append (IsThere (log_of b) (known_of b)) b.listed extra s.on_list (there t s); described = s.described; named = s.named });
+    sound = λ k t a s. sound-same k b n (ap puts_of uploader) found s;
     known = looks.known;
     rules = ap (λ (i : InterfaceTold). i.rules) looks.same;
     files = ap (λ (r : ShardRecord). r.files) records;
     quiet = λ f. ap puts_of uploader;
+    queries = queries-same b n uploader;
     failed = failed-same b n (ap (λ (z : SessionTold). z.failed) is) uploader;
     stores = later;
     finalized = ap (λ (z : SessionTold). z.finalized) is;
@@ -122,12 +129,33 @@ module _ (b n : SessionTold) (extra : List MerkleHash) (looks : Looks b.shards n
   same-looked : n ≡ record b { shards = n.shards; listed = n.listed }
   same-looked = is ∙ ap (λ (hs : List MerkleHash). record b { shards = n.shards; listed = hs }) (sym listed)
 
+-- the xorb came onto the list
+pub on-list-pushed : (b n : SessionTold) (x : MerkleHash) → n ≡ record b { listed = b.listed ++ x ∷ [] } → OnList b n x
+on-list-pushed b n x e =
+    let P : List MerkleHash → Type 0 = λ l. Contains l x in
+    record { is_there = subst P (sym (ap (λ (z : SessionTold). z.listed) e)) (Contains-push b.listed x); same = inr e }
+
+-- stores that tell tell what is searched
+search-tells : (i : InterfaceTold) → StoresTell i → SearchTells i
+search-tells i t = record { resumed = λ d. t.resumed; session = t.session; cache = t.cache }
+
 -- ---- the exits
 
 module _ (b : SessionTold) (hs : List MerkleHash) where
+  -- no store was asked
+  searches-refused : Searches b.shards b.shards hs (Err data_error.OutOfMemory)
+  searches-refused = record {
+    looks = record { same = refl; known = refl; session = refl };
+    dry = λ d. refl;
+    found = λ t. tt;
+    run = tt;
+    faults = later-same b.shards b.shards refl;
+    why = inr (inl (inl refl));
+  }
+
   -- room for the list was refused
   pub queries-refused : Queries b b hs (Err data_error.OutOfMemory)
-  queries-refused = record { keeps = keeps-refl b b refl; same = refl; found = λ t. tt; run = tt; on_list = tt; listed = λ l q. l; why = inl (inl refl) }
+  queries-refused = record { keeps = keeps-refl b b refl; same = refl; found = λ t. tt; run = tt; on_list = tt; none = tt; err = refl; searches = searches-refused; listed = λ l q. l; why = inr (inl (inl refl)) }
 
   module _ (m : SessionTold) (same : m ≡ record b { shards = m.shards }) where
     whole : m ≡ record b { shards = m.shards; listed = b.listed ++ [] }
@@ -136,21 +164,19 @@ module _ (b : SessionTold) (hs : List MerkleHash) where
     nothing : Tells b → Stands b → All (IsThere (log_of b) (known_of b)) []
     nothing t s = All-nil (IsThere (log_of b) (known_of b))
 
-    store : (e : DataError) → SearchFails b.shards m.shards e → StoresFail b.shards m.shards e
-    store e (inl q) = inl q
-    store e (inr (inl q)) = inr (inl q)
-    store e (inr (inr q)) = inr (inr (inl q))
-
     -- a store failed
     pub queries-err : (e : DataError) → Searches b.shards m.shards hs (Err e) → Queries b m hs (Err e)
     queries-err e q = record {
       keeps = keeps-looked b m [] q.looks q.faults whole nothing;
       same = same-looked b m [] q.looks q.faults whole nothing;
+      searches = q;
       found = λ t. tt;
       run = tt;
       on_list = tt;
+      none = tt;
+      err = ap (λ (z : SessionTold). z.listed) same;
       listed = listed-looked b m [] q.looks q.faults whole nothing;
-      why = store e q.why;
+      why = q.why;
     }
 
     -- nothing was found
@@ -158,9 +184,12 @@ module _ (b : SessionTold) (hs : List MerkleHash) where
     queries-none q = record {
       keeps = keeps-looked b m [] q.looks q.faults whole nothing;
       same = same-looked b m [] q.looks q.faults whole nothing;
-      found = λ t. q.found t.shards;
+      searches = q;
+      found = q.found;
       run = tt;
       on_list = tt;
+      none = λ e. ap (λ (z : SessionTold). z.listed) same;
+      err = tt;
       listed = listed-looked b m [] q.looks q.faults whole nothing;
       why = tt;
     }
@@ -168,18 +197,21 @@ module _ (b : SessionTold) (hs : List MerkleHash) where
     -- a run was found, and its xorb is on the list
     module _ (n : SessionTold) (f : ℕ × FileDataSequenceEntry × Bool) (q : Searches b.shards m.shards hs (Ok (Some f))) (o : OnList m n f.1.xorb) where
       one : Tells b → Stands b → All (IsThere (log_of b) (known_of b)) (f.1.xorb ∷ [])
-      one t s = All-cons (IsThere (log_of b) (known_of b)) f.1.xorb [] (found-there b s hs f (sym (q.found t.shards))) (All-nil (IsThere (log_of b) (known_of b)))
+      one t s = All-cons (IsThere (log_of b) (known_of b)) f.1.xorb [] (found-there b s hs f (sym (q.found (search-tells b.shards t.shards)))) (All-nil (IsThere (log_of b) (known_of b)))
 
-      go : (extra : List MerkleHash) → n.shards ≡ m.shards → n ≡ record b { shards = n.shards; listed = b.listed ++ extra } → (Tells b → Stands b → All (IsThere (log_of b) (known_of b)) extra) → Queries b n hs (Ok (Some f))
-      go extra e is there =
+      go : (extra : List MerkleHash) → (n.listed ≡ b.listed) ⊎ (n.listed ≡ b.listed ++ f.1.xorb ∷ []) → n.shards ≡ m.shards → n ≡ record b { shards = n.shards; listed = b.listed ++ extra } → (Tells b → Stands b → All (IsThere (log_of b) (known_of b)) extra) → Queries b n hs (Ok (Some f))
+      go extra list e is there =
           let looks = subst (λ (i : InterfaceTold). Looks b.shards i) (sym e) q.looks in
           let later = subst (λ (i : InterfaceTold). LaterFaults b.shards i) (sym e) q.faults in
           record {
             keeps = keeps-looked b n extra looks later is there;
             same = same-looked b n extra looks later is there;
-            found = λ t. q.found t.shards;
+            searches = subst (λ (i : InterfaceTold). Searches b.shards i hs (Ok (Some f))) (sym e) q;
+            found = q.found;
             run = q.run;
-            on_list = o.is_there;
+            on_list = record { is_there = o.is_there; listed = list };
+            none = λ e. absurd (none-some f (sym e));
+            err = tt;
             listed = listed-looked b n extra looks later is there;
             why = tt;
           }
@@ -190,7 +222,7 @@ module _ (b : SessionTold) (hs : List MerkleHash) where
           pick : (n ≡ m) ⊎ (n ≡ record m { listed = m.listed ++ f.1.xorb ∷ [] }) → Queries b n hs (Ok (Some f))
           pick (inl e) =
               let shards = ap (λ (z : SessionTold). z.shards) e in
-              go [] shards (e ∙ whole ∙ ap (λ (i : InterfaceTold). record b { shards = i; listed = b.listed ++ [] }) (sym shards)) nothing
+              go [] (inl (ap (λ (z : SessionTold). z.listed) e ∙ ap (λ (z : SessionTold). z.listed) same)) shards (e ∙ whole ∙ ap (λ (i : InterfaceTold). record b { shards = i; listed = b.listed ++ [] }) (sym shards)) nothing
           pick (inr e) =
               let shards : n.shards ≡ m.shards = ap (λ (z : SessionTold). z.shards) e in
-              go (f.1.xorb ∷ []) shards (e ∙ ap (λ (z : SessionTold). record z { listed = z.listed ++ f.1.xorb ∷ [] }) same ∙ ap (λ (i : InterfaceTold). record b { shards = i; listed = b.listed ++ f.1.xorb ∷ [] }) (sym shards)) one
+              go (f.1.xorb ∷ []) (inr (ap (λ (z : SessionTold). z.listed) e ∙ ap (λ (z : SessionTold). z.listed ++ f.1.xorb ∷ []) same)) shards (e ∙ ap (λ (z : SessionTold). record z { listed = z.listed ++ f.1.xorb ∷ [] }) same ∙ ap (λ (i : InterfaceTold). record b { shards = i; listed = b.listed ++ f.1.xorb ∷ [] }) (sym shards)) one

@@ -6,8 +6,7 @@ use Rattle.xet_base.specs.declared.mdb_shard.MDBFileInfo.{MDBFileInfo}
 use Rattle.xet_outside.specs.declared.client.ClientError.{ClientError}
 use Rattle.xet_uploader.specs.declared.uploader.Put.{Put}
 use Rattle.xet_uploader.specs.Uploads.{UploaderTold}
-use Rattle.xet_shards.specs.Shards.{ShardsTold}
-use Rattle.xet_shard_interface.specs.Interfaces.{InterfaceTold, StoresTell, known_told, known_xorbs, records_of, shards_told}
+use Rattle.xet_shard_interface.specs.Interfaces.{InterfaceTold, StoresTell, known_told, known_xorbs, records_of}
 use Rattle.xet_shard_interface.specs.Puts.{puts_of}
 use Rattle.xet_upload.specs.Orders.{IsBacked, names_of}
 use Rattle.xet_upload.specs.Waitings.{Waiting}
@@ -15,7 +14,6 @@ use Rattle.xet_upload.specs.declared.metrics.DeduplicationMetrics.{Deduplication
 use Rattle.xet_upload.specs.declared.waiting.TermXorb.{TermXorb}
 use Rattle.xet_upload.specs.declared.waiting.TermXorb.TheVariants.{Own, Stored}
 use Rattle.xet_upload.specs.declared.waiting.WaitingFile.{WaitingFile}
-use Rattle.xet_session.specs.declared.session.FileUploadSession.{FileUploadSession}
 
 -- what the session's uploader and stores tell, and its own data
 pub record SessionTold : Type 0 where
@@ -31,19 +29,8 @@ pub record SessionTold : Type 0 where
   -- the first put that failed
   pub failed : Option ClientError
   pub finalized : Bool
-
-abbrev pub told_by : {U R : Type 0} → (U → UploaderTold) → (R → ShardsTold) → FileUploadSession U R → SessionTold
-told_by u r s = record {
-  uploader = u s.uploader;
-  shards = shards_told r s.shards;
-  waiting = s.waiting;
-  finished = map (λ p. p.info) s.finished.items;
-  listed = s.listed.hashes.items;
-  registered = s.registered.hashes.items;
-  metrics = s.metrics;
-  failed = s.failed;
-  finalized = s.finalized;
-}
+  -- whether the uploader may be asked for records
+  pub queries : Bool
 
 -- uploader and stores tell
 pub record Tells (t : SessionTold) : Type 0 where

@@ -1,2 +1,3 @@
 pub mod HashLists
+pub mod Listings
 pub mod SessionSteps

@@ -1,18 +1,28 @@
 //! An upload session.
-ghost use Rattle.std.specs.Prelude.{◌≡◌, ◌+◌, ◌++◌, ◌<◌, ◌≤◌, ◌⊎◌, [], Contains, IfOk, None, OnOk, false, length, map, true, vec_capacity, vec_len};
+ghost use Rattle.std.specs.Prelude.{◌≡◌, ◌+◌, ◌++◌, ◌<◌, ◌≤◌, ◌⊎◌, ◌∷◌, [], All, Contains, IfOk, None, OnOk, false, length, map, option_map, true, vec_capacity, vec_len};
 ghost use Rattle.xet_base.specs.Records.{Describes};
-ghost use Rattle.xet_shard_interface.specs.Interfaces.{ListsFiles, Searches, new_interface, rules_of, shards_told};
+ghost use Rattle.xet_progress.specs.Group.{group_sums, item_of, reports_of};
+ghost use Rattle.xet_progress.specs.Held.{Held};
+ghost use Rattle.xet_progress.specs.Items.{report_of};
+ghost use Rattle.xet_shard_interface.specs.Interfaces.{ListsFiles, Searches, new_interface, records_of, rules_of, shards_told};
+ghost use Rattle.xet_upload.specs.Orders.{names_of};
+ghost use Rattle.xet_shards.specs.Shards.{no_records};
 ghost use Rattle.xet_session.specs.Calls.{Backs, Counted, Cut, Finalizes, HasFiles, Queries, Registers, end_counts, new_session};
-ghost use Rattle.xet_session.specs.Sessions.{told_by};
-ghost use Rattle.xet_session.specs.steps.SessionSteps.{AddedFinished, AddedRecord, OnList, PutFinished, PutGiven, PutRaw, PutRecords, TookWaiting};
+ghost use Rattle.xet_session.specs.Sessions.{IsBackedSession};
+ghost use Rattle.xet_session.specs.steps.Listings.{AreListed};
+ghost use Rattle.xet_session.specs.steps.SessionSteps.{AddedFinished, AddedRecord, AsksFor, OnList, PutFinished, PutGiven, PutRaw, PutRecords, TookWaiting};
 
 use crate::hash_list::HashList;
 use std::alloc::Global;
+use std::collections::BTreeMap;
+use std::sync::{Arc, Wait};
 use xet_base::{
     FileDataSequenceEntry, Invalid, List, MDBFileInfo, MDBXorbInfo, MerkleHash, OutOfMemory,
+    UniqueID,
 };
 use xet_outside::ClientError;
 use xet_pointer::TranslatorConfig;
+use xet_progress::{GroupProgress, GroupProgressReport, ItemProgressReport};
 use xet_shard_interface::{SessionShardInterface, SessionStores};
 use xet_shards::ShardStore;
 use xet_upload::{DataAggregator, DataError, DeduplicationMetrics, PendingFile, RawXorbData};
@@ -37,11 +47,22 @@ pub struct FileUploadSession<U: Uploader, R: ShardStore> {
     // the first put that failed
     failed: Option<ClientError>,
     finalized: bool,
+    // whether the uploader may be asked for records
+    queries_enabled: bool,
+    // the sizes of the xorbs, and how many of their bytes were put
+    progress: Arc<GroupProgress>,
+    // what is named is on the list, unless a failed put is kept or the session is finalized
+    ghost lists: { failed ≡ None → finalized ≡ false
+        → AreListed listed.hashes.items registered.hashes.items (map (λ p. p.info) finished.items) waiting },
 }
 
 impl<U: Uploader, R: ShardStore> FileUploadSession<U, R> {
-    /// A session in which nothing waits. It asks nothing of uploader and stores and takes no memory. `now` is a moment
-    /// in seconds. The caller sees to it that the session's store and the staging store have no records.
+    ghost use Rattle.xet_session.specs.Telling.{told_by};
+
+    /// A session in which nothing waits. It asks nothing of uploader and stores. `now` is a moment in seconds. The
+    /// caller sees to it that the session's store and the staging store have no records.
+    ///
+    /// `OutOfMemory` where the memory of its group was refused.
     ///
     /// In the Rust crate xet-data: `FileUploadSession::new`.
     pub fn new(
@@ -50,12 +71,18 @@ impl<U: Uploader, R: ShardStore> FileUploadSession<U, R> {
         uploader: U,
         stores: SessionStores<R>,
         now: u64,
-    ) -> FileUploadSession<U, R>
-        ensures { told_by U.told R.told result
-            ≡ new_session (U.told uploader) (new_interface R.told (rules_of config.now false) stores now) }
+    ) -> Result<FileUploadSession<U, R>, OutOfMemory>
+    where
+        U: Drop,
+        R: Drop,
+        ensures told { IfOk result (λ session. told_by U.told R.told session
+            ≡ new_session (U.told uploader) (new_interface R.told (rules_of config.now false) stores now)
+            config.now.global_dedup_query_enabled) }
+        ensures backed { IfOk result (λ session. records_of (R.told stores.session) ≡ no_records
+            → IsBackedSession (told_by U.told R.told session)) }
     {
         let shards = SessionShardInterface::new(alloc, config, stores, false, now);
-        FileUploadSession::over(alloc, uploader, shards)
+        FileUploadSession::over(alloc, uploader, shards, config.global_dedup_query_enabled)
     }
 
     /// The same, but that it puts no records and uses no resumed ones.
@@ -67,19 +94,35 @@ impl<U: Uploader, R: ShardStore> FileUploadSession<U, R> {
         uploader: U,
         stores: SessionStores<R>,
         now: u64,
-    ) -> FileUploadSession<U, R>
-        ensures { told_by U.told R.told result
-            ≡ new_session (U.told uploader) (new_interface R.told (rules_of config.now true) stores now) }
+    ) -> Result<FileUploadSession<U, R>, OutOfMemory>
+    where
+        U: Drop,
+        R: Drop,
+        ensures told { IfOk result (λ session. told_by U.told R.told session
+            ≡ new_session (U.told uploader) (new_interface R.told (rules_of config.now true) stores now)
+            config.now.global_dedup_query_enabled) }
+        ensures backed { IfOk result (λ session. records_of (R.told stores.session) ≡ no_records
+            → IsBackedSession (told_by U.told R.told session)) }
     {
         let shards = SessionShardInterface::new(alloc, config, stores, true, now);
-        FileUploadSession::over(alloc, uploader, shards)
+        FileUploadSession::over(alloc, uploader, shards, config.global_dedup_query_enabled)
     }
 
     // A session over these in which nothing waits.
-    fn over(alloc: Global, uploader: U, shards: SessionShardInterface<R>) -> FileUploadSession<U, R>
-        ensures { told_by U.told R.told result ≡ new_session (U.told uploader) (shards_told R.told shards) }
+    fn over(
+        alloc: Global,
+        uploader: U,
+        shards: SessionShardInterface<R>,
+        queries_enabled: bool,
+    ) -> Result<FileUploadSession<U, R>, OutOfMemory>
+    where
+        U: Drop,
+        R: Drop,
+        ensures { IfOk result (λ session. told_by U.told R.told session
+            ≡ new_session (U.told uploader) (shards_told R.told shards) queries_enabled) }
     {
-        FileUploadSession {
+        let progress = GroupProgress::new(alloc)?;
+        Ok(FileUploadSession {
             uploader,
             shards,
             waiting: DataAggregator::new(alloc),
@@ -89,7 +132,9 @@ impl<U: Uploader, R: ShardStore> FileUploadSession<U, R> {
             metrics: DeduplicationMetrics::new(),
             failed: None,
             finalized: false,
-        }
+            queries_enabled,
+            progress,
+        })
     }
 
     /// The uploader and the stores as the session holds them.
@@ -109,16 +154,25 @@ impl<U: Uploader, R: ShardStore> FileUploadSession<U, R> {
         &self.uploader
     }
 
-    // Puts a xorb. Its hash comes onto the lists and its bytes are counted, or the failure is kept.
-    fn put_raw(&mut self, alloc: Global, raw: &RawXorbData) -> Result<(), DataError>
+    // Puts a xorb. Its hash comes onto the lists and its bytes are counted, or the failure is kept. Its size is
+    // reported before, and as completed after; a refused report changes nothing.
+    fn put_raw<W: Wait>(
+        &mut self,
+        rt: &W,
+        alloc: Global,
+        raw: &RawXorbData,
+    ) -> Result<(), DataError>
         requires room { vec_len self.old.listed.hashes < vec_capacity self.old.listed.hashes }
         requires noted { vec_len self.old.registered.hashes < vec_capacity self.old.registered.hashes }
         requires unfailed { self.old.failed ≡ None }
         ensures call { PutRaw (told_by U.told R.told self.old) (told_by U.told R.told self.new) raw.now.xorb result }
         ensures files { self.new.finished ≡ self.old.finished }
     {
+        let size = raw.num_bytes();
+        let _ = self.progress.add_transfer(rt, size, 0);
         match self.uploader.put_xorb(alloc, &raw.xorb) {
             Ok(sent) => {
+                let _ = self.progress.add_transfer(rt, 0, size);
                 self.listed.push_reserved(raw.xorb.hash);
                 self.registered.push_reserved(raw.xorb.hash);
                 let bytes = self.metrics.xorb_bytes_uploaded.saturating_add(sent);
@@ -148,7 +202,9 @@ impl<U: Uploader, R: ShardStore> FileUploadSession<U, R> {
 
     // The files are finished.
     fn finish_files(&mut self, files: List<PendingFile>)
-        requires { vec_len self.old.finished + length files ≤ vec_capacity self.old.finished }
+        requires space { vec_len self.old.finished + length files ≤ vec_capacity self.old.finished }
+        requires named { self.old.failed ≡ None → self.old.finalized ≡ false
+            → All (Contains self.old.listed.hashes.items) (names_of (map (λ p. p.info) files)) }
         ensures { told_by U.told R.told self.new ≡ record (told_by U.told R.told self.old) {
           finished = map (λ p. p.info) self.old.finished.items ++ map (λ p. p.info) files;
         } }
@@ -159,15 +215,16 @@ impl<U: Uploader, R: ShardStore> FileUploadSession<U, R> {
 
     // Adds the record of a xorb that was put to those of the session, and keeps it for staging.
     fn add_record(&mut self, alloc: Global, info: &MDBXorbInfo, now: u64) -> Result<(), DataError>
-        ensures { AddedRecord (told_by U.told R.told self.old) (told_by U.told R.told self.new) info.now result }
+        ensures { AddedRecord (told_by U.told R.told self.old) (told_by U.told R.told self.new) info.now now result }
     {
         self.shards.add_xorb_block(alloc, info)?;
         self.shards.add_uploaded_xorb_block(alloc, info, now)
     }
 
     // Puts a xorb, after which its files are finished, and adds its record to those of the session.
-    fn put_finished(
+    fn put_finished<W: Wait>(
         &mut self,
+        rt: &W,
         alloc: Global,
         raw: RawXorbData,
         files: List<PendingFile>,
@@ -177,17 +234,20 @@ impl<U: Uploader, R: ShardStore> FileUploadSession<U, R> {
         requires noted { vec_len self.old.registered.hashes < vec_capacity self.old.registered.hashes }
         requires unfailed { self.old.failed ≡ None }
         requires space { vec_len self.old.finished + length files ≤ vec_capacity self.old.finished }
+        requires named { self.old.finalized ≡ false
+            → All (Contains (self.old.listed.hashes.items ++ raw.xorb.hash ∷ [])) (names_of (map (λ p. p.info) files)) }
         requires describes { Describes raw.xorb_info raw.xorb }
         ensures { PutFinished (told_by U.told R.told self.old) (told_by U.told R.told self.new)
-            raw.xorb (map (λ p. p.info) files) result }
+            raw.xorb (map (λ p. p.info) files) now result }
     {
-        self.put_raw(alloc, &raw)?;
+        self.put_raw(rt, alloc, &raw)?;
         self.finish_files(files);
         self.add_record(alloc, &raw.xorb_info, now)
     }
 
     // Whether a xorb of so many chunks is to be put: it has some, and none of its hash was put before.
     fn is_new(&self, chunks: u64, hash: &MerkleHash) -> bool
+        ensures some { result ≡ true → 0 < chunks }
         ensures new { result ≡ true → Contains self.now.registered.hashes.items hash.now → ⊥ }
         ensures old { result ≡ false → (chunks ≡ 0) ⊎ Contains self.now.registered.hashes.items hash.now }
     {
@@ -196,8 +256,8 @@ impl<U: Uploader, R: ShardStore> FileUploadSession<U, R> {
 
     // What waits becomes a xorb, which is put, and its files are finished. Data without chunks puts nothing, nor does
     // data whose xorb was put before.
-    fn cut(&mut self, alloc: Global, now: u64) -> Result<(), DataError>
-        ensures { Cut (told_by U.told R.told self.old) (told_by U.told R.told self.new) result }
+    fn cut<W: Wait>(&mut self, rt: &W, alloc: Global, now: u64) -> Result<(), DataError>
+        ensures { Cut (told_by U.told R.told self.old) (told_by U.told R.told self.new) now result }
     {
         if let Some(error) = self.failed {
             return Err(DataError::from(error));
@@ -205,7 +265,7 @@ impl<U: Uploader, R: ShardStore> FileUploadSession<U, R> {
         let chunks = self.waiting.num_chunks();
         let (raw, files) = self.take_waiting(alloc)?;
         if self.is_new(chunks, &raw.xorb.hash) {
-            return self.put_finished(alloc, raw, files, now);
+            return self.put_finished(rt, alloc, raw, files, now);
         }
         self.finish_files(files);
         Ok(())
@@ -218,22 +278,28 @@ impl<U: Uploader, R: ShardStore> FileUploadSession<U, R> {
     /// comes only where a store of records failed.
     ///
     /// In the Rust crate xet-data: `FileUploadSession::checkpoint`.
-    pub fn checkpoint(&mut self, alloc: Global, now: u64) -> Result<(), DataError>
-        ensures call { Cut (told_by U.told R.told self.old) (told_by U.told R.told self.new) result }
+    pub fn checkpoint<W: Wait>(&mut self, rt: &W, alloc: Global, now: u64) -> Result<(), DataError>
+        ensures call { Cut (told_by U.told R.told self.old) (told_by U.told R.told self.new) now result }
         ensures backs { Backs (told_by U.told R.told self.old) (told_by U.told R.told self.new) }
     {
-        self.cut(alloc, now)
+        self.cut(rt, alloc, now)
     }
 
     // Puts a xorb and adds its record to those of the session, where no put failed.
-    fn put_given(&mut self, alloc: Global, raw: RawXorbData, now: u64) -> Result<(), DataError>
+    fn put_given<W: Wait>(
+        &mut self,
+        rt: &W,
+        alloc: Global,
+        raw: RawXorbData,
+        now: u64,
+    ) -> Result<(), DataError>
         requires unfailed { self.old.failed ≡ None }
         requires describes { Describes raw.xorb_info raw.xorb }
-        ensures { PutGiven (told_by U.told R.told self.old) (told_by U.told R.told self.new) raw.xorb result }
+        ensures { PutGiven (told_by U.told R.told self.old) (told_by U.told R.told self.new) raw.xorb now result }
     {
         self.listed.reserve(1)?;
         self.registered.reserve(1)?;
-        self.put_finished(alloc, raw, List::new(alloc), now)
+        self.put_finished(rt, alloc, raw, List::new(alloc), now)
     }
 
     /// Puts a xorb with its record, unless one with the hash was put before: then it answers false and changes nothing.
@@ -243,14 +309,16 @@ impl<U: Uploader, R: ShardStore> FileUploadSession<U, R> {
     /// `ClientError` where the uploader failed. `IOError` comes only where a store of records failed.
     ///
     /// In the Rust crate xet-data: `FileUploadSession::register_new_xorb`.
-    pub fn register_new_xorb(
+    pub fn register_new_xorb<W: Wait>(
         &mut self,
+        rt: &W,
         alloc: Global,
         raw: RawXorbData,
         now: u64,
     ) -> Result<bool, DataError>
         requires { Describes raw.xorb_info raw.xorb }
-        ensures call { Registers (told_by U.told R.told self.old) (told_by U.told R.told self.new) raw.xorb result }
+        ensures call { Registers (told_by U.told R.told self.old) (told_by U.told R.told self.new)
+            raw.xorb now result }
         ensures backs { Backs (told_by U.told R.told self.old) (told_by U.told R.told self.new) }
     {
         if self.finalized {
@@ -265,7 +333,7 @@ impl<U: Uploader, R: ShardStore> FileUploadSession<U, R> {
         if let Some(error) = self.failed {
             return Err(DataError::from(error));
         }
-        self.put_given(alloc, raw, now)?;
+        self.put_given(rt, alloc, raw, now)?;
         Ok(true)
     }
 
@@ -297,7 +365,8 @@ impl<U: Uploader, R: ShardStore> FileUploadSession<U, R> {
 
     /// A run of chunks with these hashes: from the resumed records, from those of the session, or from those of the
     /// cache. It tells how many of them, the term that names the run, and whether the session did not add the record.
-    /// The xorb is on the session's list afterwards. `IOError` comes only where the faults of one of these stores rose.
+    /// The xorb is on the session's list afterwards. A dry run asks the resumed store nothing. `IOError` comes only
+    /// where the faults of a store that was asked rose.
     ///
     /// In the Rust crate xet-data: `deduplication_interface::UploadSessionDataManager::chunk_hash_dedup_query`.
     pub fn chunk_hash_dedup_query(
@@ -316,6 +385,21 @@ impl<U: Uploader, R: ShardStore> FileUploadSession<U, R> {
                 Ok(Some(found))
             }
         }
+    }
+
+    // Whether the uploader may be asked for records.
+    pub(crate) fn asks_queries(&self) -> bool
+        ensures { result ≡ self.now.queries_enabled }
+    {
+        self.queries_enabled
+    }
+
+    // Asks the uploader for records that know a chunk, which the cache has then. It tells whether there are any.
+    pub(crate) fn ask(&mut self, alloc: Global, chunk: &MerkleHash) -> Result<bool, DataError>
+        ensures { AsksFor (told_by U.told R.told self.old) (told_by U.told R.told self.new) chunk.now result }
+    {
+        self.shards
+            .query_dedup_shard_by_chunk(alloc, &mut self.uploader, chunk)
     }
 
     // Adds the records of the finished files to those of the session.
@@ -353,8 +437,13 @@ impl<U: Uploader, R: ShardStore> FileUploadSession<U, R> {
     /// `ClientError` where the uploader failed. `IOError` comes only where a store of records failed.
     ///
     /// In the Rust crate xet-data: `FileUploadSession::finalize`.
-    pub fn finalize(&mut self, alloc: Global, now: u64) -> Result<DeduplicationMetrics, DataError>
-        ensures call { Finalizes (told_by U.told R.told self.old) (told_by U.told R.told self.new) result }
+    pub fn finalize<W: Wait>(
+        &mut self,
+        rt: &W,
+        alloc: Global,
+        now: u64,
+    ) -> Result<DeduplicationMetrics, DataError>
+        ensures call { Finalizes (told_by U.told R.told self.old) (told_by U.told R.told self.new) now result }
         ensures counts { IfOk result (Counted (told_by U.told R.told self.old) (told_by U.told R.told self.new)) }
         ensures backs { Backs (told_by U.told R.told self.old) (told_by U.told R.told self.new) }
     {
@@ -362,7 +451,7 @@ impl<U: Uploader, R: ShardStore> FileUploadSession<U, R> {
             return Err(DataError::InvalidOperation(Invalid::Finalized));
         }
         self.finalized = true;
-        self.cut(alloc, now)?;
+        self.cut(rt, alloc, now)?;
         self.add_finished(alloc)?;
         let bytes = self.put_records(alloc)?;
         Ok(self.count_shards(bytes))
@@ -380,21 +469,93 @@ impl<U: Uploader, R: ShardStore> FileUploadSession<U, R> {
     /// The same, with the file records of the session, in the order in which they were added.
     ///
     /// In the Rust crate xet-data: `FileUploadSession::finalize_with_file_info`.
-    pub fn finalize_with_file_info(
+    pub fn finalize_with_file_info<W: Wait>(
         &mut self,
+        rt: &W,
         alloc: Global,
         now: u64,
     ) -> Result<(DeduplicationMetrics, List<MDBFileInfo>), DataError>
-        ensures call { Finalizes (told_by U.told R.told self.old) (told_by U.told R.told self.new) result }
+        ensures call { Finalizes (told_by U.told R.told self.old) (told_by U.told R.told self.new) now result }
         ensures counts { IfOk result (λ r.
             Counted (told_by U.told R.told self.old) (told_by U.told R.told self.new) r.0) }
         ensures files { IfOk result (λ r.
             HasFiles (told_by U.told R.told self.old) (told_by U.told R.told self.new) r.1) }
         ensures backs { Backs (told_by U.told R.told self.old) (told_by U.told R.told self.new) }
     {
-        let metrics = self.finalize(alloc, now)?;
+        let metrics = self.finalize(rt, alloc, now)?;
         let files = self.list_files(alloc)?;
         Ok((metrics, files))
+    }
+
+    /// The same as `finalize`, with the sums of the session's group at the end.
+    ///
+    /// In the Rust crate xet-data: `FileUploadSession::finalize_with_report`.
+    pub fn finalize_with_report<W: Wait>(
+        &mut self,
+        rt: &W,
+        alloc: Global,
+        now: u64,
+    ) -> Result<(DeduplicationMetrics, GroupProgressReport), DataError>
+        ensures call { Finalizes (told_by U.told R.told self.old) (told_by U.told R.told self.new) now result }
+        ensures counts { IfOk result (λ r.
+            Counted (told_by U.told R.told self.old) (told_by U.told R.told self.new) r.0) }
+        ensures sums { IfOk result (λ r. Held (λ before after. (r.1 ≡ group_sums before) × (after ≡ before))) }
+        ensures bytes { IfOk result (λ r. r.1.total_bytes_completed ≤ r.1.total_bytes) }
+        ensures transfer { IfOk result (λ r. r.1.total_transfer_bytes_completed ≤ r.1.total_transfer_bytes) }
+        ensures backs { Backs (told_by U.told R.told self.old) (told_by U.told R.told self.new) }
+    {
+        let metrics = self.finalize(rt, alloc, now)?;
+        let report = self.progress.report(rt);
+        Ok((metrics, report))
+    }
+
+    /// The session's group: the sizes of its xorbs, and how many of their bytes were put.
+    ///
+    /// In the Rust crate xet-data: `FileUploadSession::progress`.
+    pub fn progress(&self) -> &Arc<GroupProgress>
+        ensures { result.now ≡ self.now.progress }
+    {
+        &self.progress
+    }
+
+    /// The sums of the session's group, in bytes. What is completed is at most the total, and likewise what was put.
+    ///
+    /// In the Rust crate xet-data: `FileUploadSession::report`.
+    pub fn report<W: Wait>(&self, rt: &W) -> GroupProgressReport
+        ensures sums { Held (λ before after. (result ≡ group_sums before) × (after ≡ before)) }
+        ensures bytes { result.total_bytes_completed ≤ result.total_bytes }
+        ensures transfer { result.total_transfer_bytes_completed ≤ result.total_transfer_bytes }
+    {
+        self.progress.report(rt)
+    }
+
+    /// The report of an item of the session's group, or none where no item has this id. `OutOfMemory` where memory for
+    /// the name was refused.
+    ///
+    /// In the Rust crate xet-data: `FileUploadSession::item_report`.
+    pub fn item_report<W: Wait>(
+        &self,
+        rt: &W,
+        id: UniqueID,
+    ) -> Result<Option<ItemProgressReport>, OutOfMemory>
+        ensures { IfOk result (λ report. Held
+            (λ before after. (report ≡ option_map report_of (item_of before id)) × (after ≡ before))) }
+    {
+        self.progress.item_report(rt, id)
+    }
+
+    /// The reports of all items of the session's group, by id. `OutOfMemory` where an allocation was refused.
+    ///
+    /// In the Rust crate xet-data: `FileUploadSession::item_reports`.
+    pub fn item_reports<W: Wait>(
+        &self,
+        rt: &W,
+        alloc: Global,
+    ) -> Result<BTreeMap<UniqueID, ItemProgressReport>, OutOfMemory>
+        ensures { IfOk result (λ reports. Held
+            (λ before after. (reports.entries ≡ reports_of before) × (after ≡ before))) }
+    {
+        self.progress.item_reports(rt, alloc)
     }
 }
 

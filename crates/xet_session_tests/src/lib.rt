@@ -6,4 +6,6 @@ mod interfaces;
 #[cfg(test)]
 mod made;
 #[cfg(test)]
+mod managers;
+#[cfg(test)]
 mod sessions;

@@ -6,7 +6,7 @@ use bytes::Bytes;
 use std::alloc::Global;
 use xet_base::{ChunkInfo, FileDataSequenceEntry, List, MDBFileInfo, MerkleHash, OutOfMemory};
 use xet_pointer::{SessionContext, TranslatorConfig};
-use xet_session::SessionStores;
+use xet_session::{FileUploadSession, SessionStores};
 use xet_store::MemStore;
 use xet_upload::{DataAggregator, MemShards, RawXorbData};
 use xet_uploader::MemUploader;
@@ -40,6 +40,16 @@ pub fn stores(alloc: Global) -> SessionStores<MemShards> {
 pub fn uploader(alloc: Global, fails: &[u64]) -> Result<MemUploader, OutOfMemory> {
     let fails = Vec::from_slice(alloc, fails)?;
     Ok(MemUploader::new(alloc, MemStore::new(alloc), fails))
+}
+
+/// A session over these.
+pub type Session = FileUploadSession<MemUploader, MemShards>;
+
+/// A session over an uploader in memory, whose puts with these numbers fail.
+pub fn session(alloc: Global, fails: &[u64]) -> Result<Session, OutOfMemory> {
+    let config = config(alloc)?;
+    let uploader = uploader(alloc, fails)?;
+    FileUploadSession::new(alloc, &config, uploader, stores(alloc), 0)
 }
 
 /// A xorb of one chunk, or of none where the text is empty, with its record.

@@ -1,6 +1,6 @@
 -- What is filled into shards is all there, in order.
-use Rattle.std.proofs.Common.{◌≡◌, ℕ, ◌<◌, ◌≤◌, ◌⊎◌, inl, inr, Bool, true, false, if◌then◌else◌, List, [], ◌∷◌, ◌++◌, length, map, take, refl, sym, ◌∙◌, ap, subst, arith}
-use Rattle.std.specs.Prelude.{All, Contains, ◌||◌, ltb}
+use Rattle.std.proofs.Common.{◌≡◌, ℕ, ◌⊎◌, inl, inr, Bool, true, false, if◌then◌else◌, List, [], ◌∷◌, ◌++◌, length, refl, sym, ◌∙◌, ap, arith}
+use Rattle.std.specs.Prelude.{Contains, ltb}
 use Rattle.std.specs.List.{flat_map}
 use Rattle.std.proofs.lemmas.Bool.{true≢false, lt-ltb, or_right}
 use Rattle.std.proofs.lemmas.List.{append-nil, append_assoc}
@@ -10,8 +10,7 @@ use Rattle.xet_base.specs.declared.mdb_shard.MDBXorbInfo.{MDBXorbInfo}
 use Rattle.xet_base.specs.declared.mdb_shard.MDBFileInfo.{MDBFileInfo}
 use Rattle.xet_base.specs.declared.mdb_shard.ShardRecord.{ShardRecord}
 use Rattle.xet_shard_interface.specs.declared.shard_filler.ShardFiller.{ShardFiller}
-use Rattle.xet_shard_interface.specs.Fillings.{has_some, is_full, closed, room, xorb_filled, file_filled, xorbs_filled, files_filled, all_filled, shards_in, no_shards}
-use Rattle.xet_shards.specs.Shards.{no_records}
+use Rattle.xet_shard_interface.specs.Fillings.{has_some, is_full, closed, room, xorb_filled, file_filled, xorbs_filled, files_filled, shards_in, no_shards}
 
 -- the file records of shards
 abbrev pub files_of : List ShardRecord → List MDBFileInfo

@@ -1,6 +1,6 @@
 -- The puts of several shards, and what they leave in the log and in the cache.
-use Rattle.std.proofs.Common.{◌≡◌, ℕ, ◌+◌, ◌<◌, ◌≤◌, ◌⊎◌, inl, inr, Bool, true, false, List, [], ◌∷◌, ◌++◌, length, map, take, refl, sym, ◌∙◌, ap, subst, arith, get_or}
-use Rattle.std.specs.Prelude.{Option, Some, None, option_map, IsSome, IfOk, Result, Ok, Err, OnOk, IfErr}
+use Rattle.std.proofs.Common.{◌≡◌, ℕ, ◌+◌, ◌<◌, ◌≤◌, ◌⊎◌, inl, inr, true, false, List, [], ◌∷◌, ◌++◌, length, map, take, refl, sym, ◌∙◌, ap, subst, arith, get_or}
+use Rattle.std.specs.Prelude.{Option, Some, None, option_map, IsSome, IfOk, Result, Ok, Err, OnOk, OnErr}
 use Rattle.std.proofs.lemmas.Result.{IfErr-weaker}
 use Rattle.std.proofs.lemmas.Bool.{false≢true}
 use Rattle.std.proofs.lemmas.List.{append-nil, append_assoc, map-append, take_more, take-take}
@@ -9,7 +9,7 @@ use Rattle.xet_outside.specs.declared.client.ClientError.{ClientError}
 use Rattle.xet_uploader.specs.declared.uploader.Put.{Put}
 use Rattle.xet_uploader.specs.declared.uploader.Put.TheVariants as put
 use Rattle.xet_uploader.specs.Uploads.{UploaderTold}
-use Rattle.xet_shards.specs.Shards.{no_records, with_records}
+use Rattle.xet_shards.specs.Shards.{with_records}
 use Rattle.xet_upload.specs.declared.data_error.DataError.{DataError}
 use Rattle.xet_shard_interface.specs.Interfaces.{InterfaceTold, StoreFails, resumed_faults, resumed_records}
 use Rattle.xet_shard_interface.specs.Puts.{with_shards, with_puts, all_with_shards, forgotten, PutFailed, Fails, FailsSo, PutsShard, PutsShards, Forgets, MakesShards, UploadFails, Uploads, shards_of, sizes}
@@ -67,6 +67,7 @@ puts-none u b x = record {
   kept = 0;
   fewer = omega arith;
   cached = cache-none b.cache.records;
+  asked = refl;
   answered = refl;
   failure = failure-none u x (StoreFails b.cache.faults b.cache.faults) tt;
   cache = omega arith;
@@ -105,6 +106,7 @@ module _ (u m v : UploaderTold) (b c n : InterfaceTold) (x y z : Option ClientEr
           kept = i + 1;
           fewer = omega arith;
           cached = cached ∙ ap (all_with_shards b.cache.records) (sym all);
+          asked = p.asked ∙ h.asked;
           answered = p.answered ∙ h.answered;
           failure = record { ok = p.failure.ok ∙ h.failure.ok; err = tt; faults = omega (arith, h.failure.faults, p.failure.faults) };
           cache = omega (arith, h.cache, p.cache);
@@ -125,6 +127,7 @@ module _ (u m v : UploaderTold) (b c n : InterfaceTold) (x y z : Option ClientEr
           kept = i;
           fewer = omega arith;
           cached = p.err.0 ∙ h.ok.1;
+          asked = p.asked ∙ h.asked;
           answered = p.answered ∙ h.answered;
           failure = failure;
           cache = omega (arith, h.cache, p.cache);
@@ -137,6 +140,7 @@ module _ (u m v : UploaderTold) (b c n : InterfaceTold) (x y z : Option ClientEr
           kept = i;
           fewer = omega arith;
           cached = p.err.0 ∙ h.ok.1;
+          asked = p.asked ∙ h.asked;
           answered = p.answered ∙ h.answered;
           failure = failure;
           cache = omega (arith, h.cache, p.cache);
@@ -161,6 +165,8 @@ uploads-refused u b n x e m =
       fewer = omega arith;
       cached = λ s. cache-none b.cache.records;
       resumed = inl refl;
+      unforgotten = refl;
+      asked = refl;
       answered = refl;
       faults = record { resumed = omega arith; session = m.faults; cache = omega arith; staging = omega arith };
       failure = record { ok = tt; err = inl (refl, inl m.why); faults = omega arith };
@@ -187,6 +193,8 @@ module _ (u : UploaderTold) (b c : InterfaceTold) (x : Option ClientError) (ss :
         fewer = omega arith;
         cached = λ s. cache-none b.cache.records;
         resumed = inl refl;
+        unforgotten = tt;
+        asked = refl;
         answered = refl;
         faults = record { resumed = omega arith; session = m.faults; cache = omega arith; staging = omega arith };
         failure = failure-none u x (UploadFails b (record b { session = c.session })) k;
@@ -216,8 +224,9 @@ module _ (u : UploaderTold) (b c : InterfaceTold) (x : Option ClientError) (ss :
         → (IsSome b.session.records → OnOk said (v.puts ≡ with_puts u.puts (shards_of b)))
         → (IsSome b.session.records → OnOk said (d.cache.records ≡ all_with_shards c.cache.records (shards_of b)))
         → (IsSome b.session.records → IfOk said (λ k. k ≡ sizes (shards_of b)))
+        → OnErr said (n ≡ d)
         → Fails u v x z (StoreFails c.cache.faults d.cache.faults) said → Uploads u v b n x z said
-    done answer said p f ok learned sum failure =
+    done answer said p f ok learned sum kept failure =
         let e = joined p.same f.same in
         let cached : n.cache ≡ d.cache = ap (λ (j : InterfaceTold). j.cache) e in
         record {
@@ -235,6 +244,8 @@ module _ (u : UploaderTold) (b c : InterfaceTold) (x : Option ClientError) (ss :
               ap (λ (j : InterfaceTold). j.cache.records) e ∙ p.cached ∙ ap (λ (o : Option ShardRecord). all_with_shards o (take p.kept ss)) cache-same
               ∙ ap (λ (ts : List ShardRecord). all_with_shards b.cache.records (take p.kept ts)) (m.shards s);
           resumed = lost (resumed-same p.same) f.resumed;
+          unforgotten = unforgotten said p.same kept;
+          asked = p.asked;
           answered = p.answered;
           failure = record { ok = failure.ok; err = IfErr-weaker said (FailsSo u v x z (StoreFails c.cache.faults d.cache.faults)) (FailsSo u v x z (UploadFails b n)) (so-too e) failure.err; faults = failure.faults };
           faults = record {
@@ -249,6 +260,10 @@ module _ (u : UploaderTold) (b c : InterfaceTold) (x : Option ClientError) (ss :
         so-too e g (inr q) = inr q
         so-too e g (inl q) = inl (q.0, inr (subst (λ (j : ℕ). StoreFails j n.cache.faults g) cache-faults (subst (λ (j : ℕ). StoreFails c.cache.faults j g) (sym (ap (λ (j : InterfaceTold). j.cache.faults) e)) q.1)))
 
+        unforgotten : (r : Result ℕ DataError) → d ≡ record c { cache = d.cache } → OnErr r (n ≡ d) → OnErr r (resumed_records n.resumed ≡ resumed_records b.resumed)
+        unforgotten (Ok k) q is = tt
+        unforgotten (Err g) q is = ap (λ (j : InterfaceTold). resumed_records j.resumed) is ∙ resumed-same q
+
         later : (r : Result ℕ DataError) → n.cache ≡ d.cache → OnOk r (d.cache.records ≡ all_with_shards c.cache.records (shards_of b)) → OnOk r (n.cache.records ≡ all_with_shards b.cache.records (shards_of b))
         later (Ok k) e h = ap (λ j. j.records) e ∙ h ∙ ap (λ (o : Option ShardRecord). all_with_shards o (shards_of b)) cache-same
         later (Err g) e h = tt
@@ -257,10 +272,10 @@ module _ (u : UploaderTold) (b c : InterfaceTold) (x : Option ClientError) (ss :
     uploads-done k w e p f =
         let ok = p.ok in
         done (Ok w) (Ok k) p f (λ s. ok.0 ∙ ap (with_puts u.puts) (m.shards s)) (λ s. ok.1 ∙ ap (all_with_shards c.cache.records) (m.shards s))
-        (λ s. e ∙ ap sizes (m.shards s)) (record { ok = p.failure.ok; err = tt; faults = p.failure.faults })
+        (λ s. e ∙ ap sizes (m.shards s)) tt (record { ok = p.failure.ok; err = tt; faults = p.failure.faults })
 
     pub uploads-stopped : (e : DataError) → n ≡ d → PutsShards u v c d x z ss (Err e) → Uploads u v b n x z (Err e)
     uploads-stopped e is p =
         let P : InterfaceTold → Type 0 = λ t. Forgets d t in
         let f = subst P (sym is) (record { same = refl; resumed = inl refl; faults = omega arith }) in
-        done (Err e) (Err e) p f (λ s. tt) (λ s. tt) (λ s. tt) (record { ok = tt; err = p.failure.err; faults = p.failure.faults })
+        done (Err e) (Err e) p f (λ s. tt) (λ s. tt) (λ s. tt) is (record { ok = tt; err = p.failure.err; faults = p.failure.faults })

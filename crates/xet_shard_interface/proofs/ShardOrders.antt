@@ -16,7 +16,7 @@ use Rattle.xet_upload.specs.declared.data_error.DataError.{DataError}
 use Rattle.xet_upload.specs.Orders.{names_of, IsThere, IsOrdered}
 use Rattle.xet_upload.proofs.CallerLemmas.{there-grown, ordered-none, ordered-shard}
 use Rattle.xet_shard_interface.specs.Interfaces.{InterfaceTold, records_of}
-use Rattle.xet_shard_interface.specs.Puts.{PutsInOrder, Uploads, puts_of, shards_of, with_puts}
+use Rattle.xet_shard_interface.specs.Puts.{PutsInOrder, Uploads, puts_of, shards_of}
 use Rattle.xet_shard_interface.proofs.Fillings.{files_of, files-in}
 use Rattle.xet_shard_interface.proofs.Splits.{All-append_left, All-append_right}
 

@@ -1,5 +1,5 @@
 -- Parts of a list of which all members have a property.
-use Rattle.std.proofs.Common.{ℕ, List, [], ◌∷◌, ◌++◌}
+use Rattle.std.proofs.Common.{List, [], ◌∷◌, ◌++◌}
 use Rattle.std.specs.Prelude.{All}
 use Rattle.std.proofs.lemmas.List.Elements.{All-nil, All-cons, All-head, All-tail}
 

@@ -1,5 +1,5 @@
 -- What the stores of records of a session tell, and what the calls on them may change.
-use Rattle.std.specs.Prelude.{ℕ, ◌≡◌, ◌+◌, ◌-◌, ◌^◌, ◌≤◌, ◌⊎◌, min, Bool, true, false, if◌then◌else◌, List, [], ◌∷◌, ◌++◌, length, ltb, leb, ◌||◌, Option, Some, None, IfSome, IsSome, option_map, unwrap_or, Result, Ok, IfOk, OnOk, OnErr, IfErr}
+use Rattle.std.specs.Prelude.{ℕ, ◌≡◌, ◌+◌, ◌-◌, ◌^◌, ◌≤◌, ◌⊎◌, min, Bool, true, false, if◌then◌else◌, List, [], ◌∷◌, ◌++◌, length, ltb, leb, ◌||◌, Option, None, IfSome, IsSome, option_map, unwrap_or, Result, Ok, IfOk, OnOk, OnErr, IfErr}
 use Rattle.std.specs.Option.{option_or}
 use Rattle.xet_base.specs.declared.merklehash.MerkleHash.{MerkleHash}
 use Rattle.xet_base.specs.declared.mdb_shard.FileDataSequenceEntry.{FileDataSequenceEntry}
@@ -130,15 +130,27 @@ pub record Looks (b n : InterfaceTold) : Type 0 where
   pub known : known_told n ≡ known_told b
   pub session : n.session.records ≡ b.session.records
 
+-- the stores that a search looks into tell; a dry run looks into no resumed one
+pub record SearchTells (i : InterfaceTold) : Type 0 where
+  pub resumed : i.rules.dry_run ≡ false → IfSome (resumed_records i.resumed) (λ o. IsSome o)
+  pub session : IsSome i.session.records
+  pub cache : IsSome i.cache.records
+
+-- why a search of the resumed records fails, which a dry run makes none of
+abbrev pub ResumedFails : InterfaceTold → InterfaceTold → DataError → Type 0
+ResumedFails b n e =
+    (b.rules.dry_run ≡ false) × StoreFails (resumed_faults b.resumed) (resumed_faults n.resumed) e
+
 -- a search of the resumed records
 pub record LooksResumed (b n : InterfaceTold) (hashes : List MerkleHash)
     (answer : Result (Option (ℕ × FileDataSequenceEntry)) DataError) : Type 0 where
   pub same : n ≡ record b { resumed = n.resumed }
   pub records : resumed_records n.resumed ≡ resumed_records b.resumed
-  pub found : StoresTell b → IfOk answer (λ o. o ≡ find_in (searched_resumed b) hashes)
+  pub dry : b.rules.dry_run ≡ true → n ≡ b
+  pub found : SearchTells b → IfOk answer (λ o. o ≡ find_in (searched_resumed b) hashes)
   pub run : IfOk answer (λ o. IfSome o (λ f. IsRun hashes f.0 f.1))
   pub faults : resumed_faults b.resumed ≤ resumed_faults n.resumed
-  pub why : IfErr answer (StoreFails (resumed_faults b.resumed) (resumed_faults n.resumed))
+  pub why : IfErr answer (ResumedFails b n)
 
 -- no count of faults fell
 pub record LaterFaults (b n : InterfaceTold) : Type 0 where
@@ -149,13 +161,14 @@ pub record LaterFaults (b n : InterfaceTold) : Type 0 where
 
 -- why a search fails: want of memory, or a store that it asks failed
 abbrev pub SearchFails : InterfaceTold → InterfaceTold → DataError → Type 0
-SearchFails b n e = StoreFails (resumed_faults b.resumed) (resumed_faults n.resumed) e
+SearchFails b n e = ResumedFails b n e
     ⊎ StoreFails b.session.faults n.session.faults e ⊎ StoreFails b.cache.faults n.cache.faults e
 
 pub record Searches (b n : InterfaceTold) (hashes : List MerkleHash)
     (answer : Result (Option (ℕ × FileDataSequenceEntry × Bool)) DataError) : Type 0 where
   pub looks : Looks b n
-  pub found : StoresTell b → IfOk answer (λ o. o ≡ found_in b hashes)
+  pub dry : b.rules.dry_run ≡ true → n.resumed ≡ b.resumed
+  pub found : SearchTells b → IfOk answer (λ o. o ≡ found_in b hashes)
   pub run : IfOk answer (λ o. IfSome o (λ f. IsRun hashes f.0 f.1))
   pub faults : LaterFaults b n
   pub why : IfErr answer (SearchFails b n)

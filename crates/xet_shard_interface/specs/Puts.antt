@@ -9,7 +9,7 @@ use Rattle.xet_outside.specs.declared.client.ClientError.TheVariants as client_e
 use Rattle.xet_outside.specs.Told.{Rose, Grew}
 use Rattle.xet_uploader.specs.declared.uploader.Put.{Put}
 use Rattle.xet_uploader.specs.declared.uploader.Put.TheVariants as put
-use Rattle.xet_uploader.specs.Uploads.{UploaderTold}
+use Rattle.xet_uploader.specs.Uploads.{AskedOnce, UploaderTold}
 use Rattle.xet_shards.specs.Shards.{no_records, with_records}
 use Rattle.xet_upload.specs.Orders.{IsOrdered, IsThere, names_of}
 use Rattle.xet_upload.specs.DataErrors.{of_client_error}
@@ -32,23 +32,35 @@ with_shards r (s ∷ ss) = with_shards (with_records r s) ss
 abbrev pub all_with_shards : Option ShardRecord → List ShardRecord → Option ShardRecord
 all_with_shards o ss = option_map (λ r. with_shards r ss) o
 
--- what a query found, which the cache has now
-abbrev pub Learned : UploaderTold → UploaderTold → InterfaceTold → InterfaceTold → Type 0
-Learned u v b n = (s : ShardRecord) × Grew u.answered v.answered (Some s)
+-- a query for this chunk was answered so
+pub record Answered (u v : UploaderTold) (chunk : MerkleHash) (answer : Option ShardRecord) : Type 0 where
+  pub asked : Grew u.asked v.asked chunk
+  pub answered : Grew u.answered v.answered answer
+
+-- what a query for a chunk found, which the cache has now
+abbrev pub Learned : UploaderTold → UploaderTold → InterfaceTold → InterfaceTold → MerkleHash → Type 0
+Learned u v b n chunk = (s : ShardRecord) × Answered u v chunk (Some s)
     × (n.cache.records ≡ option_map (λ r. with_records r s) b.cache.records)
 
+-- no query was answered, and the chunk was asked for at most once
+abbrev pub Unanswered : UploaderTold → UploaderTold → MerkleHash → Type 0
+Unanswered u v chunk = (v.answered ≡ u.answered) × AskedOnce u v chunk
+
 -- a query that found nothing, or failed
-abbrev pub LearnedNothing : UploaderTold → UploaderTold → Type 0
-LearnedNothing u v = Grew u.answered v.answered None ⊎ ((v.answered ≡ u.answered) × Rose u.faults v.faults)
+abbrev pub LearnedNothing : UploaderTold → UploaderTold → MerkleHash → Type 0
+LearnedNothing u v chunk = Answered u v chunk None ⊎ (Unanswered u v chunk × Rose u.faults v.faults)
 
 -- one query of the uploader for records that know a chunk
-pub record Asks (u v : UploaderTold) (b n : InterfaceTold) (answer : Result Bool DataError) : Type 0 where
+pub record Asks (u v : UploaderTold) (b n : InterfaceTold) (chunk : MerkleHash)
+    (answer : Result Bool DataError) : Type 0 where
   pub same : n ≡ record b { cache = n.cache }
   pub puts : v.puts ≡ u.puts
-  pub learned : (n.cache.records ≡ b.cache.records) ⊎ Learned u v b n
-  pub yes : IfOk answer (λ y. y ≡ true → Learned u v b n)
-  pub no : IfOk answer (λ y. y ≡ false → (n ≡ b) × LearnedNothing u v)
+  pub asked : Unanswered u v chunk ⊎ ((a : Option ShardRecord) × Answered u v chunk a)
+  pub learned : (n.cache.records ≡ b.cache.records) ⊎ Learned u v b n chunk
+  pub yes : IfOk answer (λ y. y ≡ true → Learned u v b n chunk)
+  pub no : IfOk answer (λ y. y ≡ false → (n ≡ b) × LearnedNothing u v chunk)
   pub faults : u.faults ≤ v.faults
+  pub cache : b.cache.faults ≤ n.cache.faults
   pub why : IfErr answer (StoreFails b.cache.faults n.cache.faults)
 
 -- ---- puts of shards
@@ -80,6 +92,7 @@ pub record PutsShard (u v : UploaderTold) (b n : InterfaceTold) (before after : 
       × (n.cache.records ≡ option_map (λ r. with_records r s) b.cache.records))
   pub err : OnErr answer ((n.cache.records ≡ b.cache.records)
       × ((v.puts ≡ u.puts) ⊎ (v.puts ≡ with_puts u.puts (s ∷ []))))
+  pub asked : v.asked ≡ u.asked
   pub answered : v.answered ≡ u.answered
   pub failure : Fails u v before after (StoreFails b.cache.faults n.cache.faults) answer
   pub cache : b.cache.faults ≤ n.cache.faults
@@ -96,6 +109,7 @@ pub record PutsShards (u v : UploaderTold) (b n : InterfaceTold) (before after :
   pub kept : ℕ
   pub fewer : kept ≤ count
   pub cached : n.cache.records ≡ all_with_shards b.cache.records (take kept ss)
+  pub asked : v.asked ≡ u.asked
   pub answered : v.answered ≡ u.answered
   pub failure : Fails u v before after (StoreFails b.cache.faults n.cache.faults) answer
   pub cache : b.cache.faults ≤ n.cache.faults
@@ -152,6 +166,8 @@ pub record Uploads (u v : UploaderTold) (b n : InterfaceTold) (before after : Op
       → n.cache.records ≡ all_with_shards b.cache.records (take kept (shards_of b))
   pub resumed : (resumed_records n.resumed ≡ resumed_records b.resumed)
       ⊎ (resumed_records n.resumed ≡ forgotten (resumed_records b.resumed))
+  pub unforgotten : OnErr answer (resumed_records n.resumed ≡ resumed_records b.resumed)
+  pub asked : v.asked ≡ u.asked
   pub answered : v.answered ≡ u.answered
   pub failure : Fails u v before after (UploadFails b n) answer
   pub faults : LaterFaults b n

@@ -185,7 +185,7 @@ impl<R: ShardStore> SessionShardInterface<R> {
 
     /// A run of chunks with these hashes: from the resumed records, from those of the session, or from those of the
     /// cache. It tells how many of them, the term that names the run, and whether the session did not add the record.
-    /// A dry run searches no resumed records. `IOError` comes only where the faults of one of these stores rose.
+    /// A dry run asks the resumed store nothing. `IOError` comes only where the faults of a store that was asked rose.
     ///
     /// In the Rust crate xet-data: `SessionShardInterface::chunk_hash_dedup_query`.
     pub fn chunk_hash_dedup_query(
@@ -279,7 +279,7 @@ impl<R: ShardStore> SessionShardInterface<R> {
         chunk_hash: &MerkleHash,
     ) -> Result<bool, DataError>
         ensures { Asks (U.told uploader.old) (U.told uploader.new)
-            (shards_told R.told self.old) (shards_told R.told self.new) result }
+            (shards_told R.told self.old) (shards_told R.told self.new) chunk_hash.now result }
     {
         match uploader.query_shard(alloc, chunk_hash) {
             Ok(None) => Ok(false),

@@ -1,5 +1,5 @@
 -- What an uploader tells, what one call of it may change, and what an uploader in memory answers.
-use Rattle.std.specs.Prelude.{ℕ, ◌≡◌, ◌≤◌, ◌+◌, ◌-◌, ◌^◌, min, List, [], ◌∷◌, length, map, find, Bool, option_map, Option, IsSome, Result, Ok, Err, IfOk, OnOk, OnErr, IsErrOf}
+use Rattle.std.specs.Prelude.{ℕ, ◌≡◌, ◌⊎◌, ◌≤◌, ◌+◌, ◌-◌, ◌^◌, min, List, [], ◌∷◌, length, map, find, Bool, option_map, Option, IsSome, Result, Ok, Err, IfOk, OnOk, OnErr, IsErrOf}
 use Rattle.std.specs.List.{concat, list_any}
 use Rattle.xet_base.specs.declared.mdb_shard.Xorb.{Xorb}
 use Rattle.xet_base.specs.declared.mdb_shard.ShardRecord.{ShardRecord}
@@ -17,6 +17,8 @@ use Rattle.xet_uploader.specs.declared.uploader.Put.TheVariants as put
 pub record UploaderTold : Type 0 where
   -- the accepted puts, which are its log
   pub puts : Option (List Put)
+  -- the chunks that queries for records asked for
+  pub asked : Option (List MerkleHash)
   -- the Ok answers to queries for records
   pub answered : Option (List (Option ShardRecord))
   pub faults : ℕ
@@ -26,6 +28,7 @@ pub record PutXorbCall (before after : UploaderTold) (xorb : Xorb) (answer : Res
   pub accepted : OnOk answer (Grew before.puts after.puts (put.Xorb xorb))
   pub refused : OnErr answer (after.puts ≡ before.puts)
   pub sent : IsSome before.puts → IfOk answer (λ n. n ≡ min (length (concat xorb.chunks)) (2 ^ 64 - 1))
+  pub asked : after.asked ≡ before.asked
   pub answered : after.answered ≡ before.answered
   pub faults : before.faults ≤ after.faults
   pub failed : IsErrOf answer client_error.Failed → Rose before.faults after.faults
@@ -35,14 +38,21 @@ pub record PutShardCall (before after : UploaderTold) (shard : ShardRecord)
     (answer : Result ℕ ClientError) : Type 0 where
   pub accepted : OnOk answer (Grew before.puts after.puts (put.Shard shard))
   pub refused : OnErr answer (after.puts ≡ before.puts)
+  pub asked : after.asked ≡ before.asked
   pub answered : after.answered ≡ before.answered
   pub faults : before.faults ≤ after.faults
   pub failed : IsErrOf answer client_error.Failed → Rose before.faults after.faults
 
+-- the chunk was asked for at most once, and no other was
+abbrev pub AskedOnce : UploaderTold → UploaderTold → MerkleHash → Type 0
+AskedOnce before after chunk = (after.asked ≡ before.asked) ⊎ Grew before.asked after.asked chunk
+
 -- one call of `query_shard`
-pub record QueryShardCall (before after : UploaderTold)
+pub record QueryShardCall (before after : UploaderTold) (chunk : MerkleHash)
     (answer : Result (Option ShardRecord) ClientError) : Type 0 where
   pub puts : after.puts ≡ before.puts
+  pub asked : OnOk answer (Grew before.asked after.asked chunk)
+  pub unasked : OnErr answer (AskedOnce before after chunk)
   pub answered : IfOk answer (λ a. Grew before.answered after.answered a)
   pub unanswered : OnErr answer (after.answered ≡ before.answered)
   pub faults : before.faults ≤ after.faults

@@ -26,6 +26,8 @@ pub struct MemUploader {
     log: Vec<Put>,
     // the records of the log's xorbs
     records: XorbRecords,
+    // the chunks of the queries that were answered, and the answers
+    asked: Vec<MerkleHash>,
     answered: Vec<Option<ShardRecord>>,
     // which puts fail
     script: FaultScript,
@@ -36,7 +38,7 @@ impl MemUploader {
     /// An uploader to this store, in which the puts with these numbers fail, counted from 0. It takes no memory.
     pub fn new(alloc: Global, store: MemStore, fails: Vec<u64>) -> MemUploader
         ensures told { ⟦<MemUploader as Uploader>⟧.told result
-            ≡ record { puts = Some []; answered = Some []; faults = 0 } }
+            ≡ record { puts = Some []; asked = Some []; answered = Some []; faults = 0 } }
         ensures store { result.store ≡ store }
         ensures fails { IsPermutation fails.items result.script.fails.items }
         ensures asked { result.script.calls ≡ 0 }
@@ -45,6 +47,7 @@ impl MemUploader {
             store,
             log: Vec::new(alloc),
             records: XorbRecords::new(alloc),
+            asked: Vec::new(alloc),
             answered: Vec::new(alloc),
             script: FaultScript::new(fails),
         }
@@ -68,11 +71,19 @@ impl MemUploader {
     {
         self.log.as_slice()
     }
+
+    /// The chunks that queries asked for and got an answer, in the order of the queries.
+    pub fn asked(&self) -> &[MerkleHash]
+        ensures { result.now ≡ self.now.asked.items }
+    {
+        self.asked.as_slice()
+    }
 }
 
 impl Uploader for MemUploader {
     ghost told = { λ u. record {
       puts = Some u.log.items;
+      asked = Some u.asked.items;
       answered = Some u.answered.items;
       faults = u.script.faults;
     } };
@@ -130,7 +141,7 @@ impl Uploader for MemUploader {
         chunk: &MerkleHash,
     ) -> Result<Option<ShardRecord>, ClientError>
         ensures call { QueryShardCall (⟦<MemUploader as Uploader>⟧.told self.old)
-            (⟦<MemUploader as Uploader>⟧.told self.new) result }
+            (⟦<MemUploader as Uploader>⟧.told self.new) chunk.now result }
         ensures found { IfOk result (λ found. found ≡ mem_query self.old.log.items chunk.now) }
         ensures memory { IfErr result (λ e. e ≡ client_error.OutOfMemory) }
         ensures script { self.new.script ≡ self.old.script }
@@ -138,7 +149,9 @@ impl Uploader for MemUploader {
     {
         let found = self.record_with(alloc, chunk)?;
         let copy = copied_answer(alloc, &found)?;
+        reserve(&mut self.asked)?;
         reserve(&mut self.answered)?;
+        self.asked.push_reserved(*chunk);
         self.answered.push_reserved(copy);
         Ok(found)
     }

@@ -18,7 +18,8 @@ pub enum Put {
 ///
 /// In the Rust crates: the upload calls of `cas_client::Client`.
 pub trait Uploader {
-    /// The accepted puts and the answers to queries, each where it is told, and the count of faults.
+    /// The accepted puts, the chunks that queries asked for and the answers to these, each where it is told, and the
+    /// count of faults.
     ghost told: { Self → UploaderTold };
 
     /// Stores a xorb, and answers how many bytes were sent. `Failed` comes only where the count of faults rose. A
@@ -43,5 +44,5 @@ pub trait Uploader {
         alloc: Global,
         chunk: &MerkleHash,
     ) -> Result<Option<ShardRecord>, ClientError>
-        ensures { QueryShardCall (told self.old) (told self.new) result };
+        ensures { QueryShardCall (told self.old) (told self.new) chunk.now result };
 }

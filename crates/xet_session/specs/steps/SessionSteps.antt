@@ -1,21 +1,21 @@
 -- What the steps of a session change.
-use Rattle.std.specs.Prelude.{ℕ, ◌≡◌, ◌+◌, ◌-◌, ◌^◌, ◌⊎◌, ◌≤◌, min, List, [], ◌∷◌, ◌++◌, map, Contains, None, option_map, Result, OnOk, OnErr, IfOk, IfErr}
+use Rattle.std.specs.Prelude.{ℕ, ◌≡◌, ◌+◌, ◌-◌, ◌^◌, ◌⊎◌, ◌≤◌, min, Bool, List, [], ◌∷◌, ◌++◌, map, Contains, None, option_map, Result, Ok, OnOk, OnErr, IfOk, IfErr}
 use Rattle.xet_base.specs.declared.merklehash.MerkleHash.{MerkleHash}
 use Rattle.xet_base.specs.declared.mdb_shard.Xorb.{Xorb}
 use Rattle.xet_base.specs.declared.mdb_shard.MDBXorbInfo.{MDBXorbInfo}
 use Rattle.xet_base.specs.declared.mdb_shard.MDBFileInfo.{MDBFileInfo}
-use Rattle.xet_base.specs.declared.mdb_shard.ShardRecord.{ShardRecord}
 use Rattle.xet_base.specs.Records.{Describes}
+use Rattle.xet_outside.specs.Told.{Grew}
 use Rattle.xet_uploader.specs.declared.uploader.Put.TheVariants as put
 use Rattle.xet_shards.specs.Shards.{with_records}
 use Rattle.xet_shard_interface.specs.Interfaces.{LaterFaults, StoresTell, known_told, records_of}
-use Rattle.xet_shard_interface.specs.Puts.{PutFailed, Uploads}
+use Rattle.xet_shard_interface.specs.Puts.{Asks, PutFailed, Uploads}
 use Rattle.xet_upload.specs.Waitings.{no_waiting, record_of_file, xorb_of_chunks}
 use Rattle.xet_upload.specs.declared.data_error.DataError.{DataError}
 use Rattle.xet_upload.specs.declared.metrics.DeduplicationMetrics.{DeduplicationMetrics}
 use Rattle.xet_upload.specs.declared.raw_xorb.PendingFile.{PendingFile}
 use Rattle.xet_upload.specs.declared.raw_xorb.RawXorbData.{RawXorbData}
-use Rattle.xet_session.specs.Calls.{CountsSent, Keeps, PutsFail, StoresFail, waiting_hash, xorb_bytes}
+use Rattle.xet_session.specs.Calls.{CountsSent, Keeps, NoQueries, PutsFail, Recorded, RegisterStopped, Says, StoresFail, WasPut, WasRefused, finished_records, one_xorb, waiting_hash, xorb_bytes}
 use Rattle.xet_session.specs.Sessions.{IsListed, SessionTold, Tells, log_of}
 
 -- so many bytes of a xorb more
@@ -34,7 +34,9 @@ pub record PutRaw (b n : SessionTold) (x : Xorb) (answer : Result (Unit {0}) Dat
   })
   pub bytes : Tells b → OnOk answer (sent ≡ min (xorb_bytes x) (2 ^ 64 - 1))
   pub err : OnErr answer (n ≡ record b { uploader = n.uploader; failed = n.failed })
+  pub grew : OnOk answer (Grew b.uploader.puts n.uploader.puts (put.Xorb x))
   pub put : Tells b → OnOk answer (log_of n ≡ log_of b ++ put.Xorb x ∷ [])
+  pub queries : NoQueries b n
   pub unput : OnErr answer (log_of n ≡ log_of b)
   pub unfailed : b.failed ≡ None
   pub faults : b.uploader.faults ≤ n.uploader.faults
@@ -49,49 +51,34 @@ pub record TookWaiting (b n : SessionTold) (answer : Result (RawXorbData × List
   pub files : IfOk answer (λ r. map (λ p. p.info) r.1 ≡ map (record_of_file (waiting_hash b)) b.waiting.files)
   pub why : IfErr answer (StoresFail b.shards n.shards)
 
--- the record of a xorb alone
-abbrev pub one_xorb : MDBXorbInfo → ShardRecord
-one_xorb x = record { xorbs = x ∷ []; files = [] }
-
 -- the records of the session are as they were, or one of a xorb came behind them
 abbrev pub MaybeAdded : SessionTold → SessionTold → MDBXorbInfo → Type 0
 MaybeAdded b n x = (n.shards.session.records ≡ b.shards.session.records)
     ⊎ (n.shards.session.records ≡ option_map (λ r. with_records r (one_xorb x)) b.shards.session.records)
 
 -- a record of a xorb was added to those of the session, and was kept for staging or not
-pub record AddedRecord (b n : SessionTold) (x : MDBXorbInfo) (answer : Result (Unit {0}) DataError) : Type 0 where
+pub record AddedRecord (b n : SessionTold) (x : MDBXorbInfo) (now : ℕ)
+    (answer : Result (Unit {0}) DataError) : Type 0 where
   pub same : n ≡ record b { shards = n.shards }
-  pub tells : Tells b → StoresTell n.shards
-  pub known : known_told n.shards ≡ known_told b.shards
-  pub rules : n.shards.rules ≡ b.shards.rules
-  pub added : MaybeAdded b n x
-  pub ok : OnOk answer (n.shards.session.records
-      ≡ option_map (λ r. with_records r (one_xorb x)) b.shards.session.records)
-  pub stores : LaterFaults b.shards n.shards
-  pub why : IfErr answer (StoresFail b.shards n.shards)
+  pub recorded : Recorded b.shards n.shards x now answer
 
--- the files are finished, and the hash is on the lists
-pub record FinishedAll (b n : SessionTold) (x : Xorb) (fs : List MDBFileInfo) : Type 0 where
-  pub finished : n.finished ≡ b.finished ++ fs
-  pub listed : n.listed ≡ b.listed ++ x.hash ∷ []
-  pub registered : n.registered ≡ b.registered ++ x.hash ∷ []
-
--- a xorb was put, and its files are finished
-pub record PutFinished (b n : SessionTold) (x : Xorb) (fs : List MDBFileInfo)
+-- a xorb was put and its files are finished, or its put failed
+pub record PutFinished (b n : SessionTold) (x : Xorb) (fs : List MDBFileInfo) (now : ℕ)
     (answer : Result (Unit {0}) DataError) : Type 0 where
   pub keeps : Keeps b n
-  pub waiting : n.waiting ≡ b.waiting
-  pub done : n.failed ≡ None → FinishedAll b n x fs
-  pub failed : OnOk answer (n.failed ≡ b.failed)
-  pub log : Tells b → OnOk answer (log_of n ≡ log_of b ++ put.Xorb x ∷ [])
+  pub ok : OnOk answer (WasPut b n x fs now answer)
+  pub err : OnErr answer (WasRefused b n ⊎ WasPut b n x fs now answer)
+  pub said : Says n answer
   pub counts : CountsSent b n
   pub why : IfErr answer (PutsFail b n)
 
--- a given xorb was put
-pub record PutGiven (b n : SessionTold) (x : Xorb) (answer : Result (Unit {0}) DataError) : Type 0 where
+-- a given xorb was put, or it was refused
+pub record PutGiven (b n : SessionTold) (x : Xorb) (now : ℕ) (answer : Result (Unit {0}) DataError) : Type 0 where
   pub keeps : Keeps b n
   pub listed : IsListed b → n.failed ≡ None → IsListed n
-  pub log : Tells b → OnOk answer (log_of n ≡ log_of b ++ put.Xorb x ∷ [])
+  pub ok : OnOk answer (WasPut b n x [] now (Ok tt))
+  pub err : IfErr answer (RegisterStopped b n x now)
+  pub said : b.failed ≡ None → Says n answer
   pub counts : CountsSent b n
   pub why : IfErr answer (PutsFail b n)
 
@@ -103,13 +90,22 @@ pub record AddedFinished (b n : SessionTold) (answer : Result (Unit {0}) DataErr
   pub rules : n.shards.rules ≡ b.shards.rules
   pub files : Tells b → OnOk answer ((records_of n.shards.session).files
       ≡ (records_of b.shards.session).files ++ b.finished)
-  pub stores : LaterFaults b.shards n.shards
+  pub stores : n.shards ≡ record b.shards { session = n.shards.session }
+  pub recorded : OnOk answer (n.shards.session.records
+      ≡ option_map (λ r. with_records r (finished_records b)) b.shards.session.records)
+  pub kept : OnErr answer (n.shards.session.records ≡ b.shards.session.records)
+  pub faults : LaterFaults b.shards n.shards
   pub why : IfErr answer (StoresFail b.shards n.shards)
 
 -- the records of the session were put as shards, or some of the first of these
 pub record PutRecords (b n : SessionTold) (answer : Result ℕ DataError) : Type 0 where
   pub same : n ≡ record b { uploader = n.uploader; shards = n.shards; failed = n.failed }
   pub uploads : Uploads b.uploader n.uploader b.shards n.shards b.failed n.failed answer
+
+-- the uploader was asked for records that know a chunk
+pub record AsksFor (b n : SessionTold) (chunk : MerkleHash) (answer : Result Bool DataError) : Type 0 where
+  pub same : n ≡ record b { uploader = n.uploader; shards = n.shards }
+  pub asks : Asks b.uploader n.uploader b.shards n.shards chunk answer
 
 -- the xorb is on the list, which has it more at its end or is as it was
 pub record OnList (b n : SessionTold) (x : MerkleHash) : Type 0 where

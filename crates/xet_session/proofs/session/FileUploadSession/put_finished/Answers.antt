@@ -1,16 +1,19 @@
 use Rattle.std.proofs.Common.{rules, ◌≡◌}
 use Rattle.std.specs.Prelude.{Err}
-use Rattle.xet_session.proofs.Cuts.{put-failed, put-finished}
+use Rattle.xet_session.proofs.Cuts.{named-put, put-failed, put-finished}
 use Rattle.xet_session.proofs.session.FileUploadSession.put_finished.Goals as goal
 
 pub returns-in_err-put_raw : goal.returns-in_err-put_raw
 returns-in_err-put_raw g c =
     let e : c.from_residual.result ≡ Err c.in_err-put_raw.field-0.0 = search rules in
-    rw e (put-failed _ _ _ _ _ (rw c.in_err-put_raw.was at c.put_raw.ensures.call))
+    rw e (put-failed _ _ _ _ _ _ (rw c.in_err-put_raw.was at c.put_raw.ensures.call))
 
-pub finish_files-requires : goal.finish_files-requires
-finish_files-requires g c = rw c.put_raw.ensures.files c.requires.space
+pub finish_files-requires-clause-space : goal.finish_files-requires-clause-space
+finish_files-requires-clause-space g c = rw c.put_raw.ensures.files c.requires.space
+
+pub finish_files-requires-clause-named : goal.finish_files-requires-clause-named
+finish_files-requires-clause-named g c = named-put _ _ _ _ (rw c.in_ok-put_raw.was at c.put_raw.ensures.call) _ c.requires.named
 
 pub returns : goal.returns
 returns g c =
-    put-finished _ _ _ _ _ _ _ _ (rw c.in_ok-put_raw.was at c.put_raw.ensures.call) c.finish_files.ensures c.requires.describes.hash c.add_record.result c.add_record.ensures
+    put-finished _ _ _ _ _ _ _ _ _ (rw c.in_ok-put_raw.was at c.put_raw.ensures.call) c.finish_files.ensures c.requires.describes c.add_record.result c.add_record.ensures

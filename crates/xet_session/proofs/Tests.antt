@@ -1,0 +1,98 @@
+-- Tests of what a session's lists have.
+use Rattle.std.proofs.Common.{◌≡◌, true, false, List, [], ◌∷◌, ◌++◌, map, refl, sym, ◌∙◌, ap, subst}
+use Rattle.std.specs.Prelude.{All, Contains, None}
+use Rattle.std.proofs.lemmas.List.{map-append}
+use Rattle.std.proofs.lemmas.List.Concat.{flat_map-append}
+use Rattle.std.proofs.lemmas.List.Elements.{All-nil, All-cons, All-append, All-same, All-weaker, Contains-append_left, Contains-push}
+use Rattle.std.proofs.lemmas.List.Sums.{AllPass-from_list_all, list_all-from_AllPass}
+use Rattle.xet_base.specs.declared.merklehash.MerkleHash.{MerkleHash}
+use Rattle.xet_base.specs.declared.mdb_shard.MDBFileInfo.{MDBFileInfo}
+use Rattle.xet_upload.specs.Orders.{names_of}
+use Rattle.xet_upload.specs.Waitings.{Waiting, no_waiting}
+use Rattle.xet_upload.specs.declared.raw_xorb.PendingFile.{PendingFile}
+use Rattle.xet_session.specs.Sessions.{HasListed, IsListed, SessionTold}
+use Rattle.xet_session.specs.steps.HashLists.{has}
+use Rattle.xet_session.specs.steps.Listings.{AreListed, has_all}
+use Rattle.xet_session.proofs.Hashes.{contains-has, has-contains}
+
+pub all-listed : (listed hs : List MerkleHash) → has_all listed hs ≡ true → All (Contains listed) hs
+all-listed listed hs e =
+    let P : MerkleHash → Type 0 = λ h. has h listed ≡ true in
+    All-weaker P (Contains listed) (λ h k. has-contains h listed k) hs (AllPass-from_list_all (λ h. has h listed) hs e)
+
+pub listed-all : (listed hs : List MerkleHash) → All (Contains listed) hs → has_all listed hs ≡ true
+listed-all listed hs a =
+    let P : MerkleHash → Type 0 = λ h. has h listed ≡ true in
+    list_all-from_AllPass (λ h. has h listed) hs (All-weaker (Contains listed) P (λ h k. contains-has h listed k) hs a)
+
+-- the tests pass exactly where all is listed
+pub listed-tested : (t : SessionTold) → AreListed t.listed t.registered t.finished t.waiting → IsListed t
+listed-tested t a = record {
+  finished = all-listed t.listed (names_of t.finished) a.finished;
+  waiting = all-listed t.listed _ a.waiting;
+  put = all-listed t.listed t.registered a.put;
+}
+
+pub tested-listed : (t : SessionTold) → IsListed t → AreListed t.listed t.registered t.finished t.waiting
+tested-listed t l = record {
+  finished = listed-all t.listed (names_of t.finished) l.finished;
+  waiting = listed-all t.listed _ l.waiting;
+  put = listed-all t.listed t.registered l.put;
+}
+
+-- the type's fact
+pub has-listed : (t : SessionTold) → (t.failed ≡ None → t.finalized ≡ false → AreListed t.listed t.registered t.finished t.waiting) → HasListed t
+has-listed t h f g = listed-tested t (h f g)
+
+-- ---- what keeps the tests
+
+-- the list has more at its end
+tests-more : (l m extra hs : List MerkleHash) → m ≡ l ++ extra → has_all l hs ≡ true → has_all m hs ≡ true
+tests-more l m extra hs e k =
+    listed-all m hs (All-weaker (Contains l) (Contains m) (λ h c. subst (λ (z : List MerkleHash). Contains z h) (sym e) (Contains-append_left l extra h c)) hs (all-listed l hs k))
+
+module _ (l r : List MerkleHash) (fs : List MDBFileInfo) (w : Waiting) (a : AreListed l r fs w) where
+  -- the lists are as before
+  pub are-same : (m s : List MerkleHash) → m ≡ l → s ≡ r → AreListed m s fs w
+  are-same m s e f =
+      subst (λ (z : List MerkleHash). AreListed z s fs w) (sym e) (subst (λ (z : List MerkleHash). AreListed l z fs w) (sym f) a)
+
+  -- a hash more on both
+  pub are-put : (m s : List MerkleHash) (h : MerkleHash) → m ≡ l ++ h ∷ [] → s ≡ r ++ h ∷ [] → AreListed m s fs w
+  are-put m s h e f =
+      let there : Contains m h = subst (λ (z : List MerkleHash). Contains z h) (sym e) (Contains-push l h) in
+      let old : All (Contains m) r = all-listed m r (tests-more l m (h ∷ []) r e a.put) in
+      record {
+        finished = tests-more l m (h ∷ []) (names_of fs) e a.finished;
+        waiting = tests-more l m (h ∷ []) _ e a.waiting;
+        put = listed-all m s (All-same (Contains m) s (r ++ h ∷ []) f (All-append (Contains m) r (h ∷ []) old (All-cons (Contains m) h [] there (All-nil (Contains m)))));
+      }
+
+  -- a hash more on the list
+  pub are-found : (m : List MerkleHash) (h : MerkleHash) → m ≡ l ++ h ∷ [] → AreListed m r fs w
+  are-found m h e = record {
+    finished = tests-more l m (h ∷ []) (names_of fs) e a.finished;
+    waiting = tests-more l m (h ∷ []) _ e a.waiting;
+    put = tests-more l m (h ∷ []) r e a.put;
+  }
+
+  -- nothing waits
+  pub are-emptied : AreListed l r fs no_waiting
+  are-emptied = record { finished = a.finished; waiting = refl; put = a.put }
+
+  -- files more, whose xorbs are on the list
+  are-finished : (gs : List MDBFileInfo) → All (Contains l) (names_of gs) → AreListed l r (fs ++ gs) w
+  are-finished gs k =
+      let split = flat_map-append (λ (f : MDBFileInfo). map (λ e. e.xorb) f.entries) fs gs in
+      record {
+        finished = listed-all l (names_of (fs ++ gs)) (All-same (Contains l) (names_of (fs ++ gs)) (names_of fs ++ names_of gs) split (All-append (Contains l) (names_of fs) (names_of gs) (all-listed l (names_of fs) a.finished) k));
+        waiting = a.waiting;
+        put = a.put;
+      }
+
+-- the files that were finished came behind the others
+pub are-appended : (l r : List MerkleHash) (w : Waiting) (fs gs hs ts : List PendingFile) → ts ≡ fs ++ gs → gs ≡ hs → AreListed l r (map (λ p. p.info) fs) w → All (Contains l) (names_of (map (λ p. p.info) hs)) → AreListed l r (map (λ p. p.info) ts) w
+are-appended l r w fs gs hs ts e f a named =
+    let P : List MDBFileInfo → Type 0 = λ z. AreListed l r z w in
+    let whole : map (λ p. p.info) ts ≡ map (λ p. p.info) fs ++ map (λ p. p.info) hs = ap (map (λ p. p.info)) (e ∙ ap (λ (z : List PendingFile). fs ++ z) f) ∙ map-append (λ (p : PendingFile). p.info) fs hs in
+    subst P (sym whole) (are-finished l r (map (λ p. p.info) fs) w a (map (λ p. p.info) hs) named)

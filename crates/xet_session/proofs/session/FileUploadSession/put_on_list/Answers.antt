@@ -1,0 +1,13 @@
+use Rattle.std.proofs.Common.{List, ap}
+use Rattle.xet_base.specs.declared.merklehash.MerkleHash.{MerkleHash}
+use Rattle.xet_session.specs.Telling.{told_by}
+use Rattle.xet_session.proofs.Queries.{on-list-pushed}
+use Rattle.xet_session.proofs.Tests.{are-found}
+use Rattle.xet_session.proofs.session.FileUploadSession.put_on_list.Goals as goal
+
+pub invariant_of-self : goal.invariant_of-self
+invariant_of-self g c = record { lists = λ f z. are-found _ _ _ _ (c.args.self.now.lists f z) _ _ c.push_reserved.ensures }
+
+pub returns : goal.returns
+returns g c =
+    on-list-pushed _ _ _ (ap (λ (hs : List MerkleHash). record (told_by g.U.Uploader.told g.R.ShardStore.told c.args.self.now) { listed = hs }) c.push_reserved.ensures)

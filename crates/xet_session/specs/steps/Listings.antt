@@ -1,0 +1,19 @@
+-- What the lists of a session have, as tests: a ghost field takes a fact of which there is one proof at most.
+use Rattle.std.specs.Prelude.{◌≡◌, Bool, true, List}
+use Rattle.std.specs.List.{list_all}
+use Rattle.xet_base.specs.declared.merklehash.MerkleHash.{MerkleHash}
+use Rattle.xet_base.specs.declared.mdb_shard.MDBFileInfo.{MDBFileInfo}
+use Rattle.xet_upload.specs.Orders.{names_of}
+use Rattle.xet_upload.specs.Waitings.{Waiting}
+use Rattle.xet_session.specs.Sessions.{waiting_names}
+use Rattle.xet_session.specs.steps.HashLists.{has}
+
+-- the list has each of these hashes
+abbrev pub has_all : List MerkleHash → List MerkleHash → Bool
+has_all listed hs = list_all (λ h. has h listed) hs
+
+-- each xorb that the record of a finished or waiting file names is on the list, and each that was put
+pub record AreListed (listed registered : List MerkleHash) (files : List MDBFileInfo) (waits : Waiting) : Type 0 where
+  pub finished : has_all listed (names_of files) ≡ true
+  pub waiting : has_all listed (waiting_names waits.files) ≡ true
+  pub put : has_all listed registered ≡ true
