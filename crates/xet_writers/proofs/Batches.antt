@@ -10,11 +10,17 @@ use Rattle.xet_outside.proofs.CallerLemmas.{took_both}
 use Rattle.xet_outside.specs.declared.sink.SinkError.{SinkError}
 use Rattle.xet_outside.specs.Told.{SinkTold, Took}
 use Rattle.xet_writers.specs.Pieces.{StoppedIn, WrotePieces, bytes_before, nonempty}
-use Rattle.xet_writers.specs.steps.Lending.{Lends, WroteTerms}
+use Rattle.xet_writers.specs.steps.Lending.{Lends}
 use Rattle.xet_writers.specs.declared.queued_term.QueuedTerm.{QueuedTerm}
 use Rattle.xet_writers.specs.Queues.{ready}
 use Rattle.xet_writers.proofs.Joined.{split}
 use Rattle.xet_writers.proofs.Stops.{joined, wrote_among}
+
+-- the pieces from one number to another were written, or a write of them failed
+pub record WroteTerms (before now : SinkTold) (ps : List (List ℕ)) (at end count : ℕ) (answer : Result (Unit {0}) SinkError) : Type 0 where
+  pub ahead : at ≤ end
+  pub within : end ≤ length ps
+  pub wrote : WrotePieces 24 before now (take (end - at) (drop at ps)) count answer
 
 nil_take : (n : ℕ) → ◌≡◌ {A = List (List ℕ)} (take n []) []
 nil_take zero = refl
@@ -26,7 +32,7 @@ take_both zero n xs = let e : 0 + n ≡ n = omega arith in ap (λ j. take j xs) 
 take_both (suc at) n [] = nil_take (suc at + n) ∙ sym (nil_take n)
 take_both (suc at) n (x ∷ xs) = let e : suc at + n ≡ suc (at + n) = omega arith in ap (λ j. take j (x ∷ xs)) e ∙ ap (λ l. x ∷ l) (take_both at n xs)
 
-before_both : (at n : ℕ) (ps : List (List ℕ)) → bytes_before (at + n) ps ≡ bytes_before at ps + bytes_before n (drop at ps)
+pub before_both : (at n : ℕ) (ps : List (List ℕ)) → bytes_before (at + n) ps ≡ bytes_before at ps + bytes_before n (drop at ps)
 before_both at n ps = ap (λ qs. length (concat qs)) (take_both at n ps) ∙ ap length (concat-append (take at ps) (take n (drop at ps))) ∙ length-append (concat (take at ps)) (concat (take n (drop at ps)))
 
 before_batch : (k n : ℕ) (ps : List (List ℕ)) → k ≤ n → bytes_before k (take n ps) ≡ bytes_before k ps
@@ -39,7 +45,7 @@ before_batch (suc k) (suc n) (p ∷ ps) h =
     let c = before_batch k n ps (omega arith) in
     omega arith
 
-shorter : (k : ℕ) (ps : List (List ℕ)) → bytes_before k ps ≤ length (concat ps)
+pub shorter : (k : ℕ) (ps : List (List ℕ)) → bytes_before k ps ≤ length (concat ps)
 shorter k ps = let a = ap length (split ps k) in let b = length-append (concat (take k ps)) (concat (drop k ps)) in omega arith
 
 fewer_at : (most n : ℕ) (p : List ℕ) (ps : List (List ℕ)) (b : Bool) → nat_lt 0 (length p) ≡ b → ((j : ℕ) → length (concat (take j (nonempty (take n ps)))) ≤ length (concat (take j (nonempty ps)))) → length (concat (take most (nonempty (p ∷ take n ps)))) ≤ length (concat (take most (nonempty (p ∷ ps))))
@@ -173,18 +179,10 @@ lent_room at end ts qs ps limit l h =
     omega arith
 
 -- what was written of the lent bytes was written of the terms
-pub lent_wrote : (b c : SinkTold) (at end : ℕ) (ts qs : List QueuedTerm) (ps : List (List ℕ)) (count : ℕ) (answer : Result (Unit {0}) SinkError) → Lends at end ts qs ps → WrotePieces 24 b c ps count answer → WroteTerms b c (ready ts) at end count answer
-lent_wrote b c at end ts qs ps count answer l w =
+pub lent_wrote : (b c : SinkTold) (end : ℕ) (ts qs : List QueuedTerm) (ps : List (List ℕ)) (count : ℕ) (answer : Result (Unit {0}) SinkError) → Lends 0 end ts qs ps → WrotePieces 24 b c ps count answer → WrotePieces 24 b c (take end (ready ts)) count answer
+lent_wrote b c end ts qs ps count answer l w =
     let x = l.end_is in
-    let e : l.count ≡ end - at = omega arith in
+    let e : l.count ≡ end = omega arith in
     let u = subst (λ (m : List (List ℕ)). WrotePieces 24 b c m count answer) l.pieces_are w in
-    let v = wrote_among b c (take l.count (drop at (ready ts))) count answer u in
-    record { ahead = omega arith; within = l.within; wrote = subst (λ (j : ℕ). WrotePieces 24 b c (take j (drop at (ready ts))) count answer) e v }
-
-none_by : (at end n : ℕ) (b : Bool) → nat_lt at n ≡ b → end ≡ at → (at < n → at < end) → n ≤ at
-none_by at end n true e h f = let z = f (ltb-true at n e) in absurd (omega arith)
-none_by at end n false e h f = ltb-false at n e
-
--- no batch came of the terms from this number on, so none is ready
-pub none_left : (at end n : ℕ) → end ≡ at → (at < n → at < end) → n ≤ at
-none_left at end n h f = none_by at end n (nat_lt at n) refl h f
+    let v = wrote_among b c (take l.count (ready ts)) count answer u in
+    subst (λ (j : ℕ). WrotePieces 24 b c (take j (ready ts)) count answer) e v

@@ -1,6 +1,8 @@
 mod Batches
 mod Joined
 mod Lent
+mod Gone
+mod Sending
 mod Each
 mod Stops
 mod Terms

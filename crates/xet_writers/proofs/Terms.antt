@@ -49,7 +49,7 @@ ready_short t ts None h = omega arith
 ready_short t ts (Some bytes) h = omega arith
 
 -- not more terms are ready than there are
-ready_within : (ts : List QueuedTerm) → length (ready ts) ≤ length ts
+pub ready_within : (ts : List QueuedTerm) → length (ready ts) ≤ length ts
 ready_within [] = omega arith
 ready_within (t ∷ ts) = ready_short t ts t.bytes (ready_within ts)
 

@@ -1,4 +1,5 @@
 -- Working words of private functions.
+pub mod Batches
 pub mod Indexed
 pub mod Lending
 pub mod PieceSteps

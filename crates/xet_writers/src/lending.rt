@@ -6,7 +6,7 @@ ghost use Rattle.std.specs.VecDeque.{deque_len};
 ghost use Rattle.xet_writers.specs.declared.queued_term.QueuedTerm.{QueuedTerm as Term};
 ghost use Rattle.xet_writers.specs.Pieces.{WrotePieces, nonempty};
 ghost use Rattle.xet_writers.specs.Queues.{bytes_then, ready, ready_bytes};
-ghost use Rattle.xet_writers.specs.steps.Lending.{Lends, WroteTerms, lent_at};
+ghost use Rattle.xet_writers.specs.steps.Lending.{Lends, lent_at};
 ghost use Rattle.xet_writers.specs.steps.SequentialSteps.{with_bytes};
 
 use crate::pieces::{PIECES, Sent, write_together};
@@ -60,18 +60,17 @@ fn lend_one(queue: &mut VecDeque<QueuedTerm>, place: usize, pieces: &mut Vec<Byt
     true
 }
 
-/// Lends the bytes of the terms from number `at` on, up to the first wanted one, at most 24 that have any. Answers the
-/// number of the next term.
-fn lend(queue: &mut VecDeque<QueuedTerm>, at: usize, pieces: &mut Vec<Bytes>) -> usize
-    requires within { at ≤ length (ready queue.old.items) }
+/// Lends the bytes of the first terms, up to the first wanted one, at most 24 that have any. Answers how many terms
+/// these are.
+pub(crate) fn lend(queue: &mut VecDeque<QueuedTerm>, pieces: &mut Vec<Bytes>) -> usize
     requires empty { pieces.old.items ≡ [] }
     requires room { 24 ≤ vec_capacity pieces.old }
-    ensures lent { Lends at result queue.old.items queue.new.items pieces.new.items }
-    ensures some { at < length (ready queue.old.items) → at < result }
+    ensures lent { Lends 0 result queue.old.items queue.new.items pieces.new.items }
+    ensures some { 0 < length (ready queue.old.items) → 0 < result }
     ensures len { deque_len queue.new ≡ deque_len queue.old }
     ensures capacity { vec_capacity pieces.new ≡ vec_capacity pieces.old }
 {
-    let mut end = at;
+    let mut end = 0usize;
     while end < queue.len() {
         if pieces.len() >= PIECES {
             return end;
@@ -101,94 +100,27 @@ fn put_one(queue: &mut VecDeque<QueuedTerm>, place: usize, pieces: &mut Vec<Byte
     }
 }
 
-/// Puts back what the terms from number `at` to number `end` lent.
-fn put_back(queue: &mut VecDeque<QueuedTerm>, at: usize, end: usize, pieces: &mut Vec<Bytes>)
+/// Puts back what the first terms lent, so many of them.
+pub(crate) fn put_back(queue: &mut VecDeque<QueuedTerm>, end: usize, pieces: &mut Vec<Bytes>)
     requires { end ≤ length queue.old.items }
-    ensures back { (ts : List Term) → Lends at end ts queue.old.items pieces.old.items
+    ensures back { (ts : List Term) → Lends 0 end ts queue.old.items pieces.old.items
         → (queue.new.items ≡ ts) × (pieces.new.items ≡ []) }
     ensures len { deque_len queue.new ≡ deque_len queue.old }
     ensures capacity { vec_capacity pieces.new ≡ vec_capacity pieces.old }
 {
     let mut i = end;
-    while at < i {
+    while 0 < i {
         i -= 1;
         put_one(queue, i, pieces);
     }
 }
 
 /// Writes the list of pieces, which stays as it is.
-fn write_list<S: Sink>(sink: &mut S, pieces: &mut Vec<Bytes>) -> Sent
+pub(crate) fn write_list<S: Sink>(sink: &mut S, pieces: &mut Vec<Bytes>) -> Sent
     requires { length (concat pieces.old.items) < 2 ^ 64 }
     ensures sent { WrotePieces 24 (S.told sink.old) (S.told sink.new) pieces.old.items result.count result.end }
     ensures pieces { pieces.new.items ≡ pieces.old.items }
     ensures capacity { vec_capacity pieces.new ≡ vec_capacity pieces.old }
 {
     write_together(sink, pieces.as_mut_slice())
-}
-
-/// What a write of some terms came to.
-#[derive(Drop)]
-pub(crate) struct Batch {
-    /// The number of the term after them.
-    pub(crate) end: usize,
-    /// How much was written for sure.
-    pub(crate) sent: Sent,
-}
-
-/// Writes the terms from number `at` on, up to the first wanted one, at most 24 that have bytes. Their bytes are lent
-/// to the list for the write, and stand in the queue again after it.
-pub(crate) fn write_batch<S: Sink>(
-    sink: &mut S,
-    queue: &mut VecDeque<QueuedTerm>,
-    at: usize,
-    pieces: &mut Vec<Bytes>,
-) -> Batch
-    requires within { at ≤ length (ready queue.old.items) }
-    requires empty { pieces.old.items ≡ [] }
-    requires room { 24 ≤ vec_capacity pieces.old }
-    requires short { length (ready_bytes queue.old.items) < 2 ^ 64 }
-    ensures sent { WroteTerms (S.told sink.old) (S.told sink.new) (ready queue.old.items) at result.end
-        result.sent.count result.sent.end }
-    ensures some { at < length (ready queue.old.items) → at < result.end }
-    ensures queue { queue.new.items ≡ queue.old.items }
-    ensures len { deque_len queue.new ≡ deque_len queue.old }
-    ensures pieces { pieces.new.items ≡ [] }
-    ensures capacity { vec_capacity pieces.new ≡ vec_capacity pieces.old }
-{
-    let end = lend(queue, at, pieces);
-    let sent = write_list(sink, pieces);
-    put_back(queue, at, end, pieces);
-    Batch { end, sent }
-}
-
-/// Writes the bytes of the terms before the first wanted one, those of at most 24 terms by one write.
-pub(crate) fn write_batches<S: Sink>(
-    sink: &mut S,
-    queue: &mut VecDeque<QueuedTerm>,
-    pieces: &mut Vec<Bytes>,
-) -> Sent
-    requires empty { pieces.old.items ≡ [] }
-    requires room { 24 ≤ vec_capacity pieces.old }
-    requires short { length (ready_bytes queue.old.items) < 2 ^ 64 }
-    ensures sent { WrotePieces 24 (S.told sink.old) (S.told sink.new) (ready queue.old.items) result.count result.end }
-    ensures queue { queue.new.items ≡ queue.old.items }
-    ensures len { deque_len queue.new ≡ deque_len queue.old }
-{
-    let mut count = 0u64;
-    let mut at = 0usize;
-    while at < queue.len() {
-        let Batch { end, sent } = write_batch(sink, queue, at, pieces);
-        count += sent.count;
-        if let Err(error) = sent.end {
-            return Sent {
-                count,
-                end: Err(error),
-            };
-        }
-        if end == at {
-            return Sent { count, end: Ok(()) };
-        }
-        at = end;
-    }
-    Sent { count, end: Ok(()) }
 }

@@ -5,6 +5,7 @@ pub mod completed_term;
 pub mod data_writer;
 mod faults;
 pub mod laws;
+mod leaving;
 mod lending;
 mod pieces;
 pub mod queued_term;

@@ -5,14 +5,14 @@ use bytes::Bytes;
 use std::alloc::Global;
 use xet_base::FileRange;
 use xet_blocks::DataSource;
-use xet_error::{FileReconstructionError, Result, WriterFault};
+use xet_error::Result;
 use xet_outside::{Sink, SinkError};
 use xet_run::Admission;
 use xet_sinks::VecSink;
-use xet_writers::{DataWriter, SequentialWriter};
+use xet_writers::DataWriter;
 
 /// One call of a writer.
-#[derive(Clone, Copy, Debug)]
+#[derive(Clone, Copy)]
 pub(crate) enum Call {
     /// A term whose bytes are there.
     Ready(u64, u64, &'static [u8]),
@@ -45,28 +45,6 @@ pub(crate) fn make<W: DataWriter>(alloc: Global, writer: &mut W, call: Call) -> 
     }
 }
 
-/// A call of a writer in order, none being `write_ready`, and the answer that is wanted.
-pub(crate) type Row = (Option<Call>, Result<u64>);
-
-/// Makes the calls in turn, and answers the number of the first with another answer than the wanted one.
-pub(crate) fn first_wrong<S: Sink>(
-    alloc: Global,
-    writer: &mut SequentialWriter<S>,
-    rows: &[Row],
-) -> Option<usize> {
-    for i in 0..rows.len() {
-        let (call, wanted) = rows[i];
-        let answer = match call {
-            Some(call) => make(alloc, writer, call),
-            None => writer.write_ready(alloc),
-        };
-        if answer != wanted {
-            return Some(i);
-        }
-    }
-    None
-}
-
 /// Takes a term with an admission of its length.
 pub(crate) fn admitted<W: DataWriter>(
     alloc: Global,
@@ -78,11 +56,6 @@ pub(crate) fn admitted<W: DataWriter>(
     let end = start.saturating_add(text.len() as u64);
     let source = DataSource::Ready(Bytes::from_static(text));
     writer.set_next_term_data_source(alloc, FileRange::new(start, end), admission, source)
-}
-
-/// The answer of a call that fails a test.
-pub(crate) fn fault(fault: WriterFault) -> Result<u64> {
-    Err(FileReconstructionError::InternalWriterError(fault))
 }
 
 /// How many pieces are empty.

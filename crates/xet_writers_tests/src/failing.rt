@@ -38,6 +38,22 @@ fn released<S>(
     Ok(lengths)
 }
 
+/// Writes the texts, where write and end are to answer this. The admissions that came back, and the sink.
+fn after_the_error(
+    alloc: Global,
+    sink: ScriptSink,
+    use_vectorized: bool,
+    answer: Result<u64>,
+) -> std::result::Result<(Vec<u64>, ScriptSink), Fail> {
+    let mut writer = SequentialWriter::new(alloc, sink, use_vectorized);
+    take_texts(alloc, &mut writer)?;
+    if writer.write_ready(alloc) != answer || writer.finish(alloc) != answer {
+        return Err("another answer".into());
+    }
+    let back = released(alloc, &mut writer)?;
+    Ok((back, writer.into_inner()))
+}
+
 /// Terms that answered writes took wholly give their admissions back, in order, whatever the failed write took.
 #[test]
 fn admissions_after_a_failed_write(rt: HostRuntime) -> std::result::Result<(), Fail> {
@@ -69,16 +85,9 @@ fn admissions_after_a_failed_write(rt: HostRuntime) -> std::result::Result<(), F
     ];
     for (use_vectorized, steps, taken, lengths) in rows {
         let sink = ScriptSink::new(alloc, steps.to_vec(alloc)?);
-        let mut writer = SequentialWriter::new(alloc, sink, use_vectorized);
-        assert_eq!(rt; take_texts(alloc, &mut writer), Ok(()));
-        assert_eq!(rt; writer.write_ready(alloc), failed, "{steps:?}");
-        assert_eq!(rt; writer.finish(alloc), failed, "kept");
-        let back = released(alloc, &mut writer)?;
-        assert!(rt;
-            back.as_slice() == lengths,
-            "{steps:?}, together: {use_vectorized}"
-        );
-        assert!(rt; writer.into_inner().taken() == taken, "{steps:?}");
+        let (back, out) = after_the_error(alloc, sink, use_vectorized, failed)?;
+        assert!(rt; back.as_slice() == lengths, "together: {use_vectorized}");
+        assert!(rt; out.taken() == taken, "together: {use_vectorized}");
     }
     Ok(())
 }
@@ -113,15 +122,10 @@ fn each_write_fails_in_turn(rt: HostRuntime) -> std::result::Result<(), Fail> {
     let lengths = [5, 0, 1, 5, 1].as_slice();
     for (use_vectorized, number, answer, taken, given_back) in rows {
         let sink = failing_at(alloc, number)?;
-        let mut writer = SequentialWriter::new(alloc, sink, use_vectorized);
-        assert_eq!(rt; take_texts(alloc, &mut writer), Ok(()));
-        assert_eq!(rt; writer.write_ready(alloc), answer, "at write {number}");
-        assert_eq!(rt; writer.finish(alloc), answer, "kept, at write {number}");
-        let back = released(alloc, &mut writer)?;
-        assert_eq!(rt; back.len(), given_back, "at write {number}");
+        let (back, sink) = after_the_error(alloc, sink, use_vectorized, answer)?;
+        assert!(rt; back.len() == given_back, "at write {number}");
         assert!(rt; lengths.starts_with(back.as_slice()), "at write {number}");
-        let sink = writer.into_inner();
-        assert_eq!(rt; sink.taken().len(), taken, "at write {number}");
+        assert!(rt; sink.taken().len() == taken, "at write {number}");
         assert!(rt; whole.starts_with(sink.taken()), "at write {number}");
     }
     Ok(())
@@ -189,32 +193,53 @@ fn admissions_after_a_failed_flush(rt: HostRuntime) -> std::result::Result<(), F
     Ok(())
 }
 
+/// Whether the writer takes the texts, writes them all and ends, and each admission comes back.
+fn writes_all<S: Sink>(
+    alloc: Global,
+    writer: &mut SequentialWriter<S>,
+) -> std::result::Result<bool, Fail> {
+    take_texts(alloc, writer)?;
+    if writer.write_ready(alloc) != Ok(12) || writer.finish(alloc) != Ok(12) {
+        return Ok(false);
+    }
+    let back = released(alloc, writer)?;
+    Ok(back.as_slice() == [5, 0, 1, 5, 1].as_slice())
+}
+
+/// Whether all goes through a buffer of this capacity.
+fn passes_a_buffer(
+    alloc: Global,
+    capacity: usize,
+    use_vectorized: bool,
+) -> std::result::Result<bool, Fail> {
+    let sink = BufferedSink::new(alloc, VecSink::new(alloc), capacity)?;
+    let mut writer = SequentialWriter::new(alloc, sink, use_vectorized);
+    let all = writes_all(alloc, &mut writer)?;
+    let inner = writer.into_inner().into_inner();
+    Ok(all && inner.taken() == b"Hello-World!".as_slice())
+}
+
 #[test]
 fn a_buffer_stands_between(rt: HostRuntime) -> std::result::Result<(), Fail> {
-    let alloc = rt.alloc();
     for capacity in [1, 6, 64] {
         for use_vectorized in [false, true] {
-            let sink = BufferedSink::new(alloc, VecSink::new(alloc), capacity)?;
-            let mut writer = SequentialWriter::new(alloc, sink, use_vectorized);
-            assert_eq!(rt; take_texts(alloc, &mut writer), Ok(()));
-            assert_eq!(rt; writer.write_ready(alloc), Ok(12));
-            assert_eq!(rt; writer.finish(alloc), Ok(12));
-            let back = released(alloc, &mut writer)?;
-            assert!(rt; back.as_slice() == [5, 0, 1, 5, 1].as_slice());
-            let inner = writer.into_inner().into_inner();
-            assert!(rt; inner.taken() == b"Hello-World!".as_slice());
+            assert!(rt; passes_a_buffer(rt.alloc(), capacity, use_vectorized)?);
         }
     }
+    Ok(())
+}
+
+/// The admissions of terms that the buffer took come back, though the sink below fails.
+#[test]
+fn a_buffer_over_a_sink_that_fails(rt: HostRuntime) -> std::result::Result<(), Fail> {
+    let alloc = rt.alloc();
     let steps = vec![in alloc; SinkStep::Take(2), SinkStep::Fail]?;
     let sink = BufferedSink::new(alloc, ScriptSink::new(alloc, steps), 6)?;
     let mut writer = SequentialWriter::new(alloc, sink, false);
-    assert_eq!(rt; take_texts(alloc, &mut writer), Ok(()));
-    assert_eq!(rt; writer.finish(alloc), Err(FileReconstructionError::IoError));
+    take_texts(alloc, &mut writer)?;
+    assert!(rt; writer.finish(alloc) == Err(FileReconstructionError::IoError));
     let back = released(alloc, &mut writer)?;
-    assert!(rt;
-        back.as_slice() == [5, 0, 1].as_slice(),
-        "the buffer took these"
-    );
+    assert!(rt; back.as_slice() == [5, 0, 1].as_slice());
     let mut sink = writer.into_inner();
     assert!(rt; sink.flush().is_err());
     assert!(rt; sink.into_inner().taken() == b"He".as_slice());

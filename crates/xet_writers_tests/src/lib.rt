@@ -9,6 +9,10 @@ mod failing;
 #[cfg(test)]
 mod over_std;
 #[cfg(test)]
+mod rows;
+#[cfg(test)]
+mod scripts;
+#[cfg(test)]
 mod sequential;
 #[cfg(test)]
 mod unordered;

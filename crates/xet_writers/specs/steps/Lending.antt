@@ -1,9 +1,7 @@
 -- The bytes of some terms of a queue, lent for a write.
-use Rattle.std.specs.Prelude.{ℕ, zero, suc, ◌≡◌, ◌+◌, ◌-◌, ◌≤◌, List, [], ◌∷◌, drop, length, take, Option, Some, None, Result}
-use Rattle.xet_outside.specs.declared.sink.SinkError.{SinkError}
-use Rattle.xet_outside.specs.Told.{SinkTold}
+use Rattle.std.specs.Prelude.{ℕ, zero, suc, ◌≡◌, ◌+◌, ◌≤◌, List, [], ◌∷◌, drop, length, take, Option, Some, None}
 use Rattle.xet_writers.specs.declared.queued_term.QueuedTerm.{QueuedTerm}
-use Rattle.xet_writers.specs.Pieces.{WrotePieces, nonempty}
+use Rattle.xet_writers.specs.Pieces.{nonempty}
 use Rattle.xet_writers.specs.Queues.{ready}
 
 -- what a term keeps of its bytes while they are lent: empty ones are not lent
@@ -34,10 +32,3 @@ pub record Lends (at end : ℕ) (ts qs : List QueuedTerm) (pieces : List (List �
   pub within : end ≤ length (ready ts)
   pub queue : qs ≡ lent at ts count
   pub pieces_are : pieces ≡ lent_pieces at ts count
-
--- the pieces from one number to another were written, or a write of them failed
-pub record WroteTerms (before now : SinkTold) (ps : List (List ℕ)) (at end count : ℕ)
-    (answer : Result (Unit {0}) SinkError) : Type 0 where
-  pub ahead : at ≤ end
-  pub within : end ≤ length ps
-  pub wrote : WrotePieces 24 before now (take (end - at) (drop at ps)) count answer

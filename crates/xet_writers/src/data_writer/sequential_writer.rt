@@ -1,19 +1,21 @@
 //! The writer that writes terms in order.
 ghost use Rattle.std.specs.List.{position_from};
-ghost use Rattle.std.specs.Prelude.{◌≡◌, ◌+◌, ◌<◌, ◌≤◌, ◌^◌, ◌++◌, [], ◌∷◌, cond, IfErr, IfOk, None, OnErr, OnOk, Some, false, length, option_to_list, true};
+ghost use Rattle.std.specs.Prelude.{◌≡◌, ◌+◌, ◌<◌, ◌≤◌, ◌^◌, ◌++◌, [], ◌∷◌, IfErr, IfOk, None, OnErr, OnOk, Some, false, length, true};
+ghost use Rattle.std.specs.Vec.{vec_capacity};
 ghost use Rattle.std.specs.VecDeque.{deque_capacity, deque_len};
 ghost use Rattle.xet_error.specs.declared.error.FileReconstructionError.TheVariants as error;
 ghost use Rattle.xet_error.specs.Errors.{of_sink_error};
 ghost use Rattle.xet_writers.specs.Calls.{FinishCall, SetCall, SetSums, SupplyCall, closed_by, finish_fault, kept_fault};
-ghost use Rattle.xet_writers.specs.Pieces.{WrotePieces, nonempty};
-ghost use Rattle.xet_writers.specs.Queues.{fits, is_wanted_at, ready, ready_bytes, wanted};
-ghost use Rattle.xet_writers.specs.Sequential.{FinishSequential, ReadyCall, SetSequential, SupplySequential, TookReleased, WindowCall, Wrote, sums_of, told_of};
+ghost use Rattle.xet_writers.specs.Queues.{fits, is_wanted_at, ready_bytes, wanted};
+ghost use Rattle.xet_writers.specs.Sequential.{FinishSequential, ReadyCall, SetSequential, SupplySequential, TookReleased, WindowCall, Wrote, most_pieces, sums_of, told_of};
+ghost use Rattle.xet_writers.specs.steps.Batches.{BatchCall, SentReady};
 ghost use Rattle.xet_writers.specs.steps.SequentialSteps.{Flushed, GiveCall, Last, PassedAll, PassedFront, with_bytes};
 ghost use Rattle.xet_writers.specs.steps.WantedPlaces.{places_of};
 
 use crate::data_writer::DataWriter;
 use crate::faults::{error_to_keep, test_length, test_term};
-use crate::lending::{put_bytes, write_batches};
+use crate::leaving::{give_back, let_go};
+use crate::lending::{lend, put_back, put_bytes, write_list};
 use crate::pieces::{PIECES, Sent, write_each};
 use crate::queued_term::{QueuedTerm, WantedPlace};
 use crate::waiting::Waiting;
@@ -97,55 +99,13 @@ fn note_wanted(
     waiting.add(WantedPlace { start, number })
 }
 
-/// Adds the admission of a written term, for which there is room.
-fn give_back(released: &mut VecDeque<Admission>, admission: Option<Admission>)
-    requires { deque_len released.old < deque_capacity released.old }
-    ensures items { released.new.items ≡ released.old.items ++ option_to_list admission }
-    ensures room { deque_len released.new ≤ deque_len released.old + 1 }
-    ensures capacity { deque_capacity released.new ≡ deque_capacity released.old }
-{
-    if let Some(admission) = admission {
-        released.push_back_reserved(admission);
-    }
-}
-
-/// Writes the terms before the first wanted one by the loop that hands many pieces to one write.
-fn send_together<S: Sink>(
-    alloc: Global,
-    sink: &mut S,
-    queue: &mut VecDeque<QueuedTerm>,
-) -> std::result::Result<Sent, OutOfMemory>
-    requires { length (ready_bytes queue.old.items) < 2 ^ 64 }
-    ensures sent { IfOk result (λ sent. WrotePieces 24 (S.told sink.old) (S.told sink.new) (ready queue.old.items)
-        sent.count sent.end) }
-    ensures memory { OnErr result (sink.new ≡ sink.old) }
-    ensures queue { queue.new.items ≡ queue.old.items }
-    ensures len { deque_len queue.new ≡ deque_len queue.old }
-{
-    let Ok(mut pieces) = Vec::with_capacity(alloc, PIECES) else {
-        return Err(OutOfMemory);
-    };
-    Ok(write_batches(sink, queue, &mut pieces))
-}
-
-/// Writes the terms before the first wanted one by one of the two loops.
-fn send<S: Sink>(
-    alloc: Global,
-    sink: &mut S,
-    queue: &mut VecDeque<QueuedTerm>,
-    use_vectorized: bool,
-) -> std::result::Result<Sent, OutOfMemory>
-    requires { length (ready_bytes queue.old.items) < 2 ^ 64 }
-    ensures sent { IfOk result (λ sent. WrotePieces (cond use_vectorized 24 1) (S.told sink.old) (S.told sink.new)
-        (ready queue.old.items) sent.count sent.end) }
-    ensures memory { OnErr result (sink.new ≡ sink.old) }
-    ensures queue { queue.new.items ≡ queue.old.items }
-    ensures len { deque_len queue.new ≡ deque_len queue.old }
-{
-    if use_vectorized {
-        return send_together(alloc, sink, queue);
-    }
-    Ok(write_each(sink, queue))
+/// What a write of the bytes of some terms came to.
+#[derive(Drop)]
+struct Batch {
+    /// How many terms these were, the first of the queue.
+    terms: usize,
+    /// How much was written for sure.
+    sent: Sent,
 }
 
 impl<S> SequentialWriter<S> {
@@ -340,20 +300,100 @@ impl<S> SequentialWriter<S> {
 }
 
 impl<S: Sink> SequentialWriter<S> {
+    /// Writes the bytes of the first terms, up to the first wanted one, at most 24 that have any. They are lent to the
+    /// list for the write. After it the terms are gone; after an error those that were written wholly, and the others
+    /// have their bytes again.
+    fn write_batch(&mut self, pieces: &mut Vec<Bytes>) -> Batch
+        requires empty { pieces.old.items ≡ [] }
+        requires room { 24 ≤ vec_capacity pieces.old }
+        requires short { length (ready_bytes self.old.queue) < 2 ^ 64 }
+        ensures call { BatchCall S.told self.old self.new result.terms result.sent.count result.sent.end }
+        ensures pieces { pieces.new.items ≡ [] }
+        ensures capacity { vec_capacity pieces.new ≡ vec_capacity pieces.old }
+    {
+        let terms = lend(&mut self.queue, pieces);
+        let sent = write_list(&mut self.sink, pieces);
+        if sent.end.is_err() {
+            put_back(&mut self.queue, terms, pieces);
+            self.pass(sent.count);
+            return Batch { terms, sent };
+        }
+        pieces.clear();
+        let_go(&mut self.queue, &mut self.released, terms);
+        self.delivered += sent.count;
+        self.passed += terms as u64;
+        Batch { terms, sent }
+    }
+
+    /// Writes the terms before the first wanted one, those of at most 24 terms by one write, and passes over those that
+    /// were written wholly.
+    fn send_batches(&mut self, pieces: &mut Vec<Bytes>) -> Sent
+        requires empty { pieces.old.items ≡ [] }
+        requires room { 24 ≤ vec_capacity pieces.old }
+        requires short { length (ready_bytes self.old.queue) < 2 ^ 64 }
+        ensures { SentReady S.told 24 self.old self.new result.count result.end }
+    {
+        let mut count = 0u64;
+        while !self.queue.is_empty() {
+            let Batch { terms, sent } = self.write_batch(pieces);
+            count += sent.count;
+            if let Err(error) = sent.end {
+                return Sent {
+                    count,
+                    end: Err(error),
+                };
+            }
+            if terms == 0 {
+                return Sent { count, end: Ok(()) };
+            }
+        }
+        Sent { count, end: Ok(()) }
+    }
+
+    /// The same by the loop that hands many pieces to one write.
+    fn send_together(&mut self, alloc: Global) -> std::result::Result<Sent, OutOfMemory>
+        requires { length (ready_bytes self.old.queue) < 2 ^ 64 }
+        ensures sent { IfOk result (λ sent. SentReady S.told 24 self.old self.new sent.count sent.end) }
+        ensures memory { OnErr result (self.new ≡ self.old) }
+    {
+        let Ok(mut pieces) = Vec::with_capacity(alloc, PIECES) else {
+            return Err(OutOfMemory);
+        };
+        Ok(self.send_batches(&mut pieces))
+    }
+
+    /// The same by the loop that hands one piece to a write.
+    fn send_each(&mut self) -> Sent
+        requires { length (ready_bytes self.old.queue) < 2 ^ 64 }
+        ensures { SentReady S.told 1 self.old self.new result.count result.end }
+    {
+        let sent = write_each(&mut self.sink, &self.queue);
+        self.pass(sent.count);
+        sent
+    }
+
+    /// Writes the terms before the first wanted one by one of the two loops, and passes over those that were written
+    /// wholly.
+    fn send(&mut self, alloc: Global) -> std::result::Result<Sent, OutOfMemory>
+        requires { length (ready_bytes self.old.queue) < 2 ^ 64 }
+        ensures sent { IfOk result (λ sent. SentReady S.told (most_pieces self.old) self.old self.new sent.count
+            sent.end) }
+        ensures memory { OnErr result (self.new ≡ self.old) }
+    {
+        if self.use_vectorized {
+            return self.send_together(alloc);
+        }
+        Ok(self.send_each())
+    }
+
     /// Writes the terms before the first wanted one.
     fn write_queued(&mut self, alloc: Global) -> Result<u64>
         requires { self.old.kept ≡ None }
         ensures { Wrote S.told self.old self.new result }
     {
         let before = self.delivered;
-        let Sent { count, end } = send(
-            alloc,
-            &mut self.sink,
-            &mut self.queue,
-            self.use_vectorized,
-        )?;
-        self.pass(count);
-        match end {
+        let sent = self.send(alloc)?;
+        match sent.end {
             Ok(()) => Ok(self.delivered - before),
             Err(error) => Err(self.keep(error)),
         }

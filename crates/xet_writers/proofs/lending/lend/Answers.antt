@@ -7,13 +7,13 @@ pub returns-then-not-lend_one-clause-lent : goal.returns-then-not-lend_one-claus
 returns-then-not-lend_one-clause-lent c =
     let r : c.lend_one.result ≡ false = search rules in
     let s : is_some (get_or c.loop-end.queue.items c.loop-end.end no_term).bytes ≡ false = sym (c.lend_one.ensures.ready no_term) ∙ r in
-    lends_stay c.args.at c.loop-end.end c.args.queue.now.items c.loop-end.queue.items c.lend_one.new.queue.items c.loop-end.pieces.items c.lend_one.new.pieces.items no_term c.loop-end.invariant.lends s c.lend_one.ensures.queue (c.lend_one.ensures.pieces no_term)
+    lends_stay 0 c.loop-end.end c.args.queue.now.items c.loop-end.queue.items c.lend_one.new.queue.items c.loop-end.pieces.items c.lend_one.new.pieces.items no_term c.loop-end.invariant.lends s c.lend_one.ensures.queue (c.lend_one.ensures.pieces no_term)
 
 pub returns-then-not-lend_one-clause-some : goal.returns-then-not-lend_one-clause-some
 returns-then-not-lend_one-clause-some c h =
     let r : c.lend_one.result ≡ false = search rules in
     let s : is_some (get_or c.loop-end.queue.items c.loop-end.end no_term).bytes ≡ false = sym (c.lend_one.ensures.ready no_term) ∙ r in
-    let z = lends_all c.args.at c.loop-end.end c.args.queue.now.items c.loop-end.queue.items c.loop-end.pieces.items no_term c.loop-end.invariant.lends s in
+    let z = lends_all 0 c.loop-end.end c.args.queue.now.items c.loop-end.queue.items c.loop-end.pieces.items no_term c.loop-end.invariant.lends s in
     omega arith
 
 pub loop-end-preserved : goal.loop-end-preserved
@@ -24,7 +24,7 @@ loop-end-preserved c =
     let k = c.lend_one.ensures.count in
     let t : c.loop-end.end < length c.loop-end.queue.items = search rules in
     record {
-      lends = lends_more c.args.at c.loop-end.end c.args.queue.now.items c.loop-end.queue.items c.lend_one.new.queue.items c.loop-end.pieces.items c.lend_one.new.pieces.items no_term c.loop-end.invariant.lends t s c.lend_one.ensures.queue (c.lend_one.ensures.pieces no_term);
+      lends = lends_more 0 c.loop-end.end c.args.queue.now.items c.loop-end.queue.items c.lend_one.new.queue.items c.loop-end.pieces.items c.lend_one.new.pieces.items no_term c.loop-end.invariant.lends t s c.lend_one.ensures.queue (c.lend_one.ensures.pieces no_term);
       count = omega arith;
       len = search rules;
       capacity = search rules;
@@ -33,5 +33,5 @@ loop-end-preserved c =
 pub returns-clause-some : goal.returns-clause-some
 returns-clause-some c h =
     let t : length c.loop-end.queue.items ≤ c.loop-end.end = search rules in
-    let z = lends_end c.args.at c.loop-end.end c.args.queue.now.items c.loop-end.queue.items c.loop-end.pieces.items c.loop-end.invariant.lends t in
+    let z = lends_end 0 c.loop-end.end c.args.queue.now.items c.loop-end.queue.items c.loop-end.pieces.items c.loop-end.invariant.lends t in
     omega arith

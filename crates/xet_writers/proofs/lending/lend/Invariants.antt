@@ -1,4 +1,4 @@
-use Rattle.std.proofs.Common.{◌≡◌, ◌+◌, ◌-◌, ◌≤◌, length}
+use Rattle.std.proofs.Common.{◌≡◌, ◌-◌, ◌≤◌, length}
 use Rattle.std.specs.Vec.{vec_capacity, vec_len}
 use Rattle.std.specs.VecDeque.{deque_len}
 use Rattle.xet_writers.specs.steps.Lending.{Lends}
@@ -7,8 +7,8 @@ use Rattle.xet_writers.proofs.lending.lend.Given as goal
 abbrev pub invariant-loop-end : goal.invariant-loop-end
 invariant-loop-end l =
     record {
-      lends : Lends l.at l.end l.initial.queue.items l.queue.items l.pieces.items;
-      count : vec_len l.pieces + l.at ≤ l.end;
+      lends : Lends 0 l.end l.initial.queue.items l.queue.items l.pieces.items;
+      count : vec_len l.pieces ≤ l.end;
       len : deque_len l.queue ≡ deque_len l.initial.queue;
       capacity : vec_capacity l.pieces ≡ vec_capacity l.initial.pieces;
     }

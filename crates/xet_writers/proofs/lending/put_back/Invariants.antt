@@ -9,7 +9,7 @@ abbrev pub invariant-loop-i : goal.invariant-loop-i
 invariant-loop-i l =
     record {
       within : l.i ≤ length l.queue.items;
-      back : (ts : List QueuedTerm) → Lends l.at l.end ts l.initial.queue.items l.initial.pieces.items → Lends l.at l.i ts l.queue.items l.pieces.items;
+      back : (ts : List QueuedTerm) → Lends 0 l.end ts l.initial.queue.items l.initial.pieces.items → Lends 0 l.i ts l.queue.items l.pieces.items;
       len : deque_len l.queue ≡ deque_len l.initial.queue;
       capacity : vec_capacity l.pieces ≡ vec_capacity l.initial.pieces;
     }
