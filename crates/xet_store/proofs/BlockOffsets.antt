@@ -2,7 +2,7 @@
 use Rattle.std.proofs.Common.{◌≡◌, ℕ, ◌+◌, ◌-◌, ◌≤◌, ◌<◌, List, [], ◌∷◌, ◌++◌, length, take, drop, map, get_or, sym, ◌∙◌, ap, arith, subst}
 use Rattle.std.specs.Prelude.{sum, slice_range}
 use Rattle.std.specs.List.{concat, flat_map}
-use Rattle.std.proofs.lemmas.List.{length-append, length-map, length-take, length-drop, map-append, append-nil, append_assoc, get_or-map, take_more, take_all, drop_more, drop_all}
+use Rattle.std.proofs.lemmas.List.{length-append, length-map, length-take, length-drop, map-append, append-nil, append_assoc, get_or-map, take_more, take_all, drop_more}
 use Rattle.std.proofs.lemmas.List.Folds.{concat-append}
 use Rattle.std.proofs.lemmas.List.Sums.{sum_by-cons}
 use Rattle.xet_base.specs.declared.cas_types.ChunkRange.{ChunkRange}

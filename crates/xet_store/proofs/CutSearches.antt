@@ -1,5 +1,5 @@
 -- A term cut by two searches among the places of its chunks.
-use Rattle.std.proofs.Common.{◌≡◌, ℕ, zero, suc, [], ◌+◌, ◌-◌, ◌^◌, ◌≤◌, ◌<◌, List, length, take, min, max, get_or, refl, sym, ◌∙◌, ap, subst, arith, inl, inr, ⊎_elim, ◌⊎◌, Bool, true, false}
+use Rattle.std.proofs.Common.{◌≡◌, ℕ, zero, suc, [], ◌+◌, ◌-◌, ◌^◌, ◌≤◌, ◌<◌, List, length, take, min, max, get_or, refl, subst, arith, inl, inr, ⊎_elim, ◌⊎◌, Bool, true, false}
 use Rattle.std.specs.Prelude.{All, nat_lt, sum}
 use Rattle.std.proofs.lemmas.Bool.{ltb-false, ltb-true}
 use Rattle.std.proofs.lemmas.List.{get_or-map, length-map}

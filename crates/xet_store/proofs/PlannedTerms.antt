@@ -1,19 +1,19 @@
 -- A walk over a file's terms has the plan's terms and offset.
-use Rattle.std.proofs.Common.{◌≡◌, ℕ, suc, ◌+◌, ◌-◌, ◌≤◌, ◌<◌, Bool, true, false, cond, List, [], ◌∷◌, ◌++◌, length, take, drop, min, max, get_or, refl, sym, ◌∙◌, ap, arith, subst, ⊎_elim, Option, Some, None}
-use Rattle.std.specs.Prelude.{All, sum, slice_range, find, option_map, unwrap_or}
+use Rattle.std.proofs.Common.{◌≡◌, ℕ, zero, suc, ◌+◌, ◌-◌, ◌≤◌, ◌<◌, Bool, true, false, cond, List, [], ◌∷◌, ◌++◌, length, take, drop, min, max, get_or, refl, sym, ◌∙◌, ap, arith, subst, ⊎_elim, Option, Some, None}
+use Rattle.std.specs.Prelude.{All, nat_le, sum, slice_range, find, option_map, unwrap_or}
 use Rattle.std.specs.Option.{option_or}
 use Rattle.std.specs.List.{concat, flat_map}
 use Rattle.std.proofs.lemmas.Bool.{ltb-true, ltb-false, lt-ltb, le-ltb, le-leb, lt-leb, cases_lt}
-use Rattle.std.proofs.lemmas.List.{length-append, length-take, drop_more, append_assoc}
+use Rattle.std.proofs.lemmas.List.{append-nil, length-append, length-take, drop_all, drop_more, append_assoc, get_or_default}
 use Rattle.std.proofs.lemmas.List.Elements.{All-head, All-tail, All-take, All-drop, All-same}
 use Rattle.std.proofs.lemmas.List.Folds.{concat-append}
-use Rattle.std.proofs.lemmas.List.Sums.{sum_by-cons}
+use Rattle.std.proofs.lemmas.List.Sums.{sum_by-cons, sum_by_more}
 use Rattle.xet_base.specs.declared.cas_types.FileRange.{FileRange}
 use Rattle.xet_base.specs.declared.stored.StoredTerm.{StoredTerm}
 use Rattle.xet_base.specs.Lists.{placed}
 use Rattle.xet_base.specs.Store.{Store, IsTermIn, chunks_of, chunks_of_term}
 use Rattle.xet_outside.specs.declared.plan.PlanTerm.{PlanTerm}
-use Rattle.xet_store.specs.steps.MemPlans.{terms_at, offset_at}
+use Rattle.xet_store.specs.steps.MemPlans.{IsWalk, bytes_before, terms_at, offset_at}
 use Rattle.xet_outside.specs.Plan.{touches, ends_before, lengths, cut_of, cut_term}
 use Rattle.xet_outside.proofs.CallerLemmas.{Full, count_by-no, count_by-yes, has_chunks, keeps, offset_skip, skips, skips-keeps, skips_past, sum_lengths, touched_past}
 use Rattle.xet_store.proofs.CutTerms.{place_in}
@@ -274,3 +274,125 @@ planned_touch_by s q ts i place size first offset cuts t xs cut w is full l at e
     subst (λ (u : PlanTerm). IsPlanned s q ts (i + 1) (place + size) (option_or offset (Some first)) (cuts ++ u ∷ []))
     (sym c')
     (planned_touch s q ts i place (place + size) first offset cuts t w l at (ap (λ n. place + n) (z ∙ x)) h full' g')
+
+-- ---- a walk that begins among the terms, and ends among them
+
+-- the default of a read
+none_of : StoredTerm
+none_of = record { xorb = record { 0 = [] }; from = 0; to = 0 }
+
+pub bytes_none : (s : Store) (ts : List StoredTerm) → 0 ≡ bytes_before s ts 0
+bytes_none s [] = refl
+bytes_none s (t ∷ ts) = refl
+
+-- a walk that passed nothing
+pub walk_start : (s : Store) (ts : List StoredTerm) → IsWalk s ts 0 0
+walk_start s ts = record { within = omega arith; place_is = bytes_none s ts }
+
+pub walk_of : (s : Store) (ts : List StoredTerm) (i place : ℕ) → i ≤ length ts → place ≡ bytes_before s ts i
+    → IsWalk s ts i place
+walk_of s ts i place l p = record { within = l; place_is = p }
+
+pub walk_within : (s : Store) (ts : List StoredTerm) (i place : ℕ) → IsWalk s ts i place → i ≤ length ts
+walk_within s ts i place w = w.within
+
+pub walk_place : (s : Store) (ts : List StoredTerm) (i place : ℕ) → IsWalk s ts i place → place ≡ bytes_before s ts i
+walk_place s ts i place w = w.place_is
+
+bytes_more : (s : Store) (ts : List StoredTerm) (i : ℕ) → i < length ts
+    → bytes_before s ts (i + 1) ≡ bytes_before s ts i + length (concat (chunks_of_term s (get_or ts i none_of)))
+bytes_more s ts i l = sum_by_more (λ t. length (concat (chunks_of_term s t))) ts i none_of l
+
+-- it passes one term more
+pub walk_more : (s : Store) (ts : List StoredTerm) (i place end : ℕ) (t : StoredTerm) → IsWalk s ts i place
+    → i < length ts → t ≡ get_or ts i t → end ≡ place + length (concat (chunks_of_term s t)) → IsWalk s ts (i + 1) end
+walk_more s ts i place end t w l at e = record {
+  within = omega (arith, l);
+  place_is =
+      let same : get_or ts i none_of ≡ t = get_or_default ts i none_of t l ∙ sym at in
+      let more = bytes_more s ts i l in
+      let k = ap (λ (u : StoredTerm). length (concat (chunks_of_term s u))) same in
+      let p = w.place_is in
+      omega (arith, e, more, k, p);
+}
+
+begun : (s : Store) (q : FileRange) (ts : List StoredTerm) → IsPlanned s q ts 0 0 None []
+begun s q [] = record { place_is = omega arith; terms_are = refl; offset_is = refl }
+begun s q (t ∷ ts) = record { place_is = omega arith; terms_are = refl; offset_is = refl }
+
+-- what is still to come after terms that end before the range is all
+planned_before : (s : Store) (q : FileRange) (ts : List StoredTerm) (i : ℕ) → i ≤ length ts
+    → bytes_before s ts i ≤ q.start → IsPlanned s q ts i (bytes_before s ts i) None []
+planned_before s q ts zero h early = subst (λ (p : ℕ). IsPlanned s q ts 0 p None []) (bytes_none s ts) (begun s q ts)
+planned_before s q ts (suc j) h early =
+    let l : j < length ts = omega (arith, h) in
+    let m : j + 1 ≡ suc j = omega arith in
+    let t = get_or ts j none_of in
+    let e = bytes_more s ts j l in
+    let n : bytes_before s ts (j + 1) ≡ bytes_before s ts (suc j) = ap (bytes_before s ts) m in
+    let w = planned_before s q ts j (omega (arith, h)) (omega (arith, e, n, early)) in
+    subst (λ (k : ℕ). IsPlanned s q ts k (bytes_before s ts k) None []) m
+    (planned_skip s q ts j (bytes_before s ts j) (bytes_before s ts (j + 1)) None [] t w l
+    (get_or_default ts j none_of t l) e (omega (arith, n, early)))
+
+pub planned_from : (s : Store) (q : FileRange) (ts : List StoredTerm) (i place : ℕ) → IsWalk s ts i place
+    → place ≤ q.start → IsPlanned s q ts i place None []
+planned_from s q ts i place w early =
+    let p = w.place_is in
+    subst (λ (x : ℕ). IsPlanned s q ts i x None []) (sym p) (planned_before s q ts i w.within (omega (arith, p, early)))
+
+-- nothing comes of terms past the range
+pub planned_all : (s : Store) (q : FileRange) (ts : List StoredTerm) (i place : ℕ) (offset : Option ℕ)
+    (cuts : List PlanTerm) → IsPlanned s q ts i place offset cuts → i ≤ length ts → (i < length ts → q.end ≤ place)
+    → (cuts ≡ terms_at s q 0 ts) × (unwrap_or offset 0 ≡ offset_at q 0 (flat_map (chunks_of_term s) ts))
+planned_all s q ts i place offset cuts w h past =
+    rest (length ts - i) i place (omega (arith, h)) (λ some. past (omega (arith, some))) w
+  where
+    rest : (n k p : ℕ) → k + n ≡ length ts → (0 < n → q.end ≤ p) → IsPlanned s q ts k p offset cuts
+        → (cuts ≡ terms_at s q 0 ts) × (unwrap_or offset 0 ≡ offset_at q 0 (flat_map (chunks_of_term s) ts))
+    rest zero k p e far w =
+        let z : drop k ts ≡ [] = drop_all k ts (omega (arith, e)) in (
+          sym (append-nil cuts)
+              ∙ subst (λ (us : List StoredTerm). cuts ++ terms_at s q p us ≡ terms_at s q 0 ts) z w.terms_are,
+          subst (λ (us : List StoredTerm). unwrap_or offset (offset_at q p (flat_map (chunks_of_term s) us))
+              ≡ offset_at q 0 (flat_map (chunks_of_term s) ts)) z w.offset_is,
+        )
+    rest (suc n) k p e far w =
+        let l : k < length ts = omega (arith, e) in
+        let t = get_or ts k none_of in
+        let f = far (omega arith) in
+        rest n (k + 1) (p + length (concat (chunks_of_term s t))) (omega (arith, e)) (λ some. omega (arith, f))
+        (planned_skip s q ts k p (p + length (concat (chunks_of_term s t))) offset cuts t w l
+        (get_or_default ts k none_of t l) refl (omega (arith, f)))
+
+-- a walk that ended past the range's start tells whether the file does
+pub planned_place : (s : Store) (q : FileRange) (ts : List StoredTerm) (i place : ℕ) (offset : Option ℕ)
+    (cuts : List PlanTerm) → IsPlanned s q ts i place offset cuts → i ≤ length ts → (i < length ts → q.start < place)
+    → nat_le place q.start ≡ nat_le (length (concat (flat_map (chunks_of_term s) ts))) q.start
+planned_place s q ts i place offset cuts w h past =
+    ⊎_elim
+    (λ (l : i < length ts).
+    let f = past l in
+    let p = w.place_is in
+    lt-leb place q.start f
+    ∙ sym (lt-leb (length (concat (flat_map (chunks_of_term s) ts))) q.start (omega (arith, f, p))))
+    (λ (l : length ts ≤ i).
+    let z : drop i ts ≡ [] = drop_all i ts l in
+    let p : place + length (concat (flat_map (chunks_of_term s) [])) ≡ length (concat (flat_map (chunks_of_term s) ts)) =
+    subst (λ (us : List StoredTerm). place + length (concat (flat_map (chunks_of_term s) us))
+    ≡ length (concat (flat_map (chunks_of_term s) ts))) z w.place_is in
+    ap (λ (n : ℕ). nat_le n q.start) (omega (arith, p)))
+    (cases_lt i (length ts))
+
+-- ---- the same by what the steps of a walk have
+
+pub stored_at : (s : Store) (ts : List StoredTerm) (i : ℕ) (t : StoredTerm) → All (IsTermIn s) ts → i < length ts
+    → t ≡ get_or ts i t → IsTermIn s t
+stored_at s ts i t a l at = subst (IsTermIn s) (get_or_default ts i none_of t l ∙ sym at) (a i none_of l)
+
+pub walk_by : (s : Store) (ts : List StoredTerm) (i place size : ℕ) (t : StoredTerm) (xs : List (List ℕ))
+    → IsWalk s ts i place → i < length ts → t ≡ get_or ts i t → xs ≡ chunks_of s t.xorb
+    → size ≡ length (concat (slice_range xs t.from t.to)) → IsWalk s ts (i + 1) (place + size)
+walk_by s ts i place size t xs w l at e z =
+    let x = ap (λ (ys : List (List ℕ)). length (concat (slice_range ys t.from t.to))) e in
+    walk_more s ts i place (place + size) t w l at (ap (λ n. place + n) (z ∙ x))

@@ -1,19 +1,14 @@
 -- What a search finds.
-use Rattle.std.proofs.Common.{◌≡◌, ℕ, zero, suc, ◌<◌, ◌+◌, Bool, true, false, cond, List, [], ◌∷◌, length, map, get_or, refl, sym, ◌∙◌, ap, arith}
-use Rattle.std.specs.Prelude.{AllPairs, IsFalse, Option, Some, None, find, position, slice_get, option_and_then, not, is_some, IfSome}
-use Rattle.std.specs.Option.{option_copied}
+use Rattle.std.proofs.Common.{◌≡◌, ℕ, zero, suc, ◌<◌, Bool, true, false, cond, List, [], ◌∷◌, length, get_or, refl, sym, ◌∙◌, ap, arith}
+use Rattle.std.specs.Prelude.{AllPairs, IsFalse, Some, None, find, slice_get}
 use Rattle.std.specs.List.{position_or_len, list_any}
-use Rattle.std.proofs.lemmas.Bool.{lt-ltb, le-ltb, false≢true}
-use Rattle.std.proofs.lemmas.List.{length-map}
+use Rattle.std.proofs.lemmas.Bool.{false≢true}
 use Rattle.std.proofs.lemmas.List.Folds.{find_at, list_any_at}
-use Rattle.std.proofs.lemmas.Option.{slice_get_past, slice_get_within, slice_get-get_or, get_or_from_slice_get}
-use borrow.Author.Tests.{ltb-true, ltb-false}
-use denote.Ref.{Bor}
-use lib.Dec.{ltb}
+use Rattle.std.proofs.lemmas.Option.{slice_get_within, get_or_from_slice_get}
 use Rattle.xet_base.specs.Hashes.{hash_eq}
 use Rattle.xet_base.specs.declared.mdb_shard.Xorb.{Xorb}
 use Rattle.xet_base.specs.declared.merklehash.MerkleHash.{MerkleHash}
-use Rattle.xet_base.proofs.CallerLemmas.{find_some, hash_eq-true, place_none, place_within}
+use Rattle.xet_base.proofs.CallerLemmas.{find_some, hash_eq-true}
 
 -- where a search finds nothing, nothing passes
 pub find_none : {A : Type 0} (p : A → Bool) (xs : List A) → find p xs ≡ None → list_any p xs ≡ false

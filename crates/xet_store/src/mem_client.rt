@@ -1,12 +1,14 @@
 //! An honest connection to a store in memory.
-ghost use Rattle.std.specs.Prelude.{◌≡◌, ◌+◌, [], Some, IfErr, IfOk, IfSome};
-ghost use Rattle.xet_base.specs.Store.{IsValid};
+ghost use Rattle.std.specs.Prelude.{◌≡◌, ◌+◌, ◌≤◌, [], Some, IfErr, IfOk, IfSome, length};
+ghost use Rattle.xet_base.specs.Store.{IsValid, terms_of_file};
+ghost use Rattle.xet_store.specs.steps.MemPlans.{IsWalk, bytes_before};
 ghost use Rattle.xet_outside.specs.Told.{BlockCall, PlanCall};
 ghost use Rattle.xet_store.specs.MemBlocks.{mem_block};
 ghost use Rattle.xet_store.specs.MemUrls.{HasUrl, found_count, mem_url};
 
 use crate::client_log::ClientLog;
 use crate::mem_block::block_answer;
+use crate::mem_cut::Walk;
 use crate::mem_plan::{MemAnswer, plan_answer};
 use crate::mem_store::MemStore;
 use std::alloc::Global;
@@ -14,6 +16,26 @@ use xet_base::{FileRange, MerkleHash};
 use xet_outside::block::{BlockAnswer, BlockRequest};
 use xet_outside::client::{Client, ClientError};
 use xet_outside::plan::PlanAnswer;
+
+/// A walk over the terms of a file, where it is one over this file and before the range; else one that passed nothing.
+#[tactic(auto, using(crate::proofs::PlannedTerms::walk_start, crate::proofs::StoredFiles::walk_same))]
+fn walk_before(
+    store: &MemStore,
+    walked: MerkleHash,
+    walk: Walk,
+    file: &MerkleHash,
+    range: FileRange,
+) -> Walk
+    requires { IsWalk store.now (terms_of_file store.now walked) walk.passed walk.place }
+    ensures walk { IsWalk store.now (terms_of_file store.now file.now) result.passed result.place }
+    ensures early { result.place ≤ range.start }
+{
+    let _ = store;
+    if walked == *file && walk.place <= range.start {
+        return walk;
+    }
+    Walk::start()
+}
 
 /// A connection to a store in memory. It never fails, and no answer of it is an expired one. What it was asked, what it
 /// said and what it served are told to proofs alone, and take no memory.
@@ -27,11 +49,17 @@ pub struct MemClient<'a> {
     plans: u64,
     // where the xorb of each block of the last plan is looked for first
     places: Vec<usize>,
+    // the file of the last plan, and how far the walk over its terms came, from where the next one goes on
+    walked: MerkleHash,
+    walk: Walk,
     ghost counted: { plans ≡ found_count log.said },
+    ghost within: { walk.passed ≤ length (terms_of_file store.now walked) },
+    ghost placed: { walk.place ≡ bytes_before store.now (terms_of_file store.now walked) walk.passed },
 }
 
 impl<'a> MemClient<'a> {
     /// A connection that was asked nothing yet. It takes no memory.
+    #[tactic(auto, using(crate::proofs::PlannedTerms::bytes_none))]
     pub fn new(alloc: Global, store: &'a MemStore) -> MemClient<'a>
         ensures told { ⟦<MemClient<'a> as Client>⟧.told result ≡ record {
           store = Some store.now;
@@ -51,7 +79,19 @@ impl<'a> MemClient<'a> {
             log: ClientLog::new(),
             plans: 0,
             places: Vec::new(alloc),
+            walked: MerkleHash([0; 32]),
+            walk: Walk::start(),
         }
+    }
+
+    /// The walk from which a query for this range of this file goes on.
+    #[tactic(auto, using(crate::proofs::PlannedTerms::walk_of))]
+    fn walk_for(&self, file: &MerkleHash, range: FileRange) -> Walk
+        ensures walk { IsWalk self.now.store.now (terms_of_file self.now.store.now file.now)
+            result.passed result.place }
+        ensures early { result.place ≤ range.start }
+    {
+        walk_before(self.store, self.walked, self.walk, file, range)
     }
 }
 
@@ -68,6 +108,7 @@ impl<'a> Client for MemClient<'a> {
 
     /// The plan of the range. The plans that were found are counted from 1, and the URL of all their entries is `mem:`
     /// and the number. `OutOfMemory` where an allocation was refused, or u64::MAX plans were found.
+    #[tactic(auto, using(crate::proofs::PlannedTerms::walk_within, crate::proofs::PlannedTerms::walk_place))]
     fn plan(
         &mut self,
         alloc: Global,
@@ -82,11 +123,18 @@ impl<'a> Client for MemClient<'a> {
         ensures store { self.new.store.now ≡ self.old.store.now }
     {
         let number = self.plans.checked_add(1).ok_or(ClientError::OutOfMemory)?;
-        let MemAnswer { answer, places } = plan_answer(alloc, self.store, file, range, number)?;
+        let from = self.walk_for(file, range);
+        let MemAnswer {
+            answer,
+            places,
+            reached,
+        } = plan_answer(alloc, self.store, file, from, range, number)?;
         if let PlanAnswer::Found(_) = &answer {
             self.plans = number;
         }
         self.places = places;
+        self.walked = *file;
+        self.walk = reached;
         self.log = self.log.and_plan(file, &range, &answer);
         Ok(answer)
     }

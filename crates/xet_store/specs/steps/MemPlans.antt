@@ -1,12 +1,12 @@
 -- The plan of a store in memory, as its parts are computed.
-use Rattle.std.specs.Prelude.{ℕ, ◌≡◌, ◌-◌, ◌<◌, Bool, false, ◌&&◌, List, map, filter, find, option_map, unwrap_or, nat_lt, nat_le, length, slice_index_or, AllPairs}
-use Rattle.std.specs.List.{list_any}
+use Rattle.std.specs.Prelude.{ℕ, ◌≡◌, ◌-◌, ◌<◌, ◌≤◌, Bool, false, ◌&&◌, List, map, filter, find, option_map, unwrap_or, nat_lt, nat_le, length, slice_index_or, take, AllPairs}
+use Rattle.std.specs.List.{concat, list_any, sum_by}
 use Rattle.xet_base.specs.declared.cas_types.FileRange.{FileRange}
 use Rattle.xet_base.specs.declared.merklehash.MerkleHash.{MerkleHash}
 use Rattle.xet_base.specs.declared.stored.StoredTerm.{StoredTerm}
 use Rattle.xet_base.specs.Hashes.{hash_eq}
 use Rattle.xet_base.specs.Lists.{placed, firsts}
-use Rattle.xet_base.specs.Store.{Store, chunks_of}
+use Rattle.xet_base.specs.Store.{Store, chunks_of, chunks_of_term}
 use Rattle.xet_outside.specs.declared.plan.PlanTerm.{PlanTerm}
 use Rattle.xet_outside.specs.Plan.{touches, lengths, cut_term, placed_terms}
 
@@ -34,3 +34,12 @@ pub record IsUsed (s : Store) (ts : List PlanTerm) (hashes : List MerkleHash) (m
   pub count : length marks ≡ length hashes
   pub touched : (i : ℕ) (x : MerkleHash) (ms : List Bool) → i < length hashes
       → IsTouched s ts (slice_index_or hashes i x) (slice_index_or marks i ms)
+
+-- how many bytes so many first terms have
+abbrev pub bytes_before : Store → List StoredTerm → ℕ → ℕ
+bytes_before s ts i = sum_by (λ t. length (concat (chunks_of_term s t))) (take i ts)
+
+-- a walk over the terms passed so many, which have so many bytes
+pub record IsWalk (s : Store) (ts : List StoredTerm) (passed place : ℕ) : Type 0 where
+  pub within : passed ≤ length ts
+  pub place_is : place ≡ bytes_before s ts passed

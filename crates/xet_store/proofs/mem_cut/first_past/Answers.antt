@@ -1,5 +1,4 @@
 use Rattle.std.proofs.Common.{◌+◌, ◌-◌, ◌/◌, arith}
-use Rattle.xet_store.proofs.CutSearches.{place_of}
 use Rattle.xet_store.proofs.JoinedChunks.{place-le}
 use Rattle.xet_store.proofs.mem_cut.first_past.Goals as goal
 

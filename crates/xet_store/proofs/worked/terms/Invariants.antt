@@ -1,4 +1,4 @@
-use Rattle.std.proofs.Common.{◌≡◌, ℕ, map, take, length, ◌≤◌}
+use Rattle.std.proofs.Common.{◌≡◌, map, take}
 use Rattle.xet_store.specs.Refusals.{stored_term}
 use Rattle.xet_base.specs.Worked.{x1}
 use Rattle.xet_store.proofs.worked.terms.Given as goal
