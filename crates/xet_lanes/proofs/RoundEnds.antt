@@ -13,6 +13,7 @@ use Rattle.xet_claims.specs.ClaimPasses.{IsPassOf, drawn_of, misses_of, pass_vie
 use Rattle.xet_claims.specs.ClaimViews.{mark_of, once_below, raised_of, times}
 use Rattle.xet_writers.specs.Sequential.{Sequential}
 use Rattle.xet_ties.specs.Lanes.{Ask, EachDrew}
+use Rattle.xet_ties.specs.Setup.{most_lanes}
 use Rattle.xet_lanes.specs.declared.joined.Joined.{Joined}
 use Rattle.xet_lanes.specs.declared.joined.LaneEnd.{LaneEnd}
 use Rattle.xet_lanes.specs.Fetches.{NoneFailedBefore}
@@ -150,18 +151,24 @@ drew_finished c fs (b ∷ bs) (n ∷ ns) (w ∷ ws) h g z =
     let here = ended.0.1 (seen_one (pass_view w.claim) (omega arith)) in
     record { some = λ _. let m = here.0 in omega arith; whole = ((here.1, ended.1), k.whole) }
 
+-- as many lists of steps as lanes
+steps_length : (ws : List Work) → length (steps_of (ends_of ws)) ≡ length ws
+steps_length [] = refl
+steps_length (w ∷ ws) = let r = steps_length ws in omega (arith, r)
+
 -- what the closed claims tell of the lanes
 pub lanes_drew : (c : Claims) (fs : List Ask) (bs ns : List ClientTold) (ws : List Work) (es : List End) (count : ℕ)
     → AllDrew c fs bs ns ws → es ≡ ends_of ws → ((x : ℕ) → times x (drawn_of (claims_of ws)) ≡ once_below x count)
-    → count ≤ length fs → 0 < length ws → (0 < misses_of (claims_of ws) → count ≡ length fs)
+    → count ≤ length fs → length bs ≤ most_lanes → 0 < length ws → (0 < misses_of (claims_of ws) → count ≡ length fs)
     → (raised_count (claims_of ws) ≡ 0 → stopped_count (claims_of ws) ≡ 0) → LanesDrew fs bs ns es
-lanes_drew c fs bs ns ws es count h e once within some full quiet =
+lanes_drew c fs bs ns ws es count h e once within few some full quiet =
     let made : LanesDrew fs bs ns (ends_of ws) = record {
       drew = record {
         drawn = drawn_by ws;
         count = count;
         apart = λ x. ap (times x) (sym (drawn_same ws)) ∙ once x;
         within = within;
+        few = let k = drew_length c fs bs ns ws h in let l = steps_length ws in omega (arith, k, l, few);
         each = drew_each c fs bs ns ws h;
       };
       whole = λ good.
@@ -197,6 +204,7 @@ drew_past fs bs ns rest es h =
         count = d.count;
         apart = d.apart;
         within = d.within;
+        few = d.few;
         each = each_past fs bs ns rest d.drawn es d.each;
       };
       whole = h.whole;
@@ -206,7 +214,7 @@ drew_past fs bs ns rest es h =
 -- there are no fetches
 pub no_lanes : (fs : List Ask) (bs : List ClientTold) → length fs ≡ 0 → LanesDrew fs bs bs []
 no_lanes fs bs none = record {
-  drew = record { drawn = []; count = 0; apart = λ x. below x; within = omega arith; each = refl };
+  drew = record { drawn = []; count = 0; apart = λ x. below x; within = omega arith; few = omega arith; each = refl };
   whole = λ good. (sym none, tt);
   last = All-nil (λ (e : End). NoneFailedBefore e.steps);
 }

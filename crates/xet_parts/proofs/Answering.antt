@@ -50,7 +50,7 @@ taken_within m q t past h = let same = past h in cc
 pub taken_recorded : (m now : Manager) (es fs : List Event) (q : FileRange) (t : Option TermBlock) (answer : Result (Unit {0}) FileReconstructionError) → (PassesKnownEnd m q t → ⊥) → now ≡ accepted m q t
     → Recorded es fs (plan_event es q t ∷ []) answer → ((e : FileReconstructionError) → answer ≡ Err e → fs ≡ es) → TakenCall m now es fs q t answer
 taken_recorded m now es fs q t (Ok a) within taken r kept = record { ok = record { within = within; taken = taken; recorded = r.all }; err = tt }
-taken_recorded m now es fs q t (Err e) within taken r kept = record { ok = tt; err = record { fails = inl r.memory; unrecorded = kept e refl; left = inr taken } }
+taken_recorded m now es fs q t (Err e) within taken r kept = record { ok = tt; err = record { fails = inl r.memory; unrecorded = kept e refl; left = inr (r.memory, taken) } }
 
 -- the query failed
 pub asked_none : (m : Manager) (b n : ClientTold) (es : List Event) (query : PlanQuery) (e : FileReconstructionError) → TermBlockCall b n query (Err e) → AskPlanCall m m b n es es query (Err e)

@@ -1,18 +1,16 @@
 -- The causes of the errors of asking for a plan.
-use Rattle.std.proofs.Common.{◌≡◌, ◌⊎◌, ℕ, ◌+◌, ◌-◌, ◌^◌, ◌<◌, ◌≤◌, min, false, List, [], ◌∷◌, ◌++◌, Option, Some, None, Ok, Err, refl, sym, subst, ◌∙◌, ap, arith, inl, inr, ⊎_elim}
-use Rattle.std.specs.Prelude.{IfSome, IsNone, Result}
+use Rattle.std.proofs.Common.{◌≡◌, ℕ, ◌+◌, ◌<◌, ◌≤◌, false, List, [], ◌∷◌, ◌++◌, Option, Some, None, Err, sym, subst, ◌∙◌, ap, arith, inl, ⊎_elim}
+use Rattle.std.specs.Prelude.{IfSome}
 use Rattle.xet_base.specs.declared.cas_types.FileRange.{FileRange}
 use Rattle.xet_base.specs.declared.unique_id.UniqueId.{UniqueId}
-use Rattle.xet_base.specs.Store.{IsValid, Store, file_of}
-use Rattle.xet_outside.specs.declared.plan.Plan.{Plan}
+use Rattle.xet_base.specs.Store.{IsValid, Store}
 use Rattle.xet_outside.specs.declared.plan.PlanAnswer.{PlanAnswer}
 use Rattle.xet_outside.specs.declared.plan.PlanAnswer.TheVariants.{Found, NoFile, PastEnd}
 use Rattle.xet_outside.specs.declared.plan.PlanTerm.{PlanTerm}
-use Rattle.xet_outside.specs.declared.said.Said.{Said}
 use Rattle.xet_outside.specs.declared.said.Said.TheVariants as said
 use Rattle.xet_outside.specs.declared.served.Served.{Served}
 use Rattle.xet_outside.specs.Plan.{Shape, shape}
-use Rattle.xet_outside.specs.Told.{ClientTold, IsHonest, Query, Rose}
+use Rattle.xet_outside.specs.Told.{ClientTold, IsHonest, Rose}
 use Rattle.xet_error.specs.declared.error.Corruption.{Corruption}
 use Rattle.xet_error.specs.declared.error.FileReconstructionError.{FileReconstructionError}
 use Rattle.xet_error.specs.declared.error.FileReconstructionError.TheVariants as error
@@ -21,17 +19,18 @@ use Rattle.xet_blocks.specs.PlanChecks.{failed_test}
 use Rattle.xet_blocks.specs.TermBlockCalls.{Answer, FromAnswer, FromSaid, FromTerms, FromTested, QueryAnswered, TermBlockCause, TermBlockCall}
 use Rattle.xet_blocks.proofs.CallerLemmas.{honest_accepted}
 use Rattle.xet_run.specs.declared.event.Event.{Event}
+use Rattle.xet_run.specs.Events.{plan_count}
 use Rattle.xet_history.specs.Queries.{CutFrom}
 use Rattle.xet_history.specs.TrueHistory.{queries}
 use Rattle.xet_terms.specs.Managers.{IsManager, Manager, PassesKnownEnd}
 use Rattle.xet_ties.specs.Causes.{Cause, SomeFailed, SomeRose}
 use Rattle.xet_ties.specs.InCall.{EachExchange, Exchange, all_exchanges}
-use Rattle.xet_ties.specs.Saids.{InStep, IsQueryAnswer}
+use Rattle.xet_ties.specs.Saids.{InStep}
 use Rattle.xet_ties.specs.Setup.{AllTell, IsOver, RunTold, Setup}
 use Rattle.xet_ties.specs.steps.Moves.{heard_first}
 use Rattle.xet_ties.specs.steps.Parts.{AskedSaid, plan_query}
-use Rattle.xet_ties.specs.Ties.{CutsRange, EachLane, MayBeAsked, Slack, Ties}
-use Rattle.xet_ties.proofs.CallerLemmas.{all_told, ask_said, corrupted, file_missing, first_tells, if_some, plan_fails, missing_file}
+use Rattle.xet_ties.specs.Ties.{CutsRange, EachLane, Slack, Ties}
+use Rattle.xet_ties.proofs.CallerLemmas.{all_told, ask_said, asked_own, corrupted, file_missing, first_tells, if_some, plan_fails, missing_file}
 use Rattle.xet_parts.specs.PlanAsks.{AskPlanCall, PlanFails, QueryFails}
 
 -- ---- counts
@@ -133,7 +132,7 @@ query_cause g b at es sl c n cs q id answer (error.CorruptedReconstruction k) is
     let heard = ask_said g b at es sl c n cs q id answer made is none step call h cuts t in
     failed_cause g b at es sl c n cs q h.plan k is t (answered_of g q id c n made h) heard
     (λ s over honest. honest_passes s over.valid g q id k h.plan honest h.from)
-    (plan_fails g (heard_first ((g.file, q) ∷ []) (said.Plan h.plan ∷ []) sl.heard) q id k c n within.0 within.2 h heard.own)
+    (plan_fails g (heard_first ((g.file, q) ∷ []) (said.Plan h.plan ∷ []) sl.heard) (plan_count es + 1) q id k c n within.0 within.2 h (asked_own g b at es None sl q h.plan t none step cuts))
 query_cause g b at es sl c n cs q id answer (error.ConfigurationError k) is none step cuts t call h = absurd h
 query_cause g b at es sl c n cs q id answer error.Cancelled is none step cuts t call h = absurd h
 query_cause g b at es sl c n cs q id answer (error.InternalWriterError k) is none step cuts t call h = absurd h

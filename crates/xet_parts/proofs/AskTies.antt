@@ -6,6 +6,7 @@ use Rattle.xet_outside.specs.declared.said.Said.TheVariants as said
 use Rattle.xet_outside.specs.Told.{ClientTold}
 use Rattle.xet_error.specs.declared.error.FileReconstructionError.{FileReconstructionError}
 use Rattle.xet_run.specs.declared.event.Event.{Event}
+use Rattle.xet_run.specs.Events.{planned}
 use Rattle.xet_history.specs.TrueHistory.{queries}
 use Rattle.xet_terms.specs.Managers.{Manager}
 use Rattle.xet_ties.specs.Saids.{InStep}
@@ -18,11 +19,11 @@ use Rattle.xet_parts.specs.PlanAsks.{AskPlanCall, AskedPlan, PlanFails, QueryFai
 
 -- its query was answered and is recorded, so nothing is lost
 pub asked_ties : (g : Setup) (b at : RunTold) (es fs : List Event) (sl : Slack) (spare : ℕ) (c n : ClientTold) (cs : List ClientTold) (m now : Manager) (q : FileRange) (id : UniqueId)
-    → at.clients ≡ c ∷ cs → (ok : AskedPlan m now c n es fs (plan_query g q id)) → sl.lost ≡ [] → sl.spare ≡ spare + 1 → InStep sl.heard → CutsRange g (queries es ++ q ∷ [])
+    → at.clients ≡ c ∷ cs → (ok : AskedPlan m now c n es fs (plan_query g q id)) → sl.lost ≡ [] → sl.spare ≡ spare + 1 → InStep sl.heard → CutsRange g (queries es ++ q ∷ []) → (planned es ≡ [] → q.start ≡ g.range.start)
     → Ties g b at es None sl
     → (let heard = heard_first ((g.file, q) ∷ []) (said.Plan ok.call.made.plan ∷ []) sl.heard in Ties g b (record at { clients = n ∷ cs }) fs None (record sl { heard = heard; lost = []; spare = spare }) × InStep heard)
-asked_ties g b at es fs sl spare c n cs m now q id is ok none polls step cuts t =
-    ask_ties g b at es fs sl spare c n cs q id ok.answer is ok.call ok.took.recorded none polls step cuts t
+asked_ties g b at es fs sl spare c n cs m now q id is ok none polls step cuts first_is t =
+    ask_ties g b at es fs sl spare c n cs q id ok.answer is ok.call ok.took.recorded none polls step cuts first_is t
 
 -- where it isn't recorded its query is lost
 pub ask_fails_ties : (g : Setup) (b at : RunTold) (es fs : List Event) (sl : Slack) (c n : ClientTold) (cs : List ClientTold) (m now : Manager) (q : FileRange) (id : UniqueId) (e : FileReconstructionError)

@@ -14,6 +14,6 @@ pub use Rattle.xet_parts.proofs.AdmitTies.{admitted_ties}
 pub use Rattle.xet_parts.proofs.OfferTies.{look_tells, offer_block_ties, offer_tells}
 -- refreshes
 pub use Rattle.xet_parts.proofs.RefreshTies.{refresh_fails_ties, refreshed_ties}
-pub use Rattle.xet_parts.proofs.RefreshCauses.{plan_refresh, refresh_cause}
+pub use Rattle.xet_parts.proofs.RefreshCauses.{refresh_cause}
 -- the end
 pub use Rattle.xet_parts.proofs.StopTies.{stopped_cause, stopped_leaves, stopped_ties}

@@ -1,6 +1,6 @@
 -- The causes of the errors of asking for a plan's URLs again.
-use Rattle.std.proofs.Common.{◌≡◌, ℕ, ◌<◌, Bool, true, false, cond, List, [], ◌∷◌, ◌++◌, length, Option, Some, None, Err, refl, sym, subst, ◌∙◌, ap}
-use Rattle.std.specs.Prelude.{Result, nat_eq, option_map}
+use Rattle.std.proofs.Common.{◌≡◌, ℕ, ◌<◌, Bool, true, false, cond, List, [], ◌∷◌, length, Option, Some, None, Err, refl, subst}
+use Rattle.std.specs.Prelude.{nat_eq, option_map}
 use Rattle.xet_base.specs.declared.cas_types.FileRange.{FileRange}
 use Rattle.xet_base.specs.Store.{Store}
 use Rattle.xet_outside.specs.declared.plan.Plan.{Plan}
@@ -16,7 +16,7 @@ use Rattle.xet_error.specs.declared.error.FileReconstructionError.TheVariants as
 use Rattle.xet_blocks.specs.declared.reconstruction_terms.file_term.TermBlock.{TermBlock}
 use Rattle.xet_blocks.specs.TermBlocks.{covered}
 use Rattle.xet_blocks.specs.TermBlockCalls.{QueryAnswered}
-use Rattle.xet_fetch.specs.Refreshes.{Extent, IsRefused, MayAsk, Refresh, RefreshCause, failed_refresh, plan_extents, refusal_of}
+use Rattle.xet_fetch.specs.Refreshes.{Extent, MayAsk, Refresh, RefreshCause, failed_refresh, plan_extents, refusal_of}
 use Rattle.xet_run.specs.declared.event.Event.{Event}
 use Rattle.xet_run.specs.Events.{is_stale}
 use Rattle.xet_ties.specs.Causes.{Cause}
@@ -24,15 +24,11 @@ use Rattle.xet_ties.specs.History.{range_at}
 use Rattle.xet_ties.specs.Saids.{InStep, IsPlanAccepted}
 use Rattle.xet_ties.specs.Setup.{IsOver, RunTold, Setup}
 use Rattle.xet_ties.specs.steps.Moves.{heard_first}
-use Rattle.xet_ties.specs.steps.Parts.{AskedSaid}
+use Rattle.xet_ties.specs.steps.Parts.{AskedSaid, plan_refresh}
 use Rattle.xet_ties.specs.Ties.{Slack, Ties}
 use Rattle.xet_ties.proofs.CallerLemmas.{accepted_more, grew_first, refresh_fails, refresh_said}
 use Rattle.xet_parts.specs.PlanRefreshes.{RefreshPlanCall, again}
 use Rattle.xet_parts.proofs.AskCauses.{failed_cause, missing_cause, rose_cause}
-
--- what is asked again for a plan of a query
-abbrev pub plan_refresh : Setup → Plan → FileRange → Refresh
-plan_refresh g p q = record { file = g.file; range = covered (shape p) q; multirange = g.multirange; blocks = plan_extents (shape p) g.multirange }
 
 -- the only answer by which a file is missing
 refused_missing : (q : FileRange) (multi : Bool) (bs : List Extent) (a : PlanAnswer) → refusal_of q multi bs a ≡ Some error.FileNotFound → a ≡ NoFile

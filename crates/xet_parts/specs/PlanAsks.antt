@@ -30,12 +30,12 @@ abbrev pub AnswerFails : Manager → FileRange → Option TermBlock → FileReco
 AnswerFails m q t e = (e ≡ error.OutOfMemory)
     ⊎ (PassesKnownEnd m q t × (e ≡ error.CorruptedReconstruction (PastKnownEnd m.known_end q.start)))
 
--- it isn't; the manager may have taken it
+-- it isn't; where memory was wanting the manager may have taken it
 pub record LeftAnswer (m now : Manager) (es fs : List Event) (q : FileRange) (t : Option TermBlock)
     (e : FileReconstructionError) : Type 0 where
   pub fails : AnswerFails m q t e
   pub unrecorded : fs ≡ es
-  pub left : (now ≡ m) ⊎ (now ≡ accepted m q t)
+  pub left : (now ≡ m) ⊎ ((e ≡ error.OutOfMemory) × (now ≡ accepted m q t))
 
 -- one answer
 pub record TakenCall (m now : Manager) (es fs : List Event) (q : FileRange) (t : Option TermBlock)

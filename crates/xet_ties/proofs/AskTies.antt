@@ -27,26 +27,30 @@ use Rattle.xet_blocks.specs.Blocks.{PlanBlock, blocks_of, same_block, term_block
 use Rattle.xet_blocks.specs.PlanChecks.{failed_test}
 use Rattle.xet_blocks.specs.PlanQuery.{PlanQuery}
 use Rattle.xet_blocks.specs.TermBlockCalls.{FromAnswer, FromTerms, FromTested, TermBlockCall}
-use Rattle.xet_blocks.specs.TermBlocks.{IsTermBlock, xorb_block}
+use Rattle.xet_blocks.specs.TermBlocks.{IsTermBlock, covered, xorb_block}
 use Rattle.xet_blocks.specs.Terms.{terms_from, terms_of}
-use Rattle.xet_fetch.specs.Refreshes.{IsRefreshed, MayAsk, Refresh}
+use Rattle.xet_fetch.specs.Refreshes.{IsRefreshed, MayAsk, Refresh, plan_extents, refusal_of}
 use Rattle.xet_run.specs.declared.event.Event.{Event}
 use Rattle.xet_run.specs.declared.event.Event.TheVariants.{Planned, Refreshed}
 use Rattle.xet_run.specs.declared.event.PlannedBlock.{PlannedBlock}
 use Rattle.xet_run.specs.declared.event.PlannedTerm.{PlannedTerm}
-use Rattle.xet_run.specs.Events.{is_stale, last_of, plan_count}
+use Rattle.xet_run.specs.Events.{Task, is_stale, last_of, plan_count, planned, tasks_of}
+use Rattle.xet_run.proofs.CallerLemmas.{planned-push}
 use Rattle.xet_history.specs.TrueHistory.{IsTrueEvent, planned_block, planned_term, queries}
 use Rattle.xet_ties.specs.History.{actual_range, range_at}
 use Rattle.xet_ties.specs.InCall.{Exchange}
-use Rattle.xet_ties.specs.Saids.{InStep, IsMadeOf, IsMadeOfPlan, planned_of}
+use Rattle.xet_ties.specs.Saids.{FirstRenewed, InStep, IsCutAnswer, IsMadeOf, IsMadeOfPlan, IsPlanAccepted, planned_of}
 use Rattle.xet_ties.specs.Setup.{AllTell, RunTold, Setup}
 use Rattle.xet_ties.specs.steps.Moves.{QueryStep, heard_first}
-use Rattle.xet_ties.specs.steps.Parts.{blocks_of_answer, plan_event, plan_query, terms_in}
-use Rattle.xet_ties.specs.Ties.{CutsRange, EachLane, IsLost, Slack, Ties}
+use Rattle.xet_ties.specs.steps.Parts.{blocks_of_answer, plan_event, plan_query, plan_refresh, terms_in}
+use Rattle.xet_ties.specs.Ties.{CutsRange, EachLane, FirstStarts, HeardAsked, IsLost, Slack, Ties}
 use Rattle.xet_ties.proofs.ClientMoves.{tie_planned, tie_query}
 use Rattle.xet_ties.proofs.Heard.{FirstEvent, step_query}
+use Rattle.xet_ties.proofs.NextPlaces.{asked_own}
 use Rattle.xet_ties.proofs.PastEnds.{past_none}
+use Rattle.xet_ties.proofs.Pushes.{starts_more}
 use Rattle.xet_ties.proofs.Recording.{tie_refreshed}
+use Rattle.xet_ties.proofs.Renewed.{renewed_planned, renewed_refreshed}
 use Rattle.xet_history.specs.Queries.{CutFrom}
 
 -- ---- the blocks and terms of an answer
@@ -129,6 +133,27 @@ made_within g q ts bs (Found p) h m =
     (λ (e : IsMadeOfPlan g q ts bs p). subst (λ (l : List PlannedTerm). last_of q.start (map (λ t. t.byte_range.end) l) ≤ q.end) (sym e.terms) (ends_within (shape p) q g.multirange q.start (shape p).offset q.start (shape p).terms h))
     m
 
+-- ---- the first planned term starts where the range does
+
+from_first : (p : Shape) (q : FileRange) (multi : Bool) (place offset n : ℕ) (bs : List PlannedBlock) (ts : List PlanTerm) → FirstStarts place (tasks_of n (map planned_term (terms_from p q multi place offset ts)) bs)
+from_first p q multi place offset n bs [] = tt
+from_first p q multi place offset n bs (t ∷ ts) = refl
+
+made_first : (g : Setup) (q : FileRange) (n : ℕ) (ts : List PlannedTerm) (bs : List PlannedBlock) (a : PlanAnswer) → IsMadeOf g q ts bs a → FirstStarts q.start (tasks_of n ts bs)
+made_first g q n ts bs NoFile m = absurd m
+made_first g q n ts bs PastEnd m = subst (λ (l : List PlannedTerm). FirstStarts q.start (tasks_of n l bs)) (sym m.0) tt
+made_first g q n ts bs (Found p) m =
+    ⊎_elim
+    (λ (e : (p.terms ≡ []) × (ts ≡ []) × (bs ≡ [])). subst (λ (l : List PlannedTerm). FirstStarts q.start (tasks_of n l bs)) (sym e.1) tt)
+    (λ (e : IsMadeOfPlan g q ts bs p). subst (λ (l : List PlannedTerm). FirstStarts q.start (tasks_of n l bs)) (sym e.terms) (from_first (shape p) q g.multirange q.start (shape p).offset n bs (shape p).terms))
+    m
+
+made_starts : (g : Setup) (es : List Event) (q : FileRange) (n : ℕ) (ts : List PlannedTerm) (bs : List PlannedBlock) (a : PlanAnswer) → (planned es ≡ [] → q.start ≡ g.range.start) → FirstStarts g.range.start (planned es) → IsMadeOf g q ts bs a
+    → FirstStarts g.range.start (planned (es ++ Planned n q ts bs ∷ []))
+made_starts g es q n ts bs a first_is starts m =
+    subst (λ (l : List Task). FirstStarts g.range.start l) (sym (planned-push es (Planned n q ts bs)))
+    (starts_more g.range.start (planned es) (tasks_of n ts bs) starts (λ e. subst (λ (i : ℕ). FirstStarts i (tasks_of n ts bs)) (first_is e) (made_first g q n ts bs a m)))
+
 -- ---- the first connection
 
 -- it tells the store that it told at the start
@@ -146,9 +171,9 @@ pub query_now : (asked : List Query) (all : List Said) (q : Query) (a : PlanAnsw
 query_now asked all q a same = query_after asked (q ∷ []) all (said.Plan a ∷ []) q a same (record { place = 0; query = refl; answer = refl })
 
 -- so the plan that is recorded was said in answer to its own query
-first_event : (g : Setup) (xs : List Exchange) (q : FileRange) (a : PlanAnswer) (n : ℕ) (ts : List PlannedTerm) (bs : List PlannedBlock) → InStep xs → IsMadeOf g q ts bs a → FirstEvent g (heard_first ((g.file, q) ∷ []) (said.Plan a ∷ []) xs) (Planned n q ts bs)
+first_event : (g : Setup) (xs : List Exchange) (q : FileRange) (a : PlanAnswer) (n : ℕ) (ts : List PlannedTerm) (bs : List PlannedBlock) → IsCutAnswer g.file xs n q a → IsMadeOf g q ts bs a → FirstEvent g xs (Planned n q ts bs)
 first_event g [] q a n ts bs h m = absurd h
-first_event g (x ∷ xs) q a n ts bs h m = record { answer = a; said = query_now x.asked x.said (g.file, q) a h; made = m }
+first_event g (x ∷ xs) q a n ts bs h m = record { answer = a; said = h; made = m }
 
 cut_order : (g : Setup) (qs : List FileRange) (q : FileRange) → CutsRange g (qs ++ q ∷ []) → q.start ≤ q.end
 cut_order g qs q c = go qs g.range.start c
@@ -161,10 +186,10 @@ cut_order g qs q c = go qs g.range.start c
 
 -- after a plan was asked for and recorded
 pub ask_ties : (g : Setup) (b at : RunTold) (es fs : List Event) (sl : Slack) (spare : ℕ) (c n : ClientTold) (cs : List ClientTold) (q : FileRange) (id : UniqueId) (o : Option TermBlock)
-    → at.clients ≡ c ∷ cs → (call : TermBlockCall c n (plan_query g q id) (Ok o)) → fs ≡ es ++ plan_event es q o ∷ [] → sl.lost ≡ [] → sl.spare ≡ spare + 1 → InStep sl.heard → CutsRange g (queries es ++ q ∷ [])
+    → at.clients ≡ c ∷ cs → (call : TermBlockCall c n (plan_query g q id) (Ok o)) → fs ≡ es ++ plan_event es q o ∷ [] → sl.lost ≡ [] → sl.spare ≡ spare + 1 → InStep sl.heard → CutsRange g (queries es ++ q ∷ []) → (planned es ≡ [] → q.start ≡ g.range.start)
     → Ties g b at es None sl
     → (let heard = heard_first ((g.file, q) ∷ []) (said.Plan call.made.plan ∷ []) sl.heard in Ties g b (record at { clients = n ∷ cs }) fs None (record sl { heard = heard; lost = []; spare = spare }) × InStep heard)
-ask_ties g b at es fs sl spare c n cs q id o is call recorded none polls step cuts t =
+ask_ties g b at es fs sl spare c n cs q id o is call recorded none polls step cuts first_is t =
     let from = call.made in
     let a = from.plan in
     let qs : List Query = (g.file, q) ∷ [] in
@@ -179,20 +204,22 @@ ask_ties g b at es fs sl spare c n cs q id o is call recorded none polls step cu
       subst (λ (l : List Event). Ties g b (record at { clients = n ∷ cs }) l None (record sl { heard = heard; lost = []; spare = spare })) (sym recorded)
           (tie_planned g b (record at { clients = n ∷ cs }) es (record sl { heard = heard; lost = sl.lost ++ qs }) spare (plan_count es + 1) q (terms_in o) (blocks_of_answer o) lost polls cuts
           (made_within g q (terms_in o) (blocks_of_answer o) a (cut_order g (queries es) q cuts) made)
+          (made_starts g es q (plan_count es + 1) (terms_in o) (blocks_of_answer o) a first_is t.starts made)
           refl
-          (first_event g sl.heard q a (plan_count es + 1) (terms_in o) (blocks_of_answer o) step made)
+          (first_event g heard q a (plan_count es + 1) (terms_in o) (blocks_of_answer o) (asked_own g b at es None sl q a t none step cuts) made)
           (λ s over. made_true s g q (plan_count es + 1) (terms_in o) (blocks_of_answer o) a (past_none s over.valid g.file q) (from.honest s (tells s over.tell)) made)
           (λ s h. made_stored s g q (terms_in o) (blocks_of_answer o) a (from.honest s (tells s h)) made)
+          (λ r. renewed_planned g es q a sl.heard t.within t.cuts cuts (subst (λ (l : List Query). HeardAsked g.file es l sl.heard) none t.heard_asked) (subst (λ (l : List Query). FirstRenewed g l heard) lost r))
           told),
       step_query qs all sl.heard refl step,
     )
 
 -- after the URLs of a plan were asked for again, and that was recorded
 pub refresh_ties : (g : Setup) (b at : RunTold) (es fs : List Event) (sl : Slack) (p : ℕ) (r : Refresh) (us : List RetrievalUrl) (c n : ClientTold) (cs : List ClientTold)
-    → at.clients ≡ c ∷ cs → MayAsk r c n → (new : IsRefreshed r c n us) → fs ≡ es ++ Refreshed p ∷ [] → sl.lost ≡ [] → InStep sl.heard → range_at es p ≡ r.range ∷ [] → is_stale es p ≡ true → r.file ≡ g.file
+    → at.clients ≡ c ∷ cs → MayAsk r c n → (new : IsRefreshed r c n us) → fs ≡ es ++ Refreshed p ∷ [] → sl.lost ≡ [] → InStep sl.heard → range_at es p ≡ r.range ∷ [] → is_stale es p ≡ true → r.file ≡ g.file → (pl : Plan) (q : FileRange) → IsPlanAccepted g sl.heard pl q → r ≡ plan_refresh g pl q
     → Ties g b at es None sl
     → (let heard = heard_first ((g.file, r.range) ∷ []) (said.Plan (Found new.plan) ∷ []) sl.heard in Ties g b (record at { clients = n ∷ cs }) fs None (record sl { heard = heard; lost = [] }) × InStep heard)
-refresh_ties g b at es fs sl p r us c n cs is may new recorded none step at_range stale file t =
+refresh_ties g b at es fs sl p r us c n cs is may new recorded none step at_range stale file pl q accepted own t =
     let qs : List Query = (g.file, r.range) ∷ [] in
     let all : List Said = said.Plan (Found new.plan) ∷ [] in
     let heard = heard_first qs all sl.heard in
@@ -200,8 +227,13 @@ refresh_ties g b at es fs sl p r us c n cs is may new recorded none step at_rang
     let asked : QueryStep c n qs all = record { goes_on = record { store = may.store; link = may.link; faults = may.faults; expiries = may.expiries }; asked = grew; said = new.answered.said; quiet = refl; late = refl; served = may.served } in
     let first : Ties g b (record at { clients = c ∷ cs }) es None sl = subst (λ (v : List ClientTold). Ties g b (record at { clients = v }) es None sl) is t in
     let lost : sl.lost ++ qs ≡ qs = ap (λ (l : List Query). l ++ qs) none in
+    let range : r.range ≡ covered (shape pl) q = ap (λ (v : Refresh). v.range) own in
+    let passes : refusal_of (covered (shape pl) q) g.multirange (plan_extents (shape pl) g.multirange) (Found new.plan) ≡ None = subst (λ (v : Refresh). refusal_of v.range v.multirange v.blocks (Found new.plan) ≡ None) own new.passes in
+    let renews : FirstRenewed g qs heard → FirstRenewed g [] heard =
+    subst (λ (v : FileRange). FirstRenewed g ((g.file, v) ∷ []) (heard_first ((g.file, v) ∷ []) all sl.heard) → FirstRenewed g [] (heard_first ((g.file, v) ∷ []) all sl.heard)) (sym range)
+    (renewed_refreshed g pl q (Found new.plan) sl.heard accepted step passes) in
     let told = tie_query g b (record at { clients = c ∷ cs }) es sl (n ∷ cs) qs all (asked, refl) (subst (λ (l : List Query). IsLost g es l) (sym lost) (refl, inr (p, at_range, stale))) first in (
       subst (λ (v : List Event). Ties g b (record at { clients = n ∷ cs }) v None (record sl { heard = heard; lost = [] })) (sym recorded)
-          (tie_refreshed g b (record at { clients = n ∷ cs }) es (record sl { heard = heard; lost = sl.lost ++ qs }) p r.range at_range lost told),
+          (tie_refreshed g b (record at { clients = n ∷ cs }) es (record sl { heard = heard; lost = sl.lost ++ qs }) p r.range at_range lost (λ w. renews (subst (λ (l : List Query). FirstRenewed g l heard) lost w)) told),
       step_query qs all sl.heard refl step,
     )

@@ -73,7 +73,7 @@ in_planned f es plan q ts bs seen within h p r at = by (first_some (map (range_i
     by None g true w =
         let now : actual_range q ts ∷ [] ≡ r ∷ [] = sym (ap (λ (u : Bool). option_to_list (cond u (Some (actual_range q ts)) None)) w) ∙ sym (ap (λ (o : Option FileRange). option_to_list (option_or o (cond (plan == p) (Some (actual_range q ts)) None))) g) ∙ sym is ∙ at in
         let same : actual_range q ts ≡ r = cc in
-        subst (λ (z : FileRange). LiesInSome (q ∷ seen) (f, z)) same (q, (0, omega arith, refl), omega arith, within)
+        subst (λ (z : FileRange). LiesInSome (q ∷ seen) (f, z)) same (q, (0, omega arith, refl), refl, within)
     by None g false w = absurd (let now : [] ≡ r ∷ [] = sym (ap (λ (u : Bool). option_to_list (cond u (Some (actual_range q ts)) None)) w) ∙ sym (ap (λ (o : Option FileRange). option_to_list (option_or o (cond (plan == p) (Some (actual_range q ts)) None))) g) ∙ sym is ∙ at in cc)
 
 -- ---- the queries in their order

@@ -18,12 +18,13 @@ use Rattle.xet_run.specs.declared.event.PlannedBlock.{PlannedBlock}
 use Rattle.xet_run.proofs.CallerLemmas.{count_by-push}
 use Rattle.xet_ties.specs.History.{IsNumberedNext, IsOneCached, IsRenewed, block_at, cached_in, fetched_in, kept_in, telling, IsWithin}
 use Rattle.xet_ties.specs.steps.Moves.{LookStep, PutStep}
+use Rattle.xet_ties.specs.Saids.{EventPassed}
 use Rattle.xet_ties.specs.Setup.{IsOver, RunTold, Setup, download_of}
 use Rattle.xet_ties.specs.InCall.{Look, EachGrew, Exchange}
 use Rattle.xet_ties.specs.Ties.{IsEntryOf, Reaches, Slack, Ties, gave, is_look, is_one, is_range, lacks, missed, IsTaken}
 use Rattle.xet_ties.proofs.Lanes.{served_same}
 use Rattle.xet_ties.proofs.Lates.{expired_same}
-use Rattle.xet_ties.proofs.Pushes.{first_push, limited_same, offered_push, polled_push, reaches_more, recorded_same, stored_same, taken_push, tried_push, true_same, cuts_same, lost_push}
+use Rattle.xet_ties.proofs.Pushes.{first_push, limited_same, offered_push, polled_push, reaches_more, recorded_same, stored_same, taken_push, tried_push, true_same, cuts_same, lost_push, starts_same}
 use Rattle.xet_ties.proofs.Numbers.{heard_push}
 use Rattle.xet_ties.proofs.Told.{if_some}
 use Rattle.xet_ties.proofs.Telling.{each-push, telling-push, telling-same}
@@ -114,6 +115,7 @@ tie_missed g b n es sl to x r given l miss t = record {
   true_of = t.true_of;
   cuts = t.cuts;
   within = t.within;
+  starts = t.starts;
   numbers = t.numbers;
   stored = t.stored;
   served = t.served;
@@ -124,6 +126,8 @@ tie_missed g b n es sl to x r given l miss t = record {
   said = t.said;
   tried = t.tried;
   renewed = t.renewed;
+  refreshes = t.refreshes;
+  passed = t.passed;
   one_cached = t.one_cached;
   looked = record {
     looked = looked_more b.cache n.cache to sl.looks (x.xorb, r, given) t.looked.looked l.looked;
@@ -163,6 +167,7 @@ tie_cached g b n es sl to p k x r entry l at t =
       true_of = λ s o. true_same s (download_of g) es e refl tt (t.true_of s o);
       cuts = cuts_same g es e refl t.cuts;
       within = All-push IsWithin es e t.within tt;
+      starts = starts_same g.range.start es e refl t.starts;
       numbers = each-push IsNumberedNext es e t.numbers tt;
       stored = stored_same g.file es e b.clients refl t.stored;
       served = served_same es e sl.hidden sl.late b.clients n.clients (λ l. refl) (λ l. refl) (λ p k. refl) (λ m. tt) t.served;
@@ -173,6 +178,8 @@ tie_cached g b n es sl to p k x r entry l at t =
       said = said_push g es e sl.heard (λ x. tt) t.said;
       tried = tried_push g.tries es e (λ p k. let a = t.tried.at_most p k in omega (arith, a));
       renewed = each-push IsRenewed es e t.renewed tt;
+      refreshes = t.refreshes;
+      passed = All-push (EventPassed g sl.heard) es e t.passed tt;
       one_cached = each-push IsOneCached es e t.one_cached (x, at, ap (λ (rs : List ChunkRange). length rs) l.one);
       looked = record {
         looked = looked_more b.cache n.cache to sl.looks (x.xorb, r, Some entry) t.looked.looked l.looked;
@@ -213,6 +220,7 @@ tie_put g b n es sl to due p d t = record {
   true_of = t.true_of;
   cuts = t.cuts;
   within = t.within;
+  starts = t.starts;
   numbers = t.numbers;
   stored = t.stored;
   served = t.served;
@@ -223,6 +231,8 @@ tie_put g b n es sl to due p d t = record {
   said = t.said;
   tried = t.tried;
   renewed = t.renewed;
+  refreshes = t.refreshes;
+  passed = t.passed;
   one_cached = t.one_cached;
   looked = record { looked = p.looked ∙ t.looked.looked; cover = t.looked.cover };
   looked_entries = entries_put n.cache to sl.looks p.entries t.looked_entries;

@@ -1,6 +1,6 @@
 -- The ties after a step of the connections.
 use Rattle.std.proofs.Common.{◌≡◌, ℕ, ◌+◌, ◌≤◌, min, List, [], ◌∷◌, ◌++◌, refl, sym, subst, ◌∙◌, ap, arith, append_assoc, Some, None, Option}
-use Rattle.std.specs.Prelude.{IsSome, count_by, option_map, All}
+use Rattle.std.specs.Prelude.{IsSome, count_by, drop, option_map, All}
 use Rattle.std.proofs.lemmas.List.{append-nil}
 use Rattle.xet_base.specs.Store.{Store, file_of}
 use Rattle.xet_outside.specs.Told.{ClientTold, Query}
@@ -9,14 +9,14 @@ use Rattle.xet_run.specs.declared.event.Event.{Event}
 use Rattle.xet_run.specs.declared.event.Event.TheVariants.{Planned}
 use Rattle.xet_run.specs.declared.event.PlannedBlock.{PlannedBlock}
 use Rattle.xet_run.specs.declared.event.PlannedTerm.{PlannedTerm}
-use Rattle.xet_run.specs.Events.{plan_count}
+use Rattle.xet_run.specs.Events.{plan_count, planned}
 use Rattle.xet_history.specs.TrueHistory.{IsTrueEvent, queries}
 use Rattle.xet_base.specs.declared.cas_types.FileRange.{FileRange}
 use Rattle.xet_base.specs.declared.merklehash.MerkleHash.{MerkleHash}
 use Rattle.xet_ties.specs.History.{IsNumberedNext, IsOneCached, IsRenewed, asked_by, served_by, fetches, IsWithin}
 use Rattle.xet_ties.specs.steps.Moves.{EachJoined, FirstQuery, JoinStep, QueryStep, no_hidden, no_late, heard_first, heard_join}
-use Rattle.xet_ties.specs.Setup.{AllTell, ClientGoesOn, IsOver, RunTold, Setup, download_of}
-use Rattle.xet_ties.specs.Ties.{AllAre, EachUnasked, all_of, is_pair, EachLane, FirstAsked, IsLane, Slack, Ties, CutsRange, IsLost, IsPlannedEntry}
+use Rattle.xet_ties.specs.Setup.{AllTell, ClientGoesOn, IsOver, RunTold, Setup, download_of, most_lanes}
+use Rattle.xet_ties.specs.Ties.{AllAre, EachUnasked, all_of, is_pair, EachLane, FirstAsked, FirstStarts, IsLane, Slack, Ties, CutsRange, IsLost, IsPlannedEntry}
 use Rattle.xet_ties.proofs.Lanes.{served_same}
 use Rattle.xet_ties.specs.InCall.{expired_said}
 use Rattle.xet_ties.proofs.Lates.{expired_join, expired_query, expired_same, joined_late, none_late}
@@ -25,8 +25,10 @@ use Rattle.xet_ties.proofs.Numbers.{heard_joined, heard_push, heard_query}
 use Rattle.xet_ties.proofs.Telling.{each-push}
 use Rattle.std.proofs.lemmas.List.Elements.{All-push}
 use Rattle.xet_outside.specs.declared.said.Said.{Said}
+use Rattle.xet_ties.specs.Saids.{EventPassed, FirstRenewed}
 use Rattle.xet_ties.proofs.CacheMoves.{taken_heard}
-use Rattle.xet_ties.proofs.Heard.{FirstEvent, exchange_join, exchange_query, grew_first, grew_join, join_match, said_join, said_planned, said_query}
+use Rattle.xet_ties.proofs.Renewed.{renewed_join, renewed_query}
+use Rattle.xet_ties.proofs.Heard.{FirstEvent, exchange_join, exchange_query, grew_first, grew_join, join_match, passed_more, said_join, said_planned, said_query}
 
 -- ---- queries of the first connection
 
@@ -76,6 +78,12 @@ first_late [] ns qs all f = absurd f
 first_late (m ∷ ms) [] qs all f = absurd f
 first_late (m ∷ ms) (n ∷ ns) qs all f = f.0.late
 
+-- the connections past the lanes are as before
+past_query : (bs ms ns : List ClientTold) (qs : List Query) (all : List Said) → FirstQuery ms ns qs all → drop most_lanes ms ≡ drop most_lanes bs → drop most_lanes ns ≡ drop most_lanes bs
+past_query bs [] ns qs all f h = absurd f
+past_query bs (m ∷ ms) [] qs all f h = absurd f
+past_query bs (m ∷ ms) (n ∷ ns) qs all f h = ap (λ (l : List ClientTold). drop 65535 l) f.1 ∙ h
+
 -- the first connection was asked and said something, and no event says it yet
 pub tie_query : (g : Setup) (b n : RunTold) (es : List Event) (sl : Slack) (to : List ClientTold) (qs : List Query) (all : List Said) → FirstQuery n.clients to qs all → IsLost g es (sl.lost ++ qs) → Ties g b n es None sl
     → Ties g b (record n { clients = to }) es None (record sl { heard = heard_first qs all sl.heard; lost = sl.lost ++ qs })
@@ -84,9 +92,10 @@ tie_query g b n es sl to qs all s l t = record {
   true_of = t.true_of;
   cuts = t.cuts;
   within = t.within;
+  starts = t.starts;
   numbers = t.numbers;
   stored = t.stored;
-  served = record { lanes = lanes_query es qs all b.clients n.clients to sl.hidden sl.late s t.served.lanes; once = t.served.once; planned = t.served.planned; on_lanes = t.served.on_lanes };
+  served = record { lanes = lanes_query es qs all b.clients n.clients to sl.hidden sl.late s t.served.lanes; once = t.served.once; planned = t.served.planned; on_lanes = t.served.on_lanes; past = past_query b.clients n.clients to qs all s t.served.past };
   expired = expired_query es qs all sl.heard sl.late (first_late n.clients to qs all s) t.expired;
   asked = asked_query g.file es qs all sl.lost b.clients n.clients to s t.asked;
   heard_asked = heard_query g.file es qs all sl.lost sl.heard t.heard_asked;
@@ -94,6 +103,8 @@ tie_query g b n es sl to qs all s l t = record {
   said = said_query g es qs all sl.heard t.said;
   tried = t.tried;
   renewed = t.renewed;
+  refreshes = renewed_query g qs all sl.lost sl.heard t.refreshes;
+  passed = passed_more g sl.heard (heard_first qs all sl.heard) es (grew_first qs all sl.heard) t.passed;
   one_cached = t.one_cached;
   looked = t.looked;
   looked_entries = t.looked_entries;
@@ -106,17 +117,18 @@ tie_query g b n es sl to qs all s l t = record {
 
 -- the plan of a query is recorded
 pub tie_planned : (g : Setup) (b n : RunTold) (es : List Event) (sl : Slack) (spare plan : ℕ) (query : FileRange) (terms : List PlannedTerm) (blocks : List PlannedBlock)
-    → sl.lost ≡ (g.file, query) ∷ [] → sl.spare ≡ spare + 1 → CutsRange g (queries es ++ query ∷ []) → IsWithin (Planned plan query terms blocks) → plan ≡ plan_count es + 1 → FirstEvent g sl.heard (Planned plan query terms blocks)
+    → sl.lost ≡ (g.file, query) ∷ [] → sl.spare ≡ spare + 1 → CutsRange g (queries es ++ query ∷ []) → IsWithin (Planned plan query terms blocks) → FirstStarts g.range.start (planned (es ++ Planned plan query terms blocks ∷ [])) → plan ≡ plan_count es + 1 → FirstEvent g sl.heard (Planned plan query terms blocks)
     → ((s : Store) → IsOver s b.clients → IsTrueEvent s g.file g.multirange (Planned plan query terms blocks))
-    → ((s : Store) → AllTell s b.clients → IsSome (file_of s g.file))
+    → ((s : Store) → AllTell s b.clients → IsSome (file_of s g.file)) → (FirstRenewed g sl.lost sl.heard → FirstRenewed g [] sl.heard)
     → Ties g b n es None sl → Ties g b n (es ++ Planned plan query terms blocks ∷ []) None (record sl { lost = []; spare = spare })
-tie_planned g b n es sl spare plan query terms blocks lost polls cuts within next said honest stored t =
+tie_planned g b n es sl spare plan query terms blocks lost polls cuts within starts next said honest stored renewed t =
     let e : Event = Planned plan query terms blocks in
     record {
       heard = t.heard;
       true_of = λ s o. true_push s (download_of g) es e cuts (honest s o) (t.true_of s o);
       cuts = cuts_push g es e query refl cuts;
       within = All-push IsWithin es e t.within within;
+      starts = starts;
       numbers = each-push IsNumberedNext es e t.numbers next;
       stored = λ s tell k. stored s tell;
       served = served_same es e sl.hidden sl.late b.clients n.clients (λ l. refl) (λ l. refl) (λ p k. refl) (λ m. tt) t.served;
@@ -127,6 +139,8 @@ tie_planned g b n es sl spare plan query terms blocks lost polls cuts within nex
       said = said_planned g es e sl.heard said t.said;
       tried = tried_push g.tries es e (λ p k. let a = t.tried.at_most p k in omega (arith, a));
       renewed = each-push IsRenewed es e t.renewed tt;
+      refreshes = renewed t.refreshes;
+      passed = All-push (EventPassed g sl.heard) es e t.passed tt;
       one_cached = each-push IsOneCached es e t.one_cached tt;
       looked = looked_push es e sl.pending sl.pending sl.looks b.clients b.cache n.cache refl (λ x r. omega arith) t.looked;
       looked_entries = t.looked_entries;
@@ -186,15 +200,16 @@ asked_join f es lost (b ∷ bs) (m ∷ ms) (n ∷ ns) (h ∷ hs) (a ∷ alls) (k
 
 -- the lanes came back from a join
 pub tie_join : (g : Setup) (b n : RunTold) (es : List Event) (sl : Slack) (to : List ClientTold) (hs : List (List Served)) (alls : List (List Said)) (ks : List ℕ) → EachJoined n.clients to hs alls ks
-    → ((p k : ℕ) → count_by (fetches p k) es + count_by (is_pair p k) (all_of hs) ≤ 1) → All (IsPlannedEntry es) (all_of hs) → sl.hidden ≡ no_hidden b.clients → sl.late ≡ no_late b.clients
+    → ((p k : ℕ) → count_by (fetches p k) es + count_by (is_pair p k) (all_of hs) ≤ 1) → All (IsPlannedEntry es) (all_of hs) → drop most_lanes to ≡ drop most_lanes n.clients → sl.hidden ≡ no_hidden b.clients → sl.late ≡ no_late b.clients
     → Ties g b n es None sl → Ties g b (record n { clients = to }) es None (record sl { heard = heard_join hs alls sl.heard; hidden = hs; late = ks })
-tie_join g b n es sl to hs alls ks j once planned no_h no_k t =
+tie_join g b n es sl to hs alls ks j once planned past no_h no_k t =
     let match = join_match b.clients n.clients to hs alls ks sl.heard j t.heard in
     record {
       heard = exchange_join b.clients n.clients to hs alls ks sl.heard j t.heard;
       true_of = t.true_of;
       cuts = t.cuts;
       within = t.within;
+      starts = t.starts;
       numbers = t.numbers;
       stored = t.stored;
       served = record {
@@ -202,6 +217,7 @@ tie_join g b n es sl to hs alls ks j once planned no_h no_k t =
         once = once;
         planned = planned;
         on_lanes = t.served.on_lanes;
+        past = past ∙ t.served.past;
       };
       expired = expired_join es 0 hs alls ks sl.late sl.heard match (joined_late n.clients to hs alls ks j) (subst (λ (l : List ℕ). AllAre 0 l) (sym no_k) (none_late b.clients)) t.expired;
       asked = asked_join g.file es sl.lost b.clients n.clients to hs alls ks j t.asked;
@@ -210,6 +226,8 @@ tie_join g b n es sl to hs alls ks j once planned no_h no_k t =
       said = said_join g es hs alls sl.heard match t.said;
       tried = t.tried;
       renewed = t.renewed;
+      refreshes = renewed_join g hs alls sl.lost sl.heard match t.refreshes;
+      passed = passed_more g sl.heard (heard_join hs alls sl.heard) es (grew_join hs alls sl.heard match) t.passed;
       one_cached = t.one_cached;
       looked = t.looked;
       looked_entries = t.looked_entries;

@@ -5,9 +5,11 @@ use Rattle.xet_base.specs.Lists.{first_some}
 use Rattle.xet_base.specs.Store.{Store}
 use Rattle.xet_base.specs.declared.cas_types.ChunkRange.{ChunkRange}
 use Rattle.xet_base.specs.declared.cas_types.FileRange.{FileRange}
-use Rattle.xet_outside.specs.Told.{ClientTold}
+use Rattle.xet_outside.specs.Told.{ClientTold, Query}
 use Rattle.xet_outside.specs.declared.block.BlockBytes.{BlockBytes}
 use Rattle.xet_outside.specs.declared.plan.Plan.{Plan}
+use Rattle.xet_outside.specs.declared.plan.PlanAnswer.{PlanAnswer}
+use Rattle.xet_outside.specs.declared.plan.PlanAnswer.TheVariants.{Found}
 use Rattle.xet_error.specs.declared.error.Corruption.{Corruption}
 use Rattle.xet_error.specs.declared.error.Corruption.TheVariants.{BlockLength, OffsetCount, OffsetOrder, TermPastBlock}
 use Rattle.xet_blocks.specs.declared.reconstruction_terms.file_term.FileTerm.{FileTerm}
@@ -19,7 +21,7 @@ use Rattle.xet_blocks.specs.Extracts.{begin_at, failed_term_test, term_size, tes
 use Rattle.xet_run.specs.declared.event.Event.{Event}
 use Rattle.xet_ties.specs.Causes.{BlockFails, BlockFailsIn, EndFails, FirstFailed, IsBlockTest, IsCorrupted, PlanFails, QueryFailed, RefreshFails, SomeFailed, TermFails, TermFailsIn}
 use Rattle.xet_ties.specs.InCall.{EachExchange, Exchange, SomeOne, all_exchanges, answers_of}
-use Rattle.xet_ties.specs.Saids.{FirstSaid, IsPlanAccepted, IsPlanSaid}
+use Rattle.xet_ties.specs.Saids.{AnswerOf, FirstSaid, IsPlanAccepted, IsPlanSaid}
 use Rattle.xet_ties.specs.Setup.{IsOver, RunTold, Setup}
 use Rattle.xet_ties.specs.Ties.{Slack, Stop, Ties}
 use Rattle.xet_ties.proofs.Told.{all_told, answers_told, bare, if_some}
@@ -76,8 +78,11 @@ some_of_all P Q (x ∷ xs) f h = ⊎_elim (λ (p : P x). f x p) (λ (s : SomeOne
 
 -- ---- by the first connection alone
 
+bare_answer : (x : Exchange) (n : ℕ) (q : Query) (a : PlanAnswer) → AnswerOf x n q a → AnswerOf (bare x) n q a
+bare_answer x n q a h = record { place = h.place; some = h.some; at = h.at; query = h.query; answer = h.answer }
+
 first_said : (g : Setup) (x : Exchange) (xs : List Exchange) (p : Plan) (q : FileRange) → IsPlanSaid g (x ∷ xs) p q → IsPlanSaid g (bare x ∷ []) p q
-first_said g x xs p q h = record { answer = h.answer; some = h.some; from = h.from; to = h.to }
+first_said g x xs p q h = record { number = h.number; answer = bare_answer x h.number (g.file, q) (Found p) h.answer; some = h.some; from = h.from; to = h.to }
 
 first_accepted : (g : Setup) (x : Exchange) (xs : List Exchange) (p : Plan) (q : FileRange) → IsPlanAccepted g (x ∷ xs) p q → IsPlanAccepted g (bare x ∷ []) p q
 first_accepted g x xs p q h = record { said = first_said g x xs p q h.said; passes = h.passes }

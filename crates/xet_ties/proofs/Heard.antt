@@ -21,8 +21,9 @@ use Rattle.xet_run.specs.declared.event.Event.TheVariants.{Planned, Admit, Fetch
 use Rattle.xet_run.specs.Events.{Task}
 use Rattle.xet_ties.specs.History.{entry_of}
 use Rattle.xet_ties.specs.InCall.{EachExchange, EachGrew, Exchange, ExchangeGrew, IsExchange, Look, SomeOne}
-use Rattle.xet_ties.specs.Saids.{BlockOfPlan, FirstSaid, InStep, IsEventSaid, IsLookedData, IsPlanAccepted, IsQueryAnswer, IsServedData, IsTaskPiece, IsTested, IsTestedData, IsUnasked, TermOfPlan, planned_of, some_of}
+use Rattle.xet_ties.specs.Saids.{BlockOfPlan, EventPassed, FirstSaid, HasPassed, InStep, IsEventSaid, IsLookedData, IsPlanAccepted, IsQueryAnswer, IsServedData, IsTaskPiece, IsTested, IsTestedData, IsUnasked, PassedIn, TermOfPlan, planned_of, some_of}
 use Rattle.xet_ties.specs.Setup.{Setup}
+use Rattle.xet_ties.proofs.CutPlaces.{answer_of_more, cut_answer_more}
 use Rattle.xet_ties.specs.steps.Moves.{EachJoined, FirstQuery, JoinStep, QueryStep, heard_first, heard_join, no_exchange}
 
 -- ---- lists of connections
@@ -145,7 +146,7 @@ block_answer_more x y e b w t =
     (subst (λ (l : List Served). AnswerTo l (x.said ++ w.said) e b) (sym w.is_served) (answer_before x.served w.served x.said w.said e b t))
 
 event_more : (g : Setup) (x y : Exchange) (e : Event) → ExchangeGrew x y → IsEventSaid g x e → IsEventSaid g y e
-event_more g x y (Planned plan query terms blocks) w h = record { answer = h.answer; said = query_more x y (g.file, query) h.answer w h.said; made = h.made }
+event_more g x y (Planned plan query terms blocks) w h = record { answer = h.answer; said = answer_of_more x y plan (g.file, query) h.answer w h.said; made = h.made }
 event_more g x y (Admit limit) w h = tt
 event_more g x y (Fetched lane plan block) w h = tt
 event_more g x y (Cached plan block) w h = tt
@@ -224,9 +225,9 @@ query_answer_more f [] ys q a w t = absurd t
 query_answer_more f (x ∷ xs) [] q a w t = absurd w
 query_answer_more f (x ∷ xs) (y ∷ ys) q a w t = query_more x y (f, q) a w.0 t
 
-pub accepted_more : (g : Setup) (xs ys : List Exchange) (p : Plan) (q : FileRange) → EachGrew xs ys → IsPlanAccepted g xs p q → IsPlanAccepted g ys p q
+abbrev pub accepted_more : (g : Setup) (xs ys : List Exchange) (p : Plan) (q : FileRange) → EachGrew xs ys → IsPlanAccepted g xs p q → IsPlanAccepted g ys p q
 accepted_more g xs ys p q w t = record {
-  said = record { answer = query_answer_more g.file xs ys q _ w t.said.answer; some = t.said.some; from = t.said.from; to = t.said.to };
+  said = record { number = t.said.number; answer = cut_answer_more g.file xs ys t.said.number q _ w t.said.answer; some = t.said.some; from = t.said.from; to = t.said.to };
   passes = t.passes;
 }
 
@@ -245,6 +246,33 @@ served_more (x ∷ xs) (y ∷ ys) p k b d w t =
     (λ (h : SomeOne (λ x. IsServedData x p k b d) xs). inr (served_more xs ys p k b d w.1 h))
     t
 
+-- bytes that passed stay so
+bytes_passed_more : (xs ys : List Exchange) (p k : ℕ) (b : XorbBlock) → EachGrew xs ys → SomeOne (PassedIn b p k) xs → SomeOne (PassedIn b p k) ys
+bytes_passed_more [] ys p k b w t = absurd t
+bytes_passed_more (x ∷ xs) [] p k b w t = absurd w
+bytes_passed_more (x ∷ xs) (y ∷ ys) p k b w t =
+    ⊎_elim
+    (λ (h : PassedIn b p k x). inl (record { given = h.given; answer = block_answer_more x y (entry_of p k (planned_of b)) h.given w.0 h.answer; passes = h.passes }))
+    (λ (h : SomeOne (PassedIn b p k) xs). inr (bytes_passed_more xs ys p k b w.1 h))
+    t
+
+pub has_passed_more : (g : Setup) (xs ys : List Exchange) (p k : ℕ) → EachGrew xs ys → HasPassed g xs p k → HasPassed g ys p k
+has_passed_more g xs ys p k w h = record { place = block_more g xs ys w h.place; own = h.own; index = h.index; bytes = bytes_passed_more xs ys p k h.place.block w h.bytes }
+
+event_passed_more : (g : Setup) (xs ys : List Exchange) (e : Event) → EachGrew xs ys → EventPassed g xs e → EventPassed g ys e
+event_passed_more g xs ys (Fetched lane plan block) w h = has_passed_more g xs ys plan block w h
+event_passed_more g xs ys (Planned plan query terms blocks) w h = tt
+event_passed_more g xs ys (Admit limit) w h = tt
+event_passed_more g xs ys (Cached plan block) w h = tt
+event_passed_more g xs ys (Expired lane plan block) w h = tt
+event_passed_more g xs ys (Refreshed plan) w h = tt
+event_passed_more g xs ys (Wrote taken) w h = tt
+event_passed_more g xs ys (Fail error) w h = tt
+event_passed_more g xs ys Cancel w h = tt
+
+pub passed_more : (g : Setup) (xs ys : List Exchange) (es : List Event) → EachGrew xs ys → All (EventPassed g xs) es → All (EventPassed g ys) es
+passed_more g xs ys es w a = All-weaker (EventPassed g xs) (EventPassed g ys) (λ e h. event_passed_more g xs ys e w h) es a
+
 -- tested data stays tested
 pub tested_data_more : (xs ys : List Exchange) (looks more : List Look) (p k : ℕ) (b : XorbBlock) (d : XorbBlockData) → EachGrew xs ys → IsTestedData xs looks p k b d → IsTestedData ys (looks ++ more) p k b d
 tested_data_more xs ys looks more p k b d w t =
@@ -256,6 +284,7 @@ tested_data_more xs ys looks more p k b d w t =
 piece_more : (g : Setup) (xs ys : List Exchange) (looks more : List Look) → EachGrew xs ys → (t : Task) (piece : List ℕ) → IsTaskPiece g xs looks t piece → IsTaskPiece g ys (looks ++ more) t piece
 piece_more g xs ys looks more w t piece h = record {
   of_plan = term_more g xs ys w h.of_plan;
+  own = h.own;
   is = h.is;
   piece_of = record {
     data_of = h.piece_of.data_of;

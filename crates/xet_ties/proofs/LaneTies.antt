@@ -10,6 +10,8 @@ use Rattle.xet_run.specs.declared.event.Event.TheVariants.{Fetched, Expired}
 use Rattle.xet_run.specs.declared.event.PlannedBlock.{PlannedBlock}
 use Rattle.xet_ties.specs.History.{expiry_of}
 use Rattle.xet_ties.specs.steps.Records.{AreFresh, EachFresh, EachMayExpire, Key, MayExpire, Place, blocks_all, entries_all, expired_all, fetched_all, lanes_entries, lanes_expired, lanes_fetched, lanes_late}
+use Rattle.xet_ties.specs.InCall.{Exchange}
+use Rattle.xet_ties.specs.Saids.{HasPassed}
 use Rattle.xet_ties.specs.Setup.{RunTold, Setup}
 use Rattle.xet_ties.specs.Ties.{Slack, Ties, has_one}
 use Rattle.xet_ties.proofs.Recording.{tie_expired, tie_fetched}
@@ -29,23 +31,32 @@ each-fresh-all : (es : List Event) (lane : ℕ) (ds : List Key) (css : List (Lis
 each-fresh-all es lane ds [] a = tt
 each-fresh-all es lane ds (cs ∷ css) a = (fresh-all es lane ds cs a.0, each-fresh-all es lane ds css a.1)
 
+-- each of the blocks has been answered with bytes that pass
+abbrev pub ArePassed : Setup → List Exchange → List Key → Type 0
+ArePassed g xs [] = Unit {0}
+ArePassed g xs (c ∷ cs) = HasPassed g xs c.0 c.1 × ArePassed g xs cs
+
+abbrev pub EachPassed : Setup → List Exchange → List (List Key) → Type 0
+EachPassed g xs [] = Unit {0}
+EachPassed g xs (cs ∷ css) = ArePassed g xs cs × EachPassed g xs css
+
 -- ---- one lane
 
 -- all that a lane served is recorded
 pub tie_lane_fetched : (g : Setup) (b n : RunTold) (es : List Event) (sl : Slack) (m : ℕ) (cs : List Key) (h : List Served) (before after : List (List Served)) (rest : List PlannedBlock)
-    → AreFresh es cs → m ≡ length before → sl.hidden ≡ before ++ (entries_all cs ++ h) ∷ after → sl.pending ≡ blocks_all cs ++ rest
+    → AreFresh es cs → m ≡ length before → sl.hidden ≡ before ++ (entries_all cs ++ h) ∷ after → sl.pending ≡ blocks_all cs ++ rest → ArePassed g sl.heard cs
     → Ties g b n es None sl → Ties g b n (es ++ fetched_all m cs) None (record sl { hidden = before ++ h ∷ after; pending = rest; due = sl.due + count_by has_one (blocks_all cs) })
-tie_lane_fetched g b n es sl m [] h before after rest a is hidden pending t =
+tie_lane_fetched g b n es sl m [] h before after rest a is hidden pending passed t =
     let none : sl.due ≡ sl.due + 0 = omega arith in
     subst (λ (l : List Event). Ties g b n l None (record sl { hidden = before ++ h ∷ after; pending = rest; due = sl.due + 0 })) (sym (append-nil es))
     (subst (λ (d : ℕ). Ties g b n es None (record sl { hidden = before ++ h ∷ after; pending = rest; due = d })) none
     (subst (λ (p : List PlannedBlock). Ties g b n es None (record sl { hidden = before ++ h ∷ after; pending = p })) pending
     (subst (λ (l : List (List Served)). Ties g b n es None (record sl { hidden = l })) hidden t)))
-tie_lane_fetched g b n es sl m (c ∷ cs) h before after rest a is hidden pending t =
+tie_lane_fetched g b n es sl m (c ∷ cs) h before after rest a is hidden pending passed t =
     let e : Event = Fetched m c.0 c.1 in
-    let one = tie_fetched g b n es sl m c.0 c.1 c.2 (entries_all cs ++ h) before after (blocks_all cs ++ rest) a.0 a.1 is hidden pending t in
+    let one = tie_fetched g b n es sl m c.0 c.1 c.2 (entries_all cs ++ h) before after (blocks_all cs ++ rest) a.0 a.1 is hidden pending passed.0 t in
     let to : Slack = record sl { hidden = before ++ (entries_all cs ++ h) ∷ after; pending = blocks_all cs ++ rest; due = sl.due + cond (has_one c.2) 1 0 } in
-    let all = tie_lane_fetched g b n (es ++ e ∷ []) to m cs h before after rest (fresh-push es e (λ p k. refl) cs a.2) is refl refl one in
+    let all = tie_lane_fetched g b n (es ++ e ∷ []) to m cs h before after rest (fresh-push es e (λ p k. refl) cs a.2) is refl refl passed.1 one in
     let count = count_by-cons has_one c.2 (blocks_all cs) in
     let due : (sl.due + cond (has_one c.2) 1 0) + count_by has_one (blocks_all cs) ≡ sl.due + count_by has_one (c.2 ∷ blocks_all cs) = omega (arith, count) in
     subst (λ (l : List Event). Ties g b n l None (record sl { hidden = before ++ h ∷ after; pending = rest; due = sl.due + count_by has_one (c.2 ∷ blocks_all cs) })) (append_assoc es (e ∷ []) (fetched_all m cs))
@@ -69,22 +80,22 @@ tie_lane_expired g b n es sl m (c ∷ cs) j before after a is late t =
 -- ---- all lanes
 
 pub tie_lanes_fetched : (g : Setup) (b n : RunTold) (es : List Event) (sl : Slack) (m : ℕ) (css : List (List Key)) (hs before : List (List Served)) (rest : List PlannedBlock)
-    → EachFresh es css → length css ≤ length hs → m ≡ length before → sl.hidden ≡ before ++ lanes_entries css hs → sl.pending ≡ flat_map blocks_all css ++ rest
+    → EachFresh es css → length css ≤ length hs → m ≡ length before → sl.hidden ≡ before ++ lanes_entries css hs → sl.pending ≡ flat_map blocks_all css ++ rest → EachPassed g sl.heard css
     → Ties g b n es None sl → Ties g b n (es ++ lanes_fetched m css) None (record sl { hidden = before ++ hs; pending = rest; due = sl.due + count_by has_one (flat_map blocks_all css) })
-tie_lanes_fetched g b n es sl m [] hs before rest a some is hidden pending t =
+tie_lanes_fetched g b n es sl m [] hs before rest a some is hidden pending passed t =
     let none : sl.due ≡ sl.due + 0 = omega arith in
     subst (λ (l : List Event). Ties g b n l None (record sl { hidden = before ++ hs; pending = rest; due = sl.due + 0 })) (sym (append-nil es))
     (subst (λ (d : ℕ). Ties g b n es None (record sl { hidden = before ++ hs; pending = rest; due = d })) none
     (subst (λ (p : List PlannedBlock). Ties g b n es None (record sl { hidden = before ++ hs; pending = p })) pending
     (subst (λ (l : List (List Served)). Ties g b n es None (record sl { hidden = l })) hidden t)))
-tie_lanes_fetched g b n es sl m (cs ∷ css) [] before rest a some is hidden pending t = absurd (omega (arith, some))
-tie_lanes_fetched g b n es sl m (cs ∷ css) (h ∷ hs) before rest a some is hidden pending t =
+tie_lanes_fetched g b n es sl m (cs ∷ css) [] before rest a some is hidden pending passed t = absurd (omega (arith, some))
+tie_lanes_fetched g b n es sl m (cs ∷ css) (h ∷ hs) before rest a some is hidden pending passed t =
     let more = lanes_entries css hs in
     let wait = flat_map blocks_all css ++ rest in
-    let one = tie_lane_fetched g b n es sl m cs h before more wait a.0 is hidden (pending ∙ append_assoc (blocks_all cs) (flat_map blocks_all css) rest) t in
+    let one = tie_lane_fetched g b n es sl m cs h before more wait a.0 is hidden (pending ∙ append_assoc (blocks_all cs) (flat_map blocks_all css) rest) passed.0 t in
     let to : Slack = record sl { hidden = before ++ h ∷ more; pending = wait; due = sl.due + count_by has_one (blocks_all cs) } in
     let next : m + 1 ≡ length (before ++ h ∷ []) = omega (arith, is, length-append before (h ∷ [])) in
-    let all = tie_lanes_fetched g b n (es ++ fetched_all m cs) to (m + 1) css hs (before ++ h ∷ []) rest (each-fresh-all es m cs css a.1) (omega (arith, some)) next (sym (append_assoc before (h ∷ []) more)) refl one in
+    let all = tie_lanes_fetched g b n (es ++ fetched_all m cs) to (m + 1) css hs (before ++ h ∷ []) rest (each-fresh-all es m cs css a.1) (omega (arith, some)) next (sym (append_assoc before (h ∷ []) more)) refl passed.1 one in
     let count = count-append has_one (blocks_all cs) (flat_map blocks_all css) in
     let due : (sl.due + count_by has_one (blocks_all cs)) + count_by has_one (flat_map blocks_all css) ≡ sl.due + count_by has_one (blocks_all cs ++ flat_map blocks_all css) = omega (arith, count) in
     subst (λ (l : List Event). Ties g b n l None (record sl { hidden = before ++ h ∷ hs; pending = rest; due = sl.due + count_by has_one (blocks_all cs ++ flat_map blocks_all css) })) (append_assoc es (fetched_all m cs) (lanes_fetched (m + 1) css))

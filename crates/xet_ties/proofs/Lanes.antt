@@ -70,6 +70,7 @@ served_same es e hs ks bs ns none off apart on t = record {
   once = λ p k. let a = t.once p k in let c = count-same (fetches p k) es e (apart p k) in omega (arith, a, c);
   planned = entries_push es e (all_of hs) t.planned;
   on_lanes = All-push (IsOnLane (length bs)) es e t.on_lanes (on (length bs));
+  past = t.past;
 }
 
 -- the first hidden entry of a lane is that of its Fetched event
@@ -147,6 +148,7 @@ served_fetched es m p k x h fs gs ks bs ns at is t = record {
       let n = hidden_length es 0 bs ns (fs ++ (entry_of p k x ∷ h) ∷ gs) ks t.lanes in
       let c = length-append fs ((entry_of p k x ∷ h) ∷ gs) in
       All-push (IsOnLane (length bs)) es (Fetched m p k) t.on_lanes (omega (arith, n, c, is));
+  past = t.past;
 }
 
 -- a lane's next late answer is recorded
@@ -192,4 +194,5 @@ served_expired es m p k j hs fs gs bs ns is t = record {
       let n = late_length es 0 bs ns hs (fs ++ suc j ∷ gs) t.lanes in
       let c = length-append fs (suc j ∷ gs) in
       All-push (IsOnLane (length bs)) es (Expired m p k) t.on_lanes (omega (arith, n, c, is));
+  past = t.past;
 }

@@ -15,8 +15,8 @@ use Rattle.xet_run.specs.Allowed.{IsAllowedHistory}
 use Rattle.xet_ties.specs.Causes.{failing_setting}
 use Rattle.xet_ties.specs.History.{entry_of, IsWithin}
 use Rattle.xet_ties.specs.InCall.{Exchange, Look, all_exchanges, new_in}
-use Rattle.xet_ties.specs.Cuts.{FirstCut, IsPart, Planning}
-use Rattle.xet_ties.specs.Legal.{AllPlanned, FirstAsks, IsPlannedServed, Legal, TookTested, TookWhole}
+use Rattle.xet_ties.specs.Cuts.{FirstCut, Planning}
+use Rattle.xet_ties.specs.Legal.{AllPassed, AllPlanned, EntryPassed, FirstAsks, IsPlannedServed, Legal, TookTested, TookWhole}
 use Rattle.xet_ties.specs.RunCalls.{IsFinished, RunCall, TookAll}
 use Rattle.xet_ties.specs.Saids.{FirstSaid, IsTested}
 use Rattle.xet_ties.specs.Setup.{EachGoesOn, RunTold, Setup}
@@ -24,8 +24,9 @@ use Rattle.xet_ties.specs.Ties.{EachLane, HeardAsked, IsPlannedEntry, Slack, Sto
 use Rattle.xet_ties.proofs.Asks.{first_asks}
 use Rattle.xet_ties.proofs.FewAsks.{none_few, run_few}
 use Rattle.xet_ties.proofs.Headline as headline
-use Rattle.xet_ties.proofs.Pairs.{served_once, served_planned}
+use Rattle.xet_ties.proofs.Pairs.{served_once, served_passed, served_planned}
 use Rattle.xet_ties.proofs.Plannings.{PlanningOf, first_pieces, first_plans_all, numbered_at, planning_heard, plans_end, some_pieces}
+use Rattle.xet_ties.proofs.Renewed.{first_renews}
 use Rattle.xet_ties.proofs.SaidTies.{block_said}
 use Rattle.xet_ties.proofs.ServedChunks.{chunks_told}
 use Rattle.xet_ties.proofs.Told.{all_told, if_some, served_told, told_new}
@@ -118,6 +119,7 @@ entry_served g es xs x rest is b n stop sl heard t e h =
     subst (λ (l : List Exchange). IsPlannedServed g l e) (sym is)
     (record {
       of_plan = s.place;
+      own = s.own;
       numbered = numbered_at g es sl.lost (x ∷ rest) e.plan s.query_place s.place.query t.within t.cuts t.lost asked s.query_at s.numbered;
       is = h.2 ∙ ap (λ (k : ℕ). entry_of e.plan k h.0) (sym s.number) ∙ ap (λ (y : _). entry_of e.plan s.place.number y) (sym s.is);
     })
@@ -138,6 +140,17 @@ planned_told g b n es stop sl t = by sl.heard refl
         (All-weaker (IsPlannedEntry es) (IsPlannedServed g (x ∷ rest)) one (all_of sl.hidden) t.served.planned)
         t.served.lanes in
         by_told g (x ∷ rest) sl.heard (all_exchanges b.clients n.clients) told (all_told b.clients n.clients sl.heard t.heard) e
+
+-- on Ok each served block has passed
+passed_told : (g : Setup) (b n : RunTold) (es : List Event) (sl : Slack) → Ties g b n es None sl → all_of sl.hidden ≡ [] → IfSome (all_exchanges b.clients n.clients) (AllPassed g)
+passed_told g b n es sl t none =
+    let P : Served → Type 0 = EntryPassed g sl.heard in
+    let told = served_told P es 0 b.clients n.clients sl.hidden sl.late (λ lane. served_passed g sl.heard lane [] es t.passed) (subst (λ (l : List Served). All P l) (sym none) (All-nil P)) t.served.lanes in
+    by (all_exchanges b.clients n.clients) told (all_told b.clients n.clients sl.heard t.heard)
+  where
+    by : (o : Option (List Exchange)) → IfSome o (λ ys. All (λ y. All (EntryPassed g sl.heard) y.served) ys) → IfSome o (λ ys. ys ≡ sl.heard) → IfSome o (AllPassed g)
+    by None a c = tt
+    by (Some ys) a c = subst (λ (l : List Exchange). All (λ y. All (EntryPassed g l) y.served) ys) (sym c) a
 
 -- ---- the legal answer
 
@@ -161,7 +174,7 @@ asks_start g (b ∷ bs) = first_asks g [] [] (b ∷ bs) (b ∷ bs) (All-nil IsWi
 
 -- nothing was planned
 plans_nothing : (g : Setup) (bs : List ClientTold) → Planning g (no_exchange bs)
-plans_nothing g bs = record { parts = []; more = []; few = omega arith; is_cut = record { cuts = tt; asked = by bs }; said = All-nil (IsPart g (no_exchange bs)); adjoin = tt }
+plans_nothing g bs = record { parts = []; more = []; few = omega arith; is_cut = record { cuts = tt; asked = by bs }; said = tt; adjoin = tt }
   where
     by : (l : List ClientTold) → FirstCut (no_exchange l) []
     by [] = refl
@@ -190,12 +203,15 @@ legal_refused g b x h = record {
   asked = asks_start g b.clients;
   all_asked = tt;
   refreshed = none_few g b.clients;
+  renewed = tt;
   served = served_once [] b.clients b.clients (no_hidden b.clients) (no_late b.clients) (served_start b.clients);
   planned =
       if_some (all_exchanges b.clients b.clients) (λ xs. xs ≡ no_exchange b.clients) (AllPlanned g)
       (λ xs e. subst (λ (l : List Exchange). AllPlanned g l) (sym e) (told_nothing g b.clients))
       (all_told b.clients b.clients (no_exchange b.clients) (exchange_start b.clients));
+  passed = tt;
   chunks = λ s o e. tt;
+  past = refl;
   goes_on = stays b.clients;
   cache_later = λ s o c. c;
   sink_later = omega arith;
@@ -221,9 +237,12 @@ legal_ran g b n es (Ok k) h a r =
       asked = first_asks g es t.slack.lost b.clients n.clients t.ties.within t.ties.cuts t.ties.lost t.ties.asked;
       all_asked = first_plans_all g b n es k t.slack a t.ties (t.left.none refl).lost r.finished;
       refreshed = run_few g b n es None t.slack a t.ties;
+      renewed = first_renews g b n es t.slack t.ties (t.left.none refl).lost;
       served = served_once es b.clients n.clients t.slack.hidden t.slack.late t.ties.served;
       planned = planned_told g b n es None t.slack t.ties;
+      passed = passed_told g b n es t.slack t.ties (t.left.none refl).hidden;
       chunks = λ s o e. chunks_told g b n es k t.slack a t.ties none r.finished s o e;
+      past = t.ties.served.past;
       goes_on = goes_on es 0 b.clients n.clients t.slack.hidden t.slack.late t.ties.served.lanes;
       cache_later = r.cache_later;
       sink_later = t.ties.taken.faults;
@@ -246,9 +265,12 @@ legal_ran g b n es (Err e) h a r =
       asked = first_asks g es t.slack.lost b.clients n.clients t.ties.within t.ties.cuts t.ties.lost t.ties.asked;
       all_asked = tt;
       refreshed = run_few g b n es (Some e) t.slack a t.ties;
+      renewed = tt;
       served = served_once es b.clients n.clients t.slack.hidden t.slack.late t.ties.served;
       planned = planned_told g b n es (Some e) t.slack t.ties;
+      passed = tt;
       chunks = λ s o i. tt;
+      past = t.ties.served.past;
       goes_on = goes_on es 0 b.clients n.clients t.slack.hidden t.slack.late t.ties.served.lanes;
       cache_later = r.cache_later;
       sink_later = t.ties.taken.faults;

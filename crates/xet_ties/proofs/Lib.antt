@@ -3,6 +3,7 @@ mod AskTies
 mod CacheMoves
 pub mod CallerLemmas
 mod ClientMoves
+mod CutPlaces
 mod Expiries
 mod FewAsks
 mod FileCauses
@@ -21,6 +22,7 @@ mod Measures
 mod Missing
 mod Moves
 mod NewPairs
+mod NextPlaces
 mod Numbers
 mod Pairs
 mod PartTies
@@ -30,6 +32,7 @@ mod Pushes
 mod Recording
 mod Records
 mod Renewals
+mod Renewed
 mod RoundAllowed
 mod RoundData
 mod RoundShorts

@@ -15,14 +15,14 @@ use Rattle.xet_history.specs.TrueHistory.{pieces}
 use Rattle.xet_run.proofs.CallerLemmas.{error-push, flat-push}
 use Rattle.xet_ties.specs.History.{IsNumberedNext, IsOneCached, IsRenewed, IsWithin, asked_in, limit_in, limits_of}
 use Rattle.xet_ties.specs.InCall.{EachExchange, Exchange, Look}
-use Rattle.xet_ties.specs.Saids.{FirstSaid, IsTested}
+use Rattle.xet_ties.specs.Saids.{EventPassed, FirstRenewed, FirstSaid, IsTested}
 use Rattle.xet_ties.proofs.Heard.{said_push}
 use Rattle.xet_ties.specs.steps.Moves.{Fits}
 use Rattle.xet_ties.specs.Setup.{CacheTells, IsOver, RunTold, Setup, download_of}
 use Rattle.xet_ties.specs.Ties.{AllAre, EachExpired, HeardAsked, IsAmong, IsEntryOf, IsLooked, IsTaken, Slack, Ties}
 use Rattle.xet_ties.proofs.Lanes.{served_same}
 use Rattle.xet_ties.proofs.Lates.{expired_same}
-use Rattle.xet_ties.proofs.Pushes.{cuts_same, first_push, lost_push, limited_same, looked_push, offered_push, polled_push, reaches_more, recorded_same, stored_same, taken_push, tried_push, true_same}
+use Rattle.xet_ties.proofs.Pushes.{cuts_same, first_push, lost_push, limited_same, looked_push, offered_push, polled_push, reaches_more, recorded_same, starts_same, stored_same, taken_push, tried_push, true_same}
 use Rattle.xet_ties.proofs.Numbers.{heard_push, next_same}
 use Rattle.xet_ties.proofs.Telling.{count-same, each-push}
 use Rattle.xet_error.specs.declared.error.FileReconstructionError.TheVariants as error
@@ -35,6 +35,7 @@ tie_event g b n es e sl to f t = record {
   true_of = λ s o. true_same s (download_of g) es e f.query (f.true_of s) (t.true_of s o);
   cuts = cuts_same g es e f.query t.cuts;
   within = All-push IsWithin es e t.within f.within;
+  starts = starts_same g.range.start es e f.tasks t.starts;
   numbers = each-push IsNumberedNext es e t.numbers (next_same es e f.plan);
   stored = stored_same g.file es e b.clients f.plan t.stored;
   served = f.served b.clients n.clients t.served;
@@ -45,6 +46,8 @@ tie_event g b n es e sl to f t = record {
   said = subst (λ (l : List Exchange). FirstSaid g (es ++ e ∷ []) l) (sym f.heard) (said_push g es e sl.heard f.said t.said);
   tried = tried_push g.tries es e f.tried;
   renewed = each-push IsRenewed es e t.renewed f.renewed;
+  refreshes = subst (λ (l : List Exchange). FirstRenewed g to.lost l) (sym f.heard) (f.refreshes t.refreshes);
+  passed = subst (λ (l : List Exchange). All (EventPassed g l) (es ++ e ∷ [])) (sym f.heard) (All-push (EventPassed g sl.heard) es e t.passed f.passed);
   one_cached = each-push IsOneCached es e t.one_cached f.one_cached;
   looked = subst (λ (l : List Look). IsLooked (es ++ e ∷ []) to.pending l b.clients b.cache n.cache) (sym f.looks) (looked_push es e sl.pending to.pending sl.looks b.clients b.cache n.cache f.cached f.pending t.looked);
   looked_entries = subst (λ (l : List Look). All (IsEntryOf n.cache.entries) l) (sym f.looks) t.looked_entries;
@@ -67,6 +70,7 @@ tie_poll g b n es sl to a t = record {
   true_of = t.true_of;
   cuts = t.cuts;
   within = t.within;
+  starts = t.starts;
   numbers = t.numbers;
   stored = t.stored;
   served = t.served;
@@ -77,6 +81,8 @@ tie_poll g b n es sl to a t = record {
   said = t.said;
   tried = t.tried;
   renewed = t.renewed;
+  refreshes = t.refreshes;
+  passed = t.passed;
   one_cached = t.one_cached;
   looked = t.looked;
   looked_entries = t.looked_entries;
@@ -123,6 +129,7 @@ tie_limit g b n es sl to l c t = record {
   true_of = t.true_of;
   cuts = t.cuts;
   within = t.within;
+  starts = t.starts;
   numbers = t.numbers;
   stored = t.stored;
   served = t.served;
@@ -133,6 +140,8 @@ tie_limit g b n es sl to l c t = record {
   said = t.said;
   tried = t.tried;
   renewed = t.renewed;
+  refreshes = t.refreshes;
+  passed = t.passed;
   one_cached = t.one_cached;
   looked = t.looked;
   looked_entries = t.looked_entries;
@@ -159,6 +168,7 @@ tie_admit g b n es sl to l c t =
       true_of = λ s o. true_same s (download_of g) es e refl tt (t.true_of s o);
       cuts = cuts_same g es e refl t.cuts;
       within = All-push IsWithin es e t.within tt;
+      starts = starts_same g.range.start es e refl t.starts;
       numbers = each-push IsNumberedNext es e t.numbers tt;
       stored = stored_same g.file es e b.clients refl t.stored;
       served = served_same es e sl.hidden sl.late b.clients n.clients (λ l. refl) (λ l. refl) (λ p k. refl) (λ m. tt) t.served;
@@ -169,6 +179,8 @@ tie_admit g b n es sl to l c t =
       said = said_push g es e sl.heard (λ x. tt) t.said;
       tried = tried_push g.tries es e (λ p k. let a = t.tried.at_most p k in omega (arith, a));
       renewed = each-push IsRenewed es e t.renewed tt;
+      refreshes = t.refreshes;
+      passed = All-push (EventPassed g sl.heard) es e t.passed tt;
       one_cached = each-push IsOneCached es e t.one_cached tt;
       looked = looked_push es e sl.pending sl.pending sl.looks b.clients b.cache n.cache refl (λ x r. omega arith) t.looked;
       looked_entries = t.looked_entries;
@@ -200,6 +212,7 @@ tie_window g b n es sl to bytes took faults link t p q = record {
   true_of = t.true_of;
   cuts = t.cuts;
   within = t.within;
+  starts = t.starts;
   numbers = t.numbers;
   stored = t.stored;
   served = t.served;
@@ -210,6 +223,8 @@ tie_window g b n es sl to bytes took faults link t p q = record {
   said = t.said;
   tried = t.tried;
   renewed = t.renewed;
+  refreshes = t.refreshes;
+  passed = t.passed;
   one_cached = t.one_cached;
   looked = t.looked;
   looked_entries = t.looked_entries;
@@ -246,6 +261,7 @@ tie_fail g b n es sl x spent t =
       true_of = λ s o. true_same s (download_of g) es e refl tt (t.true_of s o);
       cuts = cuts_same g es e refl t.cuts;
       within = All-push IsWithin es e t.within tt;
+      starts = starts_same g.range.start es e refl t.starts;
       numbers = each-push IsNumberedNext es e t.numbers tt;
       stored = stored_same g.file es e b.clients refl t.stored;
       served = served_same es e sl.hidden sl.late b.clients n.clients (λ l. refl) (λ l. refl) (λ p k. refl) (λ m. tt) t.served;
@@ -259,6 +275,8 @@ tie_fail g b n es sl x spent t =
         spent = λ h. let s = spent (cc) in (s.0, s.1, count-same (expires s.0 s.1) es e refl ∙ s.2);
       };
       renewed = each-push IsRenewed es e t.renewed tt;
+      refreshes = t.refreshes;
+      passed = All-push (EventPassed g sl.heard) es e t.passed tt;
       one_cached = each-push IsOneCached es e t.one_cached tt;
       looked = looked_push es e sl.pending sl.pending sl.looks b.clients b.cache n.cache refl (λ y r. omega arith) t.looked;
       looked_entries = t.looked_entries;
@@ -280,6 +298,7 @@ tie_short g b n es sl t = record {
   true_of = t.true_of;
   cuts = t.cuts;
   within = t.within;
+  starts = t.starts;
   numbers = t.numbers;
   stored = t.stored;
   served = t.served;
@@ -290,6 +309,8 @@ tie_short g b n es sl t = record {
   said = t.said;
   tried = record { at_most = t.tried.at_most; spent = λ h. absurd (cc) };
   renewed = t.renewed;
+  refreshes = t.refreshes;
+  passed = t.passed;
   one_cached = t.one_cached;
   looked = t.looked;
   looked_entries = t.looked_entries;

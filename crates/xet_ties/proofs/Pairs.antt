@@ -4,7 +4,7 @@ use Rattle.std.specs.Prelude.{All, IfSome, count_by, map, option_to_list, slice_
 use Rattle.std.specs.List.{flat_map}
 use Rattle.std.proofs.lemmas.Bool.{eqb-true}
 use Rattle.std.proofs.lemmas.List.{append-nil}
-use Rattle.std.proofs.lemmas.List.Elements.{All-append, All-cons, All-nil, All-weaker}
+use Rattle.std.proofs.lemmas.List.Elements.{All-append, All-cons, All-head, All-nil, All-tail, All-weaker}
 use Rattle.xet_base.specs.Lists.{first_some}
 use Rattle.xet_outside.specs.declared.served.Served.{Served}
 use Rattle.xet_outside.specs.Told.{ClientTold}
@@ -13,7 +13,10 @@ use Rattle.xet_run.specs.declared.event.Event.{Event}
 use Rattle.xet_run.specs.declared.event.Event.TheVariants.{Planned, Admit, Fetched, Cached, Expired, Refreshed, Wrote, Fail, Cancel}
 use Rattle.xet_run.specs.declared.event.PlannedBlock.{PlannedBlock}
 use Rattle.xet_ties.specs.History.{block_at, blocks_in, entry_of, fetches, served_by, served_in, telling}
-use Rattle.xet_ties.specs.InCall.{all_served, joined, new_in}
+use Rattle.xet_ties.specs.InCall.{Exchange, all_served, joined, new_in}
+use Rattle.xet_ties.specs.Legal.{EntryPassed}
+use Rattle.xet_ties.specs.Saids.{EventPassed, HasPassed}
+use Rattle.xet_ties.specs.Setup.{Setup}
 use Rattle.xet_ties.specs.Ties.{EachLane, IsPlannedEntry, IsServed, all_of, is_pair}
 use Rattle.xet_ties.proofs.Telling.{block_at-push, count-append}
 use Rattle.xet_ties.proofs.Told.{told_new}
@@ -189,3 +192,29 @@ from_planned lane before (e ∷ es) =
 -- each entry of a Fetched event is that of a planned block
 pub served_planned : (lane : ℕ) (es : List Event) → All (IsPlannedEntry es) (served_by lane es)
 served_planned lane es = from_planned lane [] es
+
+-- each entry of a Fetched event is of a block that has passed
+passed_all : (g : Setup) (xs : List Exchange) (p k : ℕ) (bs : List PlannedBlock) → HasPassed g xs p k → All (EntryPassed g xs) (map (entry_of p k) bs)
+passed_all g xs p k [] h = All-nil (EntryPassed g xs)
+passed_all g xs p k (b ∷ bs) h = All-cons (EntryPassed g xs) (entry_of p k b) (map (entry_of p k) bs) h (passed_all g xs p k bs h)
+
+passed_event : (g : Setup) (xs : List Exchange) (lane : ℕ) (before : List Event) (e : Event) → EventPassed g xs e → All (EntryPassed g xs) (served_in lane before e)
+passed_event g xs lane before (Fetched l p k) h = by (l == lane)
+  where
+    by : (v : Bool) → All (EntryPassed g xs) (cond v (map (entry_of p k) (block_at before p k)) [])
+    by true = passed_all g xs p k (block_at before p k) h
+    by false = All-nil (EntryPassed g xs)
+passed_event g xs lane before (Planned plan query terms blocks) h = All-nil (EntryPassed g xs)
+passed_event g xs lane before (Admit limit) h = All-nil (EntryPassed g xs)
+passed_event g xs lane before (Cached plan block) h = All-nil (EntryPassed g xs)
+passed_event g xs lane before (Expired l plan block) h = All-nil (EntryPassed g xs)
+passed_event g xs lane before (Refreshed plan) h = All-nil (EntryPassed g xs)
+passed_event g xs lane before (Wrote taken) h = All-nil (EntryPassed g xs)
+passed_event g xs lane before (Fail error) h = All-nil (EntryPassed g xs)
+passed_event g xs lane before Cancel h = All-nil (EntryPassed g xs)
+
+pub served_passed : (g : Setup) (xs : List Exchange) (lane : ℕ) (before es : List Event) → All (EventPassed g xs) es → All (EntryPassed g xs) (telling (served_in lane) before es)
+served_passed g xs lane before [] a = All-nil (EntryPassed g xs)
+served_passed g xs lane before (e ∷ es) a =
+    All-append (EntryPassed g xs) (served_in lane before e) (telling (served_in lane) (before ++ e ∷ []) es)
+    (passed_event g xs lane before e (All-head (EventPassed g xs) e es a)) (served_passed g xs lane (before ++ e ∷ []) es (All-tail (EventPassed g xs) e es a))

@@ -3,7 +3,7 @@ use Rattle.std.proofs.Common.{◌≡◌, ◌⊎◌, ℕ, zero, suc, ◌+◌, ◌
 use Rattle.std.specs.Prelude.{All, filter, map, nat_lt, option_to_list, slice_get}
 use Rattle.std.specs.List.{AllZip}
 use Rattle.std.proofs.lemmas.List.{append-nil}
-use Rattle.std.proofs.lemmas.List.Elements.{All-cons, All-head, All-nil, All-tail, All-weaker}
+use Rattle.std.proofs.lemmas.List.Elements.{All-head, All-tail, All-weaker}
 use Rattle.xet_base.specs.declared.cas_types.FileRange.{FileRange}
 use Rattle.xet_base.specs.Lists.{first_some}
 use Rattle.xet_outside.specs.Plan.{shape}
@@ -19,14 +19,14 @@ use Rattle.xet_run.specs.Allowed.{Adjoin, IsAllowed, IsAllowedHistory}
 use Rattle.xet_run.specs.Events.{Task, is_plan, last_of, plan_count, planned, tasks_in, tasks_of}
 use Rattle.xet_run.proofs.CallerLemmas.{ends, kept_along, planned-push}
 use Rattle.xet_history.specs.TrueHistory.{EndsEarly, SomeEndsEarly, planned_term, queries}
-use Rattle.xet_ties.specs.Cuts.{AdjoinFrom, AskedCut, EachAdjoins, IsCut, IsNumbered, IsPart, IsSaidPiece, Part, PassesTests, Planning, PlansAll, SaidTerm, SomeTellsEnd, StartsAt, answer_terms, has_some, part_end, queries_of, some_said, terms_said, under}
+use Rattle.xet_ties.specs.Cuts.{AdjoinFrom, AreParts, AskedCut, IsCut, IsNumbered, IsSaidPiece, Part, PassesTests, Planning, PlansAll, SaidTerm, SomeTellsEnd, StartsAt, answer_terms, has_some, part_end, queries_of, some_said, terms_said, under}
 use Rattle.xet_ties.specs.History.{EachAfter, IsNumberedNext, IsWithin, actual_range, asked_by, range_at, range_in}
 use Rattle.xet_ties.specs.InCall.{EachExchange, Exchange, Look, answers_of, new_in}
 use Rattle.xet_ties.specs.Legal.{AsksSome, FirstPlansAll}
 use Rattle.xet_ties.specs.RunCalls.{IsFinished}
-use Rattle.xet_ties.specs.Saids.{FirstSaid, IsEventSaid, IsMadeOf, IsMadeOfPlan, IsPiece, IsTaskPiece, has_bytes, some_of}
+use Rattle.xet_ties.specs.Saids.{AnswerOf, FirstSaid, IsEventSaid, IsMadeOf, IsMadeOfPlan, IsPiece, IsTaskPiece, has_bytes, some_of}
 use Rattle.xet_ties.specs.Setup.{RunTold, Setup}
-use Rattle.xet_ties.specs.Ties.{CutsRange, FirstAsked, HeardAsked, IsLost, Slack, Stop, Ties}
+use Rattle.xet_ties.specs.Ties.{CutsRange, FirstAsked, FirstStarts, HeardAsked, IsLost, Slack, Stop, Ties}
 use Rattle.xet_run.specs.Events.{is_stale}
 use Rattle.xet_ties.proofs.AskTies.{none_terms}
 use Rattle.xet_ties.proofs.Asks.{AreIn, asked_cut, none_in}
@@ -159,6 +159,7 @@ pieces_said g xs looks (t ∷ ts) (s ∷ ss) [] a z = absurd z
 pieces_said g xs looks (t ∷ ts) (s ∷ ss) (p ∷ ps) a z = (
   record {
     of_plan = z.0.of_plan;
+    own = sym a.0 ∙ z.0.own;
     is = sym a.1 ∙ z.0.is;
     piece_of = subst (λ (i : ℕ). IsPiece g xs looks i z.0.of_plan p) a.0 z.0.piece_of;
   },
@@ -188,7 +189,7 @@ ends_same (f ∷ fs) = ap (λ (l : List ℕ). f.byte_range.end ∷ l) (ends_same
 record PartsOf (g : Setup) (xs : List Exchange) (n : ℕ) (es : List Event) : Type 0 where
   pub parts : List Part
   pub queries_are : queries_of parts ≡ queries es
-  pub said : All (IsPart g xs) parts
+  pub said : AreParts g xs (n + 1) parts
   pub tasks : AreTasks (planned es) (terms_said g.multirange (n + 1) parts)
   pub ends : SomeEndsEarly es → SomeTellsEnd g.multirange parts
 
@@ -197,7 +198,7 @@ past : (g : Setup) (xs : List Exchange) (before es : List Event) (e : Event) →
 past g xs before es e off qs ts late r = record {
   parts = r.parts;
   queries_are = r.queries_are ∙ sym qs;
-  said = r.said;
+  said = subst (λ (i : ℕ). AreParts g xs (i + 1) r.parts) (count-same is_plan before e off) r.said;
   tasks =
       subst (λ (l : List Task). AreTasks l (terms_said g.multirange (plan_count before + 1) r.parts)) (sym ts)
       (subst (λ (i : ℕ). AreTasks (planned es) (terms_said g.multirange (i + 1) r.parts)) (count-same is_plan before e off) r.tasks);
@@ -215,7 +216,10 @@ part_step g x rest before es (Planned plan q ts bs) next s r =
     record {
       parts = part ∷ r.parts;
       queries_are = ap (λ (l : List FileRange). q ∷ l) r.queries_are;
-      said = All-cons (IsPart g (x ∷ rest)) part r.parts (record { said = s.said; passes = made_passes g q ts bs s.answer s.made }) r.said;
+      said = (
+        record { said = subst (λ (i : ℕ). AnswerOf x i (g.file, q) s.answer) next s.said; passes = made_passes g q ts bs s.answer s.made },
+        subst (λ (i : ℕ). AreParts g (x ∷ rest) (i + 1) r.parts) (count-more is_plan before (Planned plan q ts bs) refl) r.said,
+      );
       tasks = tasks_append (tasks_of plan ts bs) (planned es) (under (plan_count before + 1) fs) (terms_said g.multirange ((plan_count before + 1) + 1) r.parts) own later;
       ends = λ h.
           ⊎_elim
@@ -233,7 +237,7 @@ part_step g x rest before es (Fail error) next s r = past g (x ∷ rest) before 
 part_step g x rest before es Cancel next s r = past g (x ∷ rest) before es Cancel refl refl refl (λ h. h) r
 
 parts_of : (g : Setup) (x : Exchange) (rest : List Exchange) (before es : List Event) → EachAfter IsNumberedNext before es → All (IsEventSaid g x) es → PartsOf g (x ∷ rest) (plan_count before) es
-parts_of g x rest before [] c a = record { parts = []; queries_are = refl; said = All-nil (IsPart g (x ∷ rest)); tasks = tt; ends = λ h. absurd h }
+parts_of g x rest before [] c a = record { parts = []; queries_are = refl; said = tt; tasks = tt; ends = λ h. absurd h }
 parts_of g x rest before (e ∷ es) c a = part_step g x rest before es e c.0 (All-head (IsEventSaid g x) e es a) (parts_of g x rest (before ++ e ∷ []) es c.1 (All-tail (IsEventSaid g x) e es a))
 
 -- ---- the terms adjoin
@@ -285,13 +289,10 @@ adjoin_from place (t ∷ ts) (s ∷ ss) a j =
     let end : t.term.byte_range.end ≡ s.term.byte_range.end = ap (λ (u : PlannedTerm). u.byte_range.end) a.1 in
     (sym start ∙ j.0, adjoin_from s.term.byte_range.end ts ss a.2 (subst (λ (i : ℕ). JoinedFrom i ts) end j.1))
 
-each_adjoins : (ts : List Task) (ss : List SaidTerm) → AreTasks ts ss → AllJoined ts → EachAdjoins ss
-each_adjoins [] [] a j = tt
-each_adjoins [] (s ∷ ss) a j = absurd a
-each_adjoins (t ∷ ts) [] a j = absurd a
-each_adjoins (t ∷ ts) (s ∷ ss) a j =
-    let end : t.term.byte_range.end ≡ s.term.byte_range.end = ap (λ (u : PlannedTerm). u.byte_range.end) a.1 in
-    adjoin_from s.term.byte_range.end ts ss a.2 (subst (λ (i : ℕ). JoinedFrom i ts) end j)
+-- joined terms whose first one starts at a place are joined from there on
+all_adjoin : (place : ℕ) (ts : List Task) (ss : List SaidTerm) → AreTasks ts ss → AllJoined ts → FirstStarts place ts → AdjoinFrom place ss
+all_adjoin place [] ss a j f = adjoin_from place [] ss a tt
+all_adjoin place (t ∷ ts) ss a j f = adjoin_from place (t ∷ ts) ss a (f, j)
 
 -- ---- together
 
@@ -303,9 +304,9 @@ pub record PlanningOf (g : Setup) (xs : List Exchange) (es : List Event) (lost :
   pub tasks : AreTasks (planned es) (terms_said g.multirange 1 planning.parts)
   pub ends : SomeEndsEarly es → SomeTellsEnd g.multirange planning.parts
 
-pub planning_of : (g : Setup) (es : List Event) (lost : List Query) (x : Exchange) (rest : List Exchange) → IsAllowedHistory es → All IsWithin es → CutsRange g (queries es) → EachAfter IsNumberedNext [] es → IsLost g es lost → x.asked ≡ asked_by g.file es ++ lost → All (IsEventSaid g x) es
+pub planning_of : (g : Setup) (es : List Event) (lost : List Query) (x : Exchange) (rest : List Exchange) → IsAllowedHistory es → All IsWithin es → FirstStarts g.range.start (planned es) → CutsRange g (queries es) → EachAfter IsNumberedNext [] es → IsLost g es lost → x.asked ≡ asked_by g.file es ++ lost → All (IsEventSaid g x) es
     → PlanningOf g (x ∷ rest) es lost
-planning_of g es lost x rest allowed within cuts numbers l is said =
+planning_of g es lost x rest allowed within starts cuts numbers l is said =
     let r = parts_of g x rest [] es numbers said in
     let c = cut_of g es lost x rest within cuts l is in
     record {
@@ -315,7 +316,7 @@ planning_of g es lost x rest allowed within cuts numbers l is said =
         few = c.few;
         is_cut = subst (λ (qs : List FileRange). IsCut g (x ∷ rest) (qs ++ c.more)) (sym r.queries_are) c.is_cut;
         said = r.said;
-        adjoin = each_adjoins (planned es) (terms_said g.multirange 1 r.parts) r.tasks (all_joined es allowed);
+        adjoin = all_adjoin g.range.start (planned es) (terms_said g.multirange 1 r.parts) r.tasks (all_joined es allowed) starts;
       };
       none = c.none;
       queries_are = r.queries_are;
@@ -329,7 +330,7 @@ planning_heard g b n es stop sl a t = by sl.heard t.said t.heard_asked
   where
     by : (xs : List Exchange) → FirstSaid g es xs → HeardAsked g.file es sl.lost xs → PlanningOf g xs es sl.lost
     by [] s h = absurd s
-    by (x ∷ rest) s h = planning_of g es sl.lost x rest a t.within t.cuts t.numbers t.lost h s.0
+    by (x ∷ rest) s h = planning_of g es sl.lost x rest a t.within t.starts t.cuts t.numbers t.lost h s.0
 
 -- its pieces
 pub some_pieces : (g : Setup) (xs : List Exchange) (looks : List Look) (es : List Event) (lost : List Query) (p : PlanningOf g xs es lost) (pieces : List (List ℕ)) → AllZip (IsTaskPiece g xs looks) (some_of es) pieces → AllZip (IsSaidPiece g xs looks) (some_said g p.planning.parts) pieces
@@ -367,7 +368,7 @@ some_asked g x p some = by p.planning.parts p.planning.is_cut (p.ends some)
     by (q ∷ ps) c e = long x.asked q.query (queries_of ps ++ p.planning.more) c.asked
 
 bare_event : (g : Setup) (x : Exchange) (e : Event) → IsEventSaid g x e → IsEventSaid g (bare x) e
-bare_event g x (Planned plan query terms blocks) h = record { answer = h.answer; said = h.said; made = h.made }
+bare_event g x (Planned plan query terms blocks) h = record { answer = h.answer; said = record { place = h.said.place; some = h.said.some; at = h.said.at; query = h.said.query; answer = h.said.answer }; made = h.made }
 bare_event g x (Admit limit) h = tt
 bare_event g x (Fetched lane plan block) h = tt
 bare_event g x (Cached plan block) h = tt
@@ -385,7 +386,7 @@ first_plans_all g b n es k sl a t none f = by b.clients n.clients sl.heard t.hea
     by [] ns (x ∷ xs) e q s h = absurd q
     by (b ∷ bs) [] (x ∷ xs) e q s h = absurd q
     by (b ∷ bs) (n ∷ ns) (x ∷ xs) e q s h =
-        let all : PlansAll g (bare x ∷ []) = plans_all g (bare x ∷ []) es sl.lost k (planning_of g es sl.lost (bare x) [] a t.within t.cuts t.numbers t.lost h (All-weaker (IsEventSaid g x) (IsEventSaid g (bare x)) (λ v w. bare_event g x v w) es s.0)) none f in (
+        let all : PlansAll g (bare x ∷ []) = plans_all g (bare x ∷ []) es sl.lost k (planning_of g es sl.lost (bare x) [] a t.within t.starts t.cuts t.numbers t.lost h (All-weaker (IsEventSaid g x) (IsEventSaid g (bare x)) (λ v w. bare_event g x v w) es s.0)) none f in (
           if_some (new_in b.asked n.asked) (λ qs. qs ≡ x.asked) (AsksSome g) (λ qs w. subst (AsksSome g) (sym w) (some_asked g (bare x) all)) (told_new b.asked n.asked x.asked e.0.asks),
           if_some (answers_of b n) (λ y. y ≡ bare x) (λ y. PlansAll g (y ∷ [])) (λ y w. subst (λ (v : Exchange). PlansAll g (v ∷ [])) (sym w) all) (answers_told b n x e.0),
         )

@@ -26,7 +26,7 @@ use Rattle.xet_ties.specs.History.{asked_by, asked_in, cached_in, fetched_in, ke
 use Rattle.xet_ties.specs.InCall.{Exchange, Look}
 use Rattle.xet_ties.specs.Saids.{IsTaskPiece, IsTested, has_bytes, some_of}
 use Rattle.xet_ties.specs.Setup.{AllTell, Setup}
-use Rattle.xet_ties.specs.Ties.{AllAre, CutsRange, FirstAsked, IsLost, IsAmong, IsAsked, IsLimited, IsLooked, IsOffered, IsPolled, IsRecorded, IsTaken, IsTried, Reaches, has_one, is_one}
+use Rattle.xet_ties.specs.Ties.{AllAre, CutsRange, FirstAsked, FirstStarts, IsLost, IsAmong, IsAsked, IsLimited, IsLooked, IsOffered, IsPolled, IsRecorded, IsTaken, IsTried, Reaches, has_one, is_one}
 use Rattle.xet_ties.proofs.Telling.{count-append, count-same, range_at-push, telling-push}
 
 all-push : {A : Type 0} (P : A → Type 0) (xs : List A) (x : A) → All P xs → P x → All P (xs ++ x ∷ [])
@@ -56,6 +56,14 @@ cuts_same g es e none c = subst (λ (qs : List FileRange). CutsRange g qs) (sym 
 
 pub cuts_push : (g : Setup) (es : List Event) (e : Event) (q : FileRange) → queries_in e ≡ q ∷ [] → CutsRange g (queries es ++ q ∷ []) → CutsRange g (queries (es ++ e ∷ []))
 cuts_push g es e q one c = subst (λ (qs : List FileRange). CutsRange g qs) (sym (flat-push queries_in es e ∙ ap (λ (qs : List FileRange). queries es ++ qs) one)) c
+
+-- the first planned term stays the first
+pub starts_more : (place : ℕ) (ts us : List Task) → FirstStarts place ts → (ts ≡ [] → FirstStarts place us) → FirstStarts place (ts ++ us)
+starts_more place [] us a b = b refl
+starts_more place (t ∷ ts) us a b = a
+
+pub starts_same : (place : ℕ) (es : List Event) (e : Event) → tasks_in e ≡ [] → FirstStarts place (planned es) → FirstStarts place (planned (es ++ e ∷ []))
+starts_same place es e none a = subst (λ (l : List Task). FirstStarts place l) (sym (planned-push es e ∙ ap (λ (l : List Task). planned es ++ l) none ∙ append-nil (planned es))) a
 
 -- a plan stays stale after an event that doesn't refresh it
 stale_stays : (f : MerkleHash) (es : List Event) (e : Event) (p : ℕ) (r : FileRange) → asked_in f es e ≡ [] → range_at es p ≡ r ∷ [] → is_stale es p ≡ true → is_stale (es ++ e ∷ []) p ≡ true

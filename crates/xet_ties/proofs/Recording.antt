@@ -10,6 +10,7 @@ use Rattle.xet_run.specs.declared.event.Event.TheVariants.{Fetched, Expired, Ref
 use Rattle.xet_run.specs.declared.event.PlannedBlock.{PlannedBlock}
 use Rattle.xet_run.specs.Events.{expires}
 use Rattle.xet_ties.specs.History.{block_at, entry_of, is_expired, range_at}
+use Rattle.xet_ties.specs.Saids.{FirstRenewed, HasPassed}
 use Rattle.xet_ties.specs.Setup.{RunTold, Setup}
 use Rattle.xet_ties.specs.Ties.{EachExpired, IsServed, Slack, Ties, has_one, is_one}
 use Rattle.xet_ties.proofs.Lanes.{served_expired, served_fetched, served_same}
@@ -20,9 +21,9 @@ use Rattle.xet_base.specs.declared.cas_types.FileRange.{FileRange}
 
 -- a lane's next served entry is recorded
 pub tie_fetched : (g : Setup) (b n : RunTold) (es : List Event) (sl : Slack) (m p k : ℕ) (x : PlannedBlock) (h : List Served) (before after : List (List Served)) (rest : List PlannedBlock)
-    → block_at es p k ≡ x ∷ [] → is_expired es p k ≡ false → m ≡ length before → sl.hidden ≡ before ++ (entry_of p k x ∷ h) ∷ after → sl.pending ≡ x ∷ rest
+    → block_at es p k ≡ x ∷ [] → is_expired es p k ≡ false → m ≡ length before → sl.hidden ≡ before ++ (entry_of p k x ∷ h) ∷ after → sl.pending ≡ x ∷ rest → HasPassed g sl.heard p k
     → Ties g b n es None sl → Ties g b n (es ++ Fetched m p k ∷ []) None (record sl { hidden = before ++ h ∷ after; pending = rest; due = sl.due + cond (has_one x) 1 0 })
-tie_fetched g b n es sl m p k x h before after rest at fresh is hidden pending t =
+tie_fetched g b n es sl m p k x h before after rest at fresh is hidden pending passed t =
     let e : Event = Fetched m p k in
     let to : Slack = record sl { hidden = before ++ h ∷ after; pending = rest; due = sl.due + cond (has_one x) 1 0 } in
     tie_event g b n es e sl to
@@ -40,6 +41,8 @@ tie_fetched g b n es sl m p k x h before after rest at fresh is hidden pending t
       asked = refl;
       tried = λ q j. let a = t.tried.at_most q j in omega (arith, a);
       renewed = fresh;
+      refreshes = λ r. r;
+      passed = passed;
       one_cached = tt;
       cached = refl;
       pending = λ y r.
@@ -76,6 +79,8 @@ tie_expired g b n es sl m p k j before after fresh left is late t =
       asked = refl;
       tried = λ q i. tried q i (expires q i e) refl;
       renewed = fresh;
+      refreshes = λ r. r;
+      passed = tt;
       one_cached = tt;
       cached = refl;
       pending = λ y r. omega arith;
@@ -94,9 +99,9 @@ tie_expired g b n es sl m p k j before after fresh left is late t =
         omega (arith, l)
 
 -- the refresh of a plan is recorded
-pub tie_refreshed : (g : Setup) (b n : RunTold) (es : List Event) (sl : Slack) (p : ℕ) (r : FileRange) → range_at es p ≡ r ∷ [] → sl.lost ≡ (g.file, r) ∷ []
+pub tie_refreshed : (g : Setup) (b n : RunTold) (es : List Event) (sl : Slack) (p : ℕ) (r : FileRange) → range_at es p ≡ r ∷ [] → sl.lost ≡ (g.file, r) ∷ [] → (FirstRenewed g sl.lost sl.heard → FirstRenewed g [] sl.heard)
     → Ties g b n es None sl → Ties g b n (es ++ Refreshed p ∷ []) None (record sl { lost = [] })
-tie_refreshed g b n es sl p r at lost t =
+tie_refreshed g b n es sl p r at lost renewed t =
     let e : Event = Refreshed p in
     tie_event g b n es e sl (record sl { lost = [] })
     (record {
@@ -113,6 +118,8 @@ tie_refreshed g b n es sl p r at lost t =
       asked = lost ∙ ap (λ (l : List FileRange). map (λ v. (g.file, v)) l ++ []) (sym at);
       tried = λ q j. let a = t.tried.at_most q j in omega (arith, a);
       renewed = tt;
+      refreshes = renewed;
+      passed = tt;
       one_cached = tt;
       cached = refl;
       pending = λ y v. omega arith;
@@ -142,6 +149,8 @@ tie_wrote g b n es sl taken rest is t =
       asked = refl;
       tried = λ q j. let a = t.tried.at_most q j in omega (arith, a);
       renewed = tt;
+      refreshes = λ r. r;
+      passed = tt;
       one_cached = tt;
       cached = refl;
       pending = λ y v. omega arith;
@@ -160,6 +169,7 @@ tie_rest g b n es sl rest spare fewer less t = record {
   true_of = t.true_of;
   cuts = t.cuts;
   within = t.within;
+  starts = t.starts;
   numbers = t.numbers;
   stored = t.stored;
   served = t.served;
@@ -170,6 +180,8 @@ tie_rest g b n es sl rest spare fewer less t = record {
   said = t.said;
   tried = t.tried;
   renewed = t.renewed;
+  refreshes = t.refreshes;
+  passed = t.passed;
   one_cached = t.one_cached;
   looked = record {
     looked = t.looked.looked;

@@ -14,16 +14,18 @@ use Rattle.xet_run.specs.declared.event.Event.TheVariants.{Expired, Fetched, Wro
 use Rattle.xet_run.specs.declared.event.PlannedBlock.{PlannedBlock}
 use Rattle.xet_ties.specs.History.{fetches}
 use Rattle.xet_ties.specs.Lanes.{Ask, DrewApart}
+use Rattle.xet_ties.specs.InCall.{Exchange}
 use Rattle.xet_ties.specs.Setup.{RunTold, Setup}
 use Rattle.xet_ties.specs.Ties.{Slack, Ties, has_one, is_one, is_pair}
 use Rattle.xet_ties.specs.declared.lane_step.LaneStep.{LaneStep}
-use Rattle.xet_ties.specs.steps.Moves.{no_hidden, no_late}
+use Rattle.xet_ties.specs.steps.Moves.{heard_join, no_hidden, no_late}
 use Rattle.xet_ties.specs.steps.Parts.{total}
+use Rattle.xet_ties.specs.steps.Rounds.{IsPlanAsk}
 use Rattle.xet_ties.specs.steps.Records.{AreFresh, EachFresh, EachMayExpire, IsFreshAsk, Key, MayExpire, Place, asks_for, blocks_all, entries_all, expired_all, expired_on, fetched_all, fetched_on, key_of, lane_events, lanes_entries, lanes_expired, lanes_fetched, lanes_late, places_of, wrote_of}
 use Rattle.xet_ties.proofs.LaneJoins.{are_joined}
-use Rattle.xet_ties.proofs.LaneTies.{tie_lanes_expired, tie_lanes_fetched}
+use Rattle.xet_ties.proofs.LaneTies.{ArePassed, EachPassed, tie_lanes_expired, tie_lanes_fetched}
 use Rattle.xet_ties.proofs.Recording.{tie_wrote}
-use Rattle.xet_ties.proofs.RoundTies.{fetched_slack, joined_slack, late_places, round_fetched, round_joined}
+use Rattle.xet_ties.proofs.RoundTies.{fetched_slack, joined_slack, late_places, round_fetched, round_joined, round_passed}
 
 -- ---- the first Fetched events
 
@@ -32,28 +34,34 @@ fresh_take es zero cs a = tt
 fresh_take es (suc k) [] a = tt
 fresh_take es (suc k) (c ∷ cs) a = (a.0, a.1, fresh_take es k cs a.2)
 
+passed_take : (g : Setup) (xs : List Exchange) (k : ℕ) (cs : List Key) → ArePassed g xs cs → ArePassed g xs (take k cs)
+passed_take g xs zero cs a = tt
+passed_take g xs (suc k) [] a = tt
+passed_take g xs (suc k) (c ∷ cs) a = (a.0, passed_take g xs k cs a.1)
+
 -- a list that is mapped is what is mapped of its first ones, and of its last ones
 split_map : {A B : Type 0} (f : A → B) (k : ℕ) (xs : List A) → map f xs ≡ map f (take k xs) ++ map f (drop k xs)
 split_map f k xs = sym (ap (λ l. map f l) (take-append-drop k xs)) ∙ map-append f (take k xs) (drop k xs)
 
 -- lanes of which the first blocks are recorded: the entries of the others go before those that stay hidden
-record CutKeys (es : List Event) (k m : ℕ) (css : List (List Key)) (hs : List (List Served)) : Type 0 where
+record CutKeys (g : Setup) (xs : List Exchange) (es : List Event) (k m : ℕ) (css : List (List Key)) (hs : List (List Served)) : Type 0 where
   pub keys : List (List Key)
   pub hidden : List (List Served)
   pub rest : List PlannedBlock
   pub fresh : EachFresh es keys
+  pub passed : EachPassed g xs keys
   pub lanes : length keys ≤ length hidden
   pub entries : lanes_entries css hs ≡ lanes_entries keys hidden
   pub blocks : flat_map blocks_all css ≡ flat_map blocks_all keys ++ rest
   pub events : take k (lanes_fetched m css) ≡ lanes_fetched m keys
 
-cut_keys : (es : List Event) (k m : ℕ) (css : List (List Key)) (hs : List (List Served)) → EachFresh es css → length css ≤ length hs → CutKeys es k m css hs
-cut_keys es k m [] hs a some = record { keys = []; hidden = hs; rest = []; fresh = tt; lanes = omega arith; entries = refl; blocks = refl; events = take-nil k }
-cut_keys es k m (cs ∷ css) [] a some = absurd (omega (arith, some))
-cut_keys es k m (cs ∷ css) (h ∷ hs) a some =
+cut_keys : (g : Setup) (xs : List Exchange) (es : List Event) (k m : ℕ) (css : List (List Key)) (hs : List (List Served)) → EachFresh es css → EachPassed g xs css → length css ≤ length hs → CutKeys g xs es k m css hs
+cut_keys g xs es k m [] hs a p some = record { keys = []; hidden = hs; rest = []; fresh = tt; passed = tt; lanes = omega arith; entries = refl; blocks = refl; events = take-nil k }
+cut_keys g xs es k m (cs ∷ css) [] a p some = absurd (omega (arith, some))
+cut_keys g xs es k m (cs ∷ css) (h ∷ hs) a p some =
     ⊎_elim
     (λ (over : length cs < k).
-    let r = cut_keys es (k - length cs) (m + 1) css hs a.1 (omega (arith, some)) in
+    let r = cut_keys g xs es (k - length cs) (m + 1) css hs a.1 p.1 (omega (arith, some)) in
     let l = r.lanes in
     let long : k ≡ length (fetched_all m cs) + (k - length cs) = omega (arith, over, length-map cs (λ (c : Key). Fetched m c.0 c.1)) in
     record {
@@ -61,6 +69,7 @@ cut_keys es k m (cs ∷ css) (h ∷ hs) a some =
       hidden = h ∷ r.hidden;
       rest = r.rest;
       fresh = (a.0, r.fresh);
+      passed = (p.0, r.passed);
       lanes = omega (arith, l);
       entries = ap (λ (x : List (List Served)). (entries_all cs ++ h) ∷ x) r.entries;
       blocks = ap (λ (x : List PlannedBlock). blocks_all cs ++ x) r.blocks ∙ sym (append_assoc (blocks_all cs) (flat_map blocks_all r.keys) r.rest);
@@ -74,6 +83,7 @@ cut_keys es k m (cs ∷ css) (h ∷ hs) a some =
       hidden = (entries_all (drop k cs) ++ h) ∷ more;
       rest = blocks_all (drop k cs) ++ wait;
       fresh = (fresh_take es k cs a.0, tt);
+      passed = (passed_take g xs k cs p.0, tt);
       lanes = omega arith;
       entries = ap (λ (x : List Served). x ∷ more) (ap (λ (x : List Served). x ++ h) (split_map _ k cs) ∙ append_assoc (entries_all (take k cs)) (entries_all (drop k cs)) h);
       blocks = ap (λ (x : List PlannedBlock). x ++ wait) (split_map _ k cs ∙ ap (λ (x : List PlannedBlock). x ++ blocks_all (drop k cs)) (sym (append-nil (blocks_all (take k cs))))) ∙ append_assoc (blocks_all (take k cs) ++ []) (blocks_all (drop k cs)) wait;
@@ -132,11 +142,11 @@ cut_places tries m es k (cs ∷ css) (j ∷ js) a some =
 pub round_short : (g : Setup) (b at : RunTold) (es : List Event) (sl : Slack) (fs : List Ask) (ns : List ClientTold) (ls : List (List LaneStep)) (k : ℕ) → DrewApart fs at.clients ns ls
     → ((p i : ℕ) → count_by (fetches p i) es + count_by (is_pair p i) (map asks_for fs) ≤ 1) → All (IsFreshAsk es) fs
     → ((x : MerkleHash) (r : ChunkRange) → count_by (is_one x r) (blocks_all (map key_of fs)) ≤ count_by (is_one x r) sl.pending)
-    → sl.hidden ≡ no_hidden b.clients → sl.late ≡ no_late b.clients
+    → sl.hidden ≡ no_hidden b.clients → sl.late ≡ no_late b.clients → All (IsPlanAsk g sl.heard) fs
     → EachMayExpire g.tries 0 (es ++ lane_events fetched_on 0 ls) (map places_of ls)
     → Ties g b at es None sl
     → (to : Slack) × Ties g b (record at { clients = ns }) (es ++ take k (lane_events fetched_on 0 ls ++ lane_events expired_on 0 ls)) None to
-round_short g b at es sl fs ns ls k d new fresh waits none_h none_l may t =
+round_short g b at es sl fs ns ls k d new fresh waits none_h none_l asks may t =
     let now : RunTold = record at { clients = ns } in
     let j = are_joined fs at.clients ns d.drawn ls d.each in
     let got = lane_events fetched_on 0 ls in
@@ -145,7 +155,7 @@ round_short g b at es sl fs ns ls k d new fresh waits none_h none_l may t =
     ⊎_elim
     (λ (over : length got < k).
     let c = cut_places g.tries 0 (es ++ got) (k - length got) (map places_of ls) (no_late at.clients) may (late_places at.clients ls j.ends) in
-    let from = round_fetched g b at es sl fs ns ls d new fresh waits none_h none_l t in
+    let from = round_fetched g b at es sl fs ns ls d new fresh waits none_h none_l asks t in
     let all = tie_lanes_expired g b now (es ++ got) (fetched_slack fs at.clients ns d.drawn ls j sl) 0 c.places c.late [] c.may c.lanes refl c.counts from in
     let names : take k (got ++ late) ≡ got ++ lanes_expired 0 c.places =
     ap (λ (n : ℕ). take n (got ++ late)) (as_sum k got over) ∙ take-append-add got late (k - length got) ∙ ap (λ (l : List Event). got ++ take (k - length got) l) (sym (j.expired 0)) ∙ ap (λ (l : List Event). got ++ l) c.events in
@@ -154,8 +164,9 @@ round_short g b at es sl fs ns ls k d new fresh waits none_h none_l may t =
     let to : Slack = record mid { late = c.late } in
     (to, subst (λ (l : List Event). Ties g b now l None to) events all))
     (λ (within : k ≤ length got).
-    let c = cut_keys es k 0 j.keys j.hidden (j.fresh es fresh) j.lanes in
-    let all = tie_lanes_fetched g b now es (joined_slack fs at.clients ns d.drawn ls j sl) 0 c.keys c.hidden [] c.rest c.fresh c.lanes refl c.entries c.blocks first in
+    let heard = heard_join (lanes_entries j.keys j.hidden) j.said sl.heard in
+    let c = cut_keys g heard es k 0 j.keys j.hidden (j.fresh es fresh) (round_passed g b at es sl fs ns ls d asks t) j.lanes in
+    let all = tie_lanes_fetched g b now es (joined_slack fs at.clients ns d.drawn ls j sl) 0 c.keys c.hidden [] c.rest c.fresh c.lanes refl c.entries c.blocks c.passed first in
     let names : take k (got ++ late) ≡ lanes_fetched 0 c.keys = take-append-le k got late within ∙ ap (λ (l : List Event). take k l) (sym (j.fetched 0)) ∙ c.events in
     let from = joined_slack fs at.clients ns d.drawn ls j sl in
     let to : Slack = record from { hidden = c.hidden; pending = c.rest; due = from.due + count_by has_one (flat_map blocks_all c.keys) } in

@@ -30,7 +30,7 @@ use Rattle.xet_ties.specs.Cuts.{StartsAt}
 use Rattle.xet_ties.specs.History.{entry_of}
 use Rattle.xet_ties.specs.InCall.{Exchange, SomeOne}
 use Rattle.xet_ties.specs.Lanes.{Ask, BytesFail, IsFor}
-use Rattle.xet_ties.specs.Saids.{BlockOfPlan, IsMadeOf, IsMadeOfPlan, IsPlanAccepted, IsPlannedBy, IsQueryAnswer, TermOfPlan, planned_of}
+use Rattle.xet_ties.specs.Saids.{BlockOfPlan, IsMadeOf, IsMadeOfPlan, IsCutAnswer, IsPlanAccepted, IsPlannedBy, IsQueryAnswer, TermOfPlan, planned_of}
 use Rattle.xet_ties.specs.Setup.{Setup}
 use Rattle.xet_ties.specs.steps.Parts.{plan_query}
 use Rattle.xet_ties.proofs.SaidTies.{fetch_entry}
@@ -38,14 +38,14 @@ use Rattle.xet_ties.proofs.SaidTies.{fetch_entry}
 -- ---- a plan of the history
 
 -- it was accepted, where it has terms
-pub accepted_said : (g : Setup) (x : Exchange) (xs : List Exchange) (q : FileRange) (t : PlannedTerm) (ts : List PlannedTerm) (bs : List PlannedBlock) → g.range.start ≤ q.start → q.end ≤ g.range.end → IsPlannedBy g x q (t ∷ ts) bs
+pub accepted_said : (g : Setup) (x : Exchange) (xs : List Exchange) (n : ℕ) (q : FileRange) (t : PlannedTerm) (ts : List PlannedTerm) (bs : List PlannedBlock) → g.range.start ≤ q.start → q.end ≤ g.range.end → IsPlannedBy g x n q (t ∷ ts) bs
     → (p : Plan) × IsPlanAccepted g (x ∷ xs) p q
-accepted_said g x xs q t ts bs from to s = by s.answer s.said s.made
+accepted_said g x xs n q t ts bs from to s = by s.answer s.said s.made
   where
-    by : (a : PlanAnswer) → IsQueryAnswer g.file (x ∷ xs) q a → IsMadeOf g q (t ∷ ts) bs a → (p : Plan) × IsPlanAccepted g (x ∷ xs) p q
+    by : (a : PlanAnswer) → IsCutAnswer g.file (x ∷ xs) n q a → IsMadeOf g q (t ∷ ts) bs a → (p : Plan) × IsPlanAccepted g (x ∷ xs) p q
     by NoFile c m = absurd m
     by PastEnd c m = let e = m.0 in absurd (cc)
-    by (Found p) c m = ⊎_elim (λ (h : (p.terms ≡ []) × ((t ∷ ts) ≡ []) × (bs ≡ [])). let e = h.1 in absurd (cc)) (λ (h : IsMadeOfPlan g q (t ∷ ts) bs p). (p, record { said = record { answer = c; some = h.some; from = from; to = to }; passes = h.passes })) m
+    by (Found p) c m = ⊎_elim (λ (h : (p.terms ≡ []) × ((t ∷ ts) ≡ []) × (bs ≡ [])). let e = h.1 in absurd (cc)) (λ (h : IsMadeOfPlan g q (t ∷ ts) bs p). (p, record { said = record { number = n; answer = c; some = h.some; from = from; to = to }; passes = h.passes })) m
 
 -- ---- failed tests
 
@@ -62,38 +62,38 @@ step_fails g xs place b x h more a k same own block number t =
       fails = subst (λ (y : XorbBlock). failed_check y t.given ≡ Some k) (sym block) t.fails;
     }
 
-pub block_fails : (g : Setup) (xs : List Exchange) (k : Corruption) (place : BlockOfPlan g xs) (p : ℕ) → StartsAt g xs p place.query.start → SomeOne (BlockFailsIn g xs place p k) xs → SomeFailed g xs k
-block_fails g xs k place p s h = inr (inr (inl (record { place = place; number = p; numbered = s; bytes = h })))
+pub block_fails : (g : Setup) (xs : List Exchange) (k : Corruption) (place : BlockOfPlan g xs) (p : ℕ) → p ≡ place.accepted.said.number → StartsAt g xs p place.query.start → SomeOne (BlockFailsIn g xs place p k) xs → SomeFailed g xs k
+block_fails g xs k place p own s h = inr (inr (inl (record { place = place; number = p; own = own; numbered = s; bytes = h })))
 
-pub term_fails : (g : Setup) (xs : List Exchange) (k : Corruption) (place : TermOfPlan g xs) (p : ℕ) → StartsAt g xs p place.place.query.start → SomeOne (TermFailsIn g xs place p k) xs → SomeFailed g xs k
-term_fails g xs k place p s h = inr (inr (inr (inl (record { place = place; number = p; numbered = s; bytes = h }))))
+pub term_fails : (g : Setup) (xs : List Exchange) (k : Corruption) (place : TermOfPlan g xs) (p : ℕ) → p ≡ place.place.accepted.said.number → StartsAt g xs p place.place.query.start → SomeOne (TermFailsIn g xs place p k) xs → SomeFailed g xs k
+term_fails g xs k place p own s h = inr (inr (inr (inl (record { place = place; number = p; own = own; numbered = s; bytes = h }))))
 
 pub end_fails : (g : Setup) (xs : List Exchange) (k : Corruption) → EndFails g xs k → SomeFailed g xs k
 end_fails g xs k h = inr (inr (inr (inr h)))
 
-plan_tested : (g : Setup) (xs : List Exchange) (p : Plan) (q : FileRange) (id : UniqueId) (k : Corruption) (o : Option Corruption) → g.range.start ≤ q.start → q.end ≤ g.range.end → IsQueryAnswer g.file xs q (Found p) → 0 < length p.terms → failed_test (shape p) q g.multirange ≡ o
+plan_tested : (g : Setup) (xs : List Exchange) (n : ℕ) (p : Plan) (q : FileRange) (id : UniqueId) (k : Corruption) (o : Option Corruption) → g.range.start ≤ q.start → q.end ≤ g.range.end → IsCutAnswer g.file xs n q (Found p) → 0 < length p.terms → failed_test (shape p) q g.multirange ≡ o
     → FromTested p (plan_query g q id) o (Err (error.CorruptedReconstruction k)) → SomeFailed g xs k
-plan_tested g xs p q id k None from to c some e f = let same = f.1 in absurd (cc)
-plan_tested g xs p q id k (Some j) from to c some e f =
+plan_tested g xs n p q id k None from to c some e f = let same = f.1 in absurd (cc)
+plan_tested g xs n p q id k (Some j) from to c some e f =
     let same : ◌≡◌ {A = Result (Option TermBlock) FileReconstructionError} (Err (error.CorruptedReconstruction k)) (Err (error.CorruptedReconstruction j)) = f in
     let is : j ≡ k = cc in
-    inl (record { plan = p; query = q; said = record { answer = c; some = some; from = from; to = to }; fails = e ∙ ap (λ (z : Corruption). Some z) is })
+    inl (record { plan = p; query = q; said = record { number = n; answer = c; some = some; from = from; to = to }; fails = e ∙ ap (λ (z : Corruption). Some z) is })
 
-plan_terms : (g : Setup) (xs : List Exchange) (p : Plan) (q : FileRange) (id : UniqueId) (k : Corruption) (ts : List PlanTerm) → g.range.start ≤ q.start → q.end ≤ g.range.end → IsQueryAnswer g.file xs q (Found p) → p.terms ≡ ts
+plan_terms : (g : Setup) (xs : List Exchange) (n : ℕ) (p : Plan) (q : FileRange) (id : UniqueId) (k : Corruption) (ts : List PlanTerm) → g.range.start ≤ q.start → q.end ≤ g.range.end → IsCutAnswer g.file xs n q (Found p) → p.terms ≡ ts
     → FromTerms p (plan_query g q id) ts (Err (error.CorruptedReconstruction k)) → SomeFailed g xs k
-plan_terms g xs p q id k [] from to c e f = absurd (cc)
-plan_terms g xs p q id k (t ∷ ts) from to c e f =
-    let n = ap (λ (l : List PlanTerm). length l) e in
-    plan_tested g xs p q id k (failed_test (shape p) q g.multirange) from to c (omega (arith, n)) refl f
+plan_terms g xs n p q id k [] from to c e f = absurd (cc)
+plan_terms g xs n p q id k (t ∷ ts) from to c e f =
+    let m = ap (λ (l : List PlanTerm). length l) e in
+    plan_tested g xs n p q id k (failed_test (shape p) q g.multirange) from to c (omega (arith, m)) refl f
 
 -- a query in the range was answered with a plan that fails a test
-pub plan_fails : (g : Setup) (xs : List Exchange) (q : FileRange) (id : UniqueId) (k : Corruption) (b n : ClientTold) → g.range.start ≤ q.start → q.end ≤ g.range.end → (from : FromSaid b n (plan_query g q id) (Err (error.CorruptedReconstruction k))) → IsQueryAnswer g.file xs q from.plan → SomeFailed g xs k
-plan_fails g xs q id k b n above below from c = by from.plan c from.from
+pub plan_fails : (g : Setup) (xs : List Exchange) (n : ℕ) (q : FileRange) (id : UniqueId) (k : Corruption) (b to : ClientTold) → g.range.start ≤ q.start → q.end ≤ g.range.end → (from : FromSaid b to (plan_query g q id) (Err (error.CorruptedReconstruction k))) → IsCutAnswer g.file xs n q from.plan → SomeFailed g xs k
+plan_fails g xs n q id k b to above below from c = by from.plan c from.from
   where
-    by : (a : PlanAnswer) → IsQueryAnswer g.file xs q a → FromAnswer (plan_query g q id) a (Err (error.CorruptedReconstruction k)) → SomeFailed g xs k
+    by : (a : PlanAnswer) → IsCutAnswer g.file xs n q a → FromAnswer (plan_query g q id) a (Err (error.CorruptedReconstruction k)) → SomeFailed g xs k
     by NoFile c f = absurd (cc)
     by PastEnd c f = absurd (cc)
-    by (Found p) c f = plan_terms g xs p q id k p.terms above below c refl f
+    by (Found p) c f = plan_terms g xs n p q id k p.terms above below c refl f
 
 -- a file is missing only by an answer that says so
 pub file_missing : (g : Setup) (q : FileRange) (id : UniqueId) (b n : ClientTold) → (from : FromSaid b n (plan_query g q id) (Err error.FileNotFound)) → from.plan ≡ NoFile

@@ -26,7 +26,7 @@ use Rattle.xet_history.specs.TrueHistory.{planned_block, queries}
 use Rattle.xet_ties.specs.History.{EachAfter, IsNumberedNext, block_at, blocks_in, entry_of}
 use Rattle.xet_ties.specs.InCall.{Exchange}
 use Rattle.xet_ties.specs.Lanes.{Ask, IsFor, IsOf}
-use Rattle.xet_ties.specs.Saids.{BlockOfPlan, IsEventSaid, IsMadeOf, IsMadeOfPlan, IsPlanAccepted, IsPlannedBy, IsQueryAnswer, IsServedData, planned_of}
+use Rattle.xet_ties.specs.Saids.{BlockOfPlan, IsCutAnswer, IsEventSaid, IsMadeOf, IsMadeOfPlan, IsPlanAccepted, IsPlannedBy, IsServedData, planned_of}
 use Rattle.xet_ties.specs.Setup.{Setup}
 use Rattle.xet_ties.specs.Ties.{CutsRange}
 use Rattle.xet_ties.specs.declared.lane_step.LaneStep.TheVariants as step
@@ -73,6 +73,7 @@ listed_at f n (suc k) (c ∷ bs) b h = let z : (n + 1) + k ≡ n + suc k = omega
 -- a planned block is a block of a plan that was said and passes its tests, and the plan's number is its query's place
 pub record SaidBlock (g : Setup) (xs : List Exchange) (es : List Event) (p k : ℕ) (pb : PlannedBlock) : Type 0 where
   pub place : BlockOfPlan g xs
+  pub own : p ≡ place.accepted.said.number
   pub number : place.number ≡ k
   pub is : planned_of place.block ≡ pb
   pub query_place : ℕ
@@ -95,7 +96,7 @@ block_said g es x xs p k pb cuts numbers a h = by (first_some (map (blocks_in p)
     bs_of : FileRange → List PlannedTerm → List PlannedBlock → List PlannedBlock
     bs_of q ts bs = bs
 
-    made : (bs : List PlannedBlock) → slice_get bs k ≡ Some pb → (v : PlanAt bs_of (IsEventSaid g x) 0 p es bs) → (g.range.start ≤ v.query.start) × (v.query.end ≤ g.range.end) → (answer : PlanAnswer) → IsQueryAnswer g.file (x ∷ xs) v.query answer → IsMadeOf g v.query v.terms bs answer → SaidBlock g (x ∷ xs) es p k pb
+    made : (bs : List PlannedBlock) → slice_get bs k ≡ Some pb → (v : PlanAt bs_of (IsEventSaid g x) 0 p es bs) → (g.range.start ≤ v.query.start) × (v.query.end ≤ g.range.end) → (answer : PlanAnswer) → IsCutAnswer g.file (x ∷ xs) p v.query answer → IsMadeOf g v.query v.terms bs answer → SaidBlock g (x ∷ xs) es p k pb
     made bs at v lies NoFile s m = absurd m
     made bs at v lies PastEnd s m = absurd (let z : slice_get [] k ≡ Some pb = subst (λ (l : List PlannedBlock). slice_get l k ≡ Some pb) m.1 at in cc)
     made bs at v lies (Found plan) s m =
@@ -104,9 +105,9 @@ block_said g es x xs p k pb cuts numbers a h = by (first_some (map (blocks_in p)
         (λ (e : IsMadeOfPlan g v.query v.terms bs plan).
         let listed = map_at (blocks_of (shape plan) g.multirange) k pb (subst (λ (l : List PlannedBlock). slice_get l k ≡ Some pb) e.blocks at) in
         let b : XorbBlock = xorb_block (shape plan) g.multirange (0 + k, listed.0) in
-        let accepted : IsPlanAccepted g (x ∷ xs) plan v.query = record { said = record { answer = s; some = e.some; from = lies.0; to = lies.1 }; passes = e.passes } in
+        let accepted : IsPlanAccepted g (x ∷ xs) plan v.query = record { said = record { number = p; answer = s; some = e.some; from = lies.0; to = lies.1 }; passes = e.passes } in
         let place : BlockOfPlan g (x ∷ xs) = record { plan = plan; query = v.query; accepted = accepted; number = k; block = b; numbered = listed_at (xorb_block (shape plan) g.multirange) 0 k (blocks_of (shape plan) g.multirange) listed.0 listed.1 } in
-        record { place = place; number = refl; is = listed.2; query_place = v.place; query_at = v.at; numbered = (let n = v.number in omega (arith, n)) })
+        record { place = place; own = refl; number = refl; is = listed.2; query_place = v.place; query_at = v.at; numbered = (let n = v.number in omega (arith, n)) })
         m
 
     none : of None ≡ pb ∷ [] → ⊥
@@ -118,5 +119,5 @@ block_said g es x xs p k pb cuts numbers a h = by (first_some (map (blocks_in p)
         let v = plan_at bs_of (IsEventSaid g x) p (blocks_in p) (reads_blocks p) es bs numbers a e in
         let lies = cut_within g.range.start g.range.end (g.greatest + g.least) (queries es) v.place v.query cuts v.at in
         let same : v.blocks ≡ bs = v.is in
-        let said : IsPlannedBy g x v.query v.terms bs = subst (λ (l : List PlannedBlock). IsPlannedBy g x v.query v.terms l) same v.holds in
+        let said : IsPlannedBy g x p v.query v.terms bs = subst (λ (l : List PlannedBlock). IsPlannedBy g x p v.query v.terms l) same v.holds in
         made bs (at_block bs k pb (sym (ap of e) ∙ h)) v lies said.answer said.said said.made

@@ -25,14 +25,15 @@ use Rattle.xet_ties.specs.Ties.{AllAre, all_of, is_pair, EachLane, EachUnasked, 
 use Rattle.xet_ties.proofs.Lanes.{served_same}
 use Rattle.xet_ties.proofs.Lates.{expired_same, expired_start}
 use Rattle.xet_ties.proofs.Moves.{tie_fail, tie_admit, tie_limit}
-use Rattle.xet_ties.proofs.Pushes.{first_push, limited_same, looked_push, offered_push, polled_push, reaches_start, stored_same, taken_push, true_same, cuts_same, lost_push}
+use Rattle.xet_ties.proofs.Pushes.{first_push, limited_same, looked_push, offered_push, polled_push, reaches_start, starts_same, stored_same, taken_push, true_same, cuts_same, lost_push}
 use Rattle.xet_ties.proofs.Numbers.{heard_push}
 use Rattle.xet_ties.proofs.Telling.{count-same, each-push}
 use Rattle.xet_error.specs.declared.error.FileReconstructionError.TheVariants as error
 use Rattle.xet_terms.specs.Settings as settings
-use Rattle.xet_ties.specs.Saids.{FirstSaid, IsEventSaid, IsUnasked}
+use Rattle.xet_ties.specs.Saids.{EventPassed, FirstSaid, IsEventSaid, IsUnasked}
 use Rattle.xet_ties.specs.steps.Parts.{AdmitsCall, stop_event}
 use Rattle.xet_ties.proofs.Heard.{exchange_start, said_push}
+use Rattle.xet_ties.proofs.Renewed.{renewed_start}
 
 -- ---- the start
 
@@ -76,7 +77,7 @@ none_planned [] = All-nil (IsPlannedEntry [])
 none_planned (b ∷ bs) = none_planned bs
 
 pub served_start : (bs : List ClientTold) → IsServed [] (no_hidden bs) (no_late bs) bs bs
-served_start bs = record { lanes = lanes_start 0 bs; once = λ p k. let n = none_hidden_count p k bs in omega (arith, n); planned = none_planned bs; on_lanes = All-nil (IsOnLane (length bs)) }
+served_start bs = record { lanes = lanes_start 0 bs; once = λ p k. let n = none_hidden_count p k bs in omega (arith, n); planned = none_planned bs; on_lanes = All-nil (IsOnLane (length bs)); past = refl }
 
 pub first_start : (f : MerkleHash) (b : ClientTold) (bs : List ClientTold) → FirstAsked f [] [] (b ∷ bs) (b ∷ bs)
 first_start f b bs = (record { asked = same_list b.asked }, unasked_start bs)
@@ -88,6 +89,7 @@ tie_start g b h = record {
   true_of = λ s o. record { cuts = tt; plans = All-nil (IsTrueEvent s g.file g.multirange) };
   cuts = tt;
   within = All-nil IsWithin;
+  starts = tt;
   numbers = tt;
   stored = λ s tell k. absurd (omega arith);
   served = served_start b.clients;
@@ -98,6 +100,8 @@ tie_start g b h = record {
   said = said_start g b.clients h;
   tried = record { at_most = λ p k. omega arith; spent = λ e. absurd (cc) };
   renewed = tt;
+  refreshes = renewed_start g b.clients h;
+  passed = All-nil (EventPassed g (no_exchange b.clients));
   one_cached = tt;
   looked = record { looked = same_list b.cache.looked; cover = λ x r. record { kept = omega arith; cached = omega arith; honest = λ s o. omega arith } };
   looked_entries = All-nil (IsEntryOf b.cache.entries);
@@ -125,6 +129,7 @@ tie_cancel g b n es sl t =
       true_of = λ s o. true_same s (download_of g) es e refl tt (t.true_of s o);
       cuts = cuts_same g es e refl t.cuts;
       within = All-push IsWithin es e t.within tt;
+      starts = starts_same g.range.start es e refl t.starts;
       numbers = each-push IsNumberedNext es e t.numbers tt;
       stored = stored_same g.file es e b.clients refl t.stored;
       served = served_same es e sl.hidden sl.late b.clients n.clients (λ l. refl) (λ l. refl) (λ p k. refl) (λ m. tt) t.served;
@@ -135,6 +140,8 @@ tie_cancel g b n es sl t =
       said = said_push g es e sl.heard (λ x. tt) t.said;
       tried = record { at_most = λ p k. let a = t.tried.at_most p k in let c = count-same (expires p k) es e refl in omega (arith, a, c); spent = λ h. absurd (cc) };
       renewed = each-push IsRenewed es e t.renewed tt;
+      refreshes = t.refreshes;
+      passed = All-push (EventPassed g sl.heard) es e t.passed tt;
       one_cached = each-push IsOneCached es e t.one_cached tt;
       looked = looked_push es e sl.pending sl.pending sl.looks b.clients b.cache n.cache refl (λ y r. omega arith) t.looked;
       looked_entries = t.looked_entries;
@@ -177,6 +184,7 @@ tie_flush g b n es sl to took faults link t = record {
   true_of = t.true_of;
   cuts = t.cuts;
   within = t.within;
+  starts = t.starts;
   numbers = t.numbers;
   stored = t.stored;
   served = t.served;
@@ -187,6 +195,8 @@ tie_flush g b n es sl to took faults link t = record {
   said = t.said;
   tried = t.tried;
   renewed = t.renewed;
+  refreshes = t.refreshes;
+  passed = t.passed;
   one_cached = t.one_cached;
   looked = t.looked;
   looked_entries = t.looked_entries;

@@ -99,6 +99,7 @@ pub record BlockFailsIn (g : Setup) (xs : List Exchange) (b : BlockOfPlan g xs) 
 pub record BlockFails (g : Setup) (xs : List Exchange) (k : Corruption) : Type 0 where
   pub place : BlockOfPlan g xs
   pub number : ℕ
+  pub own : number ≡ place.accepted.said.number
   pub numbered : StartsAt g xs number place.query.start
   pub bytes : SomeOne (BlockFailsIn g xs place number k) xs
 
@@ -114,6 +115,7 @@ pub record TermFailsIn (g : Setup) (xs : List Exchange) (t : TermOfPlan g xs) (p
 pub record TermFails (g : Setup) (xs : List Exchange) (k : Corruption) : Type 0 where
   pub place : TermOfPlan g xs
   pub number : ℕ
+  pub own : number ≡ place.place.accepted.said.number
   pub numbered : StartsAt g xs number place.place.query.start
   pub bytes : SomeOne (TermFailsIn g xs place number k) xs
 

@@ -1,5 +1,5 @@
 -- The queries that cut a range among those that were asked, the answers to them, and the terms of these.
-use Rattle.std.specs.Prelude.{ℕ, ◌≡◌, ◌⊎◌, ◌+◌, ◌-◌, ◌<◌, ◌≤◌, Bool, List, [], ◌∷◌, ◌++◌, length, map, filter, nat_lt, All, Contains, Some, None, slice_get}
+use Rattle.std.specs.Prelude.{ℕ, ◌≡◌, ◌⊎◌, ◌+◌, ◌-◌, ◌<◌, ◌≤◌, Bool, List, [], ◌∷◌, ◌++◌, length, map, filter, nat_lt, Contains, Some, None, slice_get}
 use Rattle.xet_base.specs.declared.cas_types.FileRange.{FileRange}
 use Rattle.xet_outside.specs.Plan.{shape}
 use Rattle.xet_outside.specs.Told.{Query}
@@ -11,18 +11,18 @@ use Rattle.xet_blocks.specs.Terms.{terms_of}
 use Rattle.xet_run.specs.Events.{last_of}
 use Rattle.xet_history.specs.TrueHistory.{planned_term}
 use Rattle.xet_ties.specs.InCall.{Exchange, Look}
-use Rattle.xet_ties.specs.Saids.{IsPiece, IsQueryAnswer, TermOfPlan}
+use Rattle.xet_ties.specs.Saids.{IsCutAnswer, IsPiece, TermOfPlan}
 use Rattle.xet_ties.specs.Setup.{Setup}
 use Rattle.xet_ties.specs.Ties.{CutsRange}
 
 -- ---- the cut
 
--- a query lies in one of these
+-- a query starts where one of these does, and lies in it
 abbrev pub LiesInSome : List FileRange → Query → Type 0
-LiesInSome qs q = (p : FileRange) × Contains qs p × (p.start ≤ q.1.start) × (q.1.end ≤ p.end)
+LiesInSome qs q = (p : FileRange) × Contains qs p × (p.start ≡ q.1.start) × (q.1.end ≤ p.end)
 
--- the queries that cut a range stand in order among those that were asked, and each other one lies in one of those
--- before it
+-- the queries that cut a range stand in order among those that were asked, and each other one starts where one of
+-- those before it does, and lies in it
 abbrev pub AskedCut : List FileRange → List Query → List FileRange → Type 0
 AskedCut before [] cut = cut ≡ []
 AskedCut before (q ∷ qs) [] = LiesInSome before q × AskedCut before qs []
@@ -70,10 +70,15 @@ PassesTests g q NoFile = ⊥
 PassesTests g q PastEnd = Unit {0}
 PassesTests g q (Found p) = (p.terms ≡ []) ⊎ (failed_test (shape p) q g.multirange ≡ None)
 
--- such an answer was said to the query
-pub record IsPart (g : Setup) (xs : List Exchange) (p : Part) : Type 0 where
-  pub said : IsQueryAnswer g.file xs p.query p.answer
+-- such an answer was said to the query of this number
+pub record IsPart (g : Setup) (xs : List Exchange) (n : ℕ) (p : Part) : Type 0 where
+  pub said : IsCutAnswer g.file xs n p.query p.answer
   pub passes : PassesTests g p.query p.answer
+
+-- so to each, from this number on
+abbrev pub AreParts : Setup → List Exchange → ℕ → List Part → Type 0
+AreParts g xs n [] = Unit {0}
+AreParts g xs n (p ∷ ps) = IsPart g xs n p × AreParts g xs (n + 1) ps
 
 -- the terms of an answer, none past the end
 abbrev pub answer_terms : Bool → FileRange → PlanAnswer → List FileTerm
@@ -118,28 +123,24 @@ abbrev pub AdjoinFrom : ℕ → List SaidTerm → Type 0
 AdjoinFrom place [] = Unit {0}
 AdjoinFrom place (t ∷ ts) = (t.term.byte_range.start ≡ place) × AdjoinFrom t.term.byte_range.end ts
 
--- each starts where the one before it ends
-abbrev pub EachAdjoins : List SaidTerm → Type 0
-EachAdjoins [] = Unit {0}
-EachAdjoins (t ∷ ts) = AdjoinFrom t.term.byte_range.end ts
-
--- the bytes of such a term in tested data of its block, by an accepted plan that has the term
+-- the bytes of such a term in tested data of its block, by the accepted plan of the term's number, which has the term
 pub record IsSaidPiece (g : Setup) (xs : List Exchange) (looks : List Look) (t : SaidTerm)
     (piece : List ℕ) : Type 0 where
   pub of_plan : TermOfPlan g xs
+  pub own : t.number ≡ of_plan.place.accepted.said.number
   pub is : planned_term t.term ≡ planned_term of_plan.term
   pub piece_of : IsPiece g xs looks t.number of_plan piece
 
 -- ---- what was planned
 
--- answers to the queries of the cut, but perhaps to the last, all tested, whose terms adjoin
+-- answers to the queries of the cut, but perhaps to the last, all tested, whose terms adjoin from the range's start on
 pub record Planning (g : Setup) (xs : List Exchange) : Type 0 where
   pub parts : List Part
   pub more : List FileRange
   pub few : length more ≤ 1
   pub is_cut : IsCut g xs (queries_of parts ++ more)
-  pub said : All (IsPart g xs) parts
-  pub adjoin : EachAdjoins (terms_said g.multirange 1 parts)
+  pub said : AreParts g xs 1 parts
+  pub adjoin : AdjoinFrom g.range.start (terms_said g.multirange 1 parts)
 
 -- answers to all, whose queries reach the range's end, or one of which tells that the file ends before
 pub record PlansAll (g : Setup) (xs : List Exchange) : Type 0 where

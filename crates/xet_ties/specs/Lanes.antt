@@ -25,7 +25,7 @@ use Rattle.xet_blocks.specs.Refusals.{IsRefusal}
 use Rattle.xet_ties.specs.declared.lane_step.LaneStep.{LaneStep}
 use Rattle.xet_ties.specs.declared.lane_step.LaneStep.TheVariants as step
 use Rattle.xet_ties.specs.InCall.{expired_said}
-use Rattle.xet_ties.specs.Setup.{ClientGoesOn}
+use Rattle.xet_ties.specs.Setup.{ClientGoesOn, most_lanes}
 
 -- ---- fetches
 
@@ -227,10 +227,11 @@ EachDrew fs [] ns (d ∷ ds) (ss ∷ es) = ⊥
 EachDrew fs (b ∷ bs) [] (d ∷ ds) (ss ∷ es) = ⊥
 EachDrew fs (b ∷ bs) (n ∷ ns) (d ∷ ds) (ss ∷ es) = LaneDrew fs b n d ss × EachDrew fs bs ns ds es
 
--- the lanes drew the numbers below some count, each once
+-- the lanes, of which there are not too many, drew the numbers below some count, each once
 pub record DrewApart (fs : List Ask) (before after : List ClientTold) (es : List (List LaneStep)) : Type 0 where
   pub drawn : List (List ℕ)
   pub count : ℕ
   pub apart : (x : ℕ) → times x (concat drawn) ≡ once_below x count
   pub within : count ≤ length fs
+  pub few : length es ≤ most_lanes
   pub each : EachDrew fs before after drawn es

@@ -11,6 +11,7 @@ use Rattle.xet_outside.specs.Plan.{block_of}
 use Rattle.xet_outside.specs.Told.{AskCall, BlockCall, CacheTold, ClientTold, Rose, SignalTold, SinkTold, Took}
 use Rattle.xet_outside.specs.declared.block.BlockAnswer.{BlockAnswer}
 use Rattle.xet_outside.specs.declared.client.ClientError.{ClientError}
+use Rattle.xet_outside.specs.declared.plan.Plan.{Plan}
 use Rattle.xet_outside.specs.declared.plan.PlanAnswer.{PlanAnswer}
 use Rattle.xet_outside.specs.declared.plan.PlanAnswer.TheVariants.{NoFile}
 use Rattle.xet_outside.specs.declared.said.Said.{Said}
@@ -39,14 +40,14 @@ use Rattle.xet_ties.specs.InCall.{EachGrew, Exchange, Look, all_exchanges, all_s
 use Rattle.xet_ties.specs.Lanes.{AnswerStep, Ask, BytesFail, DrewApart, IsFor, IsOf, LaneDid, StepDid}
 use Rattle.xet_ties.specs.Legal.{AllPlanned, FirstAsks, IsExact, Legal, ServedOnce, TookTested}
 use Rattle.xet_ties.specs.RunCalls.{IsFinished, RunCall, TookAll}
-use Rattle.xet_ties.specs.Saids.{BlockOfPlan, InStep, IsQueryAnswer, IsServedData, IsTested, planned_of, IsTaskPiece, has_bytes}
+use Rattle.xet_ties.specs.Saids.{BlockOfPlan, InStep, IsCutAnswer, IsPlanAccepted, IsQueryAnswer, IsServedData, IsTested, planned_of, IsTaskPiece, has_bytes}
 use Rattle.xet_ties.specs.Setup.{AllTell, CacheTells, IsOver, RunTold, Setup}
 use Rattle.xet_ties.specs.declared.lane_step.LaneStep.{LaneStep}
 use Rattle.xet_ties.specs.declared.lane_step.LaneStep.TheVariants as step
 use Rattle.xet_ties.specs.steps.Measures.{left}
 use Rattle.xet_ties.specs.steps.Moves.{no_hidden, no_late, no_slack}
-use Rattle.xet_ties.specs.steps.Parts.{AdmitsCall, LookedShort, LookedUp, OfferOneCall, looks_after, pending_after, plan_event, plan_query, stop_event, total, AskedSaid, AskedShort}
-use Rattle.xet_ties.specs.steps.Rounds.{AfterRound, IsMissingAsk}
+use Rattle.xet_ties.specs.steps.Parts.{AdmitsCall, LookedShort, LookedUp, OfferOneCall, looks_after, pending_after, plan_event, plan_query, plan_refresh, stop_event, total, AskedSaid, AskedShort}
+use Rattle.xet_ties.specs.steps.Rounds.{AfterRound, IsMissingAsk, IsPlanAsk}
 use Rattle.xet_ties.specs.steps.Records.{Apart, AreMissing, AreUnkept, EachMayExpire, HasTry, IsFreshAsk, HaveTries, Place, Spot, asks_for, blocks_all, expired_at, expired_on, fetched_at, fetched_on, key_of, lane_events, lane_spots, places_of, wrote_of}
 use Rattle.xet_ties.specs.steps.Windows.{AreKept, IsAt, is_wanted, open_terms}
 use Rattle.xet_ties.specs.Ties.{CutsRange, Slack, Stop, Ties, is_one, is_pair}
@@ -173,7 +174,7 @@ RoundsTied = (g : Setup) (b at : RunTold) (es : List Event) (sl : Slack) (fs : L
     → All (IsFreshAsk es) fs
     → ((x : MerkleHash) (r : ChunkRange)
     → count_by (is_one x r) (blocks_all (map key_of fs)) ≤ count_by (is_one x r) sl.pending)
-    → sl.hidden ≡ no_hidden b.clients → sl.late ≡ no_late b.clients
+    → sl.hidden ≡ no_hidden b.clients → sl.late ≡ no_late b.clients → All (IsPlanAsk g sl.heard) fs
     → EachMayExpire g.tries 0 (es ++ lane_events fetched_on 0 ls) (map places_of ls) → Ties g b at es None sl
     → (to : Slack) × Ties g b (record at { clients = ns })
     ((es ++ lane_events fetched_on 0 ls) ++ lane_events expired_on 0 ls) None to
@@ -187,7 +188,7 @@ ShortRoundsTied = (g : Setup) (b at : RunTold) (es : List Event) (sl : Slack) (f
     → All (IsFreshAsk es) fs
     → ((x : MerkleHash) (r : ChunkRange)
     → count_by (is_one x r) (blocks_all (map key_of fs)) ≤ count_by (is_one x r) sl.pending)
-    → sl.hidden ≡ no_hidden b.clients → sl.late ≡ no_late b.clients
+    → sl.hidden ≡ no_hidden b.clients → sl.late ≡ no_late b.clients → All (IsPlanAsk g sl.heard) fs
     → EachMayExpire g.tries 0 (es ++ lane_events fetched_on 0 ls) (map places_of ls) → Ties g b at es None sl
     → (to : Slack) × Ties g b (record at { clients = ns })
     (es ++ take k (lane_events fetched_on 0 ls ++ lane_events expired_on 0 ls)) None to
@@ -244,7 +245,7 @@ abbrev pub AsksTied : Type 0
 AsksTied = (g : Setup) (b at : RunTold) (es : List Event) (sl : Slack) (spare : ℕ) (c n : ClientTold)
     (cs : List ClientTold) (q : FileRange) (id : UniqueId) (o : Option TermBlock)
     → at.clients ≡ c ∷ cs → TermBlockCall c n (plan_query g q id) (Ok o) → sl.lost ≡ [] → sl.spare ≡ spare + 1
-    → InStep sl.heard → CutsRange g (queries es ++ q ∷ [])
+    → InStep sl.heard → CutsRange g (queries es ++ q ∷ []) → (planned es ≡ [] → q.start ≡ g.range.start)
     → Ties g b at es None sl
     → (heard : List Exchange) × Ties g b (record at { clients = n ∷ cs }) (es ++ plan_event es q o ∷ []) None
     (record sl { heard = heard; lost = []; spare = spare }) × InStep heard × EachGrew sl.heard heard
@@ -252,9 +253,10 @@ AsksTied = (g : Setup) (b at : RunTold) (es : List Event) (sl : Slack) (spare : 
 -- the URLs of a plan were asked for again, and that is recorded
 abbrev pub RefreshesTied : Type 0
 RefreshesTied = (g : Setup) (b at : RunTold) (es : List Event) (sl : Slack) (p : ℕ) (r : Refresh)
-    (us : List RetrievalUrl) (c n : ClientTold) (cs : List ClientTold)
+    (us : List RetrievalUrl) (c n : ClientTold) (cs : List ClientTold) (plan : Plan) (query : FileRange)
     → at.clients ≡ c ∷ cs → MayAsk r c n → IsRefreshed r c n us → sl.lost ≡ [] → InStep sl.heard
-    → range_at es p ≡ r.range ∷ [] → is_stale es p ≡ true → r.file ≡ g.file → Ties g b at es None sl
+    → range_at es p ≡ r.range ∷ [] → is_stale es p ≡ true → r.file ≡ g.file
+    → IsPlanAccepted g sl.heard plan query → r ≡ plan_refresh g plan query → Ties g b at es None sl
     → (heard : List Exchange) × Ties g b (record at { clients = n ∷ cs }) (es ++ Refreshed p ∷ []) None
     (record sl { heard = heard; lost = [] }) × InStep heard × EachGrew sl.heard heard
 
@@ -358,10 +360,11 @@ WindowsTested = (g : Setup) (xs : List Exchange) (looks : List Look) (es : List 
 
 -- a query in the range was answered with a plan that fails a test
 abbrev pub PlansFail : Type 0
-PlansFail = (g : Setup) (xs : List Exchange) (q : FileRange) (id : UniqueId) (k : Corruption) (b n : ClientTold)
+PlansFail = (g : Setup) (xs : List Exchange) (i : ℕ) (q : FileRange) (id : UniqueId) (k : Corruption)
+    (b n : ClientTold)
     → g.range.start ≤ q.start → q.end ≤ g.range.end
     → (from : FromSaid b n (plan_query g q id) (Err (error.CorruptedReconstruction k)))
-    → IsQueryAnswer g.file xs q from.plan → SomeFailed g xs k
+    → IsCutAnswer g.file xs i q from.plan → SomeFailed g xs k
 
 -- a file is missing only by an answer that says so
 abbrev pub FilesMissing : Type 0

@@ -1,5 +1,5 @@
 -- Which answers of a run are legal, by what its arguments tell before and after.
-use Rattle.std.specs.Prelude.{ℕ, ◌≡◌, ◌⊎◌, ◌+◌, ◌-◌, ◌<◌, ◌≤◌, List, [], ◌∷◌, length, take, All, Some, IsSome, IfSome, OnOk, option_map, count_by, Result, Err, IfOk, IfErr}
+use Rattle.std.specs.Prelude.{ℕ, ◌≡◌, ◌⊎◌, ◌+◌, ◌-◌, ◌<◌, ◌≤◌, List, [], ◌∷◌, drop, length, take, All, Some, IsSome, IfSome, OnOk, option_map, count_by, Result, Err, IfOk, IfErr}
 use Rattle.std.specs.List.{AllZip, concat}
 use Rattle.xet_base.specs.declared.cas_types.FileRange.{FileRange}
 use Rattle.xet_base.specs.Store.{Store, file_of, window}
@@ -14,8 +14,8 @@ use Rattle.xet_ties.specs.Cuts.{AskedCut, IsNumbered, IsSaidPiece, Planning, Pla
 use Rattle.xet_ties.specs.History.{entry_of}
 use Rattle.xet_ties.specs.InCall.{Exchange, Look, all_exchanges, all_served, answers_of, new_in}
 use Rattle.xet_ties.specs.RunCalls.{DidNothing}
-use Rattle.xet_ties.specs.Saids.{BlockOfPlan, planned_of}
-use Rattle.xet_ties.specs.Setup.{AllTell, CacheTells, EachGoesOn, IsEmptyRange, IsOver, RunTold, Setup}
+use Rattle.xet_ties.specs.Saids.{AllRenewed, BlockOfPlan, HasPassed, planned_of}
+use Rattle.xet_ties.specs.Setup.{AllTell, CacheTells, EachGoesOn, IsEmptyRange, IsOver, RunTold, Setup, most_lanes}
 use Rattle.xet_ties.specs.Ties.{CutsRange, EachUnasked, is_pair}
 
 -- ---- bytes
@@ -92,21 +92,37 @@ FirstPlansAll g (b ∷ bs) [] = ⊥
 FirstPlansAll g (b ∷ bs) (n ∷ ns) = IfSome (new_in b.asked n.asked) (AsksSome g)
     × IfSome (answers_of b n) (λ x. PlansAll g (x ∷ []))
 
+-- of the first connection: each query that doesn't cut the range has an answer that renews the plan which it asks
+-- again
+abbrev pub FirstRenews : Setup → List ClientTold → List ClientTold → Type 0
+FirstRenews g [] ns = ⊥
+FirstRenews g (b ∷ bs) [] = ⊥
+FirstRenews g (b ∷ bs) (n ∷ ns) = IfSome (answers_of b n) (λ x. AllRenewed g x (length x.asked))
+
 -- ---- served blocks
 
 -- no block of a plan was served twice
 abbrev pub ServedOnce : List Served → Type 0
 ServedOnce es = (p k : ℕ) → count_by (is_pair p k) es ≤ 1
 
--- this is the entry of a block of a plan that was said and passes its tests, under that plan's number
+-- this is the entry of a block of a plan that was said and passes its tests, under that plan's own number
 pub record IsPlannedServed (g : Setup) (xs : List Exchange) (e : Served) : Type 0 where
   pub of_plan : BlockOfPlan g xs
+  pub own : e.plan ≡ of_plan.accepted.said.number
   pub numbered : IsNumbered g xs e.plan of_plan.query
   pub is : e ≡ entry_of e.plan of_plan.number (planned_of of_plan.block)
 
 -- so is each that was served
 abbrev pub AllPlanned : Setup → List Exchange → Type 0
 AllPlanned g xs = All (λ x. All (IsPlannedServed g xs) x.served) xs
+
+-- an answer to its own request passes the tests of the block, of the very plan of its number
+abbrev pub EntryPassed : Setup → List Exchange → Served → Type 0
+EntryPassed g xs e = HasPassed g xs e.plan e.index
+
+-- so of each that was served
+abbrev pub AllPassed : Setup → List Exchange → Type 0
+AllPassed g xs = All (λ x. All (EntryPassed g xs) x.served) xs
 
 -- ---- a legal answer
 
@@ -148,14 +164,20 @@ pub record Legal (g : Setup) (before after : RunTold) (answer : Result ℕ FileR
   pub all_asked : OnOk answer (FirstPlansAll g before.clients after.clients)
   -- over connections that tell their lists, no plan's URLs were asked for again without an expired answer
   pub refreshed : IfSome (all_exchanges before.clients after.clients) (FirstAsksFew g)
+  -- on Ok each such refresh was answered, and its answer isn't refused, by what the first connection alone tells
+  pub renewed : OnOk answer (FirstRenews g before.clients after.clients)
   -- no block of a plan was served twice
   pub served : IfSome (all_served before.clients after.clients) ServedOnce
   -- and each is a block of a plan that was said and passes its tests
   pub planned : IfSome (all_exchanges before.clients after.clients) (AllPlanned g)
+  -- and on Ok the answer to it passes the block's tests, whether or not its data came of that
+  pub passed : OnOk answer (IfSome (all_exchanges before.clients after.clients) (AllPassed g))
   -- on Ok over connections that tell one valid store and a cache that has no entries afterwards, each chunk of the file
   -- with a byte in the window lies in a served block
   pub chunks : (s : Store) → IsOver s before.clients → after.cache.entries ≡ Some []
       → OnOk answer (IfSome (all_served before.clients after.clients) (AllServed s g.file g.range))
+  -- connections past the first 65,536 are as before
+  pub past : drop most_lanes after.clients ≡ drop most_lanes before.clients
   -- connections go on telling what they told, as does a cache that told the store, and the writer what it works through
   pub goes_on : EachGoesOn before.clients after.clients
   pub cache_later : (s : Store) → IsOver s before.clients → CacheTells s before.cache → CacheTells s after.cache

@@ -7,7 +7,7 @@ use Rattle.xet_error.specs.declared.error.FileReconstructionError.{FileReconstru
 use Rattle.xet_error.specs.declared.error.FileReconstructionError.TheVariants as error
 use Rattle.xet_error.specs.declared.error.Setting.{Setting}
 use Rattle.xet_run.specs.declared.event.Event.{Event}
-use Rattle.xet_run.specs.Events.{is_admit, planned, unwritten, written}
+use Rattle.xet_run.specs.Events.{expires, is_admit, planned, unwritten, written}
 use Rattle.xet_history.specs.TrueHistory.{ReachesEnd}
 use Rattle.xet_ties.specs.Causes.{Cause, failing_setting}
 use Rattle.xet_ties.specs.Saids.{IsTaskPiece, some_of}
@@ -24,6 +24,8 @@ pub record IsFinished (g : Setup) (es : List Event) (k : ℕ) : Type 0 where
   pub count : k ≡ written es
   pub admitted : count_by is_admit es ≡ length (planned es)
   pub unwritten : unwritten es ≡ 0
+  -- each block expired fewer times than it may be asked for
+  pub under : (p k : ℕ) → count_by (expires p k) es < g.tries
   pub reaches : g.range.start < g.range.end → ReachesEnd g.range es
   pub empty : IsEmptyRange g.range → es ≡ []
 

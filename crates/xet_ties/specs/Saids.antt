@@ -1,11 +1,12 @@
 -- How plans and data are tied to what the connections said, each answer to its own request.
-use Rattle.std.specs.Prelude.{ℕ, ◌≡◌, ◌⊎◌, ◌<◌, ◌≤◌, Bool, true, List, [], ◌∷◌, length, map, take, filter, nat_lt, All, Contains, Some, None, slice_get}
+use Rattle.std.specs.Prelude.{ℕ, ◌≡◌, ◌⊎◌, ◌+◌, ◌-◌, ◌<◌, ◌≤◌, Bool, true, cond, List, [], ◌∷◌, length, map, take, filter, nat_le, nat_lt, All, Contains, None, Some, slice_get}
 use Rattle.std.specs.List.{AllZip, concat}
 use Rattle.xet_base.specs.declared.cas_types.ChunkRange.{ChunkRange}
 use Rattle.xet_base.specs.declared.cas_types.FileRange.{FileRange}
 use Rattle.xet_base.specs.declared.merklehash.MerkleHash.{MerkleHash}
 use Rattle.xet_outside.specs.Answers.{AnswerTo, AnswerToQuery, plans_in}
 use Rattle.xet_outside.specs.Plan.{shape}
+use Rattle.xet_outside.specs.Told.{Query}
 use Rattle.xet_outside.specs.declared.block.BlockBytes.{BlockBytes}
 use Rattle.xet_outside.specs.declared.plan.Plan.{Plan}
 use Rattle.xet_outside.specs.declared.plan.PlanAnswer.{PlanAnswer}
@@ -18,11 +19,12 @@ use Rattle.xet_blocks.specs.BlockChecks.{block_data}
 use Rattle.xet_blocks.specs.Blocks.{blocks_of}
 use Rattle.xet_blocks.specs.Extracts.{failed_term_test, term_bytes_in}
 use Rattle.xet_blocks.specs.PlanChecks.{failed_test}
-use Rattle.xet_blocks.specs.TermBlocks.{xorb_blocks}
+use Rattle.xet_blocks.specs.TermBlocks.{covered, xorb_blocks}
 use Rattle.xet_blocks.specs.Terms.{terms_of}
 use Rattle.xet_fetch.specs.CachedBlocks.{passes_cached}
+use Rattle.xet_fetch.specs.Refreshes.{plan_extents, refusal_of}
 use Rattle.xet_run.specs.declared.event.Event.{Event}
-use Rattle.xet_run.specs.declared.event.Event.TheVariants.{Planned}
+use Rattle.xet_run.specs.declared.event.Event.TheVariants.{Fetched, Planned}
 use Rattle.xet_run.specs.declared.event.PlannedBlock.{PlannedBlock}
 use Rattle.xet_run.specs.declared.event.PlannedTerm.{PlannedTerm}
 use Rattle.xet_run.specs.Events.{Task, planned, size}
@@ -39,9 +41,31 @@ abbrev pub IsQueryAnswer : MerkleHash → List Exchange → FileRange → PlanAn
 IsQueryAnswer f [] q a = ⊥
 IsQueryAnswer f (x ∷ xs) q a = AnswerToQuery x.asked x.said (f, q) a
 
--- a plan with terms was said in answer to a query in the range
+-- the places of the queries that start where those before them end, or past that. These cut the range: each other one
+-- asks for a plan's bytes again
+abbrev pub cut_places : ℕ → ℕ → List Query → List ℕ
+cut_places place end [] = []
+cut_places place end (q ∷ qs) =
+    cond (nat_le end q.1.start) (place ∷ cut_places (place + 1) q.1.end qs) (cut_places (place + 1) end qs)
+
+-- a connection said this in answer to the query of this number among those that cut the range, counted from 1, and to
+-- no later one for the same bytes. There is one such answer
+pub record AnswerOf (x : Exchange) (number : ℕ) (q : Query) (a : PlanAnswer) : Type 0 where
+  pub place : ℕ
+  pub some : 0 < number
+  pub at : slice_get (cut_places 0 0 x.asked) (number - 1) ≡ Some place
+  pub query : slice_get x.asked place ≡ Some q
+  pub answer : slice_get (plans_in x.said) place ≡ Some a
+
+-- so the first connection did
+abbrev pub IsCutAnswer : MerkleHash → List Exchange → ℕ → FileRange → PlanAnswer → Type 0
+IsCutAnswer f [] n q a = ⊥
+IsCutAnswer f (x ∷ xs) n q a = AnswerOf x n (f, q) a
+
+-- a plan with terms was said in answer to a query in the range, one of those that cut it: this is the plan's number
 pub record IsPlanSaid (g : Setup) (xs : List Exchange) (p : Plan) (q : FileRange) : Type 0 where
-  pub answer : IsQueryAnswer g.file xs q (Found p)
+  pub number : ℕ
+  pub answer : IsCutAnswer g.file xs number q (Found p)
   pub some : 0 < length p.terms
   pub from : g.range.start ≤ q.start
   pub to : q.end ≤ g.range.end
@@ -65,17 +89,39 @@ IsMadeOf g q ts bs NoFile = ⊥
 IsMadeOf g q ts bs PastEnd = (ts ≡ []) × (bs ≡ [])
 IsMadeOf g q ts bs (Found p) = ((p.terms ≡ []) × (ts ≡ []) × (bs ≡ [])) ⊎ IsMadeOfPlan g q ts bs p
 
--- terms and blocks of an answer that was said to their own query
-pub record IsPlannedBy (g : Setup) (x : Exchange) (q : FileRange) (ts : List PlannedTerm)
+-- terms and blocks of the answer that was said to the query of this number
+pub record IsPlannedBy (g : Setup) (x : Exchange) (n : ℕ) (q : FileRange) (ts : List PlannedTerm)
     (bs : List PlannedBlock) : Type 0 where
   pub answer : PlanAnswer
-  pub said : AnswerToQuery x.asked x.said (g.file, q) answer
+  pub said : AnswerOf x n (g.file, q) answer
   pub made : IsMadeOf g q ts bs answer
 
--- so each Planned event has
+-- so each Planned event has, by its own number
 abbrev pub IsEventSaid : Setup → Exchange → Event → Type 0
-IsEventSaid g x (Planned plan query terms blocks) = IsPlannedBy g x query terms blocks
+IsEventSaid g x (Planned plan query terms blocks) = IsPlannedBy g x plan query terms blocks
 IsEventSaid g x _ = Unit {0}
+
+-- the query at this place asked for the bytes that an accepted plan covers, and its answer renews the plan: it isn't
+-- refused, by the plan's range and blocks
+pub record IsRenewal (g : Setup) (x : Exchange) (place : ℕ) : Type 0 where
+  pub number : ℕ
+  pub plan : Plan
+  pub query : FileRange
+  pub own : AnswerOf x number (g.file, query) (Found plan)
+  pub asked : slice_get x.asked place ≡ Some (g.file, covered (shape plan) query)
+  pub answer : PlanAnswer
+  pub said : slice_get (plans_in x.said) place ≡ Some answer
+  pub passes : refusal_of (covered (shape plan) query) g.multirange (plan_extents (shape plan) g.multirange) answer
+      ≡ None
+
+-- each of the first queries, so many, cuts the range, or its answer renews a plan
+abbrev pub AllRenewed : Setup → Exchange → ℕ → Type 0
+AllRenewed g x count = (i : ℕ) → i < count → Contains (cut_places 0 0 x.asked) i ⊎ IsRenewal g x i
+
+-- so of the first connection, but for the query whose answer isn't recorded
+abbrev pub FirstRenewed : Setup → List Query → List Exchange → Type 0
+FirstRenewed g lost [] = ⊥
+FirstRenewed g lost (x ∷ xs) = AllRenewed g x (length x.asked - length lost)
 
 -- a connection was asked for no plan
 pub record IsUnasked (x : Exchange) : Type 0 where
@@ -133,6 +179,24 @@ pub record BlockOfPlan (g : Setup) (xs : List Exchange) : Type 0 where
   pub block : XorbBlock
   pub numbered : slice_get (xorb_blocks (shape plan) g.multirange) number ≡ Some block
 
+-- bytes that were said in answer to the own request of the block of this number of this plan pass the block's tests
+pub record PassedIn (b : XorbBlock) (p k : ℕ) (x : Exchange) : Type 0 where
+  pub given : BlockBytes
+  pub answer : IsBlockAnswer x p k b given
+  pub passes : failed_check b given ≡ None
+
+-- so some connection's for the block of this number of the very plan of this number
+pub record HasPassed (g : Setup) (xs : List Exchange) (p k : ℕ) : Type 0 where
+  pub place : BlockOfPlan g xs
+  pub own : p ≡ place.accepted.said.number
+  pub index : k ≡ place.number
+  pub bytes : SomeOne (PassedIn place.block p k) xs
+
+-- so for each Fetched event
+abbrev pub EventPassed : Setup → List Exchange → Event → Type 0
+EventPassed g xs (Fetched lane p k) = HasPassed g xs p k
+EventPassed g xs _ = Unit {0}
+
 -- a term of an accepted plan, with its block
 pub record TermOfPlan (g : Setup) (xs : List Exchange) : Type 0 where
   pub place : BlockOfPlan g xs
@@ -148,9 +212,10 @@ pub record IsPiece (g : Setup) (xs : List Exchange) (looks : List Look) (p : ℕ
   pub passes : failed_term_test t.term data_of ≡ None
   pub bytes : piece ≡ term_bytes_in t.term data_of
 
--- so the bytes of a planned term
+-- so the bytes of a planned term, of the very plan of its number
 pub record IsTaskPiece (g : Setup) (xs : List Exchange) (looks : List Look) (t : Task) (piece : List ℕ) : Type 0 where
   pub of_plan : TermOfPlan g xs
+  pub own : t.plan ≡ of_plan.place.accepted.said.number
   pub is : t.term ≡ planned_term of_plan.term
   pub piece_of : IsPiece g xs looks t.plan of_plan piece
 

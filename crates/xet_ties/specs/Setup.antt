@@ -77,6 +77,10 @@ CacheTells s c = MatchOption c.entries ⊥ (λ es. All (IsHonestEntry s) es)
 
 -- ---- how connections go on
 
+-- so many connections are used at most; those past them stay as they are
+abbrev pub most_lanes : ℕ
+most_lanes = 65536
+
 -- a connection tells the store that it told and works through what it did, and its counts don't fall
 pub record ClientGoesOn (before after : ClientTold) : Type 0 where
   pub store : after.store ≡ before.store

@@ -1,5 +1,5 @@
 -- How a run's history is tied to what the run's arguments tell before and after.
-use Rattle.std.specs.Prelude.{ℕ, ◌≡◌, ◌⊎◌, ◌+◌, ◌-◌, ◌^◌, ◌<◌, ◌≤◌, ◌==◌, ◌&&◌, ◌≢◌, min, Bool, true, false, not, List, [], ◌∷◌, ◌++◌, length, count_by, nat_eq, Option, Some, None, IfSome, IsSome, All, Contains}
+use Rattle.std.specs.Prelude.{ℕ, ◌≡◌, ◌⊎◌, ◌+◌, ◌-◌, ◌^◌, ◌<◌, ◌≤◌, ◌==◌, ◌&&◌, ◌≢◌, min, Bool, true, false, not, List, [], ◌∷◌, ◌++◌, drop, length, count_by, nat_eq, Option, Some, None, IfSome, IsSome, All, Contains}
 use Rattle.std.specs.List.{flat_map}
 use lib.Pointwise.{pointwise}
 use Rattle.xet_base.specs.declared.cas_types.ChunkRange.{ChunkRange}
@@ -17,14 +17,14 @@ use Rattle.xet_blocks.specs.Blocks.{range_eq}
 use Rattle.xet_run.specs.declared.event.Event.{Event}
 use Rattle.xet_run.specs.declared.event.PlannedBlock.{PlannedBlock}
 use Rattle.xet_run.specs.Budgets.{LimitTold}
-use Rattle.xet_run.specs.Events.{expires, first_error, is_stale, plan_count, written}
+use Rattle.xet_run.specs.Events.{Task, expires, first_error, is_stale, plan_count, planned, written}
 use Rattle.xet_history.specs.Laws.{IsPrefix}
 use Rattle.xet_history.specs.Queries.{CutFrom}
 use Rattle.xet_history.specs.TrueHistory.{IsTrueHistory, pieces, queries}
 use Rattle.xet_ties.specs.History.{EachAfter, IsNumberedNext, IsOnLane, IsOneCached, IsRenewed, IsWithin, asked_by, block_at, cached_in, entry_of, expired_by, fetched_in, fetches, kept_in, limits_of, range_at, served_by, telling}
 use Rattle.xet_ties.specs.InCall.{EachExchange, Exchange, Look, expired_said}
-use Rattle.xet_ties.specs.Saids.{FirstSaid, IsTested}
-use Rattle.xet_ties.specs.Setup.{AllTell, CacheTells, ClientGoesOn, IsOver, RunTold, Setup, download_of}
+use Rattle.xet_ties.specs.Saids.{EventPassed, FirstRenewed, FirstSaid, IsTested}
+use Rattle.xet_ties.specs.Setup.{AllTell, CacheTells, ClientGoesOn, IsOver, RunTold, Setup, download_of, most_lanes}
 
 -- where a run stands: none while it goes on and where it answered Ok, else the error that it answered
 abbrev pub Stop : Type 0
@@ -86,6 +86,8 @@ pub record IsServed (es : List Event) (hidden : List (List Served)) (late : List
   pub planned : All (IsPlannedEntry es) (all_of hidden)
   -- each event is of one of the lanes
   pub on_lanes : All (IsOnLane (length before)) es
+  -- connections past the lanes are as before
+  pub past : drop most_lanes after ≡ drop most_lanes before
 
 -- of each lane from a number on: its connection said as many expired answers as the lane has Expired events, and so
 -- many that no event says yet
@@ -121,6 +123,11 @@ FirstAsked f es lost (b ∷ bs) [] = ⊥
 -- the queries cut the range from its start on, each shorter than the greatest and the least size together
 abbrev pub CutsRange : Setup → List FileRange → Type 0
 CutsRange g qs = CutFrom g.range.start g.range.end (g.greatest + g.least) qs
+
+-- the first of these terms starts at this place
+abbrev pub FirstStarts : ℕ → List Task → Type 0
+FirstStarts place [] = Unit {0}
+FirstStarts place (t ∷ ts) = t.term.byte_range.start ≡ place
 
 -- a query that may be asked: the next one of the cut, or the actual range of a plan with an expired answer since it was
 -- asked for last
@@ -270,6 +277,8 @@ pub record Ties (g : Setup) (before after : RunTold) (es : List Event) (stop : S
   -- whatever they tell, the queries cut the range, and a plan's terms end within its query
   pub cuts : CutsRange g (queries es)
   pub within : All IsWithin es
+  -- the first planned term starts where the range does
+  pub starts : FirstStarts g.range.start (planned es)
   -- and the plans are numbered in their order, from 1
   pub numbers : EachAfter IsNumberedNext [] es
   -- over connections that tell a store, valid or not, a plan is of a stored file
@@ -282,6 +291,10 @@ pub record Ties (g : Setup) (before after : RunTold) (es : List Event) (stop : S
   pub said : FirstSaid g es slack.heard
   pub tried : IsTried g.tries es stop
   pub renewed : EachAfter IsRenewed [] es
+  -- each recorded query that doesn't cut the range has an answer that renews the plan which it asks again
+  pub refreshes : FirstRenewed g slack.lost slack.heard
+  -- each fetched block was answered with bytes that pass its tests
+  pub passed : All (EventPassed g slack.heard) es
   pub one_cached : EachAfter IsOneCached [] es
   pub looked : IsLooked es slack.pending slack.looks before.clients before.cache after.cache
   pub looked_entries : All (IsEntryOf after.cache.entries) slack.looks

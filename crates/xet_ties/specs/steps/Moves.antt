@@ -14,7 +14,7 @@ use Rattle.xet_run.specs.Events.{error_in, expires, is_plan, taken_in, tasks_in}
 use Rattle.xet_history.specs.TrueHistory.{IsTrueEvent, queries_in}
 use Rattle.xet_ties.specs.History.{IsOneCached, IsRenewed, IsWithin, asked_in, cached_in, fetched_in, limit_in}
 use Rattle.xet_ties.specs.InCall.{Exchange, expired_said}
-use Rattle.xet_ties.specs.Saids.{IsEventSaid}
+use Rattle.xet_ties.specs.Saids.{EventPassed, FirstRenewed, IsEventSaid}
 use Rattle.xet_ties.specs.Setup.{ClientGoesOn, Setup}
 use Rattle.xet_ties.specs.Ties.{EachExpired, IsEntryOf, IsServed, Slack, has_one, is_one}
 
@@ -75,6 +75,8 @@ pub record Fits (g : Setup) (es : List Event) (e : Event) (sl to : Slack) : Type
   pub asked : sl.lost ≡ asked_in g.file es e ++ to.lost
   pub tried : (p k : ℕ) → count_by (expires p k) es + cond (expires p k e) 1 0 ≤ g.tries
   pub renewed : IsRenewed es e
+  pub refreshes : FirstRenewed g sl.lost sl.heard → FirstRenewed g to.lost sl.heard
+  pub passed : EventPassed g sl.heard e
   pub one_cached : IsOneCached es e
   pub cached : cached_in es e ≡ []
   pub pending : (x : MerkleHash) (r : ChunkRange) → count_by (is_one x r) (fetched_in es e)

@@ -4,7 +4,9 @@ use Rattle.xet_base.specs.declared.cas_types.ChunkRange.{ChunkRange}
 use Rattle.xet_base.specs.declared.cas_types.FileRange.{FileRange}
 use Rattle.xet_base.specs.declared.unique_id.UniqueId.{UniqueId}
 use Rattle.xet_outside.specs.declared.block.BlockBytes.{BlockBytes}
+use Rattle.xet_outside.specs.declared.plan.Plan.{Plan}
 use Rattle.xet_outside.specs.declared.plan.PlanAnswer.{PlanAnswer}
+use Rattle.xet_outside.specs.Plan.{shape}
 use Rattle.xet_outside.specs.declared.said.Said.{Said}
 use Rattle.xet_outside.specs.declared.said.Said.TheVariants as said
 use Rattle.xet_outside.specs.Told.{AskCall, CacheTold, ClientTold, Query, SignalTold}
@@ -14,7 +16,9 @@ use Rattle.xet_blocks.specs.declared.reconstruction_terms.file_term.TermBlock.{T
 use Rattle.xet_blocks.specs.declared.reconstruction_terms.xorb_block.XorbBlock.{XorbBlock}
 use Rattle.xet_blocks.specs.declared.reconstruction_terms.xorb_block.XorbBlockData.{XorbBlockData}
 use Rattle.xet_blocks.specs.PlanQuery.{PlanQuery}
+use Rattle.xet_blocks.specs.TermBlocks.{covered}
 use Rattle.xet_fetch.specs.CachedBlocks.{LookKeeps, LookOk, MaybeLooked}
+use Rattle.xet_fetch.specs.Refreshes.{Refresh, plan_extents}
 use Rattle.xet_run.specs.declared.event.Event.{Event}
 use Rattle.xet_run.specs.declared.event.Event.TheVariants.{Cached, Cancel, Fail, Planned}
 use Rattle.xet_run.specs.declared.event.PlannedBlock.{PlannedBlock}
@@ -56,6 +60,15 @@ blocks_of_answer (Some t) = map planned_of t.blocks
 -- what is asked for a query
 abbrev pub plan_query : Setup → FileRange → UniqueId → PlanQuery
 plan_query g q id = record { file = g.file; range = q; multirange = g.multirange; id = id }
+
+-- what is asked again for a plan of a query
+abbrev pub plan_refresh : Setup → Plan → FileRange → Refresh
+plan_refresh g p q = record {
+  file = g.file;
+  range = covered (shape p) q;
+  multirange = g.multirange;
+  blocks = plan_extents (shape p) g.multirange;
+}
 
 -- the event of an answer to a query
 abbrev pub plan_event : List Event → FileRange → Option TermBlock → Event

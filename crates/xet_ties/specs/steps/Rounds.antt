@@ -11,8 +11,8 @@ use Rattle.xet_run.specs.Allowed.{IsMissing}
 use Rattle.xet_ties.specs.History.{block_at}
 use Rattle.xet_ties.specs.InCall.{EachGrew, Exchange, SomeOne}
 use Rattle.xet_ties.specs.Lanes.{Ask, HidesNone, HoldsAsk, IsFor, bytes_of_ask}
-use Rattle.xet_ties.specs.Saids.{InStep, IsServedData}
-use Rattle.xet_ties.specs.Setup.{AllTell}
+use Rattle.xet_ties.specs.Saids.{BlockOfPlan, InStep, IsServedData}
+use Rattle.xet_ties.specs.Setup.{AllTell, Setup}
 use Rattle.xet_ties.specs.Ties.{Slack, has_one}
 use Rattle.xet_ties.specs.declared.lane_step.LaneStep.{LaneStep}
 use Rattle.xet_ties.specs.declared.lane_step.LaneStep.TheVariants as step
@@ -35,6 +35,14 @@ blocks_at es cs = flat_map (λ (c : Place). block_at es c.0 c.1) cs
 -- the fetch is of a missing block
 abbrev pub IsMissingAsk : List Event → Ask → Type 0
 IsMissingAsk es a = IsMissing es a.request.acquisition.plan a.request.index
+
+-- the fetch is of a block of the very plan of its number
+pub record IsPlanAsk (g : Setup) (xs : List Exchange) (a : Ask) : Type 0 where
+  pub for_block : IsFor a
+  pub place : BlockOfPlan g xs
+  pub own : a.request.acquisition.plan ≡ place.accepted.said.number
+  pub index : a.request.index ≡ place.number
+  pub block : place.block ≡ a.block
 
 -- a Served step's data is of one of these fetches, of its plan and number: it is made of bytes that some connection
 -- said in answer to the fetch's own request and that pass the block's tests; over connections that tell a store which

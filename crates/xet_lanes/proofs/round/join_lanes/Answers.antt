@@ -1,4 +1,4 @@
-use Rattle.std.proofs.Common.{◌≡◌, ◌<◌, sym, ap, ◌∙◌, subst, map, length}
+use Rattle.std.proofs.Common.{◌≡◌, ◌<◌, ◌≤◌, sym, ap, ◌∙◌, subst, map, length}
 use Rattle.std.specs.Prelude.{All, List}
 use Rattle.std.proofs.lemmas.List.{length-map}
 use Rattle.xet_claims.specs.declared.claims.ClaimPass.{ClaimPass}
@@ -31,12 +31,15 @@ returns-clause-call g c =
     c.in_ok-claims.ensures.claims.0 ∙ sym (length-map c.args.fetches.now ask_of) in
     let some : 0 < length (map g.C.Client.told c.args.clients.now) =
     rw (length-map c.args.clients.now g.C.Client.told) c.requires.clients.0 in
+    let few : length (map g.C.Client.told c.args.clients.now) ≤ 65536 =
+    rw (length-map c.args.clients.now g.C.Client.told) c.requires.clients.1 in
     record {
       refused = tt;
       wrote = c.draw_and_write-wrote.ensures.wrote;
       drew = lanes_drew c.in_ok-claims.claims _ _ _ _ _ c.close-drawn.result drew c.take_apart.ensures.ends
           (λ x. ap (λ l. times x (drawn_of l)) (sym same) ∙ c.close-drawn.ensures.all x)
           (let b = c.close-drawn.ensures.bound in rw asked at b)
+          few
           (drew_some c.in_ok-claims.claims _ _ _ _ drew some)
           (λ some_missed. c.close-drawn.ensures.none
           (let P : List ClaimPass → Type 0 = λ l. 0 < misses_of l in subst P (sym same) some_missed) ∙ asked)
