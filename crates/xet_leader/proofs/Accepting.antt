@@ -22,29 +22,34 @@ use Rattle.xet_leader.proofs.NextQueries.{IsDue, cut_last, due_cuts, end_last, t
 
 -- ---- queries that weren't asked
 
-cuts_rest : (place end bound : ℕ) (qs : List FileRange) (n : ℕ) → CutFrom place end bound qs → CutFrom (end_from place (take n qs)) end bound (drop n qs)
+cuts_rest : (place end bound : ℕ) (qs : List FileRange) (n : ℕ) → CutFrom place end bound qs
+    → CutFrom (end_from place (take n qs)) end bound (drop n qs)
 cuts_rest place end bound [] zero c = tt
 cuts_rest place end bound [] (suc n) c = tt
 cuts_rest place end bound (q ∷ qs) zero c = c
 cuts_rest place end bound (q ∷ qs) (suc n) c = cuts_rest q.end end bound qs n c.4
 
 -- none starts below a place that they don't start below
-none_below : (place end bound known : ℕ) (qs : List FileRange) → CutFrom place end bound qs → known ≤ place → filter (λ q. nat_lt q.start known) qs ≡ []
+none_below : (place end bound known : ℕ) (qs : List FileRange) → CutFrom place end bound qs → known ≤ place
+    → filter (λ q. nat_lt q.start known) qs ≡ []
 none_below place end bound known [] c h = refl
 none_below place end bound known (q ∷ qs) c h =
     let from : q.start ≡ place = c.0 in
     let forward = c.1 in
     let no : nat_lt q.start known ≡ false = le-ltb q.start known (omega (arith, from, h)) in
-    ap (λ (b : Bool). cond b (q ∷ filter (λ q. nat_lt q.start known) qs) (filter (λ q. nat_lt q.start known) qs)) no ∙ none_below q.end end bound known qs c.4 (omega (arith, from, h, forward))
+    ap (λ (b : Bool). cond b (q ∷ filter (λ q. nat_lt q.start known) qs) (filter (λ q. nat_lt q.start known) qs)) no
+    ∙ none_below q.end end bound known qs c.4 (omega (arith, from, h, forward))
 
 -- all start below their end
-all_below : (place end bound known : ℕ) (qs : List FileRange) → CutFrom place end bound qs → end ≤ known → filter (λ q. nat_lt q.start known) qs ≡ qs
+all_below : (place end bound known : ℕ) (qs : List FileRange) → CutFrom place end bound qs → end ≤ known
+    → filter (λ q. nat_lt q.start known) qs ≡ qs
 all_below place end bound known [] c h = refl
 all_below place end bound known (q ∷ qs) c h =
     let forward = c.1 in
     let within = c.2 in
     let yes : nat_lt q.start known ≡ true = lt-ltb q.start known (omega (arith, forward, within, h)) in
-    ap (λ (b : Bool). cond b (q ∷ filter (λ q. nat_lt q.start known) qs) (filter (λ q. nat_lt q.start known) qs)) yes ∙ ap (λ (l : List FileRange). q ∷ l) (all_below q.end end bound known qs c.4 h)
+    ap (λ (b : Bool). cond b (q ∷ filter (λ q. nat_lt q.start known) qs) (filter (λ q. nat_lt q.start known) qs)) yes
+    ∙ ap (λ (l : List FileRange). q ∷ l) (all_below q.end end bound known qs c.4 h)
 
 -- ---- the answer
 
@@ -64,23 +69,34 @@ handed m None = m
 handed m (Some t) = record m { waiting = []; handed_end = t.byte_range.end }
 
 -- ended or not, it keeps the queries that were asked
-asked_kept : (m : Manager) (known : ℕ) → m.asked ≤ length m.queries → take m.asked (without_past m.asked known m.queries) ≡ take m.asked m.queries
+asked_kept : (m : Manager) (known : ℕ) → m.asked ≤ length m.queries
+    → take m.asked (without_past m.asked known m.queries) ≡ take m.asked m.queries
 asked_kept m known h =
     let n = length-take-le m.asked m.queries h in
-    take-append-le m.asked (take m.asked m.queries) (filter (λ q. nat_lt q.start known) (drop m.asked m.queries)) (omega (arith, n)) ∙ take_all m.asked (take m.asked m.queries) (omega (arith, n))
+    take-append-le m.asked (take m.asked m.queries) (filter (λ q. nat_lt q.start known) (drop m.asked m.queries))
+    (omega (arith, n)) ∙ take_all m.asked (take m.asked m.queries) (omega (arith, n))
 
 -- the queries after an answer, where the file ends at or before the query's end or no end was known
-queries_after : (m : Manager) (known : ℕ) → CutFrom m.range.start m.range.end (m.greatest + m.least) m.queries → known ≤ end_from m.range.start (take m.asked m.queries) → without_past m.asked known m.queries ≡ take m.asked m.queries
+queries_after : (m : Manager) (known : ℕ) → CutFrom m.range.start m.range.end (m.greatest + m.least) m.queries
+    → known ≤ end_from m.range.start (take m.asked m.queries)
+    → without_past m.asked known m.queries ≡ take m.asked m.queries
 queries_after m known c h =
-    ap (λ (l : List FileRange). take m.asked m.queries ++ l) (none_below (end_from m.range.start (take m.asked m.queries)) m.range.end (m.greatest + m.least) known (drop m.asked m.queries) (cuts_rest m.range.start m.range.end (m.greatest + m.least) m.queries m.asked c) h)
+    ap (λ (l : List FileRange). take m.asked m.queries ++ l)
+    (none_below (end_from m.range.start (take m.asked m.queries)) m.range.end (m.greatest + m.least) known
+    (drop m.asked m.queries) (cuts_rest m.range.start m.range.end (m.greatest + m.least) m.queries m.asked c) h)
     ∙ append-nil (take m.asked m.queries)
 
-queries_stay : (m : Manager) (known : ℕ) → CutFrom m.range.start m.range.end (m.greatest + m.least) m.queries → m.range.end ≤ known → without_past m.asked known m.queries ≡ m.queries
+queries_stay : (m : Manager) (known : ℕ) → CutFrom m.range.start m.range.end (m.greatest + m.least) m.queries
+    → m.range.end ≤ known → without_past m.asked known m.queries ≡ m.queries
 queries_stay m known c h =
-    ap (λ (l : List FileRange). take m.asked m.queries ++ l) (all_below (end_from m.range.start (take m.asked m.queries)) m.range.end (m.greatest + m.least) known (drop m.asked m.queries) (cuts_rest m.range.start m.range.end (m.greatest + m.least) m.queries m.asked c) h)
+    ap (λ (l : List FileRange). take m.asked m.queries ++ l)
+    (all_below (end_from m.range.start (take m.asked m.queries)) m.range.end (m.greatest + m.least) known
+    (drop m.asked m.queries) (cuts_rest m.range.start m.range.end (m.greatest + m.least) m.queries m.asked c) h)
     ∙ take-append-drop m.asked m.queries
 
-task_ends : (plan : ℕ) (bs : List PlannedBlock) (place : ℕ) (ts : List PlannedTerm) → last_of place (map (λ x. x.term.byte_range.end) (tasks_of plan ts bs)) ≡ last_of place (map (λ x. x.byte_range.end) ts)
+task_ends : (plan : ℕ) (bs : List PlannedBlock) (place : ℕ) (ts : List PlannedTerm)
+    → last_of place (map (λ x. x.term.byte_range.end) (tasks_of plan ts bs)) ≡ last_of place
+    (map (λ x. x.byte_range.end) ts)
 task_ends plan bs place [] = refl
 task_ends plan bs place (t ∷ ts) = task_ends plan bs t.byte_range.end ts
 
@@ -88,7 +104,8 @@ early_push : (es : List Event) (e : Event) → EndsEarly e → SomeEndsEarly (es
 early_push [] e h = inl h
 early_push (x ∷ es) e h = inr (early_push es e h)
 
-module _ (g : Setup) (es : List Event) (m : Manager) (q : FileRange) (d : IsDue g es m q) (t : Option TermBlock) (a : Answers q t) where
+module _ (g : Setup) (es : List Event) (m : Manager) (q : FileRange) (d : IsDue g es m q) (t : Option TermBlock)
+    (a : Answers q t) where
   asked_within : m.asked ≤ length m.queries
   asked_within = d.kept.asked_within
 
@@ -96,7 +113,8 @@ module _ (g : Setup) (es : List Event) (m : Manager) (q : FileRange) (d : IsDue 
   asked_are : take m.asked m.queries ≡ queries es ++ q ∷ []
   asked_are =
       let one : m.asked ≡ suc m.answered = (let h = d.one in omega (arith, h)) in
-      ap (λ (n : ℕ). take n m.queries) one ∙ take_next m.queries m.answered q d.at ∙ ap (λ (l : List FileRange). l ++ q ∷ []) (sym d.queries_are)
+      ap (λ (n : ℕ). take n m.queries) one ∙ take_next m.queries m.answered q d.at
+      ∙ ap (λ (l : List FileRange). l ++ q ∷ []) (sym d.queries_are)
 
   asked_end : end_from m.range.start (take m.asked m.queries) ≡ q.end
   asked_end = ap (end_from m.range.start) asked_are ∙ end_last m.range.start (queries es) q
@@ -108,7 +126,8 @@ module _ (g : Setup) (es : List Event) (m : Manager) (q : FileRange) (d : IsDue 
   known_low : ends_early q t ≡ true → known_after m.known_end q t ≤ q.end
   known_low = go t a.within
     where
-      go : (o : Option TermBlock) → answer_end q o ≤ q.end → ends_early q o ≡ true → known_after m.known_end q o ≤ q.end
+      go : (o : Option TermBlock) → answer_end q o ≤ q.end → ends_early q o ≡ true
+          → known_after m.known_end q o ≤ q.end
       go None w e = let f = cut.1 in omega (arith, f)
       go (Some b) w e = subst (λ (v : Bool). cond v b.byte_range.end m.known_end ≤ q.end) (sym e) w
 
@@ -153,8 +172,10 @@ module _ (g : Setup) (es : List Event) (m : Manager) (q : FileRange) (d : IsDue 
   kept_after ws end = record {
     least_some = d.kept.least_some;
     least_below = d.kept.least_below;
-    cuts = by_end (λ (l : List FileRange). CutFrom m.range.start m.range.end (m.greatest + m.least) l) (cuts-take m.range.start m.range.end (m.greatest + m.least) m.queries m.asked d.kept.cuts) d.kept.cuts;
-    asked_within = by_end (λ (l : List FileRange). m.asked ≤ length l) (let n = length-take-le m.asked m.queries asked_within in omega (arith, n)) asked_within;
+    cuts = by_end (λ (l : List FileRange). CutFrom m.range.start m.range.end (m.greatest + m.least) l)
+        (cuts-take m.range.start m.range.end (m.greatest + m.least) m.queries m.asked d.kept.cuts) d.kept.cuts;
+    asked_within = by_end (λ (l : List FileRange). m.asked ≤ length l)
+        (let n = length-take-le m.asked m.queries asked_within in omega (arith, n)) asked_within;
     answered_within = let one = d.one in omega (arith, one);
     still_open = λ e. known_same (sym ended_is ∙ e) ∙ d.kept.still_open d.unended;
     range_fits = d.kept.range_fits;
@@ -178,7 +199,8 @@ module _ (g : Setup) (es : List Event) (m : Manager) (q : FileRange) (d : IsDue 
   planned_now : planned_end (es ++ plan_event es q t ∷ []) g.range.start ≡ answer_end q t
   planned_now =
       end-push es (plan_event es q t) g.range.start
-      ∙ ap (λ (n : ℕ). last_of n (map (λ x. x.term.byte_range.end) (tasks_of (plan_count es + 1) (terms_in t) (blocks_of_answer t)))) (d.going ∙ sym cut.0)
+      ∙ ap (λ (n : ℕ). last_of n (map (λ x. x.term.byte_range.end)
+      (tasks_of (plan_count es + 1) (terms_in t) (blocks_of_answer t)))) (d.going ∙ sym cut.0)
       ∙ task_ends (plan_count es + 1) (blocks_of_answer t) q.start (terms_in t)
       ∙ a.ends
 
@@ -198,13 +220,20 @@ module _ (g : Setup) (es : List Event) (m : Manager) (q : FileRange) (d : IsDue 
 
   led_after : (ws : List TermBlock) (end : ℕ) → ws ≡ [] → IsLedManager g (es ++ plan_event es q t ∷ []) (after ws end)
   led_after ws end none = record {
-    is_for = record { file = d.is_for.file; range = d.is_for.range; least = d.is_for.least; greatest = d.is_for.greatest; multirange = d.is_for.multirange };
+    is_for = record {
+      file = d.is_for.file;
+      range = d.is_for.range;
+      least = d.is_for.least;
+      greatest = d.is_for.greatest;
+      multirange = d.is_for.multirange;
+    };
     kept = kept_after ws end;
     queries_are = flat-push queries_in es (plan_event es q t) ∙ sym answered_are;
     idle = d.one;
     none_waits = none;
     going = λ e. planned_now ∙ ends_now (sym ended_is ∙ e) ∙ sym end_now;
-    early = λ e. early_push es (plan_event es q t) (subst (λ (n : ℕ). n < q.end) (sym a.ends) (early_now (sym ended_is ∙ e)));
+    early = λ e. early_push es (plan_event es q t)
+        (subst (λ (n : ℕ). n < q.end) (sym a.ends) (early_now (sym ended_is ∙ e)));
     over = λ e. (
         let n = length-take-le m.asked m.queries asked_within in
         let l : length queries_now ≡ length (take m.asked m.queries) = ap length (queries_early (sym ended_is ∙ e)) in
@@ -213,12 +242,14 @@ module _ (g : Setup) (es : List Event) (m : Manager) (q : FileRange) (d : IsDue 
         );
     covered = λ e. (
         let low = known_low (sym ended_is ∙ e) in
-        let l : end_from m.range.start queries_now ≡ end_from m.range.start (take m.asked m.queries) = ap (end_from m.range.start) (queries_early (sym ended_is ∙ e)) in
+        let l : end_from m.range.start queries_now ≡ end_from m.range.start (take m.asked m.queries) =
+        ap (end_from m.range.start) (queries_early (sym ended_is ∙ e)) in
         omega (arith, low, l, asked_end)
         );
   }
 
 -- so the leader's manager is one after it
-pub led_accepted : (g : Setup) (es : List Event) (m : Manager) (q : FileRange) (t : Option TermBlock) → IsDue g es m q → Answers q t → IsLedManager g (es ++ plan_event es q t ∷ []) (handed (accepted m q t) t)
+pub led_accepted : (g : Setup) (es : List Event) (m : Manager) (q : FileRange) (t : Option TermBlock) → IsDue g es m q
+    → Answers q t → IsLedManager g (es ++ plan_event es q t ∷ []) (handed (accepted m q t) t)
 led_accepted g es m q None d a = led_after g es m q d None a m.waiting m.handed_end d.none_waits
 led_accepted g es m q (Some b) d a = led_after g es m q d (Some b) a [] b.byte_range.end refl

@@ -1,6 +1,6 @@
 -- A run after its terms were admitted.
-use Rattle.std.proofs.Common.{◌≡◌, ℕ, ◌+◌, ◌-◌, List, [], ◌∷◌, ◌++◌, length, take, refl, sym, subst, ◌∙◌, ap, arith, append_assoc, Some, Ok, Err}
-use Rattle.std.specs.Prelude.{Result, All, true}
+use Rattle.std.proofs.Common.{◌≡◌, ℕ, ◌+◌, ◌-◌, ◌<◌, List, [], ◌∷◌, ◌++◌, length, take, refl, sym, subst, ◌∙◌, ap, arith, append_assoc, Some, Ok, Err}
+use Rattle.std.specs.Prelude.{Result, All, count_by, true}
 use Rattle.std.specs.List.{sum_by}
 use Rattle.std.proofs.lemmas.List.{append-nil}
 use Rattle.xet_error.specs.declared.error.FileReconstructionError.{FileReconstructionError}
@@ -9,7 +9,7 @@ use Rattle.xet_run.specs.declared.event.Event.{Event}
 use Rattle.xet_run.specs.declared.event.Event.TheVariants.{Admit}
 use Rattle.xet_run.specs.Allowed.{IsRunning}
 use Rattle.xet_run.specs.Budgets.{LimitTold}
-use Rattle.xet_run.specs.Events.{Task, size, written}
+use Rattle.xet_run.specs.Events.{Task, expires, size, written}
 use Rattle.xet_run.proofs.CallerLemmas.{written-push}
 use Rattle.xet_terms.specs.Managers.{Manager}
 use Rattle.xet_ties.specs.Causes.{Cause}
@@ -23,17 +23,29 @@ use Rattle.xet_leader.specs.Admission.{AdmitFails, AdmitLeads, AdmitTurn, Admitt
 use Rattle.xet_leader.specs.Led.{AreLedPlans, AreStale, IsLed, IsLedManager, Led}
 use Rattle.xet_leader.specs.Steady.{IsFailing, IsGoing, Loose, Moment}
 use Rattle.xet_leader.proofs.PlainEvents.{IsPlain, plain_manager, plain_plans, plain_running, plain_stale}
+use Rattle.xet_leader.proofs.QuietEvents.{quiet_under}
 
 is_plain : (limit : ℕ) → IsPlain (Admit limit)
-is_plain limit = record { tasks = refl; plan = refl; query = refl; keeps_none = λ p k. refl; expires_none = λ p k. refl; expiry = λ p k. refl; renews_none = λ p. refl; error = refl }
+is_plain limit = record {
+  tasks = refl;
+  plan = refl;
+  query = refl;
+  keeps_none = λ p k. refl;
+  expires_none = λ p k. refl;
+  expiry = λ p k. refl;
+  renews_none = λ p. refl;
+  error = refl;
+}
 
-plans_after : (g : Setup) (b : RunTold) (es : List Event) (ls : List ℕ) (sl : Slack) (stale : List ℕ) (l : Led) → AreLedPlans g b es sl stale l → AreLedPlans g b (es ++ admits ls) sl stale l
+plans_after : (g : Setup) (b : RunTold) (es : List Event) (ls : List ℕ) (sl : Slack) (stale : List ℕ) (l : Led)
+    → AreLedPlans g b es sl stale l → AreLedPlans g b (es ++ admits ls) sl stale l
 plans_after g b es [] sl stale l a = subst (λ (x : List Event). AreLedPlans g b x sl stale l) (sym (append-nil es)) a
 plans_after g b es (n ∷ ls) sl stale l a =
     subst (λ (x : List Event). AreLedPlans g b x sl stale l) (append_assoc es (Admit n ∷ []) (admits ls))
     (plans_after g b (es ++ Admit n ∷ []) ls sl stale l (plain_plans g b es (Admit n) sl stale l (is_plain n) a))
 
-manager_after : (g : Setup) (es : List Event) (ls : List ℕ) (m : Manager) → IsLedManager g es m → IsLedManager g (es ++ admits ls) m
+manager_after : (g : Setup) (es : List Event) (ls : List ℕ) (m : Manager) → IsLedManager g es m
+    → IsLedManager g (es ++ admits ls) m
 manager_after g es [] m a = subst (λ (x : List Event). IsLedManager g x m) (sym (append-nil es)) a
 manager_after g es (n ∷ ls) m a =
     subst (λ (x : List Event). IsLedManager g x m) (append_assoc es (Admit n ∷ []) (admits ls))
@@ -42,7 +54,8 @@ manager_after g es (n ∷ ls) m a =
 running_after : (es : List Event) (ls : List ℕ) → IsRunning es → IsRunning (es ++ admits ls)
 running_after es [] r = subst IsRunning (sym (append-nil es)) r
 running_after es (n ∷ ls) r =
-    subst IsRunning (append_assoc es (Admit n ∷ []) (admits ls)) (running_after (es ++ Admit n ∷ []) ls (plain_running es (Admit n) (is_plain n) r))
+    subst IsRunning (append_assoc es (Admit n ∷ []) (admits ls))
+    (running_after (es ++ Admit n ∷ []) ls (plain_running es (Admit n) (is_plain n) r))
 
 written_after : (es : List Event) (ls : List ℕ) → written (es ++ admits ls) ≡ written es
 written_after es [] = ap written (append-nil es)
@@ -58,8 +71,17 @@ stale_after es (n ∷ ls) stale a =
     subst (λ (x : List Event). AreStale x stale) (append_assoc es (Admit n ∷ []) (admits ls))
     (stale_after (es ++ Admit n ∷ []) ls stale (plain_stale es (Admit n) stale (is_plain n) a))
 
+under_after : (g : Setup) (es : List Event) (ls : List ℕ) → ((p k : ℕ) → count_by (expires p k) es < g.tries)
+    → (p k : ℕ) → count_by (expires p k) (es ++ admits ls) < g.tries
+under_after g es [] a p k = subst (λ (x : List Event). count_by (expires p k) x < g.tries) (sym (append-nil es))
+    (a p k)
+under_after g es (n ∷ ls) a p k =
+    subst (λ (x : List Event). count_by (expires p k) x < g.tries) (append_assoc es (Admit n ∷ []) (admits ls))
+    (under_after g (es ++ Admit n ∷ []) ls (quiet_under g es (Admit n) (λ q j. refl) a) p k)
+
 -- the leader, where so many are left
-led_after : (g : Setup) (b : RunTold) (es : List Event) (ls : List ℕ) (sl : Slack) (stale : List ℕ) (l : Led) (left : ℕ) → length ls + left ≡ l.planned - l.admitted → IsLed g b es sl stale l
+led_after : (g : Setup) (b : RunTold) (es : List Event) (ls : List ℕ) (sl : Slack) (stale : List ℕ) (l : Led)
+    (left : ℕ) → length ls + left ≡ l.planned - l.admitted → IsLed g b es sl stale l
     → IsLed g b (es ++ admits ls) sl stale (record l { admitted = l.planned - left })
 led_after g b es ls sl stale l left n a =
     let counted = admits_counted es ls in
@@ -74,20 +96,24 @@ led_after g b es ls sl stale l left n a =
       some = a.some;
       tries = a.tries;
       stale_are = stale_after es ls stale a.stale_are;
+      under = under_after g es ls a.under;
       manager = manager_after g es ls l.manager a.manager;
-      plans = (let z = plans_after g b es ls sl stale l a.plans in record { each = z.each; follow = z.follow; numbered = z.numbered; last = z.last; first = z.first });
+      plans = (let z = plans_after g b es ls sl stale l a.plans in
+          record { each = z.each; follow = z.follow; numbered = z.numbered; last = z.last; first = z.first });
       counted = record {
         planned_are = same ∙ p;
         planned_fits = c.planned_fits;
         admitted_are = omega (arith, counted, n, q, w);
         finished_within = omega (arith, n, f, w);
         admitted_within = omega arith;
-        written_are = written_after es ls ∙ c.written_are ∙ ap (λ (ts : List Task). sum_by size (take l.finished ts)) (sym (admits_planned es ls));
+        written_are = written_after es ls ∙ c.written_are
+            ∙ ap (λ (ts : List Task). sum_by size (take l.finished ts)) (sym (admits_planned es ls));
       };
     }
 
 -- a run that goes on goes on after it
-going : (g : Setup) (b : RunTold) (m : Moment) (o : Loose) (l k : Led) (before after : LimitTold) (fs : List Event) → m.told.limits ≡ before → AdmittedTerms before after m.events fs l k → IsGoing g b m o l
+going : (g : Setup) (b : RunTold) (m : Moment) (o : Loose) (l k : Led) (before after : LimitTold) (fs : List Event)
+    → m.told.limits ≡ before → AdmittedTerms before after m.events fs l k → IsGoing g b m o l
     → IsGoing g b (record { told = record m.told { limits = after }; events = fs }) o k
 going g b m o l k before after fs at a s =
     let ls = a.admits.admitted.limits in
@@ -95,33 +121,44 @@ going g b m o l k before after fs at a s =
     let led = led_after g b m.events ls s.slack o.stale l a.left a.admits.counted s.led in
     record {
       slack = s.slack;
-      ties = (admitted_ties before after m.events fs a.admits.unused a.admits.admitted).ties g b m.told s.slack at s.ties;
+      ties = (admitted_ties before after m.events fs a.admits.unused a.admits.admitted).ties g b m.told s.slack at
+          s.ties;
       settled = s.settled;
-      led = subst (λ (y : Led). IsLed g b fs s.slack o.stale y) (sym a.led) (subst (λ (x : List Event). IsLed g b x s.slack o.stale (record l { admitted = l.planned - a.left })) (sym is) led);
+      led = subst (λ (y : Led). IsLed g b fs s.slack o.stale y) (sym a.led)
+          (subst (λ (x : List Event). IsLed g b x s.slack o.stale (record l { admitted = l.planned - a.left }))
+          (sym is) led);
       calm = s.calm;
       cache_tells = s.cache_tells;
     }
 
 -- and for want of memory it is to stop
-failing : (g : Setup) (b : RunTold) (m : Moment) (o : Loose) (l k : Led) (before after : LimitTold) (fs : List Event) (e : FileReconstructionError) → m.told.limits ≡ before → AdmitFails before after m.events fs l k e → IsGoing g b m o l
+failing : (g : Setup) (b : RunTold) (m : Moment) (o : Loose) (l k : Led) (before after : LimitTold) (fs : List Event)
+    (e : FileReconstructionError) → m.told.limits ≡ before → AdmitFails before after m.events fs l k e
+    → IsGoing g b m o l
     → IsFailing g b (record { told = record m.told { limits = after }; events = fs }) e
 failing g b m o l k before after fs e at a s =
     let memory : e ≡ error.OutOfMemory = a.admits.memory in
     record {
       slack = s.slack;
-      ties = (admitted_ties before after m.events fs (a.admits.last ∷ []) a.admits.admitted).ties g b m.told s.slack at s.ties;
-      left = subst (λ (x : FileReconstructionError). MayLeave (Some x) b.clients s.slack) (sym memory) (short_leaves b.clients s.slack);
+      ties = (admitted_ties before after m.events fs (a.admits.last ∷ []) a.admits.admitted).ties g b m.told s.slack
+          at s.ties;
+      left = subst (λ (x : FileReconstructionError). MayLeave (Some x) b.clients s.slack) (sym memory)
+          (short_leaves b.clients s.slack);
       cause = subst (Cause g b (record m.told { limits = after })) (sym memory) tt;
       spent = λ h. absurd (let z : error.OutOfMemory ≡ error.UrlExpired = sym memory ∙ h in cc);
       cache_tells = s.cache_tells;
     }
 
-pub admit_leads : (before after : LimitTold) (es fs : List Event) (l k : Led) (answer : Result (Unit {0}) FileReconstructionError) → AdmitTurn before after es fs l k answer → AdmitLeads before after es fs l k answer
+pub admit_leads : (before after : LimitTold) (es fs : List Event) (l k : Led)
+    (answer : Result (Unit {0}) FileReconstructionError) → AdmitTurn before after es fs l k answer
+    → AdmitLeads before after es fs l k answer
 admit_leads before after es fs l k (Ok tt) t g m o at is = record {
-  ok = λ b s. going g b m o l k before after fs at (subst (λ (x : List Event). AdmittedTerms before after x fs l k) (sym is) t.ok) s;
+  ok = λ b s. going g b m o l k before after fs at
+      (subst (λ (x : List Event). AdmittedTerms before after x fs l k) (sym is) t.ok) s;
   err = λ b s. tt;
 }
 admit_leads before after es fs l k (Err e) t g m o at is = record {
   ok = λ b s. tt;
-  err = λ b s. failing g b m o l k before after fs e at (subst (λ (x : List Event). AdmitFails before after x fs l k e) (sym is) t.err) s;
+  err = λ b s. failing g b m o l k before after fs e at
+      (subst (λ (x : List Event). AdmitFails before after x fs l k e) (sym is) t.err) s;
 }

@@ -1,37 +1,46 @@
 -- Where nothing that a run is lent fails, it answers Ok, or want of memory.
-use Rattle.std.proofs.Common.{◌≡◌, true, false, Some, None, Ok, Err, Option, inl, inr, refl, sym, ◌∙◌, arith, ◌⊎◌}
+use Rattle.std.proofs.Common.{◌≡◌, true, false, Some, None, Ok, Err, Option, refl, sym, ◌∙◌, arith, ⊎_elim}
 use Rattle.std.specs.Prelude.{IsNone, IsSome}
 use Rattle.xet_base.specs.Store.{file_of}
 use Rattle.xet_error.specs.declared.error.FileReconstructionError.{FileReconstructionError}
 use Rattle.xet_error.specs.declared.error.FileReconstructionError.TheVariants as error
-use Rattle.xet_ties.specs.Causes.{Cause, IsMissingFile}
+use Rattle.xet_ties.specs.Causes.{Cause}
+use Rattle.xet_ties.specs.RunCalls.{IsLocal}
 use Rattle.xet_ties.specs.Setup.{IsEmptyRange, RunTold, Setup}
-use Rattle.xet_leader.specs.Completeness.{LegalIsComplete, NothingFails}
+use Rattle.xet_leader.specs.Completeness.{HaveFile, LegalIsComplete, NothingFails}
 
 not_both : {A : Type 0} (o : Option A) → IsSome o → IsNone o → ⊥
 not_both None s n = let z : false ≡ true = s in cc
 not_both (Some x) s n = let z : true ≡ false = n in cc
 
--- a missing file isn't stored, and the range has bytes
-not_missing : (g : Setup) (b n : RunTold) → NothingFails g b n → IsMissingFile g b.clients n.clients → ⊥
-not_missing g b n f m = go f.stored
-  where
-    go : (IsSome (file_of f.store g.file) ⊎ IsEmptyRange g.range) → ⊥
-    go (inl s) = not_both (file_of f.store g.file) s (m.unstored f.store f.over.tell)
-    go (inr r) = let some = m.some in omega (arith, some, r)
+-- over a store that has the file no other error has a cause
+no_cause : (g : Setup) (b n : RunTold) (e : FileReconstructionError) → HaveFile g b.clients → NothingFails g b n → Cause g b n e → e ≡ error.OutOfMemory
+no_cause g b n error.OutOfMemory h f c = refl
+no_cause g b n error.ClientError h f c = absurd (f.clients c)
+no_cause g b n error.FileNotFound h f c = absurd (not_both (file_of h.store g.file) h.stored (c.unstored h.store h.over.tell))
+no_cause g b n error.UrlExpired h f c = let t = c.counted f.counts in let e = f.expiries in absurd (omega (arith, t, e))
+no_cause g b n error.IoError h f c = absurd (f.sink c)
+no_cause g b n (error.CorruptedReconstruction k) h f c = absurd (c.untrue h.store h.over)
+no_cause g b n (error.ConfigurationError k) h f c = absurd (let z : None ≡ Some k = sym f.settings ∙ c in cc)
+no_cause g b n error.Cancelled h f c = absurd (f.signal c)
+no_cause g b n (error.InternalWriterError k) h f c = absurd c
 
--- no other error has a cause
-no_cause : (g : Setup) (b n : RunTold) (e : FileReconstructionError) → NothingFails g b n → Cause g b n e → e ≡ error.OutOfMemory
-no_cause g b n error.OutOfMemory f c = refl
-no_cause g b n error.ClientError f c = absurd (f.clients c)
-no_cause g b n error.FileNotFound f c = absurd (not_missing g b n f c)
-no_cause g b n error.UrlExpired f c = let t = c.counted f.counts in let e = f.expiries in absurd (omega (arith, t, e))
-no_cause g b n error.IoError f c = absurd (f.sink c)
-no_cause g b n (error.CorruptedReconstruction k) f c = absurd (c.untrue f.store f.over)
-no_cause g b n (error.ConfigurationError k) f c = absurd (let z : None ≡ Some k = sym f.settings ∙ c in cc)
-no_cause g b n error.Cancelled f c = absurd (f.signal c)
-no_cause g b n (error.InternalWriterError k) f c = absurd c
+-- over an empty range none comes that needs a connection
+no_local : (g : Setup) (b n : RunTold) (e : FileReconstructionError) → IsLocal e → NothingFails g b n → Cause g b n e → e ≡ error.OutOfMemory
+no_local g b n error.OutOfMemory i f c = refl
+no_local g b n error.ClientError i f c = absurd i
+no_local g b n error.FileNotFound i f c = absurd i
+no_local g b n error.UrlExpired i f c = absurd i
+no_local g b n error.IoError i f c = absurd (f.sink c)
+no_local g b n (error.CorruptedReconstruction k) i f c = absurd i
+no_local g b n (error.ConfigurationError k) i f c = absurd (let z : None ≡ Some k = sym f.settings ∙ c in cc)
+no_local g b n error.Cancelled i f c = absurd i
+no_local g b n (error.InternalWriterError k) i f c = absurd i
 
 pub legal_complete : LegalIsComplete
 legal_complete g b n (Ok k) l f = tt
-legal_complete g b n (Err e) l f = no_cause g b n e f l.cause
+legal_complete g b n (Err e) l f =
+    ⊎_elim
+    (λ (h : HaveFile g b.clients). no_cause g b n e h f l.cause)
+    (λ (r : IsEmptyRange g.range). no_local g b n e (l.empty r).error f l.cause)
+    f.stored

@@ -37,7 +37,8 @@ same_is c d h =
     λ i. record { plan = x i; block = y i }
 
 pub same_own : (c : BlockAt) → same_place c c ≡ true
-same_own c = and_from (c.plan == c.plan) (c.block == c.block) (eq-eqb c.plan c.plan refl) (eq-eqb c.block c.block refl)
+same_own c = and_from (c.plan == c.plan) (c.block == c.block) (eq-eqb c.plan c.plan refl)
+    (eq-eqb c.block c.block refl)
 
 pub same_back : (c d : BlockAt) → same_place c d ≡ false → same_place d c ≡ false
 same_back c d h = go (same_place d c) refl
@@ -62,14 +63,16 @@ with_listed cs d c h = go (lists cs d) refl
   where
     go : (v : Bool) → lists cs d ≡ v → lists (with_place cs d) c ≡ true
     go true e = ap (λ (v : Bool). lists (cond v cs (cs ++ d ∷ [])) c) e ∙ h
-    go false e = ap (λ (v : Bool). lists (cond v cs (cs ++ d ∷ [])) c) e ∙ lists_push cs d c ∙ or_left (lists cs c) (same_place d c) h
+    go false e = ap (λ (v : Bool). lists (cond v cs (cs ++ d ∷ [])) c) e ∙ lists_push cs d c
+        ∙ or_left (lists cs c) (same_place d c) h
 
 with_here : (cs : List BlockAt) (d : BlockAt) → lists (with_place cs d) d ≡ true
 with_here cs d = go (lists cs d) refl
   where
     go : (v : Bool) → lists cs d ≡ v → lists (with_place cs d) d ≡ true
     go true e = ap (λ (v : Bool). lists (cond v cs (cs ++ d ∷ [])) d) e ∙ e
-    go false e = ap (λ (v : Bool). lists (cond v cs (cs ++ d ∷ [])) d) e ∙ lists_push cs d d ∙ or_right (lists cs d) (same_place d d) (same_own d)
+    go false e = ap (λ (v : Bool). lists (cond v cs (cs ++ d ∷ [])) d) e ∙ lists_push cs d d
+        ∙ or_right (lists cs d) (same_place d d) (same_own d)
 
 with_apart : (cs : List BlockAt) (d : BlockAt) → AreApart cs → AreApart (with_place cs d)
 with_apart cs d a = go (lists cs d) refl
@@ -95,7 +98,8 @@ all_in : (cs ds : List BlockAt) (c : BlockAt) → lists ds c ≡ true → lists 
 all_in cs [] c h = absurd (false≢true h)
 all_in cs (d ∷ ds) c h =
     ⊎_elim
-    (λ (e : same_place d c ≡ true). all_listed (with_place cs d) ds c (ap (λ (x : BlockAt). lists (with_place cs d) x) (sym (same_is d c e)) ∙ with_here cs d))
+    (λ (e : same_place d c ≡ true). all_listed (with_place cs d) ds c
+    (ap (λ (x : BlockAt). lists (with_place cs d) x) (sym (same_is d c e)) ∙ with_here cs d))
     (λ (e : lists ds c ≡ true). all_in (with_place cs d) ds c e)
     (or_cases (same_place d c) (lists ds c) h)
 
@@ -114,23 +118,35 @@ abbrev IsLacked : List Event → List Task → BlockAt → Type 0
 IsLacked es ts c = (list_any (is_wanted c.plan c.block) ts ≡ true) × (is_kept es c.plan c.block ≡ false)
 
 lacked_front : (es : List Event) (ts us : List Task) (c : BlockAt) → IsLacked es ts c → IsLacked es (ts ++ us) c
-lacked_front es ts us c h = (list_any-append (is_wanted c.plan c.block) ts us ∙ or_left (list_any (is_wanted c.plan c.block) ts) (list_any (is_wanted c.plan c.block) us) h.0, h.1)
+lacked_front es ts us c h = (
+  list_any-append (is_wanted c.plan c.block) ts us
+      ∙ or_left (list_any (is_wanted c.plan c.block) ts) (list_any (is_wanted c.plan c.block) us) h.0,
+  h.1,
+)
 
 lacked_back : (es : List Event) (ts us : List Task) (c : BlockAt) → IsLacked es us c → IsLacked es (ts ++ us) c
-lacked_back es ts us c h = (list_any-append (is_wanted c.plan c.block) ts us ∙ or_right (list_any (is_wanted c.plan c.block) ts) (list_any (is_wanted c.plan c.block) us) h.0, h.1)
+lacked_back es ts us c h = (
+  list_any-append (is_wanted c.plan c.block) ts us
+      ∙ or_right (list_any (is_wanted c.plan c.block) ts) (list_any (is_wanted c.plan c.block) us) h.0,
+  h.1,
+)
 
-kept_front : (es : List Event) (cs ds : List BlockAt) (t : Task) → IsKeptOrListed es cs t → IsKeptOrListed es (cs ++ ds) t
+kept_front : (es : List Event) (cs ds : List BlockAt) (t : Task) → IsKeptOrListed es cs t
+    → IsKeptOrListed es (cs ++ ds) t
 kept_front es cs ds t h e =
     ⊎_elim
     (λ (k : is_kept es t.plan t.term.block ≡ true). inl k)
-    (λ (k : lists cs (place_of t) ≡ true). inr (list_any-append (λ x. same_place x (place_of t)) cs ds ∙ or_left (lists cs (place_of t)) (lists ds (place_of t)) k))
+    (λ (k : lists cs (place_of t) ≡ true). inr (list_any-append (λ x. same_place x (place_of t)) cs ds
+    ∙ or_left (lists cs (place_of t)) (lists ds (place_of t)) k))
     (h e)
 
-kept_back : (es : List Event) (cs ds : List BlockAt) (t : Task) → IsKeptOrListed es ds t → IsKeptOrListed es (cs ++ ds) t
+kept_back : (es : List Event) (cs ds : List BlockAt) (t : Task) → IsKeptOrListed es ds t
+    → IsKeptOrListed es (cs ++ ds) t
 kept_back es cs ds t h e =
     ⊎_elim
     (λ (k : is_kept es t.plan t.term.block ≡ true). inl k)
-    (λ (k : lists ds (place_of t) ≡ true). inr (list_any-append (λ x. same_place x (place_of t)) cs ds ∙ or_right (lists cs (place_of t)) (lists ds (place_of t)) k))
+    (λ (k : lists ds (place_of t) ≡ true). inr (list_any-append (λ x. same_place x (place_of t)) cs ds
+    ∙ or_right (lists cs (place_of t)) (lists ds (place_of t)) k))
     (h e)
 
 some_none : (o : Option XorbBlockData) → is_none o ≡ true → is_some o ≡ false
@@ -146,7 +162,8 @@ none_within [] k w h = omega arith
 none_within (x ∷ xs) zero w h = cc
 none_within (x ∷ xs) (suc k) w h = none_within xs k (omega arith) h
 
-module _ (g : Setup) (b : RunTold) (es : List Event) (sl : Slack) (stale : List ℕ) (l : LedPlan) (a : IsLedPlan g b es sl stale l) where
+module _ (g : Setup) (b : RunTold) (es : List Event) (sl : Slack) (stale : List ℕ) (l : LedPlan)
+    (a : IsLedPlan g b es sl stale l) where
   -- the block of this number is kept where the history has it so
   pub kept_is : (k : ℕ) (x : XorbBlock) → slice_get l.block.blocks k ≡ Some x → is_some x.kept ≡ is_kept es l.number k
   kept_is k x h =
@@ -160,48 +177,70 @@ module _ (g : Setup) (b : RunTold) (es : List Event) (sl : Slack) (stale : List 
       here e =
           let p = and_parts _ (is_bare (slice_get l.block.blocks t.xorb_block)) e in
           let x = bare_some (slice_get l.block.blocks t.xorb_block) p.1 in
-          let mine : needs l.number t.xorb_block (record { plan = l.number; term = planned_term t; blocks = map planned_of l.block.blocks }) ≡ true = and_from (l.number == l.number) (t.xorb_block == t.xorb_block) (eq-eqb l.number l.number refl) (eq-eqb t.xorb_block t.xorb_block refl) in
+          let mine : needs l.number t.xorb_block (record {
+            plan = l.number;
+            term = planned_term t;
+            blocks = map planned_of l.block.blocks;
+          }) ≡ true = and_from
+          (l.number == l.number) (t.xorb_block == t.xorb_block) (eq-eqb l.number l.number refl)
+          (eq-eqb t.xorb_block t.xorb_block refl) in
           (or_left _ false (and_from _ _ p.0 mine), sym (kept_is t.xorb_block x.0 x.1) ∙ x.2)
 
       go : (v : Bool) → lacks l t ≡ v → Each (IsLacked es (tasks_from l (t ∷ []))) (lacked_in l t)
-      go false e = subst (λ (v : Bool). Each (IsLacked es (tasks_from l (t ∷ []))) (cond v (record { plan = l.number; block = t.xorb_block } ∷ []) [])) (sym e) tt
-      go true e = subst (λ (v : Bool). Each (IsLacked es (tasks_from l (t ∷ []))) (cond v (record { plan = l.number; block = t.xorb_block } ∷ []) [])) (sym e) (here e, tt)
+      go false e = subst (λ (v : Bool). Each (IsLacked es (tasks_from l (t ∷ [])))
+          (cond v (record { plan = l.number; block = t.xorb_block } ∷ []) [])) (sym e) tt
+      go true e = subst (λ (v : Bool). Each (IsLacked es (tasks_from l (t ∷ [])))
+          (cond v (record { plan = l.number; block = t.xorb_block } ∷ []) [])) (sym e) (here e, tt)
 
   plan_lacked : (ts : List FileTerm) → Each (IsLacked es (tasks_from l ts)) (lacked_by l ts)
   plan_lacked [] = tt
   plan_lacked (t ∷ ts) =
       let all = tasks_from l (t ∷ ts) in
       each_append (IsLacked es all) (lacked_in l t) (lacked_by l ts)
-      (each_weaker (IsLacked es (tasks_from l (t ∷ []))) (IsLacked es all) (lacked_in l t) (λ c h. lacked_front es (tasks_from l (t ∷ [])) (tasks_from l ts) c h) (term_lacked t))
-      (each_weaker (IsLacked es (tasks_from l ts)) (IsLacked es all) (lacked_by l ts) (λ c h. lacked_back es (tasks_from l (t ∷ [])) (tasks_from l ts) c h) (plan_lacked ts))
+      (each_weaker (IsLacked es (tasks_from l (t ∷ []))) (IsLacked es all) (lacked_in l t)
+      (λ c h. lacked_front es (tasks_from l (t ∷ [])) (tasks_from l ts) c h) (term_lacked t))
+      (each_weaker (IsLacked es (tasks_from l ts)) (IsLacked es all) (lacked_by l ts)
+      (λ c h. lacked_back es (tasks_from l (t ∷ [])) (tasks_from l ts) c h) (plan_lacked ts))
 
-  term_kept : (t : FileTerm) → t.xorb_block < length l.block.blocks → IsKeptOrListed es (lacked_in l t) (record { plan = l.number; term = planned_term t; blocks = map planned_of l.block.blocks })
+  term_kept : (t : FileTerm) → t.xorb_block < length l.block.blocks
+      → IsKeptOrListed es (lacked_in l t) (record {
+        plan = l.number;
+        term = planned_term t;
+        blocks = map planned_of l.block.blocks;
+      })
   term_kept t within some = go (slice_get l.block.blocks t.xorb_block) refl
     where
       place : BlockAt
       place = record { plan = l.number; block = t.xorb_block }
 
-      by : (x : XorbBlock) → slice_get l.block.blocks t.xorb_block ≡ Some x → (o : Option XorbBlockData) → x.kept ≡ o → (is_kept es l.number t.xorb_block ≡ true) ⊎ (lists (lacked_in l t) place ≡ true)
+      by : (x : XorbBlock) → slice_get l.block.blocks t.xorb_block ≡ Some x → (o : Option XorbBlockData) → x.kept ≡ o
+          → (is_kept es l.number t.xorb_block ≡ true) ⊎ (lists (lacked_in l t) place ≡ true)
       by x e (Some d) k = inl (sym (kept_is t.xorb_block x e) ∙ ap is_some k)
       by x e None k =
           let bare : is_bare (slice_get l.block.blocks t.xorb_block) ≡ true = ap is_bare e ∙ ap is_none k in
           let yes : lacks l t ≡ true = and_from _ (is_bare (slice_get l.block.blocks t.xorb_block)) some bare in
-          inr (ap (λ (v : Bool). lists (cond v (place ∷ []) []) place) yes ∙ or_left (same_place place place) false (same_own place))
+          inr (ap (λ (v : Bool). lists (cond v (place ∷ []) []) place) yes
+          ∙ or_left (same_place place place) false (same_own place))
 
-      go : (o : Option XorbBlock) → slice_get l.block.blocks t.xorb_block ≡ o → (is_kept es l.number t.xorb_block ≡ true) ⊎ (lists (lacked_in l t) place ≡ true)
+      go : (o : Option XorbBlock) → slice_get l.block.blocks t.xorb_block ≡ o
+          → (is_kept es l.number t.xorb_block ≡ true) ⊎ (lists (lacked_in l t) place ≡ true)
       go (Some x) e = by x e x.kept refl
       go None e = absurd (none_within l.block.blocks t.xorb_block within e)
 
-  plan_kept : (ts : List FileTerm) → Each (λ (t : FileTerm). t.xorb_block < length l.block.blocks) ts → Each (IsKeptOrListed es (lacked_by l ts)) (tasks_from l ts)
+  plan_kept : (ts : List FileTerm) → Each (λ (t : FileTerm). t.xorb_block < length l.block.blocks) ts
+      → Each (IsKeptOrListed es (lacked_by l ts)) (tasks_from l ts)
   plan_kept [] w = tt
   plan_kept (t ∷ ts) w = (
-    kept_front es (lacked_in l t) (lacked_by l ts) (record { plan = l.number; term = planned_term t; blocks = map planned_of l.block.blocks }) (term_kept t w.0),
-    each_weaker (IsKeptOrListed es (lacked_by l ts)) (IsKeptOrListed es (lacked_by l (t ∷ ts))) (tasks_from l ts) (λ u h. kept_back es (lacked_in l t) (lacked_by l ts) u h) (plan_kept ts w.1),
+    kept_front es (lacked_in l t) (lacked_by l ts)
+        (record { plan = l.number; term = planned_term t; blocks = map planned_of l.block.blocks }) (term_kept t w.0),
+    each_weaker (IsKeptOrListed es (lacked_by l ts)) (IsKeptOrListed es (lacked_by l (t ∷ ts))) (tasks_from l ts)
+        (λ u h. kept_back es (lacked_in l t) (lacked_by l ts) u h) (plan_kept ts w.1),
   )
 
 -- ---- what plans lack
 
-plans_lacked : (g : Setup) (b : RunTold) (es : List Event) (sl : Slack) (stale : List ℕ) (s c : ℕ) (ls : List LedPlan) → All (IsLedPlan g b es sl stale) ls → Each (IsLacked es (tasks_open s c ls)) (lacked s c ls)
+plans_lacked : (g : Setup) (b : RunTold) (es : List Event) (sl : Slack) (stale : List ℕ) (s c : ℕ) (ls : List LedPlan)
+    → All (IsLedPlan g b es sl stale) ls → Each (IsLacked es (tasks_open s c ls)) (lacked s c ls)
 plans_lacked g b es sl stale s c [] a = tt
 plans_lacked g b es sl stale s c (l ∷ ls) a =
     let ts = take c (drop s l.block.terms) in
@@ -209,10 +248,15 @@ plans_lacked g b es sl stale s c (l ∷ ls) a =
     let rest = tasks_open (s - n) (c - (n - s)) ls in
     let more = lacked (s - n) (c - (n - s)) ls in
     each_append (IsLacked es (tasks_from l ts ++ rest)) (lacked_by l ts) more
-    (each_weaker (IsLacked es (tasks_from l ts)) (IsLacked es (tasks_from l ts ++ rest)) (lacked_by l ts) (λ c h. lacked_front es (tasks_from l ts) rest c h) (plan_lacked g b es sl stale l (All-head (IsLedPlan g b es sl stale) l ls a) ts))
-    (each_weaker (IsLacked es rest) (IsLacked es (tasks_from l ts ++ rest)) more (λ c h. lacked_back es (tasks_from l ts) rest c h) (plans_lacked g b es sl stale (s - n) (c - (n - s)) ls (All-tail (IsLedPlan g b es sl stale) l ls a)))
+    (each_weaker (IsLacked es (tasks_from l ts)) (IsLacked es (tasks_from l ts ++ rest)) (lacked_by l ts)
+    (λ c h. lacked_front es (tasks_from l ts) rest c h)
+    (plan_lacked g b es sl stale l (All-head (IsLedPlan g b es sl stale) l ls a) ts))
+    (each_weaker (IsLacked es rest) (IsLacked es (tasks_from l ts ++ rest)) more
+    (λ c h. lacked_back es (tasks_from l ts) rest c h)
+    (plans_lacked g b es sl stale (s - n) (c - (n - s)) ls (All-tail (IsLedPlan g b es sl stale) l ls a)))
 
-plans_kept : (g : Setup) (b : RunTold) (es : List Event) (sl : Slack) (stale : List ℕ) (s c : ℕ) (ls : List LedPlan) → All (IsLedPlan g b es sl stale) ls → Each (IsKeptOrListed es (lacked s c ls)) (tasks_open s c ls)
+plans_kept : (g : Setup) (b : RunTold) (es : List Event) (sl : Slack) (stale : List ℕ) (s c : ℕ) (ls : List LedPlan)
+    → All (IsLedPlan g b es sl stale) ls → Each (IsKeptOrListed es (lacked s c ls)) (tasks_open s c ls)
 plans_kept g b es sl stale s c [] a = tt
 plans_kept g b es sl stale s c (l ∷ ls) a =
     let ts = take c (drop s l.block.terms) in
@@ -220,13 +264,19 @@ plans_kept g b es sl stale s c (l ∷ ls) a =
     let rest = tasks_open (s - n) (c - (n - s)) ls in
     let more = lacked (s - n) (c - (n - s)) ls in
     let first = All-head (IsLedPlan g b es sl stale) l ls a in
-    let within = each_take (λ (t : FileTerm). t.xorb_block < length l.block.blocks) c (drop s l.block.terms) (each_drop (λ (t : FileTerm). t.xorb_block < length l.block.blocks) s l.block.terms (terms_within g b es sl stale l first)) in
+    let within = each_take (λ (t : FileTerm). t.xorb_block < length l.block.blocks) c (drop s l.block.terms)
+    (each_drop (λ (t : FileTerm). t.xorb_block < length l.block.blocks) s l.block.terms
+    (terms_within g b es sl stale l first)) in
     each_append (IsKeptOrListed es (lacked_by l ts ++ more)) (tasks_from l ts) rest
-    (each_weaker (IsKeptOrListed es (lacked_by l ts)) (IsKeptOrListed es (lacked_by l ts ++ more)) (tasks_from l ts) (λ t h. kept_front es (lacked_by l ts) more t h) (plan_kept g b es sl stale l first ts within))
-    (each_weaker (IsKeptOrListed es more) (IsKeptOrListed es (lacked_by l ts ++ more)) rest (λ t h. kept_back es (lacked_by l ts) more t h) (plans_kept g b es sl stale (s - n) (c - (n - s)) ls (All-tail (IsLedPlan g b es sl stale) l ls a)))
+    (each_weaker (IsKeptOrListed es (lacked_by l ts)) (IsKeptOrListed es (lacked_by l ts ++ more)) (tasks_from l ts)
+    (λ t h. kept_front es (lacked_by l ts) more t h) (plan_kept g b es sl stale l first ts within))
+    (each_weaker (IsKeptOrListed es more) (IsKeptOrListed es (lacked_by l ts ++ more)) rest
+    (λ t h. kept_back es (lacked_by l ts) more t h)
+    (plans_kept g b es sl stale (s - n) (c - (n - s)) ls (All-tail (IsLedPlan g b es sl stale) l ls a)))
 
 -- where the first terms are written, by the leader's count
-pub is_at : (g : Setup) (b : RunTold) (es : List Event) (sl : Slack) (stale : List ℕ) (l : Led) → IsLed g b es sl stale l → IsAt es l.finished
+pub is_at : (g : Setup) (b : RunTold) (es : List Event) (sl : Slack) (stale : List ℕ) (l : Led)
+    → IsLed g b es sl stale l → IsAt es l.finished
 is_at g b es sl stale l a =
     let c = a.counted in
     let p = c.admitted_are in
@@ -234,18 +284,25 @@ is_at g b es sl stale l a =
     record { admitted = omega (arith, p, q); written_are = c.written_are }
 
 -- what the leader's open terms lack is to be fetched
-pub missing_lists : (g : Setup) (b : RunTold) (es : List Event) (sl : Slack) (stale : List ℕ) (l : Led) → IsLed g b es sl stale l → IsFetchList es l.finished (missing_of l)
+pub missing_lists : (g : Setup) (b : RunTold) (es : List Event) (sl : Slack) (stale : List ℕ) (l : Led)
+    → IsLed g b es sl stale l → IsFetchList es l.finished (missing_of l)
 missing_lists g b es sl stale l a =
     let s = l.finished - first_of l.plans in
     let c = l.admitted - l.finished in
     let ds = lacked s c l.plans in
     let opened = open_is g b es sl stale l a in
     let at = is_at g b es sl stale l a in
-    let lacked_all : Each (IsLacked es (open_terms es l.finished)) ds = subst (λ (ts : List Task). Each (IsLacked es ts) ds) (sym opened) (plans_lacked g b es sl stale s c l.plans a.plans.each) in
-    let kept_all : Each (IsKeptOrListed es ds) (open_terms es l.finished) = subst (Each (IsKeptOrListed es ds)) (sym opened) (plans_kept g b es sl stale s c l.plans a.plans.each) in
+    let lacked_all : Each (IsLacked es (open_terms es l.finished)) ds =
+    subst (λ (ts : List Task). Each (IsLacked es ts) ds) (sym opened)
+    (plans_lacked g b es sl stale s c l.plans a.plans.each) in
+    let kept_all : Each (IsKeptOrListed es ds) (open_terms es l.finished) =
+    subst (Each (IsKeptOrListed es ds)) (sym opened) (plans_kept g b es sl stale s c l.plans a.plans.each) in
     record {
-      missing = all_each (λ d. IsMissing es d.plan d.block) [] ds tt (each_weaker (IsLacked es (open_terms es l.finished)) (λ d. IsMissing es d.plan d.block) ds (λ d h. record { wanted = wanted_is es l.finished d.plan d.block at ∙ h.0; absent = h.1 }) lacked_all);
+      missing = all_each (λ d. IsMissing es d.plan d.block) [] ds tt
+          (each_weaker (IsLacked es (open_terms es l.finished)) (λ d. IsMissing es d.plan d.block) ds
+          (λ d h. record { wanted = wanted_is es l.finished d.plan d.block at ∙ h.0; absent = h.1 }) lacked_all);
       apart = all_apart [] ds tt;
       whole = each_weaker (IsKeptOrListed es ds) (IsKeptOrListed es (missing_of l)) (open_terms es l.finished)
-          (λ t h e. ⊎_elim (λ (k : is_kept es t.plan t.term.block ≡ true). inl k) (λ (k : lists ds (place_of t) ≡ true). inr (all_in [] ds (place_of t) k)) (h e)) kept_all;
+          (λ t h e. ⊎_elim (λ (k : is_kept es t.plan t.term.block ≡ true). inl k)
+          (λ (k : lists ds (place_of t) ≡ true). inr (all_in [] ds (place_of t) k)) (h e)) kept_all;
     }

@@ -19,19 +19,23 @@ use Rattle.xet_leader.specs.Lacking.{lacked, lacked_by, lacked_in, lists, same_p
 place_cmp : (c d : BlockAt) → is_eq (ghosts.cmp c d) ≡ same_place c d
 place_cmp c d = sym (matches_eq-law c d)
 
-position-place : (cs : List BlockAt) (c : BlockAt) → position (λ d. is_eq (ghosts.cmp d c)) cs ≡ position (λ d. same_place d c) cs
+position-place : (cs : List BlockAt) (c : BlockAt)
+    → position (λ d. is_eq (ghosts.cmp d c)) cs ≡ position (λ d. same_place d c) cs
 position-place cs c = λ i. position (λ d. place_cmp d c i) cs
 
 -- a place that is found is listed, and one that isn't isn't
-pub placed : (cs : List BlockAt) (c : BlockAt) (o : Option ℕ) → o ≡ position (λ d. is_eq (ghosts.cmp d c)) cs → lists cs c ≡ is_some o
+pub placed : (cs : List BlockAt) (c : BlockAt) (o : Option ℕ) → o ≡ position (λ d. is_eq (ghosts.cmp d c)) cs
+    → lists cs c ≡ is_some o
 placed cs c None h = position_no (λ d. same_place d c) cs (sym (h ∙ position-place cs c))
 placed cs c (Some i) h = (position_some (λ d. same_place d c) cs i (sym (h ∙ position-place cs c))).0
 
 -- so what adding it does
-pub place_found : (cs : List BlockAt) (c : BlockAt) (o : Option ℕ) → o ≡ position (λ d. is_eq (ghosts.cmp d c)) cs → is_some o ≡ true → cs ≡ with_place cs c
+pub place_found : (cs : List BlockAt) (c : BlockAt) (o : Option ℕ) → o ≡ position (λ d. is_eq (ghosts.cmp d c)) cs
+    → is_some o ≡ true → cs ≡ with_place cs c
 place_found cs c o h s = ap (λ (v : Bool). cond v cs (cs ++ c ∷ [])) (sym (placed cs c o h ∙ s))
 
-pub place_new : (cs : List BlockAt) (c : BlockAt) (o : Option ℕ) → o ≡ position (λ d. is_eq (ghosts.cmp d c)) cs → is_some o ≡ false → cs ++ c ∷ [] ≡ with_place cs c
+pub place_new : (cs : List BlockAt) (c : BlockAt) (o : Option ℕ) → o ≡ position (λ d. is_eq (ghosts.cmp d c)) cs
+    → is_some o ≡ false → cs ++ c ∷ [] ≡ with_place cs c
 place_new cs c o h s = ap (λ (v : Bool). cond v cs (cs ++ c ∷ [])) (sym (placed cs c o h ∙ s))
 
 -- ---- lists of places
@@ -43,23 +47,32 @@ with_places-append cs (d ∷ ds) es = with_places-append (with_place cs d) ds es
 -- ---- walks over terms and plans
 
 -- one more term of a plan
-pub lacked_more : (l : LedPlan) (cs ds es : List BlockAt) (ts : List FileTerm) (i : ℕ) (t : FileTerm) → i < length ts → ds ≡ with_places cs (lacked_by l (take i ts)) → es ≡ with_places ds (lacked_in l (get_or ts i t)) → es ≡ with_places cs (lacked_by l (take (i + 1) ts))
+pub lacked_more : (l : LedPlan) (cs ds es : List BlockAt) (ts : List FileTerm) (i : ℕ) (t : FileTerm) → i < length ts
+    → ds ≡ with_places cs (lacked_by l (take i ts)) → es ≡ with_places ds (lacked_in l (get_or ts i t))
+    → es ≡ with_places cs (lacked_by l (take (i + 1) ts))
 lacked_more l cs ds es ts i t h d e =
     let here = lacked_in l (get_or ts i t) in
     let more : take (i + 1) ts ≡ take i ts ++ get_or ts i t ∷ [] = take_more ts i t h in
     let whole : lacked_by l (take (i + 1) ts) ≡ lacked_by l (take i ts) ++ here =
-    ap (lacked_by l) more ∙ flat_map-append (lacked_in l) (take i ts) (get_or ts i t ∷ []) ∙ ap (λ (u : List BlockAt). lacked_by l (take i ts) ++ u) (append-nil here) in
-    e ∙ ap (λ (u : List BlockAt). with_places u here) d ∙ sym (with_places-append cs (lacked_by l (take i ts)) here) ∙ ap (with_places cs) (sym whole)
+    ap (lacked_by l) more ∙ flat_map-append (lacked_in l) (take i ts) (get_or ts i t ∷ [])
+    ∙ ap (λ (u : List BlockAt). lacked_by l (take i ts) ++ u) (append-nil here) in
+    e ∙ ap (λ (u : List BlockAt). with_places u here) d ∙ sym (with_places-append cs (lacked_by l (take i ts)) here)
+    ∙ ap (with_places cs) (sym whole)
 
 -- one more plan
-pub lacked_next : (plans : List LedPlan) (at skip left skips lefts : ℕ) (l : LedPlan) (cs ds all : List BlockAt) → at < length plans → l ≡ get_or plans at l → ds ≡ with_places cs (lacked_by l (take left (drop skip l.block.terms)))
-    → skips ≡ skip - length l.block.terms → lefts ≡ left - (length l.block.terms - skip) → with_places cs (lacked skip left (drop at plans)) ≡ all → with_places ds (lacked skips lefts (drop (at + 1) plans)) ≡ all
+pub lacked_next : (plans : List LedPlan) (at skip left skips lefts : ℕ) (l : LedPlan) (cs ds all : List BlockAt)
+    → at < length plans → l ≡ get_or plans at l → ds ≡ with_places cs
+    (lacked_by l (take left (drop skip l.block.terms)))
+    → skips ≡ skip - length l.block.terms → lefts ≡ left - (length l.block.terms - skip)
+    → with_places cs (lacked skip left (drop at plans)) ≡ all
+    → with_places ds (lacked skips lefts (drop (at + 1) plans)) ≡ all
 lacked_next plans at skip left skips lefts l cs ds all h is d s t before =
     let n = length l.block.terms in
     let rest = drop (at + 1) plans in
     let here = lacked_by l (take left (drop skip l.block.terms)) in
     let head : drop at plans ≡ l ∷ rest = drop_more plans at l h ∙ ap (λ (u : LedPlan). u ∷ rest) (sym is) in
-    let same : lacked skip left (drop at plans) ≡ here ++ lacked (skip - n) (left - (n - skip)) rest = ap (lacked skip left) head in
+    let same : lacked skip left (drop at plans) ≡ here ++ lacked (skip - n) (left - (n - skip)) rest =
+    ap (lacked skip left) head in
     ap (λ (u : List BlockAt). with_places u (lacked skips lefts rest)) d
     ∙ sym (with_places-append cs here (lacked skips lefts rest))
     ∙ ap (λ (u : ℕ). with_places cs (here ++ lacked u lefts rest)) s
@@ -74,9 +87,12 @@ lacked_none skip (l ∷ ls) =
     ap (λ (n : ℕ). lacked (skip - length l.block.terms) n ls) z ∙ lacked_none (skip - length l.block.terms) ls
 
 -- no plan, or no term is left
-pub lacked_end : (plans : List LedPlan) (at skip left : ℕ) (cs all : List BlockAt) → (length plans ≤ at) ⊎ (left ≡ 0) → with_places cs (lacked skip left (drop at plans)) ≡ all → cs ≡ all
+pub lacked_end : (plans : List LedPlan) (at skip left : ℕ) (cs all : List BlockAt) → (length plans ≤ at) ⊎ (left ≡ 0)
+    → with_places cs (lacked skip left (drop at plans)) ≡ all → cs ≡ all
 lacked_end plans at skip left cs all h before =
     ⊎_elim
-    (λ (past : length plans ≤ at). sym (ap (λ (ls : List LedPlan). with_places cs (lacked skip left ls)) (drop_all at plans past)) ∙ before)
-    (λ (none : left ≡ 0). sym (ap (λ (n : ℕ). with_places cs (lacked skip n (drop at plans))) none ∙ ap (with_places cs) (lacked_none skip (drop at plans))) ∙ before)
+    (λ (past : length plans ≤ at). sym (ap (λ (ls : List LedPlan). with_places cs (lacked skip left ls))
+    (drop_all at plans past)) ∙ before)
+    (λ (none : left ≡ 0). sym (ap (λ (n : ℕ). with_places cs (lacked skip n (drop at plans))) none
+    ∙ ap (with_places cs) (lacked_none skip (drop at plans))) ∙ before)
     h

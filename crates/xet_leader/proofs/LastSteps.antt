@@ -27,21 +27,28 @@ last_more s t ss =
     ap (λ (n : ℕ). error_at (slice_get (s ∷ t ∷ ss) n)) e
 
 -- the fetch of a last step that failed, and its cause
-pub record LastFails (P : Ask → Type 0) (b n : ClientTold) (served : List Served) (all : List Said) (e : FileReconstructionError) : Type 0 where
+pub record LastFails (P : Ask → Type 0) (b n : ClientTold) (served : List Served) (all : List Said)
+    (e : FileReconstructionError) : Type 0 where
   pub ask : Ask
   pub holds : P ask
   pub cause : StepCause b n served all ask e
 
-one_fails : (P : Ask → Type 0) (b n : ClientTold) (served : List Served) (all : List Said) (a : Ask) (s : LaneStep) (e : FileReconstructionError) → IsOf b n served all a s → P a → error_in s ≡ Some e → LastFails P b n served all e
+one_fails : (P : Ask → Type 0) (b n : ClientTold) (served : List Served) (all : List Said) (a : Ask) (s : LaneStep)
+    (e : FileReconstructionError) → IsOf b n served all a s → P a → error_in s ≡ Some e → LastFails P b n served all e
 one_fails P b n served all a (step.Served p k d) e of p_of h = absurd (cc)
 one_fails P b n served all a (step.Expired p k) e of p_of h = absurd (cc)
-one_fails P b n served all a (step.Failed x) e of p_of h = let same : x ≡ e = cc in record { ask = a; holds = p_of; cause = subst (StepCause b n served all a) same of }
+one_fails P b n served all a (step.Failed x) e of p_of h = let same : x ≡ e = cc in
+    record { ask = a; holds = p_of; cause = subst (StepCause b n served all a) same of }
 
-pub last_fails : (P : Ask → Type 0) (b n : ClientTold) (served : List Served) (all : List Said) (qs : List Ask) (ss : List LaneStep) (e : FileReconstructionError) → AreOf b n served all qs ss → All P qs → last_error ss ≡ Some e → LastFails P b n served all e
+pub last_fails : (P : Ask → Type 0) (b n : ClientTold) (served : List Served) (all : List Said) (qs : List Ask)
+    (ss : List LaneStep) (e : FileReconstructionError) → AreOf b n served all qs ss → All P qs
+    → last_error ss ≡ Some e → LastFails P b n served all e
 last_fails P b n served all qs [] e are h last = absurd (cc)
 last_fails P b n served all [] (s ∷ ss) e are h last = absurd are
-last_fails P b n served all (a ∷ qs) (s ∷ []) e are h last = one_fails P b n served all a s e are.0 (All-head P a qs h) last
-last_fails P b n served all (a ∷ qs) (s ∷ t ∷ ss) e are h last = last_fails P b n served all qs (t ∷ ss) e are.1 (All-tail P a qs h) (sym (last_more s t ss) ∙ last)
+last_fails P b n served all (a ∷ qs) (s ∷ []) e are h last =
+    one_fails P b n served all a s e are.0 (All-head P a qs h) last
+last_fails P b n served all (a ∷ qs) (s ∷ t ∷ ss) e are h last =
+    last_fails P b n served all qs (t ∷ ss) e are.1 (All-tail P a qs h) (sym (last_more s t ss) ∙ last)
 
 -- ---- the fetches that a lane made
 
@@ -50,7 +57,8 @@ ask_of P [] k a h e = absurd (cc)
 ask_of P (f ∷ fs) zero a h e = let same : f ≡ a = cc in subst P same (All-head P f fs h)
 ask_of P (f ∷ fs) (suc k) a h e = ask_of P fs k a (All-tail P f fs h) e
 
-pub all_made : (P : Ask → Type 0) (fs : List Ask) (ks : List ℕ) (made : List Ask) → All P fs → AreAt fs ks made → All P made
+pub all_made : (P : Ask → Type 0) (fs : List Ask) (ks : List ℕ) (made : List Ask) → All P fs → AreAt fs ks made
+    → All P made
 all_made P fs [] [] h p = All-nil P
 all_made P fs [] (a ∷ made) h p = absurd p
 all_made P fs (k ∷ ks) [] h p = absurd p
@@ -64,7 +72,9 @@ whole_step (step.Expired p k) h = refl
 whole_step (step.Failed e) h = absurd (cc)
 
 -- one that failed over a store whose block passes its tests, and not for want of memory
-honest_step : (s : Store) (b n : ClientTold) (served : List Served) (all : List Said) (a : Ask) (x : LaneStep) → b.store ≡ Some s → IsHonestOf s a.block → IsOf b n served all a x → wants_memory (error_in x) ≡ false → may_hide x ≡ false
+honest_step : (s : Store) (b n : ClientTold) (served : List Served) (all : List Said) (a : Ask) (x : LaneStep)
+    → b.store ≡ Some s → IsHonestOf s a.block → IsOf b n served all a x → wants_memory (error_in x) ≡ false
+    → may_hide x ≡ false
 honest_step s b n served all a (step.Served p k d) tell h of w = refl
 honest_step s b n served all a (step.Expired p k) tell h of w = refl
 honest_step s b n served all a (step.Failed error.OutOfMemory) tell h of w = absurd (cc)
@@ -72,20 +82,29 @@ honest_step s b n served all a (step.Failed error.ClientError) tell h of w = ref
 honest_step s b n served all a (step.Failed error.FileNotFound) tell h of w = refl
 honest_step s b n served all a (step.Failed error.UrlExpired) tell h of w = refl
 honest_step s b n served all a (step.Failed error.IoError) tell h of w = refl
-honest_step s b n served all a (step.Failed (error.CorruptedReconstruction k)) tell h of w = absurd (of.dishonest s tell h.holds h.passes)
+honest_step s b n served all a (step.Failed (error.CorruptedReconstruction k)) tell h of w =
+    absurd (of.dishonest s tell h.holds h.passes)
 honest_step s b n served all a (step.Failed (error.ConfigurationError k)) tell h of w = refl
 honest_step s b n served all a (step.Failed error.Cancelled) tell h of w = refl
 honest_step s b n served all a (step.Failed (error.InternalWriterError k)) tell h of w = refl
 
-lane_honest : (s : Store) (b n : ClientTold) (served : List Served) (all : List Said) (qs : List Ask) (ss : List LaneStep) → b.store ≡ Some s → All (λ a. IsHonestOf s a.block) qs → AreOf b n served all qs ss → NoneFailedBefore ss → wants_memory (last_error ss) ≡ false → HidesNone ss
+lane_honest : (s : Store) (b n : ClientTold) (served : List Served) (all : List Said) (qs : List Ask)
+    (ss : List LaneStep) → b.store ≡ Some s → All (λ a. IsHonestOf s a.block) qs → AreOf b n served all qs ss
+    → NoneFailedBefore ss → wants_memory (last_error ss) ≡ false → HidesNone ss
 lane_honest s b n served all qs [] tell h are before w = tt
 lane_honest s b n served all [] (x ∷ ss) tell h are before w = absurd are
-lane_honest s b n served all (a ∷ qs) (x ∷ []) tell h are before w = (honest_step s b n served all a x tell (All-head (λ a. IsHonestOf s a.block) a qs h) are.0 w, tt)
-lane_honest s b n served all (a ∷ qs) (x ∷ y ∷ ss) tell h are before w =
-    (whole_step x before.0, lane_honest s b n served all qs (y ∷ ss) tell (All-tail (λ a. IsHonestOf s a.block) a qs h) are.1 before.1 (ap wants_memory (sym (last_more x y ss)) ∙ w))
+lane_honest s b n served all (a ∷ qs) (x ∷ []) tell h are before w =
+    (honest_step s b n served all a x tell (All-head (λ a. IsHonestOf s a.block) a qs h) are.0 w, tt)
+lane_honest s b n served all (a ∷ qs) (x ∷ y ∷ ss) tell h are before w = (
+  whole_step x before.0,
+  lane_honest s b n served all qs (y ∷ ss) tell
+      (All-tail (λ a. IsHonestOf s a.block) a qs h) are.1 before.1 (ap wants_memory (sym (last_more x y ss)) ∙ w),
+)
 
 -- over such a store no step of the lanes hides a served block, unless memory was wanting
-pub lanes_honest : (s : Store) (fs : List Ask) (bs ns : List ClientTold) (drawn : List (List ℕ)) (es : List End) → AllTell s bs → All (λ a. IsHonestOf s a.block) fs → EachDrew fs bs ns drawn (steps_of es) → All (λ (e : End). NoneFailedBefore e.steps) es → list_any lacks_memory es ≡ false
+pub lanes_honest : (s : Store) (fs : List Ask) (bs ns : List ClientTold) (drawn : List (List ℕ)) (es : List End)
+    → AllTell s bs → All (λ a. IsHonestOf s a.block) fs → EachDrew fs bs ns drawn (steps_of es)
+    → All (λ (e : End). NoneFailedBefore e.steps) es → list_any lacks_memory es ≡ false
     → All HidesNone (steps_of es)
 lanes_honest s fs bs ns drawn [] tell h e before w = All-nil HidesNone
 lanes_honest s fs bs ns [] (x ∷ es) tell h e before w = absurd e
@@ -97,7 +116,8 @@ lanes_honest s fs (b ∷ bs) (n ∷ ns) (d ∷ ds) (x ∷ es) tell h e before w 
     let last = or_parts x.short (wants_memory (last_error x.steps)) parts.0 in
     let did = e.0.did in
     All-cons HidesNone x.steps (steps_of es)
-    (lane_honest s b n (entries_of e.0.made x.steps ++ did.hidden) did.said e.0.made x.steps tell.0 (all_made (λ a. IsHonestOf s a.block) fs d e.0.made h e.0.at) did.are (All-head B x es before) last.1)
+    (lane_honest s b n (entries_of e.0.made x.steps ++ did.hidden) did.said e.0.made x.steps tell.0
+    (all_made (λ a. IsHonestOf s a.block) fs d e.0.made h e.0.at) did.are (All-head B x es before) last.1)
     (lanes_honest s fs bs ns ds es tell.1 h e.1 (All-tail B x es before) parts.1)
 
 lane_well : (ss : List LaneStep) → NoneFailedBefore ss → last_error ss ≡ None → HidesNone ss
@@ -106,8 +126,10 @@ lane_well (x ∷ []) before w = (whole_step x w, tt)
 lane_well (x ∷ y ∷ ss) before w = (whole_step x before.0, lane_well (y ∷ ss) before.1 (sym (last_more x y ss) ∙ w))
 
 -- nor where no step failed
-pub lanes_well : (es : List End) → All (λ (e : End). NoneFailedBefore e.steps) es → NoneEndedBadly es → All HidesNone (steps_of es)
+pub lanes_well : (es : List End) → All (λ (e : End). NoneFailedBefore e.steps) es → NoneEndedBadly es
+    → All HidesNone (steps_of es)
 lanes_well [] before w = All-nil HidesNone
 lanes_well (x ∷ es) before w =
     let B : End → Type 0 = λ (e : End). NoneFailedBefore e.steps in
-    All-cons HidesNone x.steps (steps_of es) (lane_well x.steps (All-head B x es before) w.1) (lanes_well es (All-tail B x es before) w.2)
+    All-cons HidesNone x.steps (steps_of es) (lane_well x.steps (All-head B x es before) w.1)
+    (lanes_well es (All-tail B x es before) w.2)

@@ -1,4 +1,5 @@
--- What is left of a run falls with each plan, admission, kept block, expired answer and written term, and rises never.
+-- What is left of a run falls with each plan, admission, kept block, expired answer and written term, and rises
+-- never.
 use Rattle.std.proofs.Common.{◌≡◌, ℕ, zero, suc, ◌+◌, ◌-◌, ◌*◌, ◌^◌, ◌<◌, ◌≤◌, ◌==◌, ◌||◌, Bool, true, false, cond, List, [], ◌∷◌, ◌++◌, length, map, refl, sym, ◌∙◌, ap, arith, Some}
 use Rattle.std.specs.Prelude.{count_by, slice_get}
 use Rattle.std.specs.List.{list_any}
@@ -30,7 +31,8 @@ use Rattle.xet_leader.proofs.NextQueries.{cut_last}
 -- ---- digits
 
 less_first : (x y k a b : ℕ) → x < y → a < k → x * k + a < y * k + b
-less_first x y k a b h small = let m : (x + 1) * k ≤ y * k = mul-le-mul_right k (omega (arith, h)) in omega (arith, m, small)
+less_first x y k a b h small = let m : (x + 1) * k ≤ y * k = mul-le-mul_right k (omega (arith, h)) in
+    omega (arith, m, small)
 
 less_last : (x y k a b : ℕ) → x ≤ y → a < b → x * k + a < y * k + b
 less_last x y k a b h small = let m : x * k ≤ y * k = mul-le-mul_right k h in omega (arith, m, small)
@@ -39,7 +41,8 @@ not_more : (x y k a b : ℕ) → x ≤ y → a ≤ b → x * k + a ≤ y * k + b
 not_more x y k a b h small = let m : x * k ≤ y * k = mul-le-mul_right k h in omega (arith, m, small)
 
 -- each digit falls alone, whatever those below it do
-pub first_falls : (a b c d w x y z : ℕ) → w < a → x < 2 ^ 64 → y < 2 ^ 128 → z < 2 ^ 64 → digits w x y z < digits a b c d
+pub first_falls : (a b c d w x y z : ℕ) → w < a → x < 2 ^ 64 → y < 2 ^ 128 → z < 2 ^ 64
+    → digits w x y z < digits a b c d
 first_falls a b c d w x y z h small third last =
     less_first ((w * 2 ^ 64 + x) * 2 ^ 128 + y) ((a * 2 ^ 64 + b) * 2 ^ 128 + c) (2 ^ 64) z d
     (less_first (w * 2 ^ 64 + x) (a * 2 ^ 64 + b) (2 ^ 128) y c (less_first w a (2 ^ 64) x b h small) third) last
@@ -79,15 +82,18 @@ left_bound tries es (c ∷ cs) =
     let one = left_of_bound tries es c in
     let rest = left_bound tries es cs in
     let more : (length cs + 1) * (tries + 1) ≡ length cs * (tries + 1) + (tries + 1) = omega arith in
-    let size : length (c ∷ cs) * (tries + 1) ≡ (length cs + 1) * (tries + 1) = ap (λ (n : ℕ). n * (tries + 1)) (let e : length (c ∷ cs) ≡ length cs + 1 = omega arith in e) in
+    let size : length (c ∷ cs) * (tries + 1) ≡ (length cs + 1) * (tries + 1) =
+    ap (λ (n : ℕ). n * (tries + 1)) (let e : length (c ∷ cs) ≡ length cs + 1 = omega arith in e) in
     omega (arith, one, rest, more, size)
 
 -- what is left of the tries is below 2 ^ 97
-pub left_small : (tries : ℕ) (es : List Event) → tries < 2 ^ 32 → length (planned es) < 2 ^ 64 → left tries es (places es) < 2 ^ 97
+pub left_small : (tries : ℕ) (es : List Event) → tries < 2 ^ 32 → length (planned es) < 2 ^ 64
+    → left tries es (places es) < 2 ^ 97
 left_small tries es few fits =
     let bound = left_bound tries es (places es) in
     let size : length (places es) ≡ length (planned es) = length-map (planned es) _ in
-    let times : length (places es) * (tries + 1) ≤ length (places es) * 2 ^ 32 = mul-le-mul_left (length (places es)) (omega (arith, few)) in
+    let times : length (places es) * (tries + 1) ≤ length (places es) * 2 ^ 32 =
+    mul-le-mul_left (length (places es)) (omega (arith, few)) in
     omega (arith, bound, size, times, fits)
 
 -- those of a leader
@@ -110,38 +116,50 @@ ends_are place [] = refl
 ends_are place (q ∷ qs) = ends_are q.end qs
 
 -- a query that was asked leaves fewer bytes
-bytes_fall : (g : Setup) (es : List Event) (n : ℕ) (q : FileRange) (ts : List PlannedTerm) (bs : List PlannedBlock) → CutsRange g (queries es ++ q ∷ []) → left_bytes g (es ++ Planned n q ts bs ∷ []) < left_bytes g es
+bytes_fall : (g : Setup) (es : List Event) (n : ℕ) (q : FileRange) (ts : List PlannedTerm) (bs : List PlannedBlock)
+    → CutsRange g (queries es ++ q ∷ []) → left_bytes g (es ++ Planned n q ts bs ∷ []) < left_bytes g es
 bytes_fall g es n q ts bs cuts =
     let cut = cut_last g.range.start g.range.end (g.greatest + g.least) (queries es) q cuts in
     let from = cut.0 in
     let forward = cut.1 in
     let within = cut.2 in
-    let was : queries_end es g.range.start ≡ end_from g.range.start (queries es) = ends_are g.range.start (queries es) in
-    let push : queries (es ++ Planned n q ts bs ∷ []) ≡ queries es ++ q ∷ [] = flat-push queries_in es (Planned n q ts bs) in
+    let was : queries_end es g.range.start ≡ end_from g.range.start (queries es) =
+    ends_are g.range.start (queries es) in
+    let push : queries (es ++ Planned n q ts bs ∷ []) ≡ queries es ++ q ∷ [] =
+    flat-push queries_in es (Planned n q ts bs) in
     let now : queries_end (es ++ Planned n q ts bs ∷ []) g.range.start ≡ q.end =
     ap (λ (l : List FileRange). last_of g.range.start (map (λ q. q.end) l)) push
     ∙ ap (λ (l : List ℕ). last_of g.range.start l) (map-append (λ (q : FileRange). q.end) (queries es) (q ∷ []))
     ∙ last_of-append g.range.start (map (λ q. q.end) (queries es)) (q.end ∷ []) in
     omega (arith, from, forward, within, was, now)
 
-pub measure_planned : (g : Setup) (es : List Event) (n : ℕ) (q : FileRange) (ts : List PlannedTerm) (bs : List PlannedBlock) (l k : Led) → CutsRange g (queries es ++ q ∷ []) → IsSmall g (es ++ Planned n q ts bs ∷ []) k
+pub measure_planned : (g : Setup) (es : List Event) (n : ℕ) (q : FileRange) (ts : List PlannedTerm)
+    (bs : List PlannedBlock) (l k : Led) → CutsRange g (queries es ++ q ∷ [])
+    → IsSmall g (es ++ Planned n q ts bs ∷ []) k
     → measure g (es ++ Planned n q ts bs ∷ []) k < measure g es l
-measure_planned g es n q ts bs l k cuts small = first_falls _ _ _ _ _ _ _ _ (bytes_fall g es n q ts bs cuts) small.second small.third small.last
+measure_planned g es n q ts bs l k cuts small = first_falls _ _ _ _ _ _ _ _
+    (bytes_fall g es n q ts bs cuts) small.second small.third small.last
 
 -- ---- admissions
 
 queries_stay : (es : List Event) (ls : List ℕ) → queries (es ++ admits ls) ≡ queries es
 queries_stay es [] = ap queries (append-nil es)
-queries_stay es (n ∷ ls) = ap queries (sym (append_assoc es (Admit n ∷ []) (admits ls))) ∙ queries_stay (es ++ Admit n ∷ []) ls ∙ flat-push queries_in es (Admit n) ∙ append-nil (queries es)
+queries_stay es (n ∷ ls) = ap queries (sym (append_assoc es (Admit n ∷ []) (admits ls)))
+    ∙ queries_stay (es ++ Admit n ∷ []) ls ∙ flat-push queries_in es (Admit n) ∙ append-nil (queries es)
 
 -- terms that were admitted, one at least, leave fewer that wait
-pub measure_admitted : (g : Setup) (es : List Event) (ls : List ℕ) (l k : Led) → 0 < length ls → count_by is_admit (es ++ admits ls) ≤ length (planned (es ++ admits ls)) → IsSmall g (es ++ admits ls) k
+pub measure_admitted : (g : Setup) (es : List Event) (ls : List ℕ) (l k : Led) → 0 < length ls
+    → count_by is_admit (es ++ admits ls) ≤ length (planned (es ++ admits ls)) → IsSmall g (es ++ admits ls) k
     → measure g (es ++ admits ls) k < measure g es l
 measure_admitted g es ls l k some within small =
     let counted = admits_counted es ls in
-    let same : length (planned (es ++ admits ls)) ≡ length (planned es) = ap (λ (ts : List Task). length ts) (admits_planned es ls) in
-    let bytes : left_bytes g (es ++ admits ls) ≡ left_bytes g es = ap (λ (qs : List FileRange). g.range.end - last_of g.range.start (map (λ q. q.end) qs)) (queries_stay es ls) in
-    second_falls _ _ _ _ _ _ _ _ (omega (arith, bytes)) (omega (arith, counted, same, some, within)) small.third small.last
+    let same : length (planned (es ++ admits ls)) ≡ length (planned es) =
+    ap (λ (ts : List Task). length ts) (admits_planned es ls) in
+    let bytes : left_bytes g (es ++ admits ls) ≡ left_bytes g es =
+    ap (λ (qs : List FileRange). g.range.end - last_of g.range.start (map (λ q. q.end) qs))
+    (queries_stay es ls) in
+    second_falls _ _ _ _ _ _ _ _ (omega (arith, bytes))
+    (omega (arith, counted, same, some, within)) small.third small.last
 
 -- ---- other events
 
@@ -159,77 +177,107 @@ places_same es e n = ap (λ (ts : List Task). map place_of ts) (planned_same es 
 
 bytes_same : (g : Setup) (es : List Event) (e : Event) → PlansNone e → left_bytes g (es ++ e ∷ []) ≡ left_bytes g es
 bytes_same g es e n =
-    ap (λ (qs : List FileRange). g.range.end - last_of g.range.start (map (λ q. q.end) qs)) (flat-push queries_in es e ∙ ap (λ (l : List FileRange). queries es ++ l) n.query ∙ append-nil (queries es))
+    ap (λ (qs : List FileRange). g.range.end - last_of g.range.start (map (λ q. q.end) qs))
+    (flat-push queries_in es e ∙ ap (λ (l : List FileRange). queries es ++ l) n.query ∙ append-nil (queries es))
 
 waiting_same : (es : List Event) (e : Event) → PlansNone e → waiting (es ++ e ∷ []) ≡ waiting es
 waiting_same es e n =
-    ap (λ (ts : List Task). length ts - count_by is_admit (es ++ e ∷ [])) (planned_same es e n) ∙ ap (λ (c : ℕ). length (planned es) - c) (count-same is_admit es e n.admit)
+    ap (λ (ts : List Task). length ts - count_by is_admit (es ++ e ∷ [])) (planned_same es e n)
+    ∙ ap (λ (c : ℕ). length (planned es) - c) (count-same is_admit es e n.admit)
 
 -- it doesn't rise
-pub measure_rest : (g : Setup) (es : List Event) (e : Event) (l k : Led) → PlansNone e → unfinished_terms k ≤ unfinished_terms l → measure g (es ++ e ∷ []) k ≤ measure g es l
+pub measure_rest : (g : Setup) (es : List Event) (e : Event) (l k : Led) → PlansNone e
+    → unfinished_terms k ≤ unfinished_terms l → measure g (es ++ e ∷ []) k ≤ measure g es l
 measure_rest g es e l k n rest =
     let bytes = bytes_same g es e n in
     let wait = waiting_same es e n in
-    let places_are : left g.tries (es ++ e ∷ []) (places (es ++ e ∷ [])) ≡ left g.tries (es ++ e ∷ []) (places es) = ap (λ (cs : List Place). left g.tries (es ++ e ∷ []) cs) (places_same es e n) in
+    let places_are : left g.tries (es ++ e ∷ []) (places (es ++ e ∷ [])) ≡ left g.tries (es ++ e ∷ []) (places es) =
+    ap (λ (cs : List Place). left g.tries (es ++ e ∷ []) cs) (places_same es e n) in
     let less = left-push g.tries es e (places es) in
     none_rises _ _ _ _ _ _ _ _ (omega (arith, bytes)) (omega (arith, wait)) (omega (arith, places_are, less)) rest
 
 -- it falls where fewer tries are left
-tries_fall : (g : Setup) (es : List Event) (e : Event) (l k : Led) → PlansNone e → left g.tries (es ++ e ∷ []) (places es) < left g.tries es (places es) → unfinished_terms k < 2 ^ 64 → measure g (es ++ e ∷ []) k < measure g es l
+tries_fall : (g : Setup) (es : List Event) (e : Event) (l k : Led) → PlansNone e
+    → left g.tries (es ++ e ∷ []) (places es) < left g.tries es (places es) → unfinished_terms k < 2 ^ 64
+    → measure g (es ++ e ∷ []) k < measure g es l
 tries_fall g es e l k n less small =
     let bytes = bytes_same g es e n in
     let wait = waiting_same es e n in
-    let places_are : left g.tries (es ++ e ∷ []) (places (es ++ e ∷ [])) ≡ left g.tries (es ++ e ∷ []) (places es) = ap (λ (cs : List Place). left g.tries (es ++ e ∷ []) cs) (places_same es e n) in
+    let places_are : left g.tries (es ++ e ∷ []) (places (es ++ e ∷ [])) ≡ left g.tries (es ++ e ∷ []) (places es) =
+    ap (λ (cs : List Place). left g.tries (es ++ e ∷ []) cs) (places_same es e n) in
     third_falls _ _ _ _ _ _ _ _ (omega (arith, bytes)) (omega (arith, wait)) (omega (arith, places_are, less)) small
 
 -- ---- a missing block is one of the places
 
-ended_needs : (p k place : ℕ) (ts : List Task) → list_any (λ c. needs p k c.1) (ended place ts) ≡ true → list_any (needs p k) ts ≡ true
+ended_needs : (p k place : ℕ) (ts : List Task) → list_any (λ c. needs p k c.1) (ended place ts) ≡ true
+    → list_any (needs p k) ts ≡ true
 ended_needs p k place [] h = h
-ended_needs p k place (t ∷ ts) h = go (needs p k t) h (λ e. ended_needs p k (place + (t.term.byte_range.end - t.term.byte_range.start)) ts e)
+ended_needs p k place (t ∷ ts) h = go (needs p k t) h
+    (λ e. ended_needs p k (place + (t.term.byte_range.end - t.term.byte_range.start)) ts e)
   where
-    go : (a : Bool) → (a || list_any (λ c. needs p k c.1) (ended (place + (t.term.byte_range.end - t.term.byte_range.start)) ts)) ≡ true
-        → (list_any (λ c. needs p k c.1) (ended (place + (t.term.byte_range.end - t.term.byte_range.start)) ts) ≡ true → list_any (needs p k) ts ≡ true) → (a || list_any (needs p k) ts) ≡ true
+    go : (a : Bool) → (a || list_any (λ c. needs p k c.1)
+        (ended (place + (t.term.byte_range.end - t.term.byte_range.start)) ts)) ≡ true
+        → (list_any (λ c. needs p k c.1) (ended (place + (t.term.byte_range.end - t.term.byte_range.start)) ts) ≡ true
+        → list_any (needs p k) ts ≡ true) → (a || list_any (needs p k) ts) ≡ true
     go true e next = refl
     go false e next = next e
 
-needs_place : (p k : ℕ) (ts : List Task) → list_any (needs p k) ts ≡ true → (i : ℕ) × (let c : Place = (p, k) in slice_get (map place_of ts) i ≡ Some c)
+needs_place : (p k : ℕ) (ts : List Task) → list_any (needs p k) ts ≡ true
+    → (i : ℕ) × (let c : Place = (p, k) in slice_get (map place_of ts) i ≡ Some c)
 needs_place p k [] h = absurd (false≢true h)
 needs_place p k (t ∷ ts) h = go (needs p k t) refl h (λ e. needs_place p k ts e)
   where
-    go : (a : Bool) → needs p k t ≡ a → (a || list_any (needs p k) ts) ≡ true → (list_any (needs p k) ts ≡ true → (i : ℕ) × (let c : Place = (p, k) in slice_get (map place_of ts) i ≡ Some c))
+    go : (a : Bool) → needs p k t ≡ a → (a || list_any (needs p k) ts) ≡ true
+        → (list_any (needs p k) ts ≡ true → (i : ℕ) × (let c : Place = (p, k) in
+        slice_get (map place_of ts) i ≡ Some c))
         → (i : ℕ) × (let c : Place = (p, k) in slice_get (place_of t ∷ map place_of ts) i ≡ Some c)
     go true is e next =
         let both = and_parts (t.plan == p) (t.term.block == k) is in
         let plan : t.plan ≡ p = eqb-true t.plan p both.0 in
-        let block : t.term.block ≡ k = eqb-true t.term.block k both.1 in
-        (zero, ap (λ (n : ℕ). let c : Place = (n, t.term.block) in Some c) plan ∙ ap (λ (n : ℕ). let c : Place = (p, n) in Some c) block)
+        let block : t.term.block ≡ k = eqb-true t.term.block k both.1 in (
+          zero,
+          ap (λ (n : ℕ). let c : Place = (n, t.term.block) in Some c) plan
+              ∙ ap (λ (n : ℕ). let c : Place = (p, n) in Some c) block,
+        )
     go false is e next = let found = next e in (suc found.0, found.1)
 
-missing_place : (es : List Event) (p k : ℕ) → IsMissing es p k → (i : ℕ) × (let c : Place = (p, k) in slice_get (places es) i ≡ Some c)
+missing_place : (es : List Event) (p k : ℕ) → IsMissing es p k
+    → (i : ℕ) × (let c : Place = (p, k) in slice_get (places es) i ≡ Some c)
 missing_place es p k m =
     needs_place p k (planned es)
-    (any_take (needs p k) (count_by is_admit es) (planned es) (ended_needs p k 0 (admitted es) (any_filter (λ c. needs p k c.1) (has_more (written es)) (ended 0 (admitted es)) m.wanted)))
+    (any_take (needs p k) (count_by is_admit es) (planned es)
+    (ended_needs p k 0 (admitted es) (any_filter (λ c. needs p k c.1) (has_more (written es))
+    (ended 0 (admitted es)) m.wanted)))
 
 -- it was fetched
-pub measure_fetched : (g : Setup) (es : List Event) (lane p k : ℕ) (l m : Led) → IsMissing es p k → unfinished_terms m < 2 ^ 64 → measure g (es ++ Fetched lane p k ∷ []) m < measure g es l
+pub measure_fetched : (g : Setup) (es : List Event) (lane p k : ℕ) (l m : Led) → IsMissing es p k
+    → unfinished_terms m < 2 ^ 64 → measure g (es ++ Fetched lane p k ∷ []) m < measure g es l
 measure_fetched g es lane p k l m missing small =
     let at = missing_place es p k missing in
-    tries_fall g es (Fetched lane p k) l m (record { query = refl; tasks = refl; admit = refl }) (left_fetched g.tries es lane (places es) at.0 (p, k) at.1 missing.absent) small
+    tries_fall g es (Fetched lane p k) l m (record { query = refl; tasks = refl; admit = refl })
+    (left_fetched g.tries es lane (places es) at.0 (p, k) at.1 missing.absent) small
 
 -- or the cache gave it
-pub measure_cached : (g : Setup) (es : List Event) (p k : ℕ) (l m : Led) → IsMissing es p k → unfinished_terms m < 2 ^ 64 → measure g (es ++ Cached p k ∷ []) m < measure g es l
+pub measure_cached : (g : Setup) (es : List Event) (p k : ℕ) (l m : Led) → IsMissing es p k
+    → unfinished_terms m < 2 ^ 64 → measure g (es ++ Cached p k ∷ []) m < measure g es l
 measure_cached g es p k l m missing small =
     let at = missing_place es p k missing in
-    tries_fall g es (Cached p k) l m (record { query = refl; tasks = refl; admit = refl }) (left_cached g.tries es (places es) at.0 (p, k) at.1 missing.absent) small
+    tries_fall g es (Cached p k) l m (record { query = refl; tasks = refl; admit = refl })
+    (left_cached g.tries es (places es) at.0 (p, k) at.1 missing.absent) small
 
 -- or its URL had expired, which it might once more
-pub measure_expired : (g : Setup) (es : List Event) (lane p k : ℕ) (l m : Led) → IsMissing es p k → count_by (expires p k) es < g.tries → unfinished_terms m < 2 ^ 64 → measure g (es ++ Expired lane p k ∷ []) m < measure g es l
+pub measure_expired : (g : Setup) (es : List Event) (lane p k : ℕ) (l m : Led) → IsMissing es p k
+    → count_by (expires p k) es < g.tries → unfinished_terms m < 2 ^ 64
+    → measure g (es ++ Expired lane p k ∷ []) m < measure g es l
 measure_expired g es lane p k l m missing may small =
     let at = missing_place es p k missing in
-    tries_fall g es (Expired lane p k) l m (record { query = refl; tasks = refl; admit = refl }) (left_expired g.tries es lane (places es) at.0 (p, k) at.1 missing.absent may) small
+    tries_fall g es (Expired lane p k) l m (record { query = refl; tasks = refl; admit = refl })
+    (left_expired g.tries es lane (places es) at.0 (p, k) at.1 missing.absent may) small
 
 -- ---- terms that were wholly written
 
-pub measure_finished : (g : Setup) (es : List Event) (l k : Led) → unfinished_terms k < unfinished_terms l → measure g es k < measure g es l
-measure_finished g es l k less = last_falls (left_bytes g es) (waiting es) (left g.tries es (places es)) (unfinished_terms l) (left_bytes g es) (waiting es) (left g.tries es (places es)) (unfinished_terms k) (omega arith) (omega arith) (omega arith) less
+pub measure_finished : (g : Setup) (es : List Event) (l k : Led) → unfinished_terms k < unfinished_terms l
+    → measure g es k < measure g es l
+measure_finished g es l k less = last_falls (left_bytes g es) (waiting es) (left g.tries es (places es))
+    (unfinished_terms l) (left_bytes g es) (waiting es) (left g.tries es (places es)) (unfinished_terms k)
+    (omega arith) (omega arith) (omega arith) less

@@ -13,7 +13,7 @@ use Rattle.xet_run.specs.declared.event.Event.{Event}
 use Rattle.xet_run.specs.declared.event.PlannedBlock.{PlannedBlock}
 use Rattle.xet_run.specs.declared.event.PlannedTerm.{PlannedTerm}
 use Rattle.xet_run.specs.Allowed.{Adjoin, IsRunning}
-use Rattle.xet_run.specs.Events.{last_of, planned, planned_end}
+use Rattle.xet_run.specs.Events.{Task, last_of, planned, planned_end}
 use Rattle.xet_history.specs.TrueHistory.{planned_block, planned_term, queries}
 use Rattle.xet_terms.specs.Managers.{IsManager, Manager, looked_ahead, cut_end, scheduled_end}
 use Rattle.xet_terms.specs.Queries.{CutFrom, end_from}
@@ -34,13 +34,15 @@ use Rattle.xet_blocks.specs.Terms.{terms_of}
 
 -- ---- lists of queries
 
-pub take_next : (qs : List FileRange) (n : ℕ) (q : FileRange) → slice_get qs n ≡ Some q → take (suc n) qs ≡ take n qs ++ q ∷ []
+pub take_next : (qs : List FileRange) (n : ℕ) (q : FileRange) → slice_get qs n ≡ Some q
+    → take (suc n) qs ≡ take n qs ++ q ∷ []
 take_next [] n q at = absurd (cc)
 take_next (r ∷ qs) zero q at = let same : r ≡ q = cc in ap (λ (x : FileRange). x ∷ []) same
 take_next (r ∷ qs) (suc n) q at = ap (λ (l : List FileRange). r ∷ l) (take_next qs n q at)
 
 -- the last query of some that cut a range starts where the others end
-pub cut_last : (place end bound : ℕ) (qs : List FileRange) (q : FileRange) → CutFrom place end bound (qs ++ q ∷ []) → (q.start ≡ end_from place qs) × (q.start < q.end) × (q.end ≤ end)
+pub cut_last : (place end bound : ℕ) (qs : List FileRange) (q : FileRange) → CutFrom place end bound (qs ++ q ∷ [])
+    → (q.start ≡ end_from place qs) × (q.start < q.end) × (q.end ≤ end)
 cut_last place end bound [] q c = (c.0, c.1, c.2)
 cut_last place end bound (r ∷ qs) q c = cut_last r.end end bound qs q c.4
 
@@ -51,12 +53,16 @@ end_last place (r ∷ qs) q = end_last r.end qs q
 -- ---- a manager that looked ahead
 
 -- it has the queries that it had, and maybe one more
-looked_takes : (m : Manager) (policy n : ℕ) → n ≤ length m.queries → take n (looked_ahead m policy).queries ≡ take n m.queries
+looked_takes : (m : Manager) (policy n : ℕ) → n ≤ length m.queries
+    → take n (looked_ahead m policy).queries ≡ take n m.queries
 looked_takes m policy n h =
-    go (nat_le m.known_end (scheduled_end m)) (nat_lt 0 (length m.waiting) && nat_le (max policy m.buffer) (scheduled_end m - m.handed_end))
-    (nat_lt (scheduled_end m) (cut_end m (max policy m.buffer - (scheduled_end m - m.handed_end)))) (record { start = scheduled_end m; end = cut_end m (max policy m.buffer - (scheduled_end m - m.handed_end)) })
+    go (nat_le m.known_end (scheduled_end m)) (nat_lt 0 (length m.waiting) && nat_le (max policy m.buffer)
+    (scheduled_end m - m.handed_end))
+    (nat_lt (scheduled_end m) (cut_end m (max policy m.buffer - (scheduled_end m - m.handed_end))))
+    (record { start = scheduled_end m; end = cut_end m (max policy m.buffer - (scheduled_end m - m.handed_end)) })
   where
-    go : (a b c : Bool) (q : FileRange) → take n (cond a m (cond b m (record m { queries = cond c (m.queries ++ q ∷ []) m.queries }))).queries ≡ take n m.queries
+    go : (a b c : Bool) (q : FileRange) → take n (cond a m
+        (cond b m (record m { queries = cond c (m.queries ++ q ∷ []) m.queries }))).queries ≡ take n m.queries
     go true b c q = refl
     go false true c q = refl
     go false false false q = refl
@@ -71,15 +77,19 @@ looked_past m policy h = cond_yes (nat_le m.known_end (scheduled_end m)) (le-leb
     cond_yes false e n = absurd (cc)
 
 -- the leader's manager stays one
-pub led_looked : (g : Setup) (es : List Event) (m now : Manager) (policy : ℕ) → now ≡ looked_ahead m policy → IsManager now → IsLedManager g es m → IsLedManager g es now
+pub led_looked : (g : Setup) (es : List Event) (m now : Manager) (policy : ℕ) → now ≡ looked_ahead m policy
+    → IsManager now → IsLedManager g es m → IsLedManager g es now
 led_looked g es m now policy is kept a =
     let same = looked_same m now policy is in
     let answered : now.answered ≡ m.answered = ap (λ (x : Manager). x.answered) same in
     let asked : now.asked ≡ m.asked = ap (λ (x : Manager). x.asked) same in
     let waiting : now.waiting ≡ m.waiting = ap (λ (x : Manager). x.waiting) same in
     let ended : now.ended ≡ m.ended = ap (λ (x : Manager). x.ended) same in
-    let within : m.answered ≤ length m.queries = (let h = a.kept.answered_within in let k = a.kept.asked_within in omega (arith, h, k)) in
-    let first : take now.answered now.queries ≡ take m.answered m.queries = ap (λ (n : ℕ). take n now.queries) answered ∙ ap (λ (x : Manager). take m.answered x.queries) is ∙ looked_takes m policy m.answered within in
+    let within : m.answered ≤ length m.queries = (let h = a.kept.answered_within in let k = a.kept.asked_within in
+    omega (arith, h, k)) in
+    let first : take now.answered now.queries ≡ take m.answered m.queries =
+    ap (λ (n : ℕ). take n now.queries) answered ∙ ap (λ (x : Manager). take m.answered x.queries) is
+    ∙ looked_takes m policy m.answered within in
     let past : m.ended ≡ true → now ≡ m = (λ h. is ∙ looked_past m policy (a.covered h)) in
     record {
       is_for = record {
@@ -95,8 +105,10 @@ led_looked g es m now policy is kept a =
       none_waits = waiting ∙ a.none_waits;
       going = λ h. a.going (sym ended ∙ h) ∙ ap (end_from g.range.start) (sym first);
       early = λ h. a.early (sym ended ∙ h);
-      over = λ h. subst (λ (x : Manager). x.answered ≡ length x.queries) (sym (past (sym ended ∙ h))) (a.over (sym ended ∙ h));
-      covered = λ h. subst (λ (x : Manager). x.known_end ≤ scheduled_end x) (sym (past (sym ended ∙ h))) (a.covered (sym ended ∙ h));
+      over = λ h. subst (λ (x : Manager). x.answered ≡ length x.queries) (sym (past (sym ended ∙ h)))
+          (a.over (sym ended ∙ h));
+      covered = λ h. subst (λ (x : Manager). x.known_end ≤ scheduled_end x) (sym (past (sym ended ∙ h)))
+          (a.covered (sym ended ∙ h));
     }
 
 -- ---- the query that is due
@@ -112,14 +124,19 @@ pub record IsDue (g : Setup) (es : List Event) (m : Manager) (q : FileRange) : T
   pub at : slice_get m.queries m.answered ≡ Some q
   pub going : planned_end es g.range.start ≡ end_from g.range.start (queries es)
 
-pub led_due : (g : Setup) (es : List Event) (m now : Manager) (d : PlanDue) → IsLedManager g es m → TakesDue m now d → IsDue g es now d.query
+pub led_due : (g : Setup) (es : List Event) (m now : Manager) (d : PlanDue) → IsLedManager g es m → TakesDue m now d
+    → IsDue g es now d.query
 led_due g es m now d a t =
     let kept : IsManager t.looked = record {
       least_some = subst (λ (x : Manager). 0 < x.least) t.asked t.kept.least_some;
       least_below = subst (λ (x : Manager). x.least ≤ x.greatest) t.asked t.kept.least_below;
-      cuts = subst (λ (x : Manager). CutFrom x.range.start x.range.end (x.greatest + x.least) x.queries) t.asked t.kept.cuts;
-      asked_within = (let h = t.kept.asked_within in let e = ap (λ (x : Manager). x.asked) t.asked in let f = ap (λ (x : Manager). length x.queries) t.asked in omega (arith, h, e, f));
-      answered_within = (let same = looked_same m t.looked t.policy t.is in let p = ap (λ (x : Manager). x.answered) same in let r = ap (λ (x : Manager). x.asked) same in let h = a.kept.answered_within in omega (arith, p, r, h));
+      cuts = subst (λ (x : Manager). CutFrom x.range.start x.range.end (x.greatest + x.least) x.queries) t.asked
+          t.kept.cuts;
+      asked_within = (let h = t.kept.asked_within in let e = ap (λ (x : Manager). x.asked) t.asked in
+          let f = ap (λ (x : Manager). length x.queries) t.asked in omega (arith, h, e, f));
+      answered_within = (let same = looked_same m t.looked t.policy t.is in
+          let p = ap (λ (x : Manager). x.answered) same in let r = ap (λ (x : Manager). x.asked) same in let h =
+          a.kept.answered_within in omega (arith, p, r, h));
       still_open = subst (λ (x : Manager). x.ended ≡ false → x.known_end ≡ 2 ^ 64 - 1) t.asked t.kept.still_open;
       range_fits = subst (λ (x : Manager). x.range.end < 2 ^ 64) t.asked t.kept.range_fits;
     } in
@@ -130,17 +147,27 @@ led_due g es m now d a t =
     let idle = l.idle in
     let unended : t.looked.ended ≡ false = go l.over t.looked.ended refl in
     record {
-      is_for = subst (λ (x : Manager). IsManagerOf g x) (sym t.asked) (record { file = l.is_for.file; range = l.is_for.range; least = l.is_for.least; greatest = l.is_for.greatest; multirange = l.is_for.multirange });
+      is_for = subst (λ (x : Manager). IsManagerOf g x) (sym t.asked)
+          (record {
+            file = l.is_for.file;
+            range = l.is_for.range;
+            least = l.is_for.least;
+            greatest = l.is_for.greatest;
+            multirange = l.is_for.multirange;
+          });
       kept = t.kept;
-      queries_are = l.queries_are ∙ ap (λ (x : List FileRange). take t.looked.answered x) (sym qs) ∙ ap (λ (n : ℕ). take n now.queries) (sym answered);
+      queries_are = l.queries_are ∙ ap (λ (x : List FileRange). take t.looked.answered x) (sym qs)
+          ∙ ap (λ (n : ℕ). take n now.queries) (sym answered);
       one = omega (arith, answered, asked, idle);
       none_waits = ap (λ (x : Manager). x.waiting) t.asked ∙ l.none_waits;
       unended = ap (λ (x : Manager). x.ended) t.asked ∙ unended;
-      at = ap (λ (n : ℕ). slice_get now.queries n) (answered ∙ sym idle) ∙ ap (λ (x : List FileRange). slice_get x t.looked.asked) qs ∙ t.due;
+      at = ap (λ (n : ℕ). slice_get now.queries n) (answered ∙ sym idle)
+          ∙ ap (λ (x : List FileRange). slice_get x t.looked.asked) qs ∙ t.due;
       going = l.going unended ∙ ap (end_from g.range.start) (sym l.queries_are);
     }
   where
-    go : (t.looked.ended ≡ true → t.looked.answered ≡ length t.looked.queries) → (b : Bool) → t.looked.ended ≡ b → b ≡ false
+    go : (t.looked.ended ≡ true → t.looked.answered ≡ length t.looked.queries) → (b : Bool) → t.looked.ended ≡ b
+        → b ≡ false
     go over false e = refl
     go over true e =
         let h = over e in
@@ -148,18 +175,24 @@ led_due g es m now d a t =
         let p : t.looked.answered ≡ m.answered = ap (λ (x : Manager). x.answered) same in
         let r : t.looked.asked ≡ m.asked = ap (λ (x : Manager). x.asked) same in
         let i = a.idle in
-        let none : slice_get t.looked.queries t.looked.asked ≡ None = slice_get_past t.looked.queries t.looked.asked (omega (arith, h, p, r, i)) in
+        let none : slice_get t.looked.queries t.looked.asked ≡ None =
+        slice_get_past t.looked.queries t.looked.asked (omega (arith, h, p, r, i)) in
         absurd (let z : ◌≡◌ {A = Option FileRange} None (Some d.query) = sym none ∙ t.due in cc)
 
 -- with it the queries cut the range
-pub due_cuts : (g : Setup) (es : List Event) (m : Manager) (q : FileRange) → IsDue g es m q → CutsRange g (queries es ++ q ∷ [])
+pub due_cuts : (g : Setup) (es : List Event) (m : Manager) (q : FileRange) → IsDue g es m q
+    → CutsRange g (queries es ++ q ∷ [])
 due_cuts g es m q d =
-    let next : take (suc m.answered) m.queries ≡ queries es ++ q ∷ [] = take_next m.queries m.answered q d.at ∙ ap (λ (l : List FileRange). l ++ q ∷ []) (sym d.queries_are) in
+    let next : take (suc m.answered) m.queries ≡ queries es ++ q ∷ [] =
+    take_next m.queries m.answered q d.at ∙ ap (λ (l : List FileRange). l ++ q ∷ []) (sym d.queries_are) in
     let cuts = cuts-take m.range.start m.range.end (m.greatest + m.least) m.queries (suc m.answered) d.kept.cuts in
     let of_run : CutFrom g.range.start g.range.end (g.greatest + g.least) (take (suc m.answered) m.queries) =
-    subst (λ (n : ℕ). CutFrom g.range.start g.range.end (n + g.least) (take (suc m.answered) m.queries)) d.is_for.greatest
-    (subst (λ (n : ℕ). CutFrom g.range.start g.range.end (m.greatest + n) (take (suc m.answered) m.queries)) d.is_for.least
-    (subst (λ (r : FileRange). CutFrom r.start r.end (m.greatest + m.least) (take (suc m.answered) m.queries)) d.is_for.range cuts)) in
+    subst (λ (n : ℕ). CutFrom g.range.start g.range.end (n + g.least) (take (suc m.answered) m.queries))
+    d.is_for.greatest
+    (subst (λ (n : ℕ). CutFrom g.range.start g.range.end (m.greatest + n) (take (suc m.answered) m.queries))
+    d.is_for.least
+    (subst (λ (r : FileRange). CutFrom r.start r.end (m.greatest + m.least) (take (suc m.answered) m.queries))
+    d.is_for.range cuts)) in
     subst (λ (l : List FileRange). CutFrom g.range.start g.range.end (g.greatest + g.least) l) next of_run
 
 -- ---- its plan may be recorded
@@ -169,7 +202,8 @@ last_or_none a b [] = inl refl
 last_or_none a b (x ∷ xs) = inr refl
 
 -- it starts where the planned terms end
-pub due_place : (g : Setup) (es : List Event) (m : Manager) (q : FileRange) → IsDue g es m q → planned_end es q.start ≡ q.start
+pub due_place : (g : Setup) (es : List Event) (m : Manager) (q : FileRange) → IsDue g es m q
+    → planned_end es q.start ≡ q.start
 due_place g es m q d =
     let cut = cut_last g.range.start g.range.end (g.greatest + g.least) (queries es) q (due_cuts g es m q d) in
     ⊎_elim
@@ -177,23 +211,36 @@ due_place g es m q d =
     (λ (h : planned_end es q.start ≡ planned_end es g.range.start). h ∙ d.going ∙ sym cut.0)
     (last_or_none g.range.start q.start (map (λ t. t.term.byte_range.end) (planned es)))
 
-made_adjoins : (g : Setup) (q : FileRange) (ts : List PlannedTerm) (bs : List PlannedBlock) (a : PlanAnswer) → IsMadeOf g q ts bs a → Adjoin q.start (length bs) ts
+made_adjoins : (g : Setup) (q : FileRange) (ts : List PlannedTerm) (bs : List PlannedBlock) (a : PlanAnswer)
+    → IsMadeOf g q ts bs a → Adjoin q.start (length bs) ts
 made_adjoins g q ts bs NoFile m = absurd m
 made_adjoins g q ts bs PastEnd m = subst (λ (l : List PlannedTerm). Adjoin q.start (length bs) l) (sym m.0) tt
 made_adjoins g q ts bs (Found p) m =
     ⊎_elim
-    (λ (e : (p.terms ≡ []) × (ts ≡ []) × (bs ≡ [])). subst (λ (l : List PlannedTerm). Adjoin q.start (length bs) l) (sym e.1) tt)
+    (λ (e : (p.terms ≡ []) × (ts ≡ []) × (bs ≡ [])). subst (λ (l : List PlannedTerm). Adjoin q.start (length bs) l)
+    (sym e.1) tt)
     (λ (e : IsMadeOfPlan g q ts bs p).
-    let n : length (blocks_of (shape p) g.multirange) ≡ length bs = sym (length-map (blocks_of (shape p) g.multirange) planned_block) ∙ ap length (sym e.blocks) in
+    let n : length (blocks_of (shape p) g.multirange) ≡ length bs =
+    sym (length-map (blocks_of (shape p) g.multirange) planned_block) ∙ ap length (sym e.blocks) in
     subst (λ (l : List PlannedTerm). Adjoin q.start (length bs) l) (sym e.terms)
-    (subst (λ (k : ℕ). Adjoin q.start k (map planned_term (terms_of (shape p) q g.multirange))) n (plan_adjoins (shape p) q g.multirange e.passes)))
+    (subst (λ (k : ℕ). Adjoin q.start k (map planned_term (terms_of (shape p) q g.multirange))) n
+    (plan_adjoins (shape p) q g.multirange e.passes)))
     m
 
+-- and where nothing is planned, it starts where the range does
+pub due_first : (g : Setup) (es : List Event) (m : Manager) (q : FileRange) → IsDue g es m q → planned es ≡ []
+    → q.start ≡ g.range.start
+due_first g es m q d none =
+    let cut = cut_last g.range.start g.range.end (g.greatest + g.least) (queries es) q (due_cuts g es m q d) in
+    cut.0 ∙ sym d.going ∙ ap (λ (l : List Task). last_of g.range.start (map (λ t. t.term.byte_range.end) l)) none
+
 -- whatever a connection answers
-pub due_allowed : (g : Setup) (es : List Event) (m : Manager) (q : FileRange) (id : UniqueId) → IsRunning es → IsDue g es m q → PlansAllowed m es (plan_query g q id)
+pub due_allowed : (g : Setup) (es : List Event) (m : Manager) (q : FileRange) (id : UniqueId) → IsRunning es
+    → IsDue g es m q → PlansAllowed m es (plan_query g q id)
 due_allowed g es m q id runs d before after t from within =
     let made = answer_makes g q id from.plan t from.from in (
       runs,
       refl,
-      subst (λ (n : ℕ). Adjoin n (length (blocks_of_answer t)) (terms_in t)) (sym (due_place g es m q d)) (made_adjoins g q (terms_in t) (blocks_of_answer t) from.plan made),
+      subst (λ (n : ℕ). Adjoin n (length (blocks_of_answer t)) (terms_in t)) (sym (due_place g es m q d))
+          (made_adjoins g q (terms_in t) (blocks_of_answer t) from.plan made),
     )

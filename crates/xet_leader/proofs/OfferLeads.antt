@@ -30,7 +30,7 @@ use Rattle.xet_leader.specs.declared.leader.LedPlan.{LedPlan}
 use Rattle.xet_leader.specs.declared.missing_blocks.BlockAt.{BlockAt}
 use Rattle.xet_leader.specs.Led.{EachLedBlock, IsLed, IsLedPlan, Led, true_data}
 use Rattle.xet_leader.specs.Offering.{AreServed, IsServed, OfferCalls, OfferFails, OfferLeads, OfferedBlock, OfferedEach, OfferedOne, due_of}
-use Rattle.xet_leader.specs.Plans.{Answer, block_in, block_there, place_in}
+use Rattle.xet_leader.specs.Plans.{Answer, block_in, block_there, find_plan}
 use Rattle.xet_leader.specs.Steady.{IsFailing, IsGoing, LeadPart, Loose, Moment}
 use Rattle.xet_leader.proofs.Leading.{lead_more}
 use Rattle.xet_leader.proofs.MoreTold.{led_more, tells_more_heard}
@@ -52,7 +52,8 @@ record Found (b : RunTold) (es : List Event) (p k : ℕ) (x : XorbBlock) : Type 
   pub kept : is_some x.kept ≡ is_kept es p k
   pub honest : (s : Store) → IsOver s b.clients → CacheTells s b.cache → IfSome x.kept (λ d. d ≡ true_data s x)
 
-each_honest : (b : RunTold) (es : List Event) (sl : Slack) (p n k : ℕ) (ts : List ℕ) (xs : List XorbBlock) (x : XorbBlock) → EachLedBlock b es sl p n ts xs → slice_get xs k ≡ Some x
+each_honest : (b : RunTold) (es : List Event) (sl : Slack) (p n k : ℕ) (ts : List ℕ) (xs : List XorbBlock)
+    (x : XorbBlock) → EachLedBlock b es sl p n ts xs → slice_get xs k ≡ Some x
     → (s : Store) → IsOver s b.clients → CacheTells s b.cache → IfSome x.kept (λ d. d ≡ true_data s x)
 each_honest b es sl p n k [] [] x a e s o t = absurd (cc)
 each_honest b es sl p n k [] (y ∷ xs) x a e s o t = absurd a
@@ -62,7 +63,8 @@ each_honest b es sl p n zero (u ∷ ts) (y ∷ xs) x a e s o t =
     subst (λ (z : XorbBlock). IfSome z.kept (λ d. d ≡ true_data s z)) is (a.0.data_is.honest s o t)
 each_honest b es sl p n (suc k) (u ∷ ts) (y ∷ xs) x a e s o t = each_honest b es sl p (n + 1) k ts xs x a.1 e s o t
 
-each_kept : (b : RunTold) (es : List Event) (sl : Slack) (p n k : ℕ) (ts : List ℕ) (xs : List XorbBlock) (x : XorbBlock) → EachLedBlock b es sl p n ts xs → slice_get xs k ≡ Some x → is_some x.kept ≡ is_kept es p (n + k)
+each_kept : (b : RunTold) (es : List Event) (sl : Slack) (p n k : ℕ) (ts : List ℕ) (xs : List XorbBlock)
+    (x : XorbBlock) → EachLedBlock b es sl p n ts xs → slice_get xs k ≡ Some x → is_some x.kept ≡ is_kept es p (n + k)
 each_kept b es sl p n k [] [] x a e = absurd (cc)
 each_kept b es sl p n k [] (y ∷ xs) x a e = absurd a
 each_kept b es sl p n k (u ∷ ts) [] x a e = absurd a
@@ -74,32 +76,43 @@ each_kept b es sl p n (suc k) (u ∷ ts) (y ∷ xs) x a e =
     let m : n + 1 + k ≡ n + suc k = omega arith in
     each_kept b es sl p (n + 1) k ts xs x a.1 e ∙ ap (λ (j : ℕ). is_kept es p j) m
 
-planned_at : (es : List Event) (p k : ℕ) (xs : List XorbBlock) (x : XorbBlock) → first_some (map (blocks_in p) es) ≡ Some (map planned_of xs) → slice_get xs k ≡ Some x → block_at es p k ≡ planned_of x ∷ []
+planned_at : (es : List Event) (p k : ℕ) (xs : List XorbBlock) (x : XorbBlock)
+    → first_some (map (blocks_in p) es) ≡ Some (map planned_of xs) → slice_get xs k ≡ Some x
+    → block_at es p k ≡ planned_of x ∷ []
 planned_at es p k xs x h e =
     ap (λ (o : Option (List PlannedBlock)). flat_map (λ bs. option_to_list (slice_get bs k)) (option_to_list o)) h
     ∙ append-nil (option_to_list (slice_get (map planned_of xs) k))
-    ∙ ap (λ (o : Option PlannedBlock). option_to_list o) (slice_get-map planned_of xs k ∙ ap (λ (o : Option XorbBlock). option_map planned_of o) e)
+    ∙ ap (λ (o : Option PlannedBlock). option_to_list o)
+    (slice_get-map planned_of xs k ∙ ap (λ (o : Option XorbBlock). option_map planned_of o) e)
 
-found_in : (g : Setup) (b : RunTold) (es : List Event) (sl : Slack) (stale : List ℕ) (l : Led) (p k place : ℕ) (y : LedPlan) (x : XorbBlock) → IsLed g b es sl stale l → place_in l.plans p ≡ Some place → slice_get l.plans place ≡ Some y
+found_in : (g : Setup) (b : RunTold) (es : List Event) (sl : Slack) (stale : List ℕ) (l : Led) (p k place : ℕ)
+    (y : LedPlan) (x : XorbBlock) → IsLed g b es sl stale l → find_plan l.plans p ≡ Some place
+    → slice_get l.plans place ≡ Some y
     → slice_get y.block.blocks k ≡ Some x → Found b es p k x
 found_in g b es sl stale l p k place y x a found at e =
     let own = at_place (IsLedPlan g b es sl stale) l.plans place y at a.plans.each in
     let number = place_number l.plans p place y a.plans.follow found at in
     let here : 0 + k ≡ k = omega arith in
     record {
-      at = subst (λ (n : ℕ). block_at es n k ≡ planned_of x ∷ []) number (planned_at es y.number k y.block.blocks x own.recorded.blocks e);
-      kept = subst (λ (n : ℕ). is_some x.kept ≡ is_kept es n k) number (each_kept b es sl y.number 0 k y.tries.items y.block.blocks x own.each e ∙ ap (λ (j : ℕ). is_kept es y.number j) here);
+      at = subst (λ (n : ℕ). block_at es n k ≡ planned_of x ∷ []) number
+          (planned_at es y.number k y.block.blocks x own.recorded.blocks e);
+      kept = subst (λ (n : ℕ). is_some x.kept ≡ is_kept es n k) number
+          (each_kept b es sl y.number 0 k y.tries.items y.block.blocks x own.each e
+          ∙ ap (λ (j : ℕ). is_kept es y.number j) here);
       honest = each_honest b es sl y.number 0 k y.tries.items y.block.blocks x own.each e;
     }
 
-found_block : (g : Setup) (b : RunTold) (es : List Event) (sl : Slack) (stale : List ℕ) (l : Led) (p k : ℕ) (x : XorbBlock) → IsLed g b es sl stale l → block_in l.plans p k ≡ Some x → Found b es p k x
-found_block g b es sl stale l p k x a e = by (place_in l.plans p) refl e
+found_block : (g : Setup) (b : RunTold) (es : List Event) (sl : Slack) (stale : List ℕ) (l : Led) (p k : ℕ)
+    (x : XorbBlock) → IsLed g b es sl stale l → block_in l.plans p k ≡ Some x → Found b es p k x
+found_block g b es sl stale l p k x a e = by (find_plan l.plans p) refl e
   where
-    there : (place : ℕ) → place_in l.plans p ≡ Some place → (o : Option LedPlan) → slice_get l.plans place ≡ o → option_and_then (λ (y : LedPlan). slice_get y.block.blocks k) o ≡ Some x → Found b es p k x
+    there : (place : ℕ) → find_plan l.plans p ≡ Some place → (o : Option LedPlan) → slice_get l.plans place ≡ o
+        → option_and_then (λ (y : LedPlan). slice_get y.block.blocks k) o ≡ Some x → Found b es p k x
     there place found None at h = absurd (cc)
     there place found (Some y) at h = found_in g b es sl stale l p k place y x a found at h
 
-    by : (o : Option ℕ) → place_in l.plans p ≡ o → option_and_then (block_there l.plans k) o ≡ Some x → Found b es p k x
+    by : (o : Option ℕ) → find_plan l.plans p ≡ o → option_and_then (block_there l.plans k) o ≡ Some x
+        → Found b es p k x
     by None found h = absurd (cc)
     by (Some place) found h = there place found (slice_get l.plans place) refl h
 
@@ -108,12 +121,17 @@ found_block g b es sl stale l p k x a e = by (place_in l.plans p) refl e
 -- each of these places is that of a block of the plans, and the history keeps it
 abbrev pub AreKeptAt : List Event → List LedPlan → List BlockAt → Type 0
 AreKeptAt es ls [] = Unit {0}
-AreKeptAt es ls (a ∷ ps) = IsSome (block_in ls a.plan a.block) × (is_kept es a.plan a.block ≡ true) × AreKeptAt es ls ps
+AreKeptAt es ls (a ∷ ps) = IsSome (block_in ls a.plan a.block) × (is_kept es a.plan a.block ≡ true)
+    × AreKeptAt es ls ps
 
 -- so each keeps data
-pub kept_served : (g : Setup) (b : RunTold) (es : List Event) (sl : Slack) (stale : List ℕ) (l : Led) (ps : List BlockAt) → IsLed g b es sl stale l → AreKeptAt es l.plans ps → AreServed l.plans ps
+pub kept_served : (g : Setup) (b : RunTold) (es : List Event) (sl : Slack) (stale : List ℕ) (l : Led)
+    (ps : List BlockAt) → IsLed g b es sl stale l → AreKeptAt es l.plans ps → AreServed l.plans ps
 kept_served g b es sl stale l [] led a = tt
-kept_served g b es sl stale l (p ∷ ps) led a = (by (block_in l.plans p.plan p.block) refl a.0, kept_served g b es sl stale l ps led a.2)
+kept_served g b es sl stale l (p ∷ ps) led a = (
+  by (block_in l.plans p.plan p.block) refl a.0,
+  kept_served g b es sl stale l ps led a.2,
+)
   where
     by : (x : Option XorbBlock) → block_in l.plans p.plan p.block ≡ x → IsSome x → IsServed x
     by None e h = absurd (cc)
@@ -121,21 +139,29 @@ kept_served g b es sl stale l (p ∷ ps) led a = (by (block_in l.plans p.plan p.
 
 -- ---- one block
 
-offers_kept : (x : XorbBlock) (o : Option XorbBlockData) → is_some o ≡ true → offers_in x o ≡ cond (has_one (planned_of x)) 1 0
+offers_kept : (x : XorbBlock) (o : Option XorbBlockData) → is_some o ≡ true
+    → offers_in x o ≡ cond (has_one (planned_of x)) 1 0
 offers_kept x None h = absurd (cc)
 offers_kept x (Some d) h = refl
 
 -- how many are due before and after it
-due_step : (es : List Event) (a : BlockAt) (ps : List BlockAt) (x : XorbBlock) → block_at es a.plan a.block ≡ planned_of x ∷ [] → is_some x.kept ≡ true → due_of es (a ∷ ps) ≡ due_of es ps + offers_of x
+due_step : (es : List Event) (a : BlockAt) (ps : List BlockAt) (x : XorbBlock)
+    → block_at es a.plan a.block ≡ planned_of x ∷ [] → is_some x.kept ≡ true
+    → due_of es (a ∷ ps) ≡ due_of es ps + offers_of x
 due_step es a ps x at kept =
     let rest : List PlannedBlock = blocks_at es (map (λ (p : BlockAt). (p.plan, p.block)) ps) in
-    let e : count_by has_one (block_at es a.plan a.block ++ rest) ≡ count_by has_one (planned_of x ∷ rest) = ap (λ (l : List PlannedBlock). count_by has_one (l ++ rest)) at in
-    let c : count_by has_one (planned_of x ∷ rest) ≡ cond (has_one (planned_of x)) 1 0 + count_by has_one rest = count_by-cons has_one (planned_of x) rest in
+    let e : count_by has_one (block_at es a.plan a.block ++ rest) ≡ count_by has_one (planned_of x ∷ rest) =
+    ap (λ (l : List PlannedBlock). count_by has_one (l ++ rest)) at in
+    let c : count_by has_one (planned_of x ∷ rest) ≡ cond (has_one (planned_of x)) 1 0 + count_by has_one rest =
+    count_by-cons has_one (planned_of x) rest in
     let k : offers_of x ≡ cond (has_one (planned_of x)) 1 0 = offers_kept x x.kept kept in
     omega (arith, e, c, k)
 
-offered_going : (g : Setup) (b : RunTold) (m : Moment) (o : Loose) (a : BlockAt) (ps : List BlockAt) (l : Led) (x : XorbBlock) (d : CacheTold) → block_in l.plans a.plan a.block ≡ Some x → is_some x.kept ≡ true → OfferBlockCall x m.told.cache d (Ok tt)
-    → IsGoing g b m (with_due o (due_of m.events (a ∷ ps))) l → IsGoing g b (cached_at m d) (with_due o (due_of m.events ps)) l
+offered_going : (g : Setup) (b : RunTold) (m : Moment) (o : Loose) (a : BlockAt) (ps : List BlockAt) (l : Led)
+    (x : XorbBlock) (d : CacheTold) → block_in l.plans a.plan a.block ≡ Some x → is_some x.kept ≡ true
+    → OfferBlockCall x m.told.cache d (Ok tt)
+    → IsGoing g b m (with_due o (due_of m.events (a ∷ ps))) l
+    → IsGoing g b (cached_at m d) (with_due o (due_of m.events ps)) l
 offered_going g b m o a ps l x d at kept call s =
     let found = found_block g b m.events s.slack o.stale l a.plan a.block x s.led at in
     let step = due_step m.events a ps x found.at kept in
@@ -143,54 +169,85 @@ offered_going g b m o a ps l x d at kept call s =
     let n = due_of m.events ps in
     record {
       slack = record s.slack { due = n };
-      ties = (offer_block_ties x m.told.cache d (Ok tt) call).done.ties g b m.told m.events s.slack n refl (omega (arith, step, due)) s.ties;
-      settled = record { hidden = s.settled.hidden; late = s.settled.late; lost = s.settled.lost; ahead = s.settled.ahead; spare = s.settled.spare; pending = s.settled.pending; due = refl; step = s.settled.step };
-      led = led_more g b m.events s.slack (record s.slack { due = n }) o.stale l (tells_more_heard s.slack (record s.slack { due = n }) (grew_none s.slack.heard) refl) s.led;
+      ties = (offer_block_ties x m.told.cache d (Ok tt) call).done.ties g b m.told m.events s.slack n refl
+          (omega (arith, step, due)) s.ties;
+      settled = record {
+        hidden = s.settled.hidden;
+        late = s.settled.late;
+        lost = s.settled.lost;
+        ahead = s.settled.ahead;
+        spare = s.settled.spare;
+        pending = s.settled.pending;
+        due = refl;
+        step =
+            s.settled.step;
+      };
+      led = led_more g b m.events s.slack (record s.slack { due = n }) o.stale l
+          (tells_more_heard s.slack (record s.slack { due = n }) (grew_none s.slack.heard) refl) s.led;
       calm = s.calm;
-      cache_tells = λ z over tells. offer_tells z over.valid x m.told.cache d (Ok tt) call (found.honest z over tells) (s.cache_tells z over tells);
+      cache_tells = λ z over tells. offer_tells z over.valid x m.told.cache d (Ok tt) call (found.honest z over tells)
+          (s.cache_tells z over tells);
     }
 
-one_offered : (g : Setup) (m : Moment) (o : Loose) (a : BlockAt) (ps : List BlockAt) (l : Led) (d : CacheTold) → IsServed (block_in l.plans a.plan a.block) → OfferedOne l.plans a m.told.cache d (Ok tt)
-    → LeadPart {A = Unit {0}} g m (cached_at m d) (with_due o (due_of m.events (a ∷ ps))) (with_due o (due_of m.events ps)) l l (Ok tt)
+one_offered : (g : Setup) (m : Moment) (o : Loose) (a : BlockAt) (ps : List BlockAt) (l : Led) (d : CacheTold)
+    → IsServed (block_in l.plans a.plan a.block) → OfferedOne l.plans a m.told.cache d (Ok tt)
+    → LeadPart {A = Unit {0}} g m (cached_at m d) (with_due o (due_of m.events (a ∷ ps)))
+    (with_due o (due_of m.events ps)) l l (Ok tt)
 one_offered g m o a ps l d served r = by (block_in l.plans a.plan a.block) refl served r
   where
-    by : (x : Option XorbBlock) → block_in l.plans a.plan a.block ≡ x → IsServed x → OfferedBlock x m.told.cache d (Ok tt) → LeadPart {A = Unit {0}} g m (cached_at m d) (with_due o (due_of m.events (a ∷ ps))) (with_due o (due_of m.events ps)) l l (Ok tt)
+    by : (x : Option XorbBlock) → block_in l.plans a.plan a.block ≡ x → IsServed x
+        → OfferedBlock x m.told.cache d (Ok tt) → LeadPart {A = Unit {0}} g m (cached_at m d)
+        (with_due o (due_of m.events (a ∷ ps))) (with_due o (due_of m.events ps)) l l (Ok tt)
     by None e h t = absurd h
     by (Some x) e h t = record { ok = λ b s. offered_going g b m o a ps l x d e h t s; err = λ b s. tt }
 
 -- ---- all of them
 
-same_cache : (g : Setup) (m : Moment) (o : Loose) (l : Led) (d : CacheTold) → d ≡ m.told.cache → LeadPart {A = Unit {0}} g m (cached_at m d) o o l l (Ok tt)
-same_cache g m o l d e = record { ok = λ b s. subst (λ (x : CacheTold). IsGoing g b (cached_at m x) o l) (sym e) s; err = λ b s. tt }
+same_cache : (g : Setup) (m : Moment) (o : Loose) (l : Led) (d : CacheTold) → d ≡ m.told.cache
+    → LeadPart {A = Unit {0}} g m (cached_at m d) o o l l (Ok tt)
+same_cache g m o l d e = record {
+  ok = λ b s. subst (λ (x : CacheTold). IsGoing g b (cached_at m x) o l) (sym e) s;
+  err = λ b s. tt;
+}
 
-each_offered : (g : Setup) (m : Moment) (o : Loose) (ps rest : List BlockAt) (l : Led) (d : CacheTold) → AreServed l.plans ps → OfferedEach l.plans ps m.told.cache d
-    → LeadPart {A = Unit {0}} g m (cached_at m d) (with_due o (due_of m.events (ps ++ rest))) (with_due o (due_of m.events rest)) l l (Ok tt)
+each_offered : (g : Setup) (m : Moment) (o : Loose) (ps rest : List BlockAt) (l : Led) (d : CacheTold)
+    → AreServed l.plans ps → OfferedEach l.plans ps m.told.cache d
+    → LeadPart {A = Unit {0}} g m (cached_at m d) (with_due o (due_of m.events (ps ++ rest)))
+    (with_due o (due_of m.events rest)) l l (Ok tt)
 each_offered g m o [] rest l d served r = same_cache g m (with_due o (due_of m.events rest)) l d r
 each_offered g m o (p ∷ ps) rest l d served r =
     let x = r.0 in
-    lead_more g m (cached_at m x) (cached_at m d) (with_due o (due_of m.events (p ∷ ps ++ rest))) (with_due o (due_of m.events (ps ++ rest))) (with_due o (due_of m.events rest)) l l l tt (Ok tt)
+    lead_more g m (cached_at m x) (cached_at m d) (with_due o (due_of m.events (p ∷ ps ++ rest)))
+    (with_due o (due_of m.events (ps ++ rest))) (with_due o (due_of m.events rest)) l l l tt (Ok tt)
     (one_offered g m o p (ps ++ rest) l x served.0 r.1)
     (each_offered g (cached_at m x) o ps rest l d served.1 r.2)
 
 -- ---- want of memory
 
-short_failing : (g : Setup) (b : RunTold) (m : Moment) (o : Loose) (l : Led) (x : XorbBlock) (d : CacheTold) (e : FileReconstructionError) → OfferBlockCall x m.told.cache d (Err e) → IsGoing g b m o l → IsFailing g b (cached_at m d) e
+short_failing : (g : Setup) (b : RunTold) (m : Moment) (o : Loose) (l : Led) (x : XorbBlock) (d : CacheTold)
+    (e : FileReconstructionError) → OfferBlockCall x m.told.cache d (Err e) → IsGoing g b m o l
+    → IsFailing g b (cached_at m d) e
 short_failing g b m o l x d e call s =
     let memory : e ≡ error.OutOfMemory = call.memory in
     let same : d ≡ m.told.cache = call.unoffered in
     record {
       slack = s.slack;
-      ties = subst (λ (c : CacheTold). Ties g b (record m.told { cache = c }) m.events None s.slack) (sym same) s.ties;
-      left = subst (λ (y : FileReconstructionError). MayLeave (Some y) b.clients s.slack) (sym memory) (short_leaves b.clients s.slack);
+      ties = subst (λ (c : CacheTold). Ties g b (record m.told { cache = c }) m.events None s.slack)
+          (sym same) s.ties;
+      left = subst (λ (y : FileReconstructionError). MayLeave (Some y) b.clients s.slack) (sym memory)
+          (short_leaves b.clients s.slack);
       cause = subst (Cause g b (record m.told { cache = d })) (sym memory) tt;
       spent = λ h. absurd (let z : error.OutOfMemory ≡ error.UrlExpired = sym memory ∙ h in cc);
       cache_tells = λ z over tells. subst (CacheTells z) (sym same) (s.cache_tells z over tells);
     }
 
-one_short : (g : Setup) (m : Moment) (o u : Loose) (a : BlockAt) (l : Led) (d : CacheTold) (e : FileReconstructionError) → OfferedOne l.plans a m.told.cache d (Err e) → LeadPart {A = Unit {0}} g m (cached_at m d) o u l l (Err e)
+one_short : (g : Setup) (m : Moment) (o u : Loose) (a : BlockAt) (l : Led) (d : CacheTold)
+    (e : FileReconstructionError) → OfferedOne l.plans a m.told.cache d (Err e)
+    → LeadPart {A = Unit {0}} g m (cached_at m d) o u l l (Err e)
 one_short g m o u a l d e r = by (block_in l.plans a.plan a.block) r
   where
-    by : (x : Option XorbBlock) → OfferedBlock x m.told.cache d (Err e) → LeadPart {A = Unit {0}} g m (cached_at m d) o u l l (Err e)
+    by : (x : Option XorbBlock) → OfferedBlock x m.told.cache d (Err e)
+        → LeadPart {A = Unit {0}} g m (cached_at m d) o u l l (Err e)
     by None t = absurd (let z : ◌≡◌ {A = Answer} (Err e) (Ok tt) = t.1 in cc)
     by (Some x) t = record { ok = λ b s. tt; err = λ b s. short_failing g b m o l x d e t s }
 
@@ -198,7 +255,8 @@ served_first : (ls : List LedPlan) (xs ys : List BlockAt) → AreServed ls (xs +
 served_first ls [] ys a = tt
 served_first ls (x ∷ xs) ys a = (a.0, served_first ls xs ys a.1)
 
-fails_lead : (g : Setup) (m : Moment) (o : Loose) (places : List BlockAt) (l : Led) (d : CacheTold) (e : FileReconstructionError) → AreServed l.plans places → OfferFails l.plans places m.told.cache d e
+fails_lead : (g : Setup) (m : Moment) (o : Loose) (places : List BlockAt) (l : Led) (d : CacheTold)
+    (e : FileReconstructionError) → AreServed l.plans places → OfferFails l.plans places m.told.cache d e
     → LeadPart {A = Unit {0}} g m (cached_at m d) (with_due o (due_of m.events places)) (with_due o 0) l l (Err e)
 fails_lead g m o places l d e served f =
     let k = f.count in
@@ -206,14 +264,24 @@ fails_lead g m o places l d e served f =
     let split : take k places ++ drop k places ≡ places = take-append-drop k places in
     let front = served_first l.plans (take k places) (drop k places) (subst (AreServed l.plans) (sym split) served) in
     let first = each_offered g m o (take k places) (drop k places) l x front f.before in
-    let last : LeadPart {A = Unit {0}} g (cached_at m x) (cached_at m d) (with_due o (due_of m.events (drop k places))) (with_due o 0) l l (Err e) = one_short g (cached_at m x) (with_due o (due_of m.events (drop k places))) (with_due o 0) f.place l d e f.fails in
-    subst (λ (ps : List BlockAt). LeadPart {A = Unit {0}} g m (cached_at m d) (with_due o (due_of m.events ps)) (with_due o 0) l l (Err e)) split
+    let last : LeadPart {A = Unit {0}} g (cached_at m x) (cached_at m d)
+    (with_due o (due_of m.events (drop k places))) (with_due o 0) l l (Err e) =
+    one_short g (cached_at m x) (with_due o (due_of m.events (drop k places)))
+    (with_due o 0) f.place l d e f.fails in
+    subst (λ (ps : List BlockAt). LeadPart {A = Unit {0}} g m (cached_at m d) (with_due o (due_of m.events ps))
+    (with_due o 0) l l (Err e)) split
     (record { ok = λ b s. tt; err = λ b s. last.err b (first.ok b s) })
 
-calls_lead : (g : Setup) (m : Moment) (o : Loose) (places : List BlockAt) (l : Led) (d : CacheTold) (answer : Answer) → AreServed l.plans places → OfferCalls l.plans places m.told.cache d answer
+calls_lead : (g : Setup) (m : Moment) (o : Loose) (places : List BlockAt) (l : Led) (d : CacheTold) (answer : Answer)
+    → AreServed l.plans places → OfferCalls l.plans places m.told.cache d answer
     → LeadPart g m (cached_at m d) (with_due o (due_of m.events places)) (with_due o 0) l l answer
-calls_lead g m o places l d (Ok tt) served r = subst (λ (ps : List BlockAt). LeadPart {A = Unit {0}} g m (cached_at m d) (with_due o (due_of m.events ps)) (with_due o 0) l l (Ok tt)) (append-nil places) (each_offered g m o places [] l d served r.ok)
+calls_lead g m o places l d (Ok tt) served r = subst
+    (λ (ps : List BlockAt). LeadPart {A = Unit {0}} g m (cached_at m d) (with_due o (due_of m.events ps))
+    (with_due o 0) l l (Ok tt)) (append-nil places) (each_offered g m o places [] l d served r.ok)
 calls_lead g m o places l d (Err e) served r = fails_lead g m o places l d e served r.err
 
-pub offer_leads : (places : List BlockAt) (c d : CacheTold) (l : Led) (answer : Answer) → OfferCalls l.plans places c d answer → OfferLeads places c d l answer
-offer_leads places c d l answer r g m o is served = calls_lead g m o places l d answer served (subst (λ (x : CacheTold). OfferCalls l.plans places x d answer) (sym is) r)
+pub offer_leads : (places : List BlockAt) (c d : CacheTold) (l : Led) (answer : Answer)
+    → OfferCalls l.plans places c d answer → OfferLeads places c d l answer
+offer_leads places c d l answer r g m o is served =
+    calls_lead g m o places l d answer served (subst (λ (x : CacheTold). OfferCalls l.plans places x d answer)
+    (sym is) r)

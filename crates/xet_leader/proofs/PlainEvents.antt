@@ -30,7 +30,8 @@ pub record IsPlain (e : Event) : Type 0 where
 quiet_of : (e : Event) → IsPlain e → IsQuiet e
 quiet_of e p = record { tasks = p.tasks; plan = p.plan; query = p.query; error = p.error }
 
-blocks_same : (b : RunTold) (es : List Event) (e : Event) (sl : Slack) (p k : ℕ) (ts : List ℕ) (xs : List XorbBlock) → IsPlain e → EachLedBlock b es sl p k ts xs → EachLedBlock b (es ++ e ∷ []) sl p k ts xs
+blocks_same : (b : RunTold) (es : List Event) (e : Event) (sl : Slack) (p k : ℕ) (ts : List ℕ) (xs : List XorbBlock)
+    → IsPlain e → EachLedBlock b es sl p k ts xs → EachLedBlock b (es ++ e ∷ []) sl p k ts xs
 blocks_same b es e sl p k [] [] n a = tt
 blocks_same b es e sl p k [] (x ∷ xs) n a = absurd a
 blocks_same b es e sl p k (t ∷ ts) [] n a = absurd a
@@ -43,11 +44,13 @@ blocks_same b es e sl p k (t ∷ ts) (x ∷ xs) n a = (
   blocks_same b es e sl p (k + 1) ts xs n a.1,
 )
 
-plan_same : (g : Setup) (b : RunTold) (es : List Event) (e : Event) (sl : Slack) (stale : List ℕ) (l : LedPlan) → IsPlain e → IsLedPlan g b es sl stale l → IsLedPlan g b (es ++ e ∷ []) sl stale l
+plan_same : (g : Setup) (b : RunTold) (es : List Event) (e : Event) (sl : Slack) (stale : List ℕ) (l : LedPlan)
+    → IsPlain e → IsLedPlan g b es sl stale l → IsLedPlan g b (es ++ e ∷ []) sl stale l
 plan_same g b es e sl stale l n p = record {
   plan = p.plan;
   query = p.query;
   accepted = p.accepted;
+  said_as = p.said_as;
   terms = p.terms;
   blocks = p.blocks;
   true_plan = p.true_plan;
@@ -57,7 +60,8 @@ plan_same g b es e sl stale l n p = record {
   ready = λ k h. quiet_ready g es e stale l.number k (n.expires_none l.number k) (n.expiry l.number k) (p.ready k h);
 }
 
-all_same : (g : Setup) (b : RunTold) (es : List Event) (e : Event) (sl : Slack) (stale : List ℕ) (ls : List LedPlan) → IsPlain e → All (IsLedPlan g b es sl stale) ls → All (IsLedPlan g b (es ++ e ∷ []) sl stale) ls
+all_same : (g : Setup) (b : RunTold) (es : List Event) (e : Event) (sl : Slack) (stale : List ℕ) (ls : List LedPlan)
+    → IsPlain e → All (IsLedPlan g b es sl stale) ls → All (IsLedPlan g b (es ++ e ∷ []) sl stale) ls
 all_same g b es e sl stale [] n a = All-nil (IsLedPlan g b (es ++ e ∷ []) sl stale)
 all_same g b es e sl stale (l ∷ ls) n a =
     All-cons (IsLedPlan g b (es ++ e ∷ []) sl stale) l ls
@@ -65,7 +69,8 @@ all_same g b es e sl stale (l ∷ ls) n a =
     (all_same g b es e sl stale ls n (All-tail (IsLedPlan g b es sl stale) l ls a))
 
 -- the plans of a leader
-pub plain_plans : (g : Setup) (b : RunTold) (es : List Event) (e : Event) (sl : Slack) (stale : List ℕ) (l : Led) → IsPlain e → AreLedPlans g b es sl stale l → AreLedPlans g b (es ++ e ∷ []) sl stale l
+pub plain_plans : (g : Setup) (b : RunTold) (es : List Event) (e : Event) (sl : Slack) (stale : List ℕ) (l : Led)
+    → IsPlain e → AreLedPlans g b es sl stale l → AreLedPlans g b (es ++ e ∷ []) sl stale l
 plain_plans g b es e sl stale l n a = record {
   each = all_same g b es e sl stale l.plans n a.each;
   follow = a.follow;
@@ -75,12 +80,14 @@ plain_plans g b es e sl stale l n a = record {
 }
 
 -- and its manager
-pub plain_manager : (g : Setup) (es : List Event) (e : Event) (m : Manager) → IsPlain e → IsLedManager g es m → IsLedManager g (es ++ e ∷ []) m
+pub plain_manager : (g : Setup) (es : List Event) (e : Event) (m : Manager) → IsPlain e → IsLedManager g es m
+    → IsLedManager g (es ++ e ∷ []) m
 plain_manager g es e m n a = quiet_manager g es e m (quiet_of e n) a
 
 pub plain_running : (es : List Event) (e : Event) → IsPlain e → IsRunning es → IsRunning (es ++ e ∷ [])
 plain_running es e n r = quiet_running es e (quiet_of e n) r
 
 -- the plans whose URLs are to be asked for again
-pub plain_stale : (es : List Event) (e : Event) (stale : List ℕ) → IsPlain e → AreStale es stale → AreStale (es ++ e ∷ []) stale
+pub plain_stale : (es : List Event) (e : Event) (stale : List ℕ) → IsPlain e → AreStale es stale
+    → AreStale (es ++ e ∷ []) stale
 plain_stale es e stale n a = quiet_stale es e stale n.renews_none a

@@ -5,10 +5,11 @@ use Rattle.std.proofs.lemmas.Bool.{le-leb, le-ltb, leb-false, leb-true, lt-leb, 
 use Rattle.std.proofs.lemmas.Option.{slice_get-get_or}
 use Rattle.xet_leader.specs.declared.leader.LedPlan.{LedPlan}
 use Rattle.xet_leader.specs.Led.{FollowOn}
-use Rattle.xet_leader.specs.Plans.{place_in}
+use Rattle.xet_leader.specs.Plans.{find_plan}
 
 -- the number of the plan at this place, where numbers follow one another
-pub numbered_at : (l : LedPlan) (ls : List LedPlan) (i : ℕ) (x : LedPlan) → FollowOn (l ∷ ls) → slice_get (l ∷ ls) i ≡ Some x → x.number ≡ l.number + i
+pub numbered_at : (l : LedPlan) (ls : List LedPlan) (i : ℕ) (x : LedPlan) → FollowOn (l ∷ ls)
+    → slice_get (l ∷ ls) i ≡ Some x → x.number ≡ l.number + i
 numbered_at l ls zero x f e =
     let is : l ≡ x = cc in
     let n = ap (λ (z : LedPlan). z.number) is in
@@ -21,7 +22,9 @@ numbered_at l (k ∷ ls) (suc i) x f e =
 
 -- ---- the place of a number
 
-here : (l : LedPlan) (ls : List LedPlan) (p place : ℕ) (u v : Bool) → nat_le l.number p ≡ u → nat_lt (p - l.number) (length (l ∷ ls)) ≡ v → cond (u && v) (Some (p - l.number)) None ≡ Some place → p ≡ l.number + place
+here : (l : LedPlan) (ls : List LedPlan) (p place : ℕ) (u v : Bool) → nat_le l.number p ≡ u
+    → nat_lt (p - l.number) (length (l ∷ ls)) ≡ v → cond (u && v) (Some (p - l.number)) None ≡ Some place
+    → p ≡ l.number + place
 here l ls p place true true e f h =
     let same : p - l.number ≡ place = cc in
     let low = leb-true l.number p e in
@@ -30,46 +33,55 @@ here l ls p place true false e f h = absurd (cc)
 here l ls p place false v e f h = absurd (cc)
 
 -- the plan at the place of a number has it
-pub place_number : (ls : List LedPlan) (p place : ℕ) (x : LedPlan) → FollowOn ls → place_in ls p ≡ Some place → slice_get ls place ≡ Some x → x.number ≡ p
+pub place_number : (ls : List LedPlan) (p place : ℕ) (x : LedPlan) → FollowOn ls → find_plan ls p ≡ Some place
+    → slice_get ls place ≡ Some x → x.number ≡ p
 place_number [] p place x f h e = absurd (cc)
 place_number (l ∷ ls) p place x f h e =
     let n = numbered_at l ls place x f e in
     let m = here l ls p place (nat_le l.number p) (nat_lt (p - l.number) (length (l ∷ ls))) refl refl h in
     omega (arith, n, m)
 
-absent_here : (l : LedPlan) (ls : List LedPlan) (p k : ℕ) (u v : Bool) → nat_le l.number p ≡ u → nat_lt (p - l.number) (length (l ∷ ls)) ≡ v → cond (u && v) (Some (p - l.number)) None ≡ None → k < length (l ∷ ls) → p ≡ l.number + k → ⊥
+absent_here : (l : LedPlan) (ls : List LedPlan) (p k : ℕ) (u v : Bool) → nat_le l.number p ≡ u
+    → nat_lt (p - l.number) (length (l ∷ ls)) ≡ v → cond (u && v) (Some (p - l.number)) None ≡ None
+    → k < length (l ∷ ls) → p ≡ l.number + k → ⊥
 absent_here l ls p k true true e f h w n = cc
-absent_here l ls p k true false e f h w n = let high = ltb-false (p - l.number) (length (l ∷ ls)) f in omega (arith, high, w, n)
+absent_here l ls p k true false e f h w n = let high = ltb-false (p - l.number) (length (l ∷ ls)) f in
+    omega (arith, high, w, n)
 absent_here l ls p k false v e f h w n = let low = leb-false l.number p e in omega (arith, low, n)
 
 -- where a number has no place no plan has it
-pub place_absent : (ls : List LedPlan) (p : ℕ) → FollowOn ls → place_in ls p ≡ None → All (λ l. p ≡ l.number → ⊥) ls
+pub place_absent : (ls : List LedPlan) (p : ℕ) → FollowOn ls → find_plan ls p ≡ None → All (λ l. p ≡ l.number → ⊥) ls
 place_absent [] p f h = λ k d w n. absurd (omega arith)
 place_absent (l ∷ ls) p f h = λ k d w n.
     let m = numbered_at l ls k (get_or (l ∷ ls) k d) f (slice_get-get_or (l ∷ ls) k d w) in
-    absent_here l ls p k (nat_le l.number p) (nat_lt (p - l.number) (length (l ∷ ls))) refl refl h w (omega (arith, m, n))
+    absent_here l ls p k (nat_le l.number p) (nat_lt (p - l.number) (length (l ∷ ls))) refl refl h w
+    (omega (arith, m, n))
 
 -- the number's place in code's words
-pub place_found : (ls : List LedPlan) (l : LedPlan) (p : ℕ) → 0 < length ls → l ≡ get_or ls 0 l → l.number ≤ p → p - l.number < length ls → place_in ls p ≡ Some (p - l.number)
+pub place_found : (ls : List LedPlan) (l : LedPlan) (p : ℕ) → 0 < length ls → l ≡ get_or ls 0 l → l.number ≤ p
+    → p - l.number < length ls → find_plan ls p ≡ Some (p - l.number)
 place_found [] l p s e a b = absurd (omega arith)
 place_found (k ∷ ls) l p s e a b =
     let low : nat_le l.number p ≡ true = le-leb l.number p a in
     let high : nat_lt (p - l.number) (length (k ∷ ls)) ≡ true = lt-ltb (p - l.number) (length (k ∷ ls)) b in
-    subst (λ (x : LedPlan). place_in (x ∷ ls) p ≡ Some (p - l.number)) e (rw (low, high) refl)
+    subst (λ (x : LedPlan). find_plan (x ∷ ls) p ≡ Some (p - l.number)) e (rw (low, high) refl)
 
-pub place_past : (ls : List LedPlan) (l : LedPlan) (p : ℕ) → 0 < length ls → l ≡ get_or ls 0 l → length ls ≤ p - l.number → place_in ls p ≡ None
+pub place_past : (ls : List LedPlan) (l : LedPlan) (p : ℕ) → 0 < length ls → l ≡ get_or ls 0 l
+    → length ls ≤ p - l.number → find_plan ls p ≡ None
 place_past [] l p s e b = absurd (omega arith)
 place_past (k ∷ ls) l p s e b =
     let high : nat_lt (p - l.number) (length (k ∷ ls)) ≡ false = le-ltb (p - l.number) (length (k ∷ ls)) b in
-    subst (λ (x : LedPlan). place_in (x ∷ ls) p ≡ None) e (none (nat_le l.number p) (nat_lt (p - l.number) (length (l ∷ ls))) high)
+    subst (λ (x : LedPlan). find_plan (x ∷ ls) p ≡ None) e
+    (none (nat_le l.number p) (nat_lt (p - l.number) (length (l ∷ ls))) high)
   where
     none : (u v : Bool) → v ≡ false → cond {A = Option ℕ} (u && v) (Some (p - l.number)) None ≡ None
     none true true f = absurd (cc)
     none true false f = refl
     none false v f = refl
 
-pub place_below : (ls : List LedPlan) (l : LedPlan) (p : ℕ) → 0 < length ls → l ≡ get_or ls 0 l → p < l.number → place_in ls p ≡ None
+pub place_below : (ls : List LedPlan) (l : LedPlan) (p : ℕ) → 0 < length ls → l ≡ get_or ls 0 l → p < l.number
+    → find_plan ls p ≡ None
 place_below [] l p s e b = absurd (omega arith)
 place_below (k ∷ ls) l p s e b =
     let low : nat_le l.number p ≡ false = lt-leb l.number p b in
-    subst (λ (x : LedPlan). place_in (x ∷ ls) p ≡ None) e (rw low refl)
+    subst (λ (x : LedPlan). find_plan (x ∷ ls) p ≡ None) e (rw low refl)

@@ -12,13 +12,16 @@ use Rattle.xet_leader.specs.Led.{IsLedManager}
 use Rattle.xet_leader.proofs.Measures.{ends_are}
 
 -- where each byte below the known end was asked for, the queries reach the range's end, or a plan ended early
-pub covered_reaches : (g : Setup) (es : List Event) (m : Manager) → g.range.start < g.range.end → IsLedManager g es m → IsCovered m → ReachesEnd g.range es
+pub covered_reaches : (g : Setup) (es : List Event) (m : Manager) → g.range.start < g.range.end → IsLedManager g es m
+    → IsCovered m → ReachesEnd g.range es
 covered_reaches g es m some a c =
     let range = a.is_for.range in
     let first : g.range.start ≡ m.range.start = ap (λ (r : FileRange). r.start) (sym range) in
-    let all : queries es ≡ m.queries = a.queries_are ∙ take_all m.answered m.queries (let n = c.answered in omega (arith, n)) in
+    let all : queries es ≡ m.queries = a.queries_are
+    ∙ take_all m.answered m.queries (let n = c.answered in omega (arith, n)) in
     let end : queries_end es g.range.start ≡ scheduled_end m =
-    ends_are g.range.start (queries es) ∙ ap (end_from g.range.start) all ∙ ap (λ (n : ℕ). end_from n m.queries) first in
+    ends_are g.range.start (queries es) ∙ ap (end_from g.range.start) all
+    ∙ ap (λ (n : ℕ). end_from n m.queries) first in
     ⊎_elim
     (λ (h : scheduled_end m ≡ m.range.end). inl (end ∙ h ∙ ap (λ (r : FileRange). r.end) range))
     (λ (h : m.ended ≡ true). inr (a.early h))

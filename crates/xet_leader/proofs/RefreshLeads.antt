@@ -23,7 +23,7 @@ use Rattle.xet_parts.specs.PlanRefreshes.{again}
 use Rattle.xet_parts.proofs.CallerLemmas.{refresh_cause, refresh_fails_ties, refreshed_ties}
 use Rattle.xet_leader.specs.declared.leader.LedPlan.{LedPlan}
 use Rattle.xet_leader.specs.Led.{IsLed, IsLedPlan, Led}
-use Rattle.xet_leader.specs.Plans.{Answer, place_in}
+use Rattle.xet_leader.specs.Plans.{Answer, find_plan}
 use Rattle.xet_leader.specs.Refreshing.{RefreshCalls, RefreshFails, RefreshLeads, RefreshTurn, RefreshedAt, RefreshedEach, RefreshedOne, RefreshedThere, Touched}
 use Rattle.xet_leader.specs.Steady.{IsFailing, IsGoing, IsSettled, LeadPart, Loose, Moment}
 use Rattle.xet_leader.proofs.Leading.{lead_more}
@@ -46,12 +46,23 @@ with_plans l a = record l { plans = a.plans }
 abbrev with_stale : Loose → List ℕ → Loose
 with_stale o ps = record o { stale = ps }
 
-settled_same : (b : RunTold) (o : Loose) (ps qs : List ℕ) (sl : Slack) → IsSettled b (with_stale o ps) sl → IsSettled b (with_stale o qs) sl
-settled_same b o ps qs sl s = record { hidden = s.hidden; late = s.late; lost = s.lost; ahead = s.ahead; spare = s.spare; pending = s.pending; due = s.due; step = s.step }
+settled_same : (b : RunTold) (o : Loose) (ps qs : List ℕ) (sl : Slack) → IsSettled b (with_stale o ps) sl
+    → IsSettled b (with_stale o qs) sl
+settled_same b o ps qs sl s = record {
+  hidden = s.hidden;
+  late = s.late;
+  lost = s.lost;
+  ahead = s.ahead;
+  spare = s.spare;
+  pending = s.pending;
+  due = s.due;
+  step = s.step;
+}
 
 -- ---- a number of no plan
 
-passed : (g : Setup) (b : RunTold) (m : Moment) (o : Loose) (p : ℕ) (rest : List ℕ) (l : Led) → place_in l.plans p ≡ None → IsGoing g b m (with_stale o (p ∷ rest)) l → IsGoing g b m (with_stale o rest) l
+passed : (g : Setup) (b : RunTold) (m : Moment) (o : Loose) (p : ℕ) (rest : List ℕ) (l : Led)
+    → find_plan l.plans p ≡ None → IsGoing g b m (with_stale o (p ∷ rest)) l → IsGoing g b m (with_stale o rest) l
 passed g b m o p rest l none s = record {
   slack = s.slack;
   ties = s.ties;
@@ -61,13 +72,20 @@ passed g b m o p rest l none s = record {
   cache_tells = s.cache_tells;
 }
 
-same_moment : (g : Setup) (b : RunTold) (m : Moment) (cs : List ClientTold) (c : ClientTold) (a : Touched) (o : Loose) (l : Led) → m.told.clients ≡ c ∷ cs → a ≡ touched c m l → IsGoing g b m o l → IsGoing g b (then_at m cs a) o (with_plans l a)
+same_moment : (g : Setup) (b : RunTold) (m : Moment) (cs : List ClientTold) (c : ClientTold) (a : Touched) (o : Loose)
+    (l : Led) → m.told.clients ≡ c ∷ cs → a ≡ touched c m l → IsGoing g b m o l
+    → IsGoing g b (then_at m cs a) o (with_plans l a)
 same_moment g b m cs c a o l is same s =
     subst (λ (x : Touched). IsGoing g b (then_at m cs x) o (with_plans l x)) (sym same)
-    (subst (λ (ns : List ClientTold). IsGoing g b (record { told = record m.told { clients = ns }; events = m.events }) o l) is s)
+    (subst (λ (ns : List ClientTold). IsGoing g b (record {
+      told = record m.told { clients = ns };
+      events = m.events;
+    }) o l) is s)
 
-passed_leads : (g : Setup) (m : Moment) (o : Loose) (cs : List ClientTold) (c : ClientTold) (p : ℕ) (rest : List ℕ) (l : Led) (a : Touched) → m.told.clients ≡ c ∷ cs → place_in l.plans p ≡ None → a ≡ touched c m l
-    → LeadPart {A = Unit {0}} g m (then_at m cs a) (with_stale o (p ∷ rest)) (with_stale o rest) l (with_plans l a) (Ok tt)
+passed_leads : (g : Setup) (m : Moment) (o : Loose) (cs : List ClientTold) (c : ClientTold) (p : ℕ) (rest : List ℕ)
+    (l : Led) (a : Touched) → m.told.clients ≡ c ∷ cs → find_plan l.plans p ≡ None → a ≡ touched c m l
+    → LeadPart {A = Unit {0}} g m (then_at m cs a) (with_stale o (p ∷ rest)) (with_stale o rest) l (with_plans l a)
+    (Ok tt)
 passed_leads g m o cs c p rest l a is none same = record {
   ok = λ b s. same_moment g b m cs c a (with_stale o rest) l is same (passed g b m o p rest l none s);
   err = λ b s. tt;
@@ -80,87 +98,143 @@ record Own (g : Setup) (b : RunTold) (m : Moment) (p : ℕ) (rest : List ℕ) (s
   pub plan_is : IsLedPlan g b m.events sl (p ∷ rest) x
   pub at_range : range_at m.events p ≡ x.block.urls.byte_range ∷ []
 
-own_plan : (g : Setup) (b : RunTold) (m : Moment) (o : Loose) (p place : ℕ) (rest : List ℕ) (l : Led) (x : LedPlan) → place_in l.plans p ≡ Some place → slice_get l.plans place ≡ Some x → (s : IsGoing g b m (with_stale o (p ∷ rest)) l) → Own g b m p rest s.slack x
+own_plan : (g : Setup) (b : RunTold) (m : Moment) (o : Loose) (p place : ℕ) (rest : List ℕ) (l : Led) (x : LedPlan)
+    → find_plan l.plans p ≡ Some place → slice_get l.plans place ≡ Some x
+    → (s : IsGoing g b m (with_stale o (p ∷ rest)) l) → Own g b m p rest s.slack x
 own_plan g b m o p place rest l x found at s =
     let own = at_place (IsLedPlan g b m.events s.slack (p ∷ rest)) l.plans place x at s.led.plans.each in
     let number = place_number l.plans p place x s.led.plans.follow found at in
-    record { plan_is = own; at_range = subst (λ (n : ℕ). range_at m.events n ≡ x.block.urls.byte_range ∷ []) number own.recorded.at_range }
+    record {
+      plan_is = own;
+      at_range = subst (λ (n : ℕ). range_at m.events n ≡ x.block.urls.byte_range ∷ []) number
+          own.recorded.at_range;
+    }
 
-renewed_going : (g : Setup) (b : RunTold) (m : Moment) (o : Loose) (cs : List ClientTold) (c : ClientTold) (multi : Bool) (p place : ℕ) (rest : List ℕ) (l : Led) (a : Touched) → m.told.clients ≡ c ∷ cs → place_in l.plans p ≡ Some place
-    → RefreshedAt multi p place (touched c m l) a (Ok tt) → IsGoing g b m (with_stale o (p ∷ rest)) l → IsGoing g b (then_at m cs a) (with_stale o rest) (with_plans l a)
-renewed_going g b m o cs c multi p place rest l a is found r s =
+renewed_going : (g : Setup) (b : RunTold) (m : Moment) (o : Loose) (cs : List ClientTold) (c : ClientTold)
+    (multi : Bool) (p place : ℕ) (rest : List ℕ) (l : Led) (a : Touched) → g.multirange ≡ multi
+    → m.told.clients ≡ c ∷ cs → find_plan l.plans p ≡ Some place
+    → RefreshedAt multi p place (touched c m l) a (Ok tt) → IsGoing g b m (with_stale o (p ∷ rest)) l
+    → IsGoing g b (then_at m cs a) (with_stale o rest) (with_plans l a)
+renewed_going g b m o cs c multi p place rest l a same is found r s =
     let x = r.plan in
     let own = own_plan g b m o p place rest l x found r.at s in
     let q = x.block.urls.byte_range in
     let heard = heard_first ((g.file, q) ∷ []) (said.Plan (Found r.call.took.answered.plan) ∷ []) s.slack.heard in
     let to : Slack = record s.slack { heard = heard; lost = [] } in
-    let ties = refreshed_ties g b m.told m.events a.events s.slack p x.block r.block multi c a.client cs is r.call s.settled.lost s.settled.step own.at_range own.plan_is.table.file s.ties in
-    let led : IsLed g b (m.events ++ Refreshed p ∷ []) to rest (record l { plans = slice_set l.plans place (record x { block = r.block }) }) =
+    let ties = refreshed_ties g b m.told m.events a.events s.slack p x.block r.block multi c a.client cs is r.call
+    s.settled.lost s.settled.step own.at_range own.plan_is.table.file own.plan_is.plan own.plan_is.query
+    own.plan_is.accepted (asks_again g x own.plan_is.plan own.plan_is.query multi same own.plan_is.blocks
+    own.plan_is.table) s.ties in
+    let led : IsLed g b (m.events ++ Refreshed p ∷ []) to rest
+    (record l { plans = slice_set l.plans place (record x { block = r.block }) }) =
     led_refreshed g b m.events s.slack to p rest l place x r.block c a.client multi
-    (tells_more_heard s.slack to (grew_first ((g.file, q) ∷ []) (said.Plan (Found r.call.took.answered.plan) ∷ []) s.slack.heard) refl) r.at r.call.took s.led in
+    (tells_more_heard s.slack to (grew_first ((g.file, q) ∷ [])
+    (said.Plan (Found r.call.took.answered.plan) ∷ []) s.slack.heard) refl) r.at r.call.took s.led in
     record {
       slack = to;
       ties = ties.0;
-      settled = record { hidden = s.settled.hidden; late = s.settled.late; lost = refl; ahead = s.settled.ahead; spare = s.settled.spare; pending = s.settled.pending; due = s.settled.due; step = ties.1 };
-      led = subst (λ (es : List Event). IsLed g b es to rest (with_plans l a)) (sym r.call.recorded) (subst (λ (ls : List LedPlan). IsLed g b (m.events ++ Refreshed p ∷ []) to rest (record l { plans = ls })) (sym r.plans) led);
+      settled = record {
+        hidden = s.settled.hidden;
+        late = s.settled.late;
+        lost = refl;
+        ahead = s.settled.ahead;
+        spare = s.settled.spare;
+        pending = s.settled.pending;
+        due = s.settled.due;
+        step = ties.1;
+      };
+      led = subst (λ (es : List Event). IsLed g b es to rest (with_plans l a)) (sym r.call.recorded)
+          (subst (λ (ls : List LedPlan). IsLed g b (m.events ++ Refreshed p ∷ []) to rest (record l { plans = ls }))
+          (sym r.plans) led);
       calm = s.calm;
       cache_tells = s.cache_tells;
     }
 
-refused : (g : Setup) (b : RunTold) (m : Moment) (o : Loose) (cs : List ClientTold) (c : ClientTold) (multi : Bool) (p place : ℕ) (rest : List ℕ) (l : Led) (a : Touched) (e : FileReconstructionError) → g.multirange ≡ multi → m.told.clients ≡ c ∷ cs
-    → place_in l.plans p ≡ Some place → RefreshedAt multi p place (touched c m l) a (Err e) → IsGoing g b m (with_stale o (p ∷ rest)) l → IsFailing g b (then_at m cs a) e
+refused : (g : Setup) (b : RunTold) (m : Moment) (o : Loose) (cs : List ClientTold) (c : ClientTold) (multi : Bool)
+    (p place : ℕ) (rest : List ℕ) (l : Led) (a : Touched) (e : FileReconstructionError) → g.multirange ≡ multi
+    → m.told.clients ≡ c ∷ cs
+    → find_plan l.plans p ≡ Some place → RefreshedAt multi p place (touched c m l) a (Err e)
+    → IsGoing g b m (with_stale o (p ∷ rest)) l → IsFailing g b (then_at m cs a) e
 refused g b m o cs c multi p place rest l a e same is found r s =
     let x = r.plan in
     let own = own_plan g b m o p place rest l x found r.at s in
     let plan = own.plan_is.plan in
     let query = own.plan_is.query in
     let table = own.plan_is.table in
-    let short = refresh_fails_ties g b m.told m.events a.events s.slack p x.block r.block multi c a.client cs e is r.call s.settled.lost own.at_range table.file s.ties in
-    let sl : Slack = record s.slack { heard = heard_first short.queries short.answers s.slack.heard; lost = short.queries } in
-    let covers : range_at m.events p ≡ covered (shape plan) query ∷ [] = own.at_range ∙ ap (λ (q : FileRange). q ∷ []) table.range_is in
+    let short = refresh_fails_ties g b m.told m.events a.events s.slack p x.block r.block multi c a.client cs e is
+    r.call s.settled.lost own.at_range table.file s.ties in
+    let sl : Slack = record s.slack {
+      heard = heard_first short.queries short.answers s.slack.heard;
+      lost = short.queries;
+    } in
+    let covers : range_at m.events p ≡ covered (shape plan) query ∷ [] =
+    own.at_range ∙ ap (λ (q : FileRange). q ∷ []) table.range_is in
     record {
       slack = sl;
       ties = short.ties;
-      left = steady_leaves b.clients e sl (ap all_of s.settled.hidden ∙ none_hidden b.clients) (subst (AllAre 0) (sym s.settled.late) (none_late b.clients)) s.settled.ahead;
-      cause = refresh_cause g b m.told m.events a.events s.slack p x.block r.block multi plan query c a.client cs e is r.call (asks_again g x plan query multi same own.plan_is.blocks table) s.settled.lost s.settled.step covers s.led.some own.plan_is.accepted
-          (λ z over y h. refresh_passes g z over.valid plan query (own.plan_is.true_plan z over) own.plan_is.accepted.said.some y h) s.ties;
-      spent = λ h. absurd (subst (λ (y : FileReconstructionError). RefreshCause (again x.block multi) c a.client y) h r.call.cause);
+      left = steady_leaves b.clients e sl (ap all_of s.settled.hidden ∙ none_hidden b.clients)
+          (subst (AllAre 0) (sym s.settled.late) (none_late b.clients)) s.settled.ahead;
+      cause = refresh_cause g b m.told m.events a.events s.slack p x.block r.block multi plan query c a.client cs e is
+          r.call (asks_again g x plan query multi same own.plan_is.blocks table) s.settled.lost s.settled.step covers
+          s.led.some own.plan_is.accepted
+          (λ z over y h. refresh_passes g z over.valid plan query
+          (own.plan_is.true_plan z over) own.plan_is.accepted.said.some y h) s.ties;
+      spent = λ h. absurd (subst (λ (y : FileReconstructionError). RefreshCause (again x.block multi) c a.client y) h
+          r.call.cause);
       cache_tells = s.cache_tells;
     }
 
-at_leads : (g : Setup) (m : Moment) (o : Loose) (cs : List ClientTold) (c : ClientTold) (multi : Bool) (p place : ℕ) (rest : List ℕ) (l : Led) (a : Touched) (answer : Answer) → g.multirange ≡ multi → m.told.clients ≡ c ∷ cs
-    → place_in l.plans p ≡ Some place → RefreshedAt multi p place (touched c m l) a answer → LeadPart g m (then_at m cs a) (with_stale o (p ∷ rest)) (with_stale o rest) l (with_plans l a) answer
-at_leads g m o cs c multi p place rest l a (Ok tt) same is found r = record { ok = λ b s. renewed_going g b m o cs c multi p place rest l a is found r s; err = λ b s. tt }
-at_leads g m o cs c multi p place rest l a (Err e) same is found r = record { ok = λ b s. tt; err = λ b s. refused g b m o cs c multi p place rest l a e same is found r s }
+at_leads : (g : Setup) (m : Moment) (o : Loose) (cs : List ClientTold) (c : ClientTold) (multi : Bool) (p place : ℕ)
+    (rest : List ℕ) (l : Led) (a : Touched) (answer : Answer) → g.multirange ≡ multi → m.told.clients ≡ c ∷ cs
+    → find_plan l.plans p ≡ Some place → RefreshedAt multi p place (touched c m l) a answer
+    → LeadPart g m (then_at m cs a) (with_stale o (p ∷ rest)) (with_stale o rest) l (with_plans l a) answer
+at_leads g m o cs c multi p place rest l a (Ok tt) same is found r =
+    record { ok = λ b s. renewed_going g b m o cs c multi p place rest l a same is found r s; err = λ b s. tt }
+at_leads g m o cs c multi p place rest l a (Err e) same is found r =
+    record { ok = λ b s. tt; err = λ b s. refused g b m o cs c multi p place rest l a e same is found r s }
 
 -- one number
-one_leads : (g : Setup) (m : Moment) (o : Loose) (cs : List ClientTold) (c : ClientTold) (multi : Bool) (p : ℕ) (rest : List ℕ) (l : Led) (a : Touched) (answer : Answer) → g.multirange ≡ multi → m.told.clients ≡ c ∷ cs
-    → RefreshedOne multi p (touched c m l) a answer → LeadPart g m (then_at m cs a) (with_stale o (p ∷ rest)) (with_stale o rest) l (with_plans l a) answer
-one_leads g m o cs c multi p rest l a answer same is r = by (place_in l.plans p) refl r
+one_leads : (g : Setup) (m : Moment) (o : Loose) (cs : List ClientTold) (c : ClientTold) (multi : Bool) (p : ℕ)
+    (rest : List ℕ) (l : Led) (a : Touched) (answer : Answer) → g.multirange ≡ multi → m.told.clients ≡ c ∷ cs
+    → RefreshedOne multi p (touched c m l) a answer
+    → LeadPart g m (then_at m cs a) (with_stale o (p ∷ rest)) (with_stale o rest) l (with_plans l a) answer
+one_leads g m o cs c multi p rest l a answer same is r = by (find_plan l.plans p) refl r
   where
-    by : (i : Option ℕ) → place_in l.plans p ≡ i → RefreshedThere multi p i (touched c m l) a answer → LeadPart g m (then_at m cs a) (with_stale o (p ∷ rest)) (with_stale o rest) l (with_plans l a) answer
-    by None e t = subst (λ (x : Answer). LeadPart g m (then_at m cs a) (with_stale o (p ∷ rest)) (with_stale o rest) l (with_plans l a) x) (sym t.1) (passed_leads g m o cs c p rest l a is e t.0)
+    by : (i : Option ℕ) → find_plan l.plans p ≡ i → RefreshedThere multi p i (touched c m l) a answer
+        → LeadPart g m (then_at m cs a) (with_stale o (p ∷ rest)) (with_stale o rest) l (with_plans l a) answer
+    by None e t = subst (λ (x : Answer). LeadPart g m (then_at m cs a) (with_stale o (p ∷ rest)) (with_stale o rest) l
+        (with_plans l a) x) (sym t.1) (passed_leads g m o cs c p rest l a is e t.0)
     by (Some place) e t = at_leads g m o cs c multi p place rest l a answer same is e t
 
 -- ---- all of them
 
-none_leads : (g : Setup) (m : Moment) (o : Loose) (cs : List ClientTold) (c : ClientTold) (l : Led) (a : Touched) → m.told.clients ≡ c ∷ cs → a ≡ touched c m l → LeadPart {A = Unit {0}} g m (then_at m cs a) o o l (with_plans l a) (Ok tt)
+none_leads : (g : Setup) (m : Moment) (o : Loose) (cs : List ClientTold) (c : ClientTold) (l : Led) (a : Touched)
+    → m.told.clients ≡ c ∷ cs → a ≡ touched c m l → LeadPart {A = Unit {0}} g m (then_at m cs a) o o l
+    (with_plans l a) (Ok tt)
 none_leads g m o cs c l a is same = record { ok = λ b s. same_moment g b m cs c a o l is same s; err = λ b s. tt }
 
-each_leads : (g : Setup) (m : Moment) (o : Loose) (cs : List ClientTold) (c : ClientTold) (multi : Bool) (ps rest : List ℕ) (l : Led) (a : Touched) → g.multirange ≡ multi → m.told.clients ≡ c ∷ cs → RefreshedEach multi ps (touched c m l) a
-    → LeadPart {A = Unit {0}} g m (then_at m cs a) (with_stale o (ps ++ rest)) (with_stale o rest) l (with_plans l a) (Ok tt)
+each_leads : (g : Setup) (m : Moment) (o : Loose) (cs : List ClientTold) (c : ClientTold) (multi : Bool)
+    (ps rest : List ℕ) (l : Led) (a : Touched) → g.multirange ≡ multi → m.told.clients ≡ c ∷ cs
+    → RefreshedEach multi ps (touched c m l) a
+    → LeadPart {A = Unit {0}} g m (then_at m cs a) (with_stale o (ps ++ rest)) (with_stale o rest) l (with_plans l a)
+    (Ok tt)
 each_leads g m o cs c multi [] rest l a same is r = none_leads g m (with_stale o rest) cs c l a is r
 each_leads g m o cs c multi (p ∷ ps) rest l a same is r =
     let x = r.0 in
-    lead_more g m (then_at m cs x) (then_at m cs a) (with_stale o (p ∷ ps ++ rest)) (with_stale o (ps ++ rest)) (with_stale o rest) l (with_plans l x) (with_plans l a) tt (Ok tt)
+    lead_more g m (then_at m cs x) (then_at m cs a) (with_stale o (p ∷ ps ++ rest)) (with_stale o (ps ++ rest))
+    (with_stale o rest) l (with_plans l x) (with_plans l a) tt (Ok tt)
     (one_leads g m o cs c multi p (ps ++ rest) l x (Ok tt) same is r.1)
     (each_leads g (then_at m cs x) o cs x.client multi ps rest (with_plans l x) a same refl r.2)
 
 -- the numbers up to one, and those after it
 split_at : (ps : List ℕ) (k p : ℕ) → slice_get ps k ≡ Some p → ps ≡ take k ps ++ p ∷ drop (k + 1) ps
-split_at ps k p e = sym (take-append-drop k ps) ∙ ap (λ (l : List ℕ). take k ps ++ l) (drop_at ps k p (slice_get_within ps k p e) ∙ ap (λ (x : ℕ). x ∷ drop (k + 1) ps) (get_or_from_slice_get ps k p p e))
+split_at ps k p e = sym (take-append-drop k ps) ∙ ap (λ (l : List ℕ). take k ps ++ l)
+    (drop_at ps k p (slice_get_within ps k p e) ∙ ap (λ (x : ℕ). x ∷ drop (k + 1) ps)
+    (get_or_from_slice_get ps k p p e))
 
-fails_leads : (g : Setup) (m : Moment) (o : Loose) (cs : List ClientTold) (c : ClientTold) (multi : Bool) (ps : List ℕ) (l : Led) (a : Touched) (e : FileReconstructionError) → g.multirange ≡ multi → m.told.clients ≡ c ∷ cs → RefreshFails multi ps (touched c m l) a e
+fails_leads : (g : Setup) (m : Moment) (o : Loose) (cs : List ClientTold) (c : ClientTold) (multi : Bool)
+    (ps : List ℕ) (l : Led) (a : Touched) (e : FileReconstructionError) → g.multirange ≡ multi
+    → m.told.clients ≡ c ∷ cs → RefreshFails multi ps (touched c m l) a e
     → LeadPart {A = Unit {0}} g m (then_at m cs a) (with_stale o ps) (with_stale o []) l (with_plans l a) (Err e)
 fails_leads g m o cs c multi ps l a e same is f =
     let k = f.count in
@@ -168,17 +242,27 @@ fails_leads g m o cs c multi ps l a e same is f =
     let x = f.last in
     let rest = drop (k + 1) ps in
     let first = each_leads g m o cs c multi (take k ps) (p ∷ rest) l x same is f.before in
-    let last : LeadPart {A = Unit {0}} g (then_at m cs x) (then_at m cs a) (with_stale o (p ∷ rest)) (with_stale o rest) (with_plans l x) (with_plans l a) (Err e) = one_leads g (then_at m cs x) o cs x.client multi p rest (with_plans l x) a (Err e) same refl f.fails in
-    subst (λ (ns : List ℕ). LeadPart {A = Unit {0}} g m (then_at m cs a) (with_stale o ns) (with_stale o []) l (with_plans l a) (Err e)) (sym (split_at ps k p f.next))
+    let last : LeadPart {A = Unit {0}} g (then_at m cs x) (then_at m cs a) (with_stale o (p ∷ rest))
+    (with_stale o rest) (with_plans l x) (with_plans l a) (Err e) =
+    one_leads g (then_at m cs x) o cs x.client multi p rest (with_plans l x) a (Err e) same refl f.fails in
+    subst (λ (ns : List ℕ). LeadPart {A = Unit {0}} g m (then_at m cs a) (with_stale o ns) (with_stale o []) l
+    (with_plans l a) (Err e)) (sym (split_at ps k p f.next))
     (record { ok = λ b s. tt; err = λ b s. last.err b (first.ok b s) })
 
-calls_lead : (g : Setup) (m : Moment) (o : Loose) (cs : List ClientTold) (c : ClientTold) (multi : Bool) (ps : List ℕ) (l : Led) (a : Touched) (answer : Answer) → g.multirange ≡ multi → m.told.clients ≡ c ∷ cs → RefreshCalls multi ps (touched c m l) a answer
+calls_lead : (g : Setup) (m : Moment) (o : Loose) (cs : List ClientTold) (c : ClientTold) (multi : Bool) (ps : List ℕ)
+    (l : Led) (a : Touched) (answer : Answer) → g.multirange ≡ multi → m.told.clients ≡ c ∷ cs
+    → RefreshCalls multi ps (touched c m l) a answer
     → LeadPart g m (then_at m cs a) (with_stale o ps) (with_stale o []) l (with_plans l a) answer
-calls_lead g m o cs c multi ps l a (Ok tt) same is r = subst (λ (ns : List ℕ). LeadPart {A = Unit {0}} g m (then_at m cs a) (with_stale o ns) (with_stale o []) l (with_plans l a) (Ok tt)) (append-nil ps) (each_leads g m o cs c multi ps [] l a same is r.ok)
+calls_lead g m o cs c multi ps l a (Ok tt) same is r =
+    subst (λ (ns : List ℕ). LeadPart {A = Unit {0}} g m (then_at m cs a) (with_stale o ns) (with_stale o []) l
+    (with_plans l a) (Ok tt)) (append-nil ps) (each_leads g m o cs c multi ps [] l a same is r.ok)
 calls_lead g m o cs c multi ps l a (Err e) same is r = fails_leads g m o cs c multi ps l a e same is r.err
 
-pub refresh_leads : (multi : Bool) (ps : List ℕ) (c n : ClientTold) (es fs : List Event) (l k : Led) (answer : Answer) → RefreshTurn multi ps c n es fs l k answer → RefreshLeads multi ps c n es fs l k answer
+pub refresh_leads : (multi : Bool) (ps : List ℕ) (c n : ClientTold) (es fs : List Event) (l k : Led) (answer : Answer)
+    → RefreshTurn multi ps c n es fs l k answer → RefreshLeads multi ps c n es fs l k answer
 refresh_leads multi ps c n es fs l k answer t g m o cs same is at =
     let a : Touched = record { client = n; events = fs; plans = k.plans } in
-    let calls = subst (λ (x : List Event). RefreshCalls multi ps (record { client = c; events = x; plans = l.plans }) a answer) (sym at) t.calls in
-    subst (λ (x : Led). LeadPart g m (then_at m cs a) (with_stale o ps) (with_stale o []) l x answer) (sym t.led) (calls_lead g m o cs c multi ps l a answer same is calls)
+    let calls = subst (λ (x : List Event). RefreshCalls multi ps
+    (record { client = c; events = x; plans = l.plans }) a answer) (sym at) t.calls in
+    subst (λ (x : Led). LeadPart g m (then_at m cs a) (with_stale o ps) (with_stale o []) l x answer) (sym t.led)
+    (calls_lead g m o cs c multi ps l a answer same is calls)

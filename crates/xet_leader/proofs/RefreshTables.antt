@@ -28,15 +28,17 @@ use Rattle.xet_fetch.proofs.CallerLemmas.{honest_tables}
 use Rattle.xet_ties.specs.Setup.{Setup}
 use Rattle.xet_ties.proofs.CallerLemmas.{past_none}
 use Rattle.xet_parts.specs.PlanRefreshes.{again}
-use Rattle.xet_parts.proofs.CallerLemmas.{plan_refresh}
+use Rattle.xet_ties.specs.steps.Parts.{plan_refresh}
 use Rattle.xet_leader.specs.declared.leader.LedPlan.{LedPlan}
 use Rattle.xet_leader.specs.Led.{IsLedTable, bare}
 
 -- ---- what is asked again
 
-numbered_extents : (p : Shape) (multi : Bool) (k : ℕ) (bs : List PlanBlock) → map extent_of (map (xorb_block p multi) (enumerate_from k bs)) ≡ map (λ b. (b.xorb, block_ranges b)) bs
+numbered_extents : (p : Shape) (multi : Bool) (k : ℕ) (bs : List PlanBlock)
+    → map extent_of (map (xorb_block p multi) (enumerate_from k bs)) ≡ map (λ b. (b.xorb, block_ranges b)) bs
 numbered_extents p multi k [] = refl
-numbered_extents p multi k (b ∷ bs) = ap (λ (l : List Extent). (b.xorb, block_ranges b) ∷ l) (numbered_extents p multi (k + 1) bs)
+numbered_extents p multi k (b ∷ bs) = ap (λ (l : List Extent). (b.xorb, block_ranges b) ∷ l)
+    (numbered_extents p multi (k + 1) bs)
 
 bare_extents : (xs : List XorbBlock) → map extent_of (map bare xs) ≡ map extent_of xs
 bare_extents [] = refl
@@ -45,26 +47,34 @@ bare_extents (x ∷ xs) = ap (λ (l : List Extent). extent_of x ∷ l) (bare_ext
 made_extents : (p : Shape) (multi : Bool) → map extent_of (xorb_blocks p multi) ≡ plan_extents p multi
 made_extents p multi = numbered_extents p multi 0 (blocks_of p multi)
 
-led_extents : (p : Shape) (multi : Bool) (xs : List XorbBlock) → map bare xs ≡ xorb_blocks p multi → map extent_of xs ≡ plan_extents p multi
-led_extents p multi xs is = sym (bare_extents xs) ∙ ap (λ (l : List XorbBlock). map extent_of l) is ∙ made_extents p multi
+led_extents : (p : Shape) (multi : Bool) (xs : List XorbBlock) → map bare xs ≡ xorb_blocks p multi
+    → map extent_of xs ≡ plan_extents p multi
+led_extents p multi xs is = sym (bare_extents xs) ∙ ap (λ (l : List XorbBlock). map extent_of l) is
+    ∙ made_extents p multi
 
 -- a leader's plan asks the refresh of its plan
-pub asks_again : (g : Setup) (l : LedPlan) (p : Plan) (q : FileRange) (multi : Bool) → g.multirange ≡ multi → map bare l.block.blocks ≡ xorb_blocks (shape p) g.multirange → IsLedTable g l (covered (shape p) q) → again l.block multi ≡ plan_refresh g p q
+pub asks_again : (g : Setup) (l : LedPlan) (p : Plan) (q : FileRange) (multi : Bool) → g.multirange ≡ multi
+    → map bare l.block.blocks ≡ xorb_blocks (shape p) g.multirange → IsLedTable g l (covered (shape p) q)
+    → again l.block multi ≡ plan_refresh g p q
 asks_again g l p q multi same is table =
-    let blocks : map extent_of l.block.blocks ≡ plan_extents (shape p) g.multirange = led_extents (shape p) g.multirange l.block.blocks is in
+    let blocks : map extent_of l.block.blocks ≡ plan_extents (shape p) g.multirange =
+    led_extents (shape p) g.multirange l.block.blocks is in
     λ i. record { file = table.file i; range = table.range_is i; multirange = sym same i; blocks = blocks i }
 
 -- ---- a valid store's answers
 
 empty_file : (s : Store) (f : MerkleHash) → file_of s f ≡ None → length (bytes_of s f) ≡ 0
-empty_file s f e = ap (λ o. length (concat (flat_map (chunks_of_term s) (unwrap_or (option_map (λ x. x.terms) o) [])))) e
+empty_file s f e = ap (λ o. length (concat (flat_map (chunks_of_term s)
+    (unwrap_or (option_map (λ x. x.terms) o) [])))) e
 
-some_terms : (s : Store) → IsValid s → (f : MerkleHash) (q : FileRange) (p : Plan) → shape p ≡ plan_of s f q → 0 < length p.terms → length (bytes_of s f) ≤ q.start → ⊥
+some_terms : (s : Store) → IsValid s → (f : MerkleHash) (q : FileRange) (p : Plan) → shape p ≡ plan_of s f q
+    → 0 < length p.terms → length (bytes_of s f) ≤ q.start → ⊥
 some_terms s v f q p is some past =
     let n = ap length (ap (λ (x : Shape). x.terms) is ∙ past_none s v f q past) in
     omega (arith, n, some)
 
-pub honest_query : (s : Store) → IsValid s → (f : MerkleHash) (q : FileRange) (p : Plan) → shape p ≡ plan_of s f q → 0 < length p.terms → IsHonest s f q (Found p)
+pub honest_query : (s : Store) → IsValid s → (f : MerkleHash) (q : FileRange) (p : Plan) → shape p ≡ plan_of s f q
+    → 0 < length p.terms → IsHonest s f q (Found p)
 honest_query s v f q p is some = (stored (file_of s f) refl, lt_of_not-le (some_terms s v f q p is some), is)
   where
     stored : (o : Option StoredFile) → file_of s f ≡ o → IsSome o
@@ -72,10 +82,12 @@ honest_query s v f q p is some = (stored (file_of s f) refl, lt_of_not-le (some_
     stored (Some x) e = refl
 
 -- a plan with terms has blocks
-some_blocks : (p : Plan) (multi : Bool) (t : PlanTerm) (ts : List PlanTerm) → p.terms ≡ t ∷ ts → 0 < length (xorb_blocks (shape p) multi)
+some_blocks : (p : Plan) (multi : Bool) (t : PlanTerm) (ts : List PlanTerm) → p.terms ≡ t ∷ ts
+    → 0 < length (xorb_blocks (shape p) multi)
 some_blocks p multi t ts e =
     let bs : List PlanBlock = blocks_of (shape p) multi in
-    let c : length bs ≡ length (firsts same_block (map (term_block (shape p) multi) (t ∷ ts))) = ap (λ (l : List PlanTerm). length (firsts same_block (map (term_block (shape p) multi) l))) e in
+    let c : length bs ≡ length (firsts same_block (map (term_block (shape p) multi) (t ∷ ts))) =
+    ap (λ (l : List PlanTerm). length (firsts same_block (map (term_block (shape p) multi) l))) e in
     let a = length-map (enumerate_from 0 bs) (xorb_block (shape p) multi) in
     let b = length-enumerate_from 0 bs in
     omega (arith, a, b, c)
@@ -93,23 +105,43 @@ made_block g p q = record {
   transfer_bytes = min (transfer_sum (blocks_of (shape p) g.multirange)) (2 ^ 64 - 1);
   terms = terms_of (shape p) q g.multirange;
   blocks = xorb_blocks (shape p) g.multirange;
-  urls = record { file_hash = g.file; byte_range = covered (shape p) q; acquisition_id = id_of; retrieval_urls = urls_of p g.multirange };
+  urls = record {
+    file_hash = g.file;
+    byte_range = covered (shape p) q;
+    acquisition_id = id_of;
+    retrieval_urls = urls_of p g.multirange;
+  };
 }
 
 pub is_made : (g : Setup) (p : Plan) (q : FileRange) → IsTermBlock p (made_query g q) (made_block g p q)
-is_made g p q = record { range = refl; transfer = refl; terms = refl; blocks = refl; urls = refl; of_file = refl; of_query = refl; with_id = refl }
+is_made g p q = record {
+  range = refl;
+  transfer = refl;
+  terms = refl;
+  blocks = refl;
+  urls = refl;
+  of_file = refl;
+  of_query = refl;
+  with_id = refl;
+}
 
 -- the store's answers to the refresh of a plan that is its own pass
-pub refresh_passes : (g : Setup) (s : Store) → IsValid s → (p : Plan) (q : FileRange) → shape p ≡ plan_of s g.file q → 0 < length p.terms
-    → (a : PlanAnswer) → IsHonest s g.file (covered (shape p) q) a → refusal_of (covered (shape p) q) g.multirange (plan_extents (shape p) g.multirange) a ≡ None
+pub refresh_passes : (g : Setup) (s : Store) → IsValid s → (p : Plan) (q : FileRange) → shape p ≡ plan_of s g.file q
+    → 0 < length p.terms
+    → (a : PlanAnswer) → IsHonest s g.file (covered (shape p) q) a
+    → refusal_of (covered (shape p) q) g.multirange (plan_extents (shape p) g.multirange) a ≡ None
 refresh_passes g s v p q is some a h = by p.terms refl
   where
-    pass : (t : PlanTerm) → 0 < length (xorb_blocks (shape p) g.multirange) → refusal_of (covered (shape p) q) g.multirange (plan_extents (shape p) g.multirange) a ≡ None
+    pass : (t : PlanTerm) → 0 < length (xorb_blocks (shape p) g.multirange)
+        → refusal_of (covered (shape p) q) g.multirange (plan_extents (shape p) g.multirange) a ≡ None
     pass t w =
         let d = xorb_block (shape p) g.multirange (0, term_block (shape p) g.multirange t) in
-        let all = honest_tables s v p (made_query g q) (made_block g p q) (is_made g p q) (honest_query s v g.file q p is some) some in
-        subst (λ (es : List Extent). refusal_of (covered (shape p) q) g.multirange es a ≡ None) (made_extents (shape p) g.multirange) ((all 0 d w).refreshes a h)
+        let all = honest_tables s v p (made_query g q) (made_block g p q) (is_made g p q)
+        (honest_query s v g.file q p is some) some in
+        subst (λ (es : List Extent). refusal_of (covered (shape p) q) g.multirange es a ≡ None)
+        (made_extents (shape p) g.multirange) ((all 0 d w).refreshes a h)
 
-    by : (ts : List PlanTerm) → p.terms ≡ ts → refusal_of (covered (shape p) q) g.multirange (plan_extents (shape p) g.multirange) a ≡ None
+    by : (ts : List PlanTerm) → p.terms ≡ ts → refusal_of (covered (shape p) q) g.multirange
+        (plan_extents (shape p) g.multirange) a ≡ None
     by [] e = absurd (let n = ap (λ (l : List PlanTerm). length l) e in omega (arith, n, some))
     by (t ∷ ts) e = pass t (some_blocks p g.multirange t ts e)

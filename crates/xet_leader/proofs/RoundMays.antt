@@ -36,7 +36,8 @@ use Rattle.xet_leader.proofs.LaneEvents.{are_kept_more, round_still, still_all}
 use Rattle.xet_leader.proofs.RoundAsks.{are_led_asks}
 
 -- a run is lent a connection
-some_asked : (f : MerkleHash) (es : List Event) (lost : List Query) (bs ns : List ClientTold) → FirstAsked f es lost bs ns → 0 < length ns
+some_asked : (f : MerkleHash) (es : List Event) (lost : List Query) (bs ns : List ClientTold)
+    → FirstAsked f es lost bs ns → 0 < length ns
 some_asked f es lost bs [] h = absurd (none bs h)
   where
     none : (cs : List ClientTold) → FirstAsked f es lost cs [] → ⊥
@@ -44,17 +45,27 @@ some_asked f es lost bs [] h = absurd (none bs h)
     none (c ∷ cs) h = h
 some_asked f es lost bs (n ∷ ns) h = omega arith
 
-pub some_clients : {S : Type 0} (told : S → SinkTold) (cs : List ClientTold) (es : List Event) (l : Led) (places : List BlockAt) (lengths : List ℕ) (w : Sequential S) → CanRound told cs es l places lengths w → 0 < length cs
+pub some_clients : {S : Type 0} (told : S → SinkTold) (cs : List ClientTold) (es : List Event) (l : Led)
+    (places : List BlockAt) (lengths : List ℕ) (w : Sequential S) → CanRound told cs es l places lengths w
+    → 0 < length cs
 some_clients told cs es l places lengths w c =
     let t = c.is.going.ties in
-    subst (λ (xs : List ClientTold). 0 < length xs) c.clients_are (some_asked c.setup.file c.moment.events c.is.going.slack.lost c.start.clients c.moment.told.clients t.asked)
+    subst (λ (xs : List ClientTold). 0 < length xs) c.clients_are
+    (some_asked c.setup.file c.moment.events c.is.going.slack.lost c.start.clients c.moment.told.clients t.asked)
 
 -- each block can be requested
-pub can_fetch : {S : Type 0} (told : S → SinkTold) (cs : List ClientTold) (es : List Event) (l : Led) (places : List BlockAt) (lengths : List ℕ) (w : Sequential S) → CanRound told cs es l places lengths w → Each (CanRequest l.plans) places
-can_fetch told cs es l places lengths w c = can_request c.setup c.start c.moment.events c.is.going.slack [] l c.is.going.led places c.is.listed.missing
+pub can_fetch : {S : Type 0} (told : S → SinkTold) (cs : List ClientTold) (es : List Event) (l : Led)
+    (places : List BlockAt) (lengths : List ℕ) (w : Sequential S) → CanRound told cs es l places lengths w
+    → Each (CanRequest l.plans) places
+can_fetch told cs es l places lengths w c = can_request c.setup c.start c.moment.events c.is.going.slack [] l
+    c.is.going.led places c.is.listed.missing
 
-may_by : (g : Setup) (b : RunTold) (m : Moment) (l : Led) (cs : List BlockAt) (lengths : List ℕ) (pieces : List (List ℕ)) (fs : List Fetch) (bs ns : List ClientTold) (ls : List (List LaneStep)) (wrote : Result ℕ FileReconstructionError) → (s : IsGoing g b m (to_fetch m.events cs) l) → IsFetchList m.events l.finished cs
-    → IsWindow g b m.events s.slack l lengths pieces → AreFetches l.plans l.fetches cs fs → DrewApart (map ask_of fs) bs ns ls → RoundMayBe m.events ls (window_events wrote lengths)
+may_by : (g : Setup) (b : RunTold) (m : Moment) (l : Led) (cs : List BlockAt) (lengths : List ℕ)
+    (pieces : List (List ℕ)) (fs : List Fetch) (bs ns : List ClientTold) (ls : List (List LaneStep))
+    (wrote : Result ℕ FileReconstructionError) → (s : IsGoing g b m (to_fetch m.events cs) l)
+    → IsFetchList m.events l.finished cs
+    → IsWindow g b m.events s.slack l lengths pieces → AreFetches l.plans l.fetches cs fs
+    → DrewApart (map ask_of fs) bs ns ls → RoundMayBe m.events ls (window_events wrote lengths)
 may_by g b m l cs lengths pieces fs bs ns ls wrote s list w made d =
     let es = m.events in
     let asks = are_led_asks g b m l cs l.fetches fs s list made in
@@ -67,16 +78,28 @@ may_by g b m l cs lengths pieces fs bs ns ls wrote s list w made d =
     let first = old.admitted in
     let at : IsAt (es ++ lanes_events ls) l.finished = record {
       admitted = omega (arith, first, a);
-      written_are = now.written_are ∙ old.written_are ∙ ap (λ (ts : List Task). sum_by size (take l.finished ts)) (sym now.planned_are);
+      written_are = now.written_are ∙ old.written_are
+          ∙ ap (λ (ts : List Task). sum_by size (take l.finished ts)) (sym now.planned_are);
     } in
-    let all = wrote_allowed (es ++ lanes_events ls) l.finished w.tasks w.rest (now.runs s.led.running) at (omega (arith, within, counted, a)) (ap (λ (ts : List Task). drop l.finished ts) now.planned_are ∙ w.next) (are_kept_more es (lanes_events ls) w.tasks w.kept) in
-    record { fetched = r.0; expired = r.1; window_may = by (subst (λ (ks : List ℕ). AllowedAfter (es ++ lanes_events ls) (wrote_of ks)) (sym w.lengths_are) all) wrote }
+    let all = wrote_allowed (es ++ lanes_events ls) l.finished w.tasks w.rest (now.runs s.led.running) at
+    (omega (arith, within, counted, a)) (ap (λ (ts : List Task). drop l.finished ts) now.planned_are ∙ w.next)
+    (are_kept_more es (lanes_events ls) w.tasks w.kept) in
+    record {
+      fetched = r.0;
+      expired = r.1;
+      window_may = by
+          (subst (λ (ks : List ℕ). AllowedAfter (es ++ lanes_events ls) (wrote_of ks)) (sym w.lengths_are) all) wrote;
+    }
   where
-    by : AllowedAfter (m.events ++ lanes_events ls) (wrote_of lengths) → (o : Result ℕ FileReconstructionError) → AllowedAfter (m.events ++ lanes_events ls) (window_events o lengths)
+    by : AllowedAfter (m.events ++ lanes_events ls) (wrote_of lengths) → (o : Result ℕ FileReconstructionError)
+        → AllowedAfter (m.events ++ lanes_events ls) (window_events o lengths)
     by all (Ok k) = all
     by all (Err e) = tt
 
-pub may_record : {S : Type 0} (told : S → SinkTold) (es : List Event) (l : Led) (places : List BlockAt) (lengths : List ℕ) (a z : RoundTold S) (j : Joined) → CanRound told a.clients es l places lengths a.writer → FetchedBeside told l places a z j → RoundMayBe es (lanes_of j.ends.items) (window_events j.wrote lengths)
+pub may_record : {S : Type 0} (told : S → SinkTold) (es : List Event) (l : Led) (places : List BlockAt)
+    (lengths : List ℕ) (a z : RoundTold S) (j : Joined) → CanRound told a.clients es l places lengths a.writer
+    → FetchedBeside told l places a z j → RoundMayBe es (lanes_of j.ends.items) (window_events j.wrote lengths)
 may_record told es l places lengths a z j c f =
     subst (λ (x : List Event). RoundMayBe x (lanes_of j.ends.items) (window_events j.wrote lengths)) c.events_are
-    (may_by c.setup c.start c.moment l places lengths c.is.pieces f.asked a.clients z.clients (lanes_of j.ends.items) j.wrote c.is.going c.is.listed c.is.window f.made f.drew.drew)
+    (may_by c.setup c.start c.moment l places lengths c.is.pieces f.asked a.clients z.clients
+    (lanes_of j.ends.items) j.wrote c.is.going c.is.listed c.is.window f.made f.drew.drew)

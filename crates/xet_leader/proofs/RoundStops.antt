@@ -33,14 +33,17 @@ use Rattle.xet_leader.proofs.LastSteps.{lanes_honest}
 use Rattle.xet_leader.proofs.RoundLeads.{memory_fails}
 
 -- what is told is tied to all that the join records; the bytes are those of the window, where it was written
-record JoinTied (g : Setup) (b n : RunTold) (new : List Event) (from : Slack) (wrote : Result ℕ FileReconstructionError) : Type 0 where
+record JoinTied (g : Setup) (b n : RunTold) (new : List Event) (from : Slack)
+    (wrote : Result ℕ FileReconstructionError) : Type 0 where
   slack : Slack
   ties : Ties g b n new None slack
   hidden : slack.hidden ≡ from.hidden
   late : slack.late ≡ from.late
   ahead : (k : ℕ) → wrote ≡ Ok k → slack.ahead ≡ 0
 
-join_tied : (g : Setup) (b at : RunTold) (es : List Event) (sl : Slack) (ns : List ClientTold) (fs : List Ask) (ls : List (List LaneStep)) (l : Led) (lengths : List ℕ) (wrote : Result ℕ FileReconstructionError) → (r : RoundLeft g b at es sl ns fs ls l) → ((k : ℕ) → wrote ≡ Ok k → sl.ahead ≡ total lengths)
+join_tied : (g : Setup) (b at : RunTold) (es : List Event) (sl : Slack) (ns : List ClientTold) (fs : List Ask)
+    (ls : List (List LaneStep)) (l : Led) (lengths : List ℕ) (wrote : Result ℕ FileReconstructionError)
+    → (r : RoundLeft g b at es sl ns fs ls l) → ((k : ℕ) → wrote ≡ Ok k → sl.ahead ≡ total lengths)
     → JoinTied g b (record at { clients = ns }) (es ++ (lanes_events ls ++ window_events wrote lengths)) r.slack wrote
 join_tied g b at es sl ns fs ls l lengths (Ok k) r whole =
     let a = r.after.ahead in
@@ -48,43 +51,69 @@ join_tied g b at es sl ns fs ls l lengths (Ok k) r whole =
     let to : Slack = record r.slack { ahead = 0 } in
     record {
       slack = to;
-      ties = subst (λ (x : List Event). Ties g b (record at { clients = ns }) x None to) (append_assoc es (lanes_events ls) (wrote_of lengths)) (tie_written g b (record at { clients = ns }) (es ++ lanes_events ls) r.slack lengths 0 (omega (arith, a, h)) r.ties);
+      ties = subst (λ (x : List Event). Ties g b (record at { clients = ns }) x None to)
+          (append_assoc es (lanes_events ls) (wrote_of lengths))
+          (tie_written g b (record at { clients = ns }) (es ++ lanes_events ls) r.slack lengths 0
+          (omega (arith, a, h)) r.ties);
       hidden = refl;
       late = refl;
       ahead = λ k e. refl;
     }
 join_tied g b at es sl ns fs ls l lengths (Err e) r whole = record {
   slack = r.slack;
-  ties = subst (λ (x : List Event). Ties g b (record at { clients = ns }) x None r.slack) (ap (λ (x : List Event). es ++ x) (sym (append-nil (lanes_events ls)))) r.ties;
+  ties = subst (λ (x : List Event). Ties g b (record at { clients = ns }) x None r.slack)
+      (ap (λ (x : List Event). es ++ x) (sym (append-nil (lanes_events ls)))) r.ties;
   hidden = refl;
   late = refl;
   ahead = λ k f. absurd (cc);
 }
 
 -- where want of memory isn't the error, none was wanting in a lane; and the writer's error is that of the join
-other_error : (wrote : Result ℕ FileReconstructionError) (es : List End) (e : FileReconstructionError) → first_error wrote es ≡ Some e → (e ≡ error.OutOfMemory) ⊎ ((list_any lacks_memory es ≡ false) × (first_some (result_err wrote ∷ map end_error es) ≡ Some e))
+other_error : (wrote : Result ℕ FileReconstructionError) (es : List End) (e : FileReconstructionError)
+    → first_error wrote es ≡ Some e → (e ≡ error.OutOfMemory) ⊎
+    ((list_any lacks_memory es ≡ false) × (first_some (result_err wrote ∷ map end_error es) ≡ Some e))
 other_error wrote es e h = by (memory_was_short wrote es) refl
   where
-    by : (v : Bool) → memory_was_short wrote es ≡ v → (e ≡ error.OutOfMemory) ⊎ ((list_any lacks_memory es ≡ false) × (first_some (result_err wrote ∷ map end_error es) ≡ Some e))
-    by true s = inl (let z : Some error.OutOfMemory ≡ Some e = sym (ap (λ (v : Bool). cond v (Some error.OutOfMemory) (first_some (result_err wrote ∷ map end_error es))) s) ∙ h in cc)
-    by false s = inr ((or_parts (wants_memory (result_err wrote)) (list_any lacks_memory es) s).1, sym (ap (λ (v : Bool). cond v (Some error.OutOfMemory) (first_some (result_err wrote ∷ map end_error es))) s) ∙ h)
+    by : (v : Bool) → memory_was_short wrote es ≡ v
+        → (e ≡ error.OutOfMemory) ⊎ ((list_any lacks_memory es ≡ false)
+        × (first_some (result_err wrote ∷ map end_error es) ≡ Some e))
+    by true s = inl (let z : Some error.OutOfMemory ≡ Some e = sym
+        (ap (λ (v : Bool). cond v (Some error.OutOfMemory) (first_some (result_err wrote ∷ map end_error es))) s)
+        ∙ h in cc)
+    by false s = inr (
+      (or_parts (wants_memory (result_err wrote)) (list_any lacks_memory es) s).1,
+      sym (ap (λ (v : Bool). cond v (Some error.OutOfMemory) (first_some (result_err wrote ∷ map end_error es))) s)
+          ∙ h,
+    )
 
 -- what a join with an error leaves
-leaves : (g : Setup) (b at : RunTold) (es : List Event) (sl : Slack) (ns : List ClientTold) (fs : List Ask) (ends : List End) (l : Led) (e : FileReconstructionError) (to : Slack) → AreLedAsks es sl.pending l.plans fs → LanesDrew fs at.clients ns ends → (r : RoundLeft g b at es sl ns fs (steps_of ends) l) → list_any lacks_memory ends ≡ false
-    → Ties g b at es None sl → IsLed g b es sl [] l → to.hidden ≡ r.slack.hidden → to.late ≡ r.slack.late → (e ≢ error.IoError → to.ahead ≡ 0) → MayLeave (Some e) b.clients to
+leaves : (g : Setup) (b at : RunTold) (es : List Event) (sl : Slack) (ns : List ClientTold) (fs : List Ask)
+    (ends : List End) (l : Led) (e : FileReconstructionError) (to : Slack) → AreLedAsks es sl.pending l.plans fs
+    → LanesDrew fs at.clients ns ends → (r : RoundLeft g b at es sl ns fs (steps_of ends) l)
+    → list_any lacks_memory ends ≡ false
+    → Ties g b at es None sl → IsLed g b es sl [] l → to.hidden ≡ r.slack.hidden → to.late ≡ r.slack.late
+    → (e ≢ error.IoError → to.ahead ≡ 0) → MayLeave (Some e) b.clients to
 leaves g b at es sl ns fs ends l e to asks d r memory t led hidden late ahead = record {
   none = λ h. absurd (cc);
   honest = λ s over other.
-      let honest : All (λ a. IsHonestOf s a.block) fs = λ k x w. honest_ask g b es sl l (get_or fs k x) s led over (asks.led k x w) in
-      let none = lanes_honest s fs at.clients ns d.drew.drawn ends (tells_now s es 0 b.clients at.clients sl.hidden sl.late t.served.lanes over.tell) honest d.drew.each d.last memory in
+      let honest : All (λ a. IsHonestOf s a.block) fs =
+      λ k x w. honest_ask g b es sl l (get_or fs k x) s led over (asks.led k x w) in
+      let none = lanes_honest s fs at.clients ns d.drew.drawn ends
+      (tells_now s es 0 b.clients at.clients sl.hidden sl.late t.served.lanes over.tell) honest d.drew.each d.last
+      memory in
       ap all_of (hidden ∙ r.after.none none) ∙ none_hidden b.clients;
   late = λ other. subst (AllAre 0) (sym (late ∙ r.after.late)) (none_late b.clients);
   counted = λ other io. ahead (λ h. io (ap Some h));
 }
 
 -- the writer's error
-write_stops : (g : Setup) (b at : RunTold) (es : List Event) (sl : Slack) (ns : List ClientTold) (fs : List Ask) (ends : List End) (l : Led) (e : FileReconstructionError) (new : List Event) (wrote : Result ℕ FileReconstructionError) → AreLedAsks es sl.pending l.plans fs → LanesDrew fs at.clients ns ends → (r : RoundLeft g b at es sl ns fs (steps_of ends) l)
-    → Ties g b at es None sl → IsLed g b es sl [] l → list_any lacks_memory ends ≡ false → JoinTied g b (record at { clients = ns }) new r.slack wrote → SinkCause b.sink.faults at.sink.faults e → ((s : Store) → IsOver s b.clients → CacheTells s b.cache → CacheTells s at.cache)
+write_stops : (g : Setup) (b at : RunTold) (es : List Event) (sl : Slack) (ns : List ClientTold) (fs : List Ask)
+    (ends : List End) (l : Led) (e : FileReconstructionError) (new : List Event)
+    (wrote : Result ℕ FileReconstructionError) → AreLedAsks es sl.pending l.plans fs → LanesDrew fs at.clients ns ends
+    → (r : RoundLeft g b at es sl ns fs (steps_of ends) l)
+    → Ties g b at es None sl → IsLed g b es sl [] l → list_any lacks_memory ends ≡ false
+    → JoinTied g b (record at { clients = ns }) new r.slack wrote → SinkCause b.sink.faults at.sink.faults e
+    → ((s : Store) → IsOver s b.clients → CacheTells s b.cache → CacheTells s at.cache)
     → IsFailing g b (record { told = record at { clients = ns }; events = new }) e
 write_stops g b at es sl ns fs ends l e new wrote asks d r t led m j sink tells = ⊎_elim memory taken sink
   where
@@ -92,9 +121,11 @@ write_stops g b at es sl ns fs ends l e new wrote asks d r t led m j sink tells 
     n = record at { clients = ns }
 
     memory : e ≡ error.OutOfMemory → IsFailing g b (record { told = n; events = new }) e
-    memory h = subst (λ (x : FileReconstructionError). IsFailing g b (record { told = n; events = new }) x) (sym h) (memory_fails g b n new j.slack j.ties tells)
+    memory h = subst (λ (x : FileReconstructionError). IsFailing g b (record { told = n; events = new }) x) (sym h)
+        (memory_fails g b n new j.slack j.ties tells)
 
-    taken : (e ≡ error.IoError) × Rose b.sink.faults at.sink.faults → IsFailing g b (record { told = n; events = new }) e
+    taken : (e ≡ error.IoError) × Rose b.sink.faults at.sink.faults
+        → IsFailing g b (record { told = n; events = new }) e
     taken h = record {
       slack = j.slack;
       ties = j.ties;
@@ -105,8 +136,13 @@ write_stops g b at es sl ns fs ends l e new wrote asks d r t led m j sink tells 
     }
 
 -- a lane's, where all was written
-lane_stops : (g : Setup) (b at : RunTold) (es : List Event) (sl : Slack) (ns : List ClientTold) (fs : List Ask) (ends : List End) (l : Led) (e : FileReconstructionError) (new : List Event) (k : ℕ) → AreLedAsks es sl.pending l.plans fs → LanesDrew fs at.clients ns ends → (r : RoundLeft g b at es sl ns fs (steps_of ends) l)
-    → Ties g b at es None sl → IsLed g b es sl [] l → list_any lacks_memory ends ≡ false → JoinTied g b (record at { clients = ns }) new r.slack (Ok k) → FailedLane ends e → ((s : Store) → IsOver s b.clients → CacheTells s b.cache → CacheTells s at.cache)
+lane_stops : (g : Setup) (b at : RunTold) (es : List Event) (sl : Slack) (ns : List ClientTold) (fs : List Ask)
+    (ends : List End) (l : Led) (e : FileReconstructionError) (new : List Event) (k : ℕ)
+    → AreLedAsks es sl.pending l.plans fs → LanesDrew fs at.clients ns ends
+    → (r : RoundLeft g b at es sl ns fs (steps_of ends) l)
+    → Ties g b at es None sl → IsLed g b es sl [] l → list_any lacks_memory ends ≡ false
+    → JoinTied g b (record at { clients = ns }) new r.slack (Ok k) → FailedLane ends e
+    → ((s : Store) → IsOver s b.clients → CacheTells s b.cache → CacheTells s at.cache)
     → IsFailing g b (record { told = record at { clients = ns }; events = new }) e
 lane_stops g b at es sl ns fs ends l e new k asks d r t led m j f tells =
     let own = own_asks es l fs asks.own asks.led asks.missing in
@@ -115,34 +151,51 @@ lane_stops g b at es sl ns fs ends l e new k asks d r t led m j f tells =
       ties = j.ties;
       left = leaves g b at es sl ns fs ends l e j.slack asks d r m t led j.hidden j.late (λ io. j.ahead k refl);
       cause = lane_cause g b at es sl ns fs d.drew.drawn ends l e own d.drew.each f t led;
-      spent = λ u. absurd (never_spent g es l at.clients ns fs d.drew.drawn ends own d.drew.each (subst (FailedLane ends) u f));
+      spent = λ u. absurd (never_spent g es l at.clients ns fs d.drew.drawn ends own d.drew.each
+          (subst (FailedLane ends) u f));
       cache_tells = tells;
     }
 
 -- over what is told, and all that it did recorded, a join with an error is to stop
-pub round_stops : (g : Setup) (b at : RunTold) (es : List Event) (sl : Slack) (ns : List ClientTold) (fs : List Ask) (ends : List End) (l : Led) (lengths : List ℕ) (wrote : Result ℕ FileReconstructionError) (e : FileReconstructionError) → AreLedAsks es sl.pending l.plans fs → LanesDrew fs at.clients ns ends
-    → RoundLeft g b at es sl ns fs (steps_of ends) l → Ties g b at es None sl → IsLed g b es sl [] l → first_error wrote ends ≡ Some e → ((k : ℕ) → wrote ≡ Ok k → sl.ahead ≡ total lengths) → ((x : FileReconstructionError) → wrote ≡ Err x → SinkCause b.sink.faults at.sink.faults x)
-    → ((s : Store) → IsOver s b.clients → CacheTells s b.cache → CacheTells s at.cache) → IsFailing g b (record { told = record at { clients = ns }; events = es ++ (lanes_events (steps_of ends) ++ window_events wrote lengths) }) e
+pub round_stops : (g : Setup) (b at : RunTold) (es : List Event) (sl : Slack) (ns : List ClientTold) (fs : List Ask)
+    (ends : List End) (l : Led) (lengths : List ℕ) (wrote : Result ℕ FileReconstructionError)
+    (e : FileReconstructionError) → AreLedAsks es sl.pending l.plans fs → LanesDrew fs at.clients ns ends
+    → RoundLeft g b at es sl ns fs (steps_of ends) l → Ties g b at es None sl → IsLed g b es sl [] l
+    → first_error wrote ends ≡ Some e → ((k : ℕ) → wrote ≡ Ok k → sl.ahead ≡ total lengths)
+    → ((x : FileReconstructionError) → wrote ≡ Err x → SinkCause b.sink.faults at.sink.faults x)
+    → ((s : Store) → IsOver s b.clients → CacheTells s b.cache → CacheTells s at.cache)
+    → IsFailing g b (record {
+      told = record at { clients = ns };
+      events = es ++ (lanes_events (steps_of ends) ++ window_events wrote lengths);
+    }) e
 round_stops g b at es sl ns fs ends l lengths (Err x) e asks d r t led first whole sink tells =
     let j = join_tied g b at es sl ns fs (steps_of ends) l lengths (Err x) r whole in
     let n : RunTold = record at { clients = ns } in
     let new = es ++ (lanes_events (steps_of ends) ++ window_events (Err x) lengths) in
-    ⊎_elim (λ (h : e ≡ error.OutOfMemory). subst (λ (x : FileReconstructionError). IsFailing g b (record { told = n; events = new }) x) (sym h) (memory_fails g b n new j.slack j.ties tells))
+    ⊎_elim (λ (h : e ≡ error.OutOfMemory). subst (λ (x : FileReconstructionError). IsFailing g b
+    (record { told = n; events = new }) x) (sym h) (memory_fails g b n new j.slack j.ties tells))
     (λ (o : (list_any lacks_memory ends ≡ false) × (Some x ≡ Some e)). let same : x ≡ e = (let z = o.1 in cc) in
-    write_stops g b at es sl ns fs ends l e new (Err x) asks d r t led o.0 j (subst (SinkCause b.sink.faults at.sink.faults) same (sink x refl)) tells)
+    write_stops g b at es sl ns fs ends l e new (Err x) asks d r t led o.0 j
+    (subst (SinkCause b.sink.faults at.sink.faults) same (sink x refl)) tells)
     (other_error (Err x) ends e first)
 round_stops g b at es sl ns fs ends l lengths (Ok k) e asks d r t led first whole sink tells =
     let j = join_tied g b at es sl ns fs (steps_of ends) l lengths (Ok k) r whole in
     let n : RunTold = record at { clients = ns } in
     let new = es ++ (lanes_events (steps_of ends) ++ window_events (Ok k) lengths) in
-    let memory : e ≡ error.OutOfMemory → IsFailing g b (record { told = n; events = new }) e = λ h. subst (λ (x : FileReconstructionError). IsFailing g b (record { told = n; events = new }) x) (sym h) (memory_fails g b n new j.slack j.ties tells) in
+    let memory : e ≡ error.OutOfMemory → IsFailing g b (record { told = n; events = new }) e =
+    λ h. subst (λ (x : FileReconstructionError). IsFailing g b (record { told = n; events = new }) x) (sym h)
+    (memory_fails g b n new j.slack j.ties tells) in
     ⊎_elim memory
     (λ (o : (list_any lacks_memory ends ≡ false) × (first_some (None ∷ map end_error ends) ≡ Some e)).
     ⊎_elim memory
-    (λ (c : (Ok k ≡ Err e) ⊎ FailedLane ends e). ⊎_elim (λ (w : Ok k ≡ Err e). absurd (cc)) (λ (f : FailedLane ends e). lane_stops g b at es sl ns fs ends l e new k asks d r t led o.0 j f tells) c)
+    (λ (c : (Ok k ≡ Err e) ⊎ FailedLane ends e). ⊎_elim (λ (w : Ok k ≡ Err e). absurd (cc))
+    (λ (f : FailedLane ends e). lane_stops g b at es sl ns fs ends l e new k asks d r t led o.0 j f tells) c)
     (error_cause (Ok k) ends e first))
     (other_error (Ok k) ends e first)
 
 -- a fault of the sink in a window counts from the start of the run
-pub sink_since : (g : Setup) (b at : RunTold) (es : List Event) (sl : Slack) (after : ℕ) (e : FileReconstructionError) → Ties g b at es None sl → SinkCause at.sink.faults after e → SinkCause b.sink.faults after e
-sink_since g b at es sl after e t c = ⊎_elim (λ (h : e ≡ error.OutOfMemory). inl h) (λ (h : (e ≡ error.IoError) × Rose at.sink.faults after). inr (h.0, (let u = t.taken.faults in let v = h.1 in omega (arith, u, v)))) c
+pub sink_since : (g : Setup) (b at : RunTold) (es : List Event) (sl : Slack) (after : ℕ) (e : FileReconstructionError)
+    → Ties g b at es None sl → SinkCause at.sink.faults after e → SinkCause b.sink.faults after e
+sink_since g b at es sl after e t c = ⊎_elim (λ (h : e ≡ error.OutOfMemory). inl h)
+    (λ (h : (e ≡ error.IoError) × Rose at.sink.faults after). inr
+    (h.0, (let u = t.taken.faults in let v = h.1 in omega (arith, u, v)))) c

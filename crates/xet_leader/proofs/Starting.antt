@@ -27,7 +27,7 @@ not_none zero e = absurd (cc)
 not_none (suc n) e = omega arith
 
 -- where the settings can be met, a block may be asked for once at least
-tries_some : (g : Setup) (cs : List ClientTold) → failing_setting g cs ≡ None → 0 < g.tries
+pub tries_some : (g : Setup) (cs : List ClientTold) → failing_setting g cs ≡ None → 0 < g.tries
 tries_some g [] h = absurd (cc)
 tries_some g (c ∷ cs) h = by (nat_eq g.tries 0) refl h
   where
@@ -43,7 +43,8 @@ in_step g [] h = absurd (cc)
 in_step g (c ∷ cs) h = step_start c cs
 
 -- nothing is planned, so nothing is asked
-manager_start : (j : Job) → IsManager (begun j.file_hash j.byte_range j.config) → IsLedManager (setup_of_job j) [] (begun j.file_hash j.byte_range j.config)
+manager_start : (j : Job) → IsManager (begun j.file_hash j.byte_range j.config)
+    → IsLedManager (setup_of_job j) [] (begun j.file_hash j.byte_range j.config)
 manager_start j k =
     let none = take_none (begun j.file_hash j.byte_range j.config).queries in
     record {
@@ -59,15 +60,23 @@ manager_start j k =
     }
 
 -- it is led
-pub led_start : (j : Job) (b : RunTold) → IsManager (begun j.file_hash j.byte_range j.config) → failing_setting (setup_of_job j) b.clients ≡ None → j.byte_range.start < j.byte_range.end
+pub led_start : (j : Job) (b : RunTold) → IsManager (begun j.file_hash j.byte_range j.config)
+    → failing_setting (setup_of_job j) b.clients ≡ None → j.byte_range.start < j.byte_range.end
     → IsLed (setup_of_job j) b [] (no_slack b.clients) [] (first_led j)
 led_start j b k h some = record {
   running = refl;
   some = some;
   tries = tries_some (setup_of_job j) b.clients h;
   stale_are = tt;
+  under = λ p k2. tries_some (setup_of_job j) b.clients h;
   manager = manager_start j k;
-  plans = record { each = All-nil (IsLedPlan (setup_of_job j) b [] (no_slack b.clients) []); follow = tt; numbered = λ e. tt; last = tt; first = refl };
+  plans = record {
+    each = All-nil (IsLedPlan (setup_of_job j) b [] (no_slack b.clients) []);
+    follow = tt;
+    numbered = λ e. tt;
+    last = tt;
+    first = refl;
+  };
   counted = record {
     planned_are = refl;
     planned_fits = omega arith;
@@ -83,14 +92,46 @@ first_starts : (j : Job) → IsManager (begun j.file_hash j.byte_range j.config)
 first_starts j k b h some = record {
   slack = no_slack b.clients;
   ties = tie_start (setup_of_job j) b h;
-  settled = record { hidden = refl; late = refl; lost = refl; ahead = refl; spare = refl; pending = refl; due = refl; step = in_step (setup_of_job j) b.clients h };
+  settled = record {
+    hidden = refl;
+    late = refl;
+    lost = refl;
+    ahead = refl;
+    spare = refl;
+    pending = refl;
+    due = refl;
+    step = in_step (setup_of_job j) b.clients h;
+  };
   led = led_start j b k h some;
   calm = refl;
   cache_tells = λ s over tells. tells;
 }
 
-pub lead_starts : (j : Job) (m : Manager) (ls : List LedPlan) → m ≡ begun j.file_hash j.byte_range j.config → ls ≡ [] → IsManager m → LeadStarts j (record { manager = m; plans = ls; planned = 0; admitted = 0; finished = 0; fetches = 0 })
+pub lead_starts : (j : Job) (m : Manager) (ls : List LedPlan) → m ≡ begun j.file_hash j.byte_range j.config → ls ≡ []
+    → IsManager m → LeadStarts j (record {
+      manager = m;
+      plans = ls;
+      planned = 0;
+      admitted = 0;
+      finished = 0;
+      fetches = 0;
+    })
 lead_starts j m ls is none k =
     let first : LeadStarts j (first_led j) = first_starts j (subst IsManager is k) in
-    subst (λ (x : Manager). LeadStarts j (record { manager = x; plans = ls; planned = 0; admitted = 0; finished = 0; fetches = 0 })) (sym is)
-    (subst (λ (x : List LedPlan). LeadStarts j (record { manager = begun j.file_hash j.byte_range j.config; plans = x; planned = 0; admitted = 0; finished = 0; fetches = 0 })) (sym none) first)
+    subst (λ (x : Manager). LeadStarts j (record {
+      manager = x;
+      plans = ls;
+      planned = 0;
+      admitted = 0;
+      finished = 0;
+      fetches = 0;
+    })) (sym is)
+    (subst (λ (x : List LedPlan). LeadStarts j (record {
+      manager = begun j.file_hash j.byte_range j.config;
+      plans = x;
+      planned = 0;
+      admitted = 0;
+      finished =
+          0;
+      fetches = 0;
+    })) (sym none) first)

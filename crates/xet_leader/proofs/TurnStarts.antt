@@ -39,44 +39,54 @@ written_admits es (n ∷ ls) =
     let p : written (es ++ Admit n ∷ []) ≡ written es + 0 = written-push es (Admit n) in
     omega (arith, e, r, p)
 
-ask_writes_none : (j : Job) (cs ns : List ClientTold) (x y : SignalTold) (es fs : List Event) (l k : Led) (asked : Bool) → AskOk j cs ns x y es fs l k asked → written fs ≡ written es
+ask_writes_none : (j : Job) (cs ns : List ClientTold) (x y : SignalTold) (es fs : List Event) (l k : Led)
+    (asked : Bool) → AskOk j cs ns x y es fs l k asked → written fs ≡ written es
 ask_writes_none j cs ns x y es fs l k false n = ap written n.events
 ask_writes_none j cs ns x y es fs l k true o =
     let took = o.asked.asked.call.ok.took in
-    let p : written (es ++ plan_event es o.asked.due.query o.asked.asked.call.ok.answer ∷ []) ≡ written es + 0 = written-push es (plan_event es o.asked.due.query o.asked.asked.call.ok.answer) in
+    let p : written (es ++ plan_event es o.asked.due.query o.asked.asked.call.ok.answer ∷ []) ≡ written es + 0 =
+    written-push es (plan_event es o.asked.due.query o.asked.asked.call.ok.answer) in
     let e = ap written took.recorded in
     omega (arith, e, p)
 
-admit_writes_none : (before after : LimitTold) (es fs : List Event) (l k : Led) → AdmittedTerms before after es fs l k → written fs ≡ written es
-admit_writes_none before after es fs l k a = ap written a.admits.admitted.events ∙ written_admits es a.admits.admitted.limits
+admit_writes_none : (before after : LimitTold) (es fs : List Event) (l k : Led) → AdmittedTerms before after es fs l k
+    → written fs ≡ written es
+admit_writes_none before after es fs l k a = ap written a.admits.admitted.events
+    ∙ written_admits es a.admits.admitted.limits
 
 -- ---- where all that is admitted is written
 
 pub none_unwritten : (es : List Event) (l : Led) → IsCounted es l → l.finished ≡ l.admitted → unwritten es ≡ 0
 none_unwritten es l c same =
-    let all : take (count_by is_admit es) (planned es) ≡ take l.finished (planned es) = ap (λ (n : ℕ). take n (planned es)) (sym c.admitted_are ∙ sym same) in
-    let sums : sum_by size (take (count_by is_admit es) (planned es)) ≡ written es = ap (λ (ts : List Task). sum_by size ts) all ∙ sym c.written_are in
+    let all : take (count_by is_admit es) (planned es) ≡ take l.finished (planned es) =
+    ap (λ (n : ℕ). take n (planned es)) (sym c.admitted_are ∙ sym same) in
+    let sums : sum_by size (take (count_by is_admit es) (planned es)) ≡ written es =
+    ap (λ (ts : List Task). sum_by size ts) all ∙ sym c.written_are in
     omega (arith, sums)
 
 -- a term that waits may be admitted
-may_admit : (es : List Event) (limit : ℕ) → unwritten es ≡ 0 → count_by is_admit es < length (planned es) → MayAdmit limit es
+may_admit : (es : List Event) (limit : ℕ) → unwritten es ≡ 0 → count_by is_admit es < length (planned es)
+    → MayAdmit limit es
 may_admit es limit none waits =
     ⊎_elim
     (λ found.
     let x : Task = found.0 in
     let at : slice_get (planned es) (count_by is_admit es) ≡ Some x = found.2 in
-    subst (λ (o : Option Task). MatchOption o ⊥ (λ t. (unwritten es ≡ 0) ⊎ (unwritten es + size t ≤ limit))) (sym at) (inl none))
+    subst (λ (o : Option Task). MatchOption o ⊥ (λ t. (unwritten es ≡ 0) ⊎ (unwritten es + size t ≤ limit))) (sym at)
+    (inl none))
     (λ past. absurd (let p : length (planned es) ≤ count_by is_admit es = past.0 in omega (arith, p, waits)))
     (slice_get_cases (planned es) (count_by is_admit es)).1
 
 -- so no limit refused it
-none_refused : (left : ℕ) (es : List Event) (us : List ℕ) → IsWaiting left es us → 0 < left → IsRunning es → unwritten es ≡ 0 → count_by is_admit es < length (planned es) → ⊥
+none_refused : (left : ℕ) (es : List Event) (us : List ℕ) → IsWaiting left es us → 0 < left → IsRunning es
+    → unwritten es ≡ 0 → count_by is_admit es < length (planned es) → ⊥
 none_refused left es [] w some r none waits = absurd (let e : left ≡ 0 = w in omega (arith, e, some))
 none_refused left es (n ∷ []) w some r none waits = w.1 (r, may_admit es n none waits)
 none_refused left es (n ∷ k ∷ us) w some r none waits = w
 
 -- a planned term that isn't written is admitted, or an admitted one isn't written
-has_work : (before after : LimitTold) (es fs : List Event) (l k : Led) → IsRunning fs → IsCounted fs k → AdmittedTerms before after es fs l k → k.finished < k.planned → k.finished < k.admitted
+has_work : (before after : LimitTold) (es fs : List Event) (l k : Led) → IsRunning fs → IsCounted fs k
+    → AdmittedTerms before after es fs l k → k.finished < k.planned → k.finished < k.admitted
 has_work before after es fs l k r c a open_still =
     ⊎_elim (λ (h : k.finished < k.admitted). h)
     (λ (h : k.admitted ≤ k.finished).
@@ -86,12 +96,15 @@ has_work before after es fs l k r c a open_still =
     let now : k.admitted ≡ l.planned - a.left = ap (λ (z : Led). z.admitted) a.led in
     let as_before : k.planned ≡ l.planned = ap (λ (z : Led). z.planned) a.led in
     let none = none_unwritten fs k c (omega (arith, h, within)) in
-    absurd (none_refused a.left fs a.admits.unused a.admits.waits (omega (arith, now, as_before, h, open_still)) r none (omega (arith, planned_are, admitted_are, h, open_still))))
+    absurd (none_refused a.left fs a.admits.unused a.admits.waits
+    (omega (arith, now, as_before, h, open_still)) r none
+    (omega (arith, planned_are, admitted_are, h, open_still))))
     (cases_lt k.finished k.admitted)
 
 -- ---- all is finished
 
-finished_all : (g : Setup) (b : RunTold) (n : Moment) (k : Led) → IsGoing g b n no_loose k → IsCovered k.manager → k.finished ≡ k.planned → IsFinished g n.events (written n.events)
+finished_all : (g : Setup) (b : RunTold) (n : Moment) (k : Led) → IsGoing g b n no_loose k → IsCovered k.manager
+    → k.finished ≡ k.planned → IsFinished g n.events (written n.events)
 finished_all g b n k s covered all =
     let led = s.led in
     let c = led.counted in
@@ -104,6 +117,7 @@ finished_all g b n k s covered all =
       count = refl;
       admitted = omega (arith, planned_are, admitted_are, finished_within, admitted_within, all);
       unwritten = none_unwritten n.events k c (omega (arith, finished_within, admitted_within, all));
+      under = led.under;
       reaches = λ h. covered_reaches g n.events k.manager some led.manager covered;
       empty = λ h. absurd (omega (arith, h, some));
     }
@@ -115,57 +129,84 @@ abbrev asked_at : Moment → List ClientTold → SignalTold → List Event → M
 asked_at m ns y es = record { told = record m.told { clients = ns; signal = y }; events = es }
 
 abbrev started_at : Moment → List ClientTold → SignalTold → LimitTold → List Event → Moment
-started_at m ns y limits es = record { told = record m.told { clients = ns; signal = y; limits = limits }; events = es }
+started_at m ns y limits es = record {
+  told = record m.told { clients = ns; signal = y; limits = limits };
+  events = es;
+}
 
-module _ (j : Job) (cs ns : List ClientTold) (x y : SignalTold) (before after : LimitTold) (es gs fs : List Event) (l h k : Led) (few : j.config.tries < 2 ^ 32) where
+module _ (j : Job) (cs ns : List ClientTold) (x y : SignalTold) (before after : LimitTold) (es gs fs : List Event)
+    (l h k : Led) (few : j.config.tries < 2 ^ 32) where
   -- what is left, where all is not done
-  works : (b : RunTold) (m : Moment) (asked : Bool) → m.events ≡ es → AskOk j cs ns x y es gs l h asked → AdmittedTerms before after gs fs h k → IsGoing (setup_of_job j) b m no_loose l → IsGoing (setup_of_job j) b (asked_at m ns y gs) no_loose h → IsGoing (setup_of_job j) b (started_at m ns y after fs) no_loose k
+  works : (b : RunTold) (m : Moment) (asked : Bool) → m.events ≡ es → AskOk j cs ns x y es gs l h asked
+      → AdmittedTerms before after gs fs h k → IsGoing (setup_of_job j) b m no_loose l
+      → IsGoing (setup_of_job j) b (asked_at m ns y gs) no_loose h
+      → IsGoing (setup_of_job j) b (started_at m ns y after fs) no_loose k
       → all_done asked k ≡ false → LeavesWork (setup_of_job j) m.events fs l k
   works b m false is n a s t u open_still =
       let g = setup_of_job j in
       let stays = (admitted_falls g before after gs fs h k few u.led.counted a).0 in
-      let none : measure g gs h ≡ measure g m.events l = none_asked_stays g cs ns x y es gs l h n ∙ ap (λ (v : List Event). measure g v l) (sym is) in
+      let none : measure g gs h ≡ measure g m.events l =
+      none_asked_stays g cs ns x y es gs l h n ∙ ap (λ (v : List Event). measure g v l) (sym is) in
       let within = u.led.counted.finished_within in
       let planned_within = u.led.counted.admitted_within in
-      let less : k.finished < k.planned = ⊎_elim (λ (e : k.finished < k.planned). e) (λ (e : k.planned ≤ k.finished). absurd (let same : k.finished ≡ k.planned = omega (arith, e, within, planned_within) in let yes = eq-eqb k.finished k.planned same in cc)) (cases_lt k.finished k.planned) in
+      let less : k.finished < k.planned = ⊎_elim (λ (e : k.finished < k.planned). e)
+      (λ (e : k.planned ≤ k.finished). absurd (let same : k.finished ≡ k.planned = omega
+      (arith, e, within, planned_within) in let yes = eq-eqb k.finished k.planned same in cc))
+      (cases_lt k.finished k.planned) in
       inr (omega (arith, stays, none), has_work before after gs fs h k u.led.running u.led.counted a less)
   works b m true is o a s t u open_still =
       let g = setup_of_job j in
       let stays = (admitted_falls g before after gs fs h k few u.led.counted a).0 in
-      let falls : measure g gs h < measure g es l = one_asked_falls j cs ns x y es gs l h few (subst (λ (v : List Event). IsLedManager g v l.manager) is s.led.manager) t.led.counted o in
+      let falls : measure g gs h < measure g es l =
+      one_asked_falls j cs ns x y es gs l h few (subst
+      (λ (v : List Event). IsLedManager g v l.manager) is s.led.manager) t.led.counted o in
       let at : measure g es l ≡ measure g m.events l = ap (λ (v : List Event). measure g v l) (sym is) in
       inl (omega (arith, stays, falls, at))
 
   -- all is done only where the range was asked for and nothing is open
-  dones : (b : RunTold) (m : Moment) (asked : Bool) → (asked ≡ false → IsCovered h.manager) → AdmittedTerms before after gs fs h k → IsGoing (setup_of_job j) b (started_at m ns y after fs) no_loose k → all_done asked k ≡ true
+  dones : (b : RunTold) (m : Moment) (asked : Bool) → (asked ≡ false → IsCovered h.manager)
+      → AdmittedTerms before after gs fs h k → IsGoing (setup_of_job j) b (started_at m ns y after fs) no_loose k
+      → all_done asked k ≡ true
       → IsFinished (setup_of_job j) fs (written fs)
   dones b m false covered a u all =
-      finished_all (setup_of_job j) b (started_at m ns y after fs) k u (subst IsCovered (sym (ap (λ (z : Led). z.manager) a.led)) (covered refl)) (eqb-true k.finished k.planned all)
+      finished_all (setup_of_job j) b (started_at m ns y after fs) k u
+      (subst IsCovered (sym (ap (λ (z : Led). z.manager) a.led)) (covered refl))
+      (eqb-true k.finished k.planned all)
   dones b m true covered a u all = absurd (cc)
 
   -- both went well
-  both_start : (asked : Bool) → AskTurn j cs ns x y es gs l h (Ok asked) → AskLeads j cs ns x y es gs l h (Ok asked) → (asked ≡ false → IsCovered h.manager) → AdmitTurn before after gs fs h k (Ok tt) → AdmitLeads before after gs fs h k (Ok tt)
+  both_start : (asked : Bool) → AskTurn j cs ns x y es gs l h (Ok asked) → AskLeads j cs ns x y es gs l h (Ok asked)
+      → (asked ≡ false → IsCovered h.manager) → AdmitTurn before after gs fs h k (Ok tt)
+      → AdmitLeads before after gs fs h k (Ok tt)
       → StartLeads j cs ns x y before after es fs l k (Ok (all_done asked k))
   both_start asked t leads covered u then m at seen lim is =
       let first = leads m at seen is in
       let second = then (setup_of_job j) (asked_at m ns y gs) no_loose lim refl in
       record {
         part = record { ok = λ b s. second.ok b (first.ok b s); err = λ b s. tt };
-        same = admit_writes_none before after gs fs h k u.ok ∙ ask_writes_none j cs ns x y es gs l h asked t.ok ∙ ap written (sym is);
+        same = admit_writes_none before after gs fs h k u.ok ∙ ask_writes_none j cs ns x y es gs l h asked t.ok
+            ∙ ap written (sym is);
         done = λ b s. dones b m asked covered u.ok (second.ok b (first.ok b s));
         work = λ b s. works b m asked is t.ok u.ok s (first.ok b s) (second.ok b (first.ok b s));
       }
 
-  pub start_goes : (asked all : Bool) → all ≡ all_done asked k → AskTurn j cs ns x y es gs l h (Ok asked) → AskLeads j cs ns x y es gs l h (Ok asked) → (asked ≡ false → IsCovered h.manager) → AdmitTurn before after gs fs h k (Ok tt) → AdmitLeads before after gs fs h k (Ok tt)
+  pub start_goes : (asked all : Bool) → all ≡ all_done asked k → AskTurn j cs ns x y es gs l h (Ok asked)
+      → AskLeads j cs ns x y es gs l h (Ok asked) → (asked ≡ false → IsCovered h.manager)
+      → AdmitTurn before after gs fs h k (Ok tt) → AdmitLeads before after gs fs h k (Ok tt)
       → StartLeads j cs ns x y before after es fs l k (Ok all)
-  start_goes asked all is t leads covered u then = subst (λ (v : Bool). StartLeads j cs ns x y before after es fs l k (Ok v)) (sym is) (both_start asked t leads covered u then)
+  start_goes asked all is t leads covered u then =
+      subst (λ (v : Bool). StartLeads j cs ns x y before after es fs l k (Ok v)) (sym is)
+      (both_start asked t leads covered u then)
 
 -- asking failed
-pub start_fails : (j : Job) (cs ns : List ClientTold) (x y : SignalTold) (limits : LimitTold) (es fs : List Event) (l k : Led) (e : FileReconstructionError) → AskLeads j cs ns x y es fs l k (Err e) → StartLeads j cs ns x y limits limits es fs l k (Err e)
+pub start_fails : (j : Job) (cs ns : List ClientTold) (x y : SignalTold) (limits : LimitTold) (es fs : List Event)
+    (l k : Led) (e : FileReconstructionError) → AskLeads j cs ns x y es fs l k (Err e)
+    → StartLeads j cs ns x y limits limits es fs l k (Err e)
 start_fails j cs ns x y limits es fs l k e leads m at seen lim is = record {
   part = record {
     ok = λ b s. tt;
-    err = λ b s. subst (λ (v : LimitTold). IsFailing (setup_of_job j) b (started_at m ns y v fs) e) lim ((leads m at seen is).err b s);
+    err = λ b s. subst (λ (v : LimitTold). IsFailing (setup_of_job j) b (started_at m ns y v fs) e) lim
+        ((leads m at seen is).err b s);
   };
   same = tt;
   done = λ b s. tt;
@@ -173,7 +214,10 @@ start_fails j cs ns x y limits es fs l k e leads m at seen lim is = record {
 }
 
 -- admitting did
-pub start_stops : (j : Job) (cs ns : List ClientTold) (x y : SignalTold) (before after : LimitTold) (es gs fs : List Event) (l h k : Led) (asked : Bool) (e : FileReconstructionError) → AskLeads j cs ns x y es gs l h (Ok asked) → AdmitLeads before after gs fs h k (Err e) → StartLeads j cs ns x y before after es fs l k (Err e)
+pub start_stops : (j : Job) (cs ns : List ClientTold) (x y : SignalTold) (before after : LimitTold)
+    (es gs fs : List Event) (l h k : Led) (asked : Bool) (e : FileReconstructionError)
+    → AskLeads j cs ns x y es gs l h (Ok asked) → AdmitLeads before after gs fs h k (Err e)
+    → StartLeads j cs ns x y before after es fs l k (Err e)
 start_stops j cs ns x y before after es gs fs l h k asked e leads then m at seen lim is =
     let first = leads m at seen is in
     let second = then (setup_of_job j) (asked_at m ns y gs) no_loose lim refl in

@@ -48,7 +48,8 @@ length_front (suc k) [] h = absurd (omega (arith, h))
 length_front (suc k) (x ∷ xs) h = ap suc (length_front k xs (omega (arith, h)))
 
 -- the first element after some is the next of all, and one of the first ones
-first_after : (k m : ℕ) (ts : List PlanTerm) (t : Task) → k < m → slice_get (map task_of (drop k ts)) 0 ≡ Some t → (u : PlanTerm) × (slice_get (take m ts) k ≡ Some u) × (t ≡ task_of u)
+first_after : (k m : ℕ) (ts : List PlanTerm) (t : Task) → k < m → slice_get (map task_of (drop k ts)) 0 ≡ Some t
+    → (u : PlanTerm) × (slice_get (take m ts) k ≡ Some u) × (t ≡ task_of u)
 first_after k m [] t h e = absurd (let z : ◌≡◌ {A = Option Task} None (Some t) = none_after k e in cc)
   where
     none_after : (j : ℕ) → slice_get (map task_of (drop j [])) 0 ≡ Some t → ◌≡◌ {A = Option Task} None (Some t)
@@ -69,12 +70,14 @@ module _ (g : Setup) (b : RunTold) (m : Moment) (o : Loose) (l : Led) (s : IsGoi
   next_are = next_tasks g b m.events s.slack o.stale l s.led.counted.planned_are s.led.plans
 
   all_led : All (IsLedTerm g b m.events s.slack o.stale) (next_terms l)
-  all_led = All-drop (IsLedTerm g b m.events s.slack o.stale) _ _ (led_each g b m.events s.slack o.stale l.plans s.led.plans.each)
+  all_led = All-drop (IsLedTerm g b m.events s.slack o.stale) _ _
+      (led_each g b m.events s.slack o.stale l.plans s.led.plans.each)
 
   opened_led : All (IsLedTerm g b m.events s.slack o.stale) (open_led l)
   opened_led = All-take (IsLedTerm g b m.events s.slack o.stale) (l.admitted - l.finished) (next_terms l) all_led
 
-  window_made : {S : Type 0} (v w : Sequential S) (lengths : List ℕ) → WindowMade (open_led l) v w lengths → WindowGoes g b m.events s.slack l v w lengths
+  window_made : {S : Type 0} (v w : Sequential S) (lengths : List ℕ) → WindowMade (open_led l) v w lengths
+      → WindowGoes g b m.events s.slack l v w lengths
   window_made v w lengths made =
       let k : ℕ = length lengths in
       let most : ℕ = l.admitted - l.finished in
@@ -85,23 +88,35 @@ module _ (g : Setup) (b : RunTold) (m : Moment) (o : Loose) (l : Led) (s : IsGoi
       let short = front_within most (next_terms l) in
       let same : ts ≡ take k (next_terms l) = take_less k most (next_terms l) (omega (arith, within, short)) in
       let count : length (map task_of ts) ≡ k = length_tasks ts ∙ length_front k (open_led l) within in
-      let led : All (IsLedTerm g b m.events s.slack o.stale) ts = All-take (IsLedTerm g b m.events s.slack o.stale) k (open_led l) opened_led in
-      let some : All (IsLedTerm g b m.events s.slack o.stale) (filter some_in ts) = each_filter (IsLedTerm g b m.events s.slack o.stale) some_in ts led in
+      let led : All (IsLedTerm g b m.events s.slack o.stale) ts =
+      All-take (IsLedTerm g b m.events s.slack o.stale) k (open_led l) opened_led in
+      let some : All (IsLedTerm g b m.events s.slack o.stale) (filter some_in ts) =
+      each_filter (IsLedTerm g b m.events s.slack o.stale) some_in ts led in
       record {
         pieces = made.pieces;
         window = record {
           tasks = map task_of ts;
           rest = map task_of (drop k (next_terms l));
-          next = next_are ∙ ap (λ (us : List PlanTerm). map task_of us) (sym (take-append-drop k (next_terms l))) ∙ map-append task_of (take k (next_terms l)) (drop k (next_terms l)) ∙ ap (λ (us : List PlanTerm). map task_of us ++ map task_of (drop k (next_terms l))) (sym same);
+          next = next_are ∙ ap (λ (us : List PlanTerm). map task_of us) (sym (take-append-drop k (next_terms l)))
+              ∙ map-append task_of (take k (next_terms l)) (drop k (next_terms l))
+              ∙ ap (λ (us : List PlanTerm). map task_of us ++ map task_of (drop k (next_terms l))) (sym same);
           within = omega (arith, count, within, short, fin);
           lengths_are = made.lengths_are ∙ sym (sizes_are ts);
           kept = pieces_kept g b m.events s.slack o.stale ts made.pieces led made.each;
-          tested = subst (λ (us : List Task). AllZip (IsTaskPiece g s.slack.heard s.slack.looks) us made.pieces) (sym (some_tasks ts)) (pieces_tested g b m.events s.slack o.stale (filter some_in ts) made.pieces some made.each);
-          honest = λ st over tells. pieces_honest g b m.events s.slack o.stale st (filter some_in ts) made.pieces over tells some made.each ∙ ap (λ (us : List Task). map (task_piece st) us) (sym (some_tasks ts));
+          tested = subst (λ (us : List Task). AllZip (IsTaskPiece g s.slack.heard s.slack.looks) us made.pieces)
+              (sym (some_tasks ts)) (pieces_tested g b m.events s.slack o.stale
+              (filter some_in ts) made.pieces some made.each);
+          honest = λ st over tells. pieces_honest g b m.events s.slack o.stale st
+              (filter some_in ts) made.pieces over tells some made.each
+              ∙ ap (λ (us : List Task). map (task_piece st) us) (sym (some_tasks ts));
           stops = λ t more e.
               let r = first_after k most (next_terms l) t (omega (arith, count, more)) e in
-              let q = made.stops r.0 r.1 in
-              (ap has_bytes r.2 ∙ q.0, ap (λ (x : Task). is_kept m.events x.plan x.term.block) r.2 ∙ unkept_there g b m.events s.slack o.stale r.0 (term_at g b m.events s.slack o.stale (open_led l) k r.0 opened_led r.1) q.1);
+              let q = made.stops r.0 r.1 in (
+                ap has_bytes r.2 ∙ q.0,
+                ap (λ (x : Task). is_kept m.events x.plan x.term.block) r.2
+                    ∙ unkept_there g b m.events s.slack o.stale r.0
+                    (term_at g b m.events s.slack o.stale (open_led l) k r.0 opened_led r.1) q.1,
+              );
         };
         writer = made.writer;
       }
@@ -111,13 +126,16 @@ module _ (g : Setup) (b : RunTold) (m : Moment) (o : Loose) (l : Led) (s : IsGoi
   leaves : (e : FileReconstructionError) → MayLeave (Some e) b.clients s.slack
   leaves e =
       let hidden : all_of s.slack.hidden ≡ [] = ap all_of s.settled.hidden ∙ none_hidden b.clients in
-      let late : AllAre 0 s.slack.late = subst (λ (ns : List ℕ). AllAre 0 ns) (sym s.settled.late) (none_late b.clients) in
+      let late : AllAre 0 s.slack.late = subst (λ (ns : List ℕ). AllAre 0 ns) (sym s.settled.late)
+      (none_late b.clients) in
       steady_leaves b.clients e s.slack hidden late s.settled.ahead
 
   -- a plan's number is that of its query
-  numbered : {t : PlanTerm} → (led : IsLedTerm g b m.events s.slack o.stale t) → StartsAt g s.slack.heard t.plan.number led.plan_is.query.start
+  numbered : {t : PlanTerm} → (led : IsLedTerm g b m.events s.slack o.stale t)
+      → StartsAt g s.slack.heard t.plan.number led.plan_is.query.start
   numbered {t} led =
-      starts_at g b m.told m.events None s.slack t.plan.number (covered (shape led.plan_is.plan) led.plan_is.query) s.ties
+      starts_at g b m.told m.events None s.slack t.plan.number
+      (covered (shape led.plan_is.plan) led.plan_is.query) s.ties
       (led.plan_is.recorded.at_range ∙ ap (λ (r : FileRange). r ∷ []) led.plan_is.table.range_is)
 
   corrupted : (k : Corruption) → OneFails (open_led l) k → IsFailing g b m (error.CorruptedReconstruction k)
@@ -129,8 +147,12 @@ module _ (g : Setup) (b : RunTold) (m : Moment) (o : Loose) (l : Led) (s : IsGoi
         ties = s.ties;
         left = leaves (error.CorruptedReconstruction k);
         cause = is_corrupted g b m.told m.events None s.slack k s.ties
-            (λ st over. let e : ◌≡◌ {A = Option Corruption} None (Some k) = sym (sound_passes g b m.events s.slack o.stale f.term led x.data_of x.kept st over) ∙ x.fails in absurd (cc))
-            (term_fails g s.slack.heard k (of_a_plan g b m.events s.slack o.stale f.term led x.data_of x.kept) f.term.plan.number (numbered led) (fails_said g b m.events s.slack o.stale f.term led x.data_of x.kept k x.fails));
+            (λ st over. let e : ◌≡◌ {A = Option Corruption} None (Some k) = sym
+            (sound_passes g b m.events s.slack o.stale f.term led x.data_of x.kept st over) ∙ x.fails in
+            absurd (cc))
+            (term_fails g s.slack.heard k (of_a_plan g b m.events s.slack o.stale f.term led x.data_of x.kept)
+            f.term.plan.number led.plan_is.said_as (numbered led)
+            (fails_said g b m.events s.slack o.stale f.term led x.data_of x.kept k x.fails));
         spent = λ h. absurd (let z : error.CorruptedReconstruction k ≡ error.UrlExpired = h in cc);
         cache_tells = s.cache_tells;
       }
@@ -146,6 +168,7 @@ module _ (g : Setup) (b : RunTold) (m : Moment) (o : Loose) (l : Led) (s : IsGoi
   }
   failing e (inr x) = subst (λ (y : FileReconstructionError). IsFailing g b m y) (sym x.1) (corrupted x.0 x.2)
 
-pub window_leads : {S : Type 0} (l : Led) (v w : Sequential S) (answer : Result (List ℕ) FileReconstructionError) → WindowTurn (open_led l) v w answer → WindowLeads l v w answer
+pub window_leads : {S : Type 0} (l : Led) (v w : Sequential S) (answer : Result (List ℕ) FileReconstructionError)
+    → WindowTurn (open_led l) v w answer → WindowLeads l v w answer
 window_leads l v w (Ok lengths) t g b m o s = record { ok = window_made g b m o l s v w lengths t.ok; err = tt }
 window_leads l v w (Err e) t g b m o s = record { ok = tt; err = λ open_. failing g b m o l s e (t.err open_).0 }

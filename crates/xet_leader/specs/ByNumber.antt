@@ -2,10 +2,10 @@
 use Rattle.std.specs.Prelude.{ℕ, zero, suc, ◌-◌, ◌==◌, cond, List, [], ◌∷◌}
 use Rattle.xet_leader.specs.declared.leader.LedPlan.{LedPlan}
 
--- the place of the plan of this number, counted from the first one, whose numbers follow one another
-abbrev pub place_of : ℕ → List LedPlan → ℕ
-place_of p [] = 0
-place_of p (l ∷ ls) = p - l.number
+-- the place of the plan of this number, counted from the first one, where numbers follow one another
+abbrev pub plan_index : List LedPlan → ℕ → ℕ
+plan_index [] p = 0
+plan_index (l ∷ ls) p = p - l.number
 
 -- the plan changed so, where it has this number
 abbrev pub only : ℕ → (LedPlan → LedPlan) → LedPlan → LedPlan
@@ -19,4 +19,4 @@ change_at (suc i) f (x ∷ xs) = x ∷ change_at i f xs
 
 -- the plan of this number changed so
 abbrev pub change_plan : ℕ → (LedPlan → LedPlan) → List LedPlan → List LedPlan
-change_plan p f ls = change_at (place_of p ls) (only p f) ls
+change_plan p f ls = change_at (plan_index ls p) (only p f) ls

@@ -1,21 +1,25 @@
 -- When a run answers Ok, but for want of memory.
-use Rattle.std.specs.Prelude.{◌≡◌, ◌⊎◌, ◌+◌, ◌<◌, None, IsSome, IfErr}
+use Rattle.std.specs.Prelude.{◌≡◌, ◌⊎◌, ◌+◌, ◌<◌, List, None, IsSome, IfErr}
 use Rattle.xet_base.specs.Store.{Store, file_of}
-use Rattle.xet_outside.specs.Told.{Rose}
+use Rattle.xet_outside.specs.Told.{ClientTold, Rose}
 use Rattle.xet_error.specs.declared.error.FileReconstructionError.TheVariants as error
 use Rattle.xet_ties.specs.Causes.{NoneAtEnd, SomeRose, failing_setting, total_expiries}
 use Rattle.xet_ties.specs.Legal.{Legal}
 use Rattle.xet_ties.specs.Setup.{IsEmptyRange, IsOver, RunTold, Setup}
 use Rattle.xet_leader.specs.Ending.{RunAnswer}
 
--- nothing that a run is lent fails: all settings can be met; the connections tell one valid store, which has the file
--- unless the range is empty; no count of faults and none of a yes rose; and there came fewer expired answers than a
--- block has tries
+-- the connections tell one valid store, which has the file
+pub record HaveFile (g : Setup) (clients : List ClientTold) : Type 0 where
+  pub store : Store
+  pub over : IsOver store clients
+  pub stored : IsSome (file_of store g.file)
+
+-- nothing that a run is lent fails: all settings can be met; the connections tell one valid store that has the file,
+-- or the range is empty; no count of faults and none of a yes rose; and there came fewer expired answers than a block
+-- has tries
 pub record NothingFails (g : Setup) (before after : RunTold) : Type 0 where
   pub settings : failing_setting g before.clients ≡ None
-  pub store : Store
-  pub over : IsOver store before.clients
-  pub stored : IsSome (file_of store g.file) ⊎ IsEmptyRange g.range
+  pub stored : HaveFile g before.clients ⊎ IsEmptyRange g.range
   pub clients : SomeRose before.clients after.clients → ⊥
   pub sink : Rose before.sink.faults after.sink.faults → ⊥
   pub signal : Rose before.signal.yes after.signal.yes → ⊥

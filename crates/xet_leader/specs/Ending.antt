@@ -19,7 +19,8 @@ use Rattle.xet_leader.specs.Steady.{IsFailing, IsSteady, Moment, no_loose}
 abbrev pub RunAnswer : Type 0
 RunAnswer = Result ℕ FileReconstructionError
 
--- the last call of a sink takes nothing more: on Ok all is flushed and the answer is this count, else the error has its
+-- the last call of a sink takes nothing more: on Ok all is flushed and the answer is this count, else the error has
+-- its
 -- cause
 pub record LastCall (before after : SinkTold) (count : ℕ) (answer : RunAnswer) : Type 0 where
   pub count_is : IfOk answer (λ k. k ≡ count)

@@ -5,7 +5,7 @@ use Rattle.std.specs.Vec.{with_item}
 use Rattle.xet_error.specs.declared.error.FileReconstructionError.{FileReconstructionError}
 use Rattle.xet_error.specs.declared.error.FileReconstructionError.TheVariants as error
 use Rattle.xet_ties.specs.steps.Records.{Place}
-use Rattle.xet_leader.specs.ByNumber.{change_plan, place_of}
+use Rattle.xet_leader.specs.ByNumber.{change_plan, plan_index}
 use Rattle.xet_leader.specs.declared.leader.LedPlan.{LedPlan}
 use Rattle.xet_leader.specs.Led.{Led}
 
@@ -29,7 +29,7 @@ abbrev pub counted_one : Place → List LedPlan → List LedPlan
 counted_one c ls = change_plan c.0 (one_more c.1) ls
 
 abbrev pub spends_one : ℕ → Place → List LedPlan → Bool
-spends_one tries c ls = spends_of tries c (slice_get ls (place_of c.0 ls))
+spends_one tries c ls = spends_of tries c (slice_get ls (plan_index ls c.0))
 
 -- one block was counted, and has tries left; or it has none
 pub record CountOne (tries : ℕ) (c : Place) (ls ks : List LedPlan)

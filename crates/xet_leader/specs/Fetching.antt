@@ -13,11 +13,12 @@ use Rattle.xet_ties.specs.steps.Records.{AreUnkept, HasTry, IsFreshAsk, asks_for
 use Rattle.xet_ties.specs.steps.Rounds.{IsMissingAsk}
 use Rattle.xet_lanes.specs.declared.lane.Fetch.{Fetch}
 use Rattle.xet_lanes.specs.Fetches.{ask_of}
+use Rattle.xet_leader.specs.ByNumber.{plan_index}
 use Rattle.xet_leader.specs.declared.leader.LedPlan.{LedPlan}
 use Rattle.xet_leader.specs.declared.missing_blocks.BlockAt.{BlockAt}
 use Rattle.xet_leader.specs.FetchLists.{IsFetchList}
 use Rattle.xet_leader.specs.Led.{Led}
-use Rattle.xet_leader.specs.Looks.{blocks_of, plan_index, to_fetch}
+use Rattle.xet_leader.specs.Looks.{blocks_of, to_fetch}
 use Rattle.xet_leader.specs.Steady.{IsFailing, IsGoing, Moment}
 
 -- a fetch of the block of this place, by its own request
@@ -40,7 +41,8 @@ AreFetches ls n [] (f ∷ fs) = ⊥
 AreFetches ls n (c ∷ cs) [] = ⊥
 AreFetches ls n (c ∷ cs) (f ∷ fs) = IsFetch ls c (min n (2 ^ 64 - 1)) f × AreFetches ls (n + 1) cs fs
 
--- what a round wants of its fetches: each is for its own block, which is missing, isn't expired and has tries left; no
+-- what a round wants of its fetches: each is for its own block, which is missing, isn't expired and has tries left;
+-- no
 -- two are of one block; and these blocks wait to be fetched
 pub record AreAsked (tries : ℕ) (es : List Event) (waiting : List PlannedBlock) (fs : List Ask) : Type 0 where
   pub own : All IsFor fs

@@ -1,5 +1,5 @@
 -- What a whole join does to a run.
-use Rattle.std.specs.Prelude.{ℕ, ◌≡◌, ◌⊎◌, List, Ok, Result, IfErr, IfOk}
+use Rattle.std.specs.Prelude.{ℕ, ◌≡◌, ◌⊎◌, List, Ok, Result, IfErr, IfOk, OnOk}
 use Rattle.xet_outside.specs.Told.{CacheTold, ClientTold, SignalTold, SinkTold}
 use Rattle.xet_error.specs.declared.error.FileReconstructionError.{FileReconstructionError}
 use Rattle.xet_run.specs.declared.event.Event.{Event}
@@ -10,6 +10,7 @@ use Rattle.xet_leader.specs.declared.joining.Prepared.{Prepared}
 use Rattle.xet_leader.specs.declared.outcomes.Outcome.{Outcome}
 use Rattle.xet_leader.specs.Joins.{IsPrepared, to_settle}
 use Rattle.xet_leader.specs.Led.{Led}
+use Rattle.xet_leader.specs.Measures.{LeavesLess, LeavesSame}
 use Rattle.xet_leader.specs.Offering.{AreServed}
 use Rattle.xet_leader.specs.Plans.{Answer}
 use Rattle.xet_leader.specs.Steady.{IsFailing, IsSteady, Moment, no_loose}
@@ -34,6 +35,8 @@ pub record PrepareLead {S : Type 0} (told : S → SinkTold) (g : Setup) (m n : M
   pub ok : (b : RunTold) → IsSteady told g b m no_loose l v
       → IfOk answer (λ p. IsPrepared told g b n k p.places p.lengths w)
   pub err : (b : RunTold) → IsSteady told g b m no_loose l v → IfErr answer (IsFailing g b n)
+  -- and no more is left
+  pub same : OnOk answer (LeavesSame g m.events n.events l k)
 
 abbrev pub PrepareLeads : {S : Type 0} → (S → SinkTold) → Touching S → Touching S
     → Result Prepared FileReconstructionError → Type 0
@@ -65,13 +68,16 @@ pub record CanJoin {S : Type 0} (told : S → SinkTold) (cs : List ClientTold) (
   pub events_are : moment.events ≡ es
   pub steady : IsSteady told setup start moment no_loose l v
 
--- over any start, a steady run is steady after it and has blocks to offer, which keep data, and plans to ask for again;
+-- over any start, a steady run is steady after it and has blocks to offer, which keep data, and plans to ask for
+-- again;
 -- or it is to stop
 pub record JoinLead {S : Type 0} (told : S → SinkTold) (g : Setup) (m n : Moment) (l k : Led) (v w : Sequential S)
     (answer : Result Outcome FileReconstructionError) : Type 0 where
   pub ok : (b : RunTold) → IsSteady told g b m no_loose l v
       → IfOk answer (λ o. IsSteady told g b n (to_settle n.events o) k w × AreServed k.plans o.served.items)
   pub err : (b : RunTold) → IsSteady told g b m no_loose l v → IfErr answer (IsFailing g b n)
+  -- and no more is left, but less where an admitted term wasn't written
+  pub less : (b : RunTold) → IsSteady told g b m no_loose l v → OnOk answer (LeavesLess g m.events n.events l k)
 
 -- so over the moment of a run of which these are told
 abbrev pub JoinLeads : {S : Type 0} → (S → SinkTold) → ℕ → Joining S → Joining S

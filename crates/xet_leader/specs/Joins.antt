@@ -1,5 +1,5 @@
 -- What a join does: lanes fetch blocks beside the writing of a window, and what that came to is taken in.
-use Rattle.std.specs.Prelude.{ℕ, ◌≡◌, ◌⊎◌, ◌+◌, ◌-◌, ◌^◌, ◌≤◌, min, List, [], length, map, None, Result, IfOk, IfErr}
+use Rattle.std.specs.Prelude.{ℕ, ◌≡◌, ◌⊎◌, ◌+◌, ◌-◌, ◌^◌, ◌≤◌, min, List, [], length, map, None, Result, IfOk, IfErr, OnOk}
 use Rattle.xet_outside.specs.Told.{ClientTold, SinkTold}
 use Rattle.xet_error.specs.declared.error.FileReconstructionError.{FileReconstructionError}
 use Rattle.xet_error.specs.declared.error.FileReconstructionError.TheVariants as error
@@ -18,6 +18,7 @@ use Rattle.xet_leader.specs.FetchLists.{IsFetchList}
 use Rattle.xet_leader.specs.Fetching.{AreFetches}
 use Rattle.xet_leader.specs.Led.{Led}
 use Rattle.xet_leader.specs.Looks.{to_fetch}
+use Rattle.xet_leader.specs.Measures.{LeavesLess}
 use Rattle.xet_leader.specs.Offering.{AreServed, due_of}
 use Rattle.xet_leader.specs.Outcomes.{OutcomeFails, TookOutcome}
 use Rattle.xet_leader.specs.RunWindows.{IsWindow}
@@ -117,10 +118,13 @@ to_settle es o = record { pending = []; due = due_of es o.served.items; stale = 
 -- over any start, such a run is steady after it and has blocks to offer, which keep data, and plans to ask for again;
 -- or it is to stop
 pub record RoundLead {S : Type 0} (told : S → SinkTold) (g : Setup) (m n : Moment) (cs : List BlockAt)
-    (lengths : List ℕ) (l k : Led) (v w : Sequential S) (answer : Result Outcome FileReconstructionError) : Type 0 where
+    (lengths : List ℕ) (l k : Led) (v w : Sequential S) (answer : Result Outcome FileReconstructionError)
+    : Type 0 where
   pub ok : (b : RunTold) → IsPrepared told g b m l cs lengths v
       → IfOk answer (λ o. IsSteady told g b n (to_settle n.events o) k w × AreServed k.plans o.served.items)
   pub err : (b : RunTold) → IsPrepared told g b m l cs lengths v → IfErr answer (IsFailing g b n)
+  -- and no more is left, but less where an admitted term wasn't written
+  pub less : (b : RunTold) → IsPrepared told g b m l cs lengths v → OnOk answer (LeavesLess g m.events n.events l k)
 
 -- so over the moment of which these are the connections and events
 abbrev pub RoundLeads : {S : Type 0} → (S → SinkTold) → ℕ → List BlockAt → List ℕ → RoundTold S → RoundTold S

@@ -57,7 +57,8 @@ all_steps es = flat_map (λ (e : LaneEnd). e.steps.items) es
 abbrev pub places_at : List BlockAt → List (ℕ × ℕ)
 places_at bs = map place_at bs
 
--- of these steps the data of the Served ones is kept, and the places are added to those of served blocks and of blocks
+-- of these steps the data of the Served ones is kept, and the places are added to those of served blocks and of
+-- blocks
 -- whose URL had expired
 pub record KeptSteps (ss : List LaneStep) (ls ks : List LedPlan) (r t : RoundPlaces) : Type 0 where
   pub plans : ks ≡ kept (given_of ss) ls

@@ -126,6 +126,7 @@ pub record IsLedPlan (g : Setup) (b : RunTold) (es : List Event) (sl : Slack) (s
   pub plan : Plan
   pub query : FileRange
   pub accepted : IsPlanAccepted g sl.heard plan query
+  pub said_as : l.number ≡ accepted.said.number
   pub terms : l.block.terms ≡ terms_of (shape plan) query g.multirange
   pub blocks : map bare l.block.blocks ≡ xorb_blocks (shape plan) g.multirange
   pub true_plan : (s : Store) → IsOver s b.clients → shape plan ≡ plan_of s g.file query
@@ -158,7 +159,8 @@ abbrev pub BeginsWith : ℕ → ℕ → List LedPlan → Type 0
 BeginsWith finished terms [] = finished ≡ terms
 BeginsWith finished terms (l ∷ ls) = (l.first ≤ finished) × (finished < l.first + length l.block.terms)
 
--- the plans with terms that aren't written; a plan without terms, which is the last one that is asked, is none of them
+-- the plans with terms that aren't written; a plan without terms, which is the last one that is asked, is none of
+-- them
 pub record AreLedPlans (g : Setup) (b : RunTold) (es : List Event) (sl : Slack) (stale : List ℕ)
     (l : Led) : Type 0 where
   pub each : All (IsLedPlan g b es sl stale) l.plans
@@ -188,6 +190,8 @@ pub record IsLed (g : Setup) (b : RunTold) (es : List Event) (sl : Slack) (stale
   pub some : g.range.start < g.range.end
   pub tries : 0 < g.tries
   pub stale_are : AreStale es stale
+  -- each block, also of a plan that is written, expired fewer times than it may be asked for
+  pub under : (p k : ℕ) → count_by (expires p k) es < g.tries
   pub manager : IsLedManager g es l.manager
   pub plans : AreLedPlans g b es sl stale l
   pub counted : IsCounted es l

@@ -15,6 +15,7 @@ pub mod KeptBlocks
 pub mod Lacking
 pub mod Led
 pub mod Looks
+pub mod LoopRuns
 pub mod Measures
 pub mod Offering
 pub mod Outcomes
@@ -29,3 +30,4 @@ pub mod Starts
 pub mod Steady
 pub mod Turns
 pub mod Windows
+pub mod Works

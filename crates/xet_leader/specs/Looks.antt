@@ -15,6 +15,7 @@ use Rattle.xet_ties.specs.Ties.{Slack}
 use Rattle.xet_ties.specs.steps.Parts.{LookedShort, LookedUp}
 use Rattle.xet_leader.specs.declared.leader.LedPlan.{LedPlan}
 use Rattle.xet_leader.specs.declared.missing_blocks.BlockAt.{BlockAt}
+use Rattle.xet_leader.specs.ByNumber.{plan_index}
 use Rattle.xet_leader.specs.FetchLists.{AreApart, Each, IsFetchList}
 use Rattle.xet_leader.specs.KeptBlocks.{with_block}
 use Rattle.xet_leader.specs.Lacking.{missing_of}
@@ -22,11 +23,6 @@ use Rattle.xet_leader.specs.Led.{IsLed, Led}
 use Rattle.xet_leader.specs.Steady.{IsFailing, IsGoing, Loose, Moment, no_loose}
 
 -- ---- before the looks
-
--- where the plan of this number stands among these, whose numbers follow one another
-abbrev pub plan_index : List LedPlan → ℕ → ℕ
-plan_index [] p = 0
-plan_index (l ∷ ls) p = p - l.number
 
 -- the leader of some run that has this history
 pub record IsLedBy (es : List Event) (l : Led) : Type 0 where

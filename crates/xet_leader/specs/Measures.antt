@@ -1,5 +1,5 @@
 -- What is left of a run, as a number that each turn makes less.
-use Rattle.std.specs.Prelude.{ℕ, ◌+◌, ◌-◌, ◌*◌, ◌^◌, List, length, map, count_by}
+use Rattle.std.specs.Prelude.{ℕ, ◌≡◌, ◌+◌, ◌-◌, ◌*◌, ◌^◌, ◌<◌, ◌≤◌, List, length, map, count_by}
 use Rattle.xet_run.specs.declared.event.Event.{Event}
 use Rattle.xet_run.specs.Events.{Task, is_admit, planned}
 use Rattle.xet_history.specs.TrueHistory.{queries_end}
@@ -36,3 +36,14 @@ digits a b c d = ((a * 2 ^ 64 + b) * 2 ^ 128 + c) * 2 ^ 64 + d
 -- the bytes not asked for, the terms not admitted, the tries that are left, and the terms not written
 abbrev pub measure : Setup → List Event → Led → ℕ
 measure g es l = digits (left_bytes g es) (waiting es) (left g.tries es (places es)) (unfinished_terms l)
+
+-- no more is left, and as many terms are written and admitted
+pub record LeavesSame (g : Setup) (es fs : List Event) (l k : Led) : Type 0 where
+  pub stays : measure g fs k ≤ measure g es l
+  pub finished_is : k.finished ≡ l.finished
+  pub admitted_is : k.admitted ≡ l.admitted
+
+-- no more is left, and less where some admitted term wasn't written
+pub record LeavesLess (g : Setup) (es fs : List Event) (l k : Led) : Type 0 where
+  pub stays : measure g fs k ≤ measure g es l
+  pub falls : l.finished < l.admitted → measure g fs k < measure g es l

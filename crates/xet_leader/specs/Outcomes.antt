@@ -25,7 +25,8 @@ use Rattle.xet_leader.specs.Rounds.{plans_after, plans_kept}
 abbrev pub is_spent : ℕ → List LaneEnd → List LedPlan → Bool
 is_spent tries es ls = spends tries (flat_map places_of (lanes_of es)) (plans_kept (lanes_of es) ls)
 
--- the served blocks keep their data, the expired ones are counted and have tries left, and terms of these lengths went
+-- the served blocks keep their data, the expired ones are counted and have tries left, and terms of these lengths
+-- went
 pub record KeptOutcome (tries : ℕ) (lengths : List ℕ) (es : List LaneEnd) (l k : Led) (o : Outcome) : Type 0 where
   pub left : is_spent tries es l.plans ≡ false
   pub led : k ≡ advanced (length lengths) (record l { plans = plans_after (lanes_of es) l.plans })

@@ -6,9 +6,9 @@ use Rattle.xet_blocks.specs.declared.reconstruction_terms.xorb_block.XorbBlock.{
 use Rattle.xet_leader.specs.declared.leader.LedPlan.{LedPlan}
 
 -- the place of the plan of this number, where numbers follow one another
-abbrev pub place_in : List LedPlan → ℕ → Option ℕ
-place_in [] number = None
-place_in (l ∷ ls) number =
+abbrev pub find_plan : List LedPlan → ℕ → Option ℕ
+find_plan [] number = None
+find_plan (l ∷ ls) number =
     cond (nat_le l.number number && nat_lt (number - l.number) (length (l ∷ ls))) (Some (number - l.number)) None
 
 -- the block of this number of the plan at this place
@@ -17,7 +17,7 @@ block_there ls block place = option_and_then (λ l. slice_get l.block.blocks blo
 
 -- the block of this number of the plan of this number
 abbrev pub block_in : List LedPlan → ℕ → ℕ → Option XorbBlock
-block_in ls plan block = option_and_then (block_there ls block) (place_in ls plan)
+block_in ls plan block = option_and_then (block_there ls block) (find_plan ls plan)
 
 -- what a part answers that has nothing to hand out
 abbrev pub Answer : Type 0

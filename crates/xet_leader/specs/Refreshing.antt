@@ -10,7 +10,7 @@ use Rattle.xet_parts.specs.PlanRefreshes.{RefreshPlanCall}
 use Rattle.xet_ties.specs.Setup.{Setup}
 use Rattle.xet_leader.specs.declared.leader.LedPlan.{LedPlan}
 use Rattle.xet_leader.specs.Led.{Led}
-use Rattle.xet_leader.specs.Plans.{Answer, place_in}
+use Rattle.xet_leader.specs.Plans.{Answer, find_plan}
 use Rattle.xet_leader.specs.Steady.{LeadPart, Loose, Moment}
 
 -- what a refresh touches: what the first connection tells, the history, and the plans
@@ -34,7 +34,7 @@ RefreshedThere multi number (Some place) a b answer = RefreshedAt multi number p
 
 -- the plan of this number was asked for again once, where it is among the plans
 abbrev pub RefreshedOne : Bool → ℕ → Touched → Touched → Answer → Type 0
-RefreshedOne multi number a b answer = RefreshedThere multi number (place_in a.plans number) a b answer
+RefreshedOne multi number a b answer = RefreshedThere multi number (find_plan a.plans number) a b answer
 
 -- the plans of these numbers were asked for again, each once, in order
 abbrev pub RefreshedEach : Bool → List ℕ → Touched → Touched → Type 0
@@ -62,7 +62,8 @@ pub record RefreshTurn (multi : Bool) (numbers : List ℕ) (c n : ClientTold) (e
       (record { client = n; events = fs; plans = k.plans }) answer
   pub led : k ≡ record l { plans = k.plans }
 
--- over the moment of a run whose first connection tells this, where these plans are stale: none is after it, or the run
+-- over the moment of a run whose first connection tells this, where these plans are stale: none is after it, or the
+-- run
 -- is to stop
 abbrev pub RefreshLeads : Bool → List ℕ → ClientTold → ClientTold → List Event → List Event → Led → Led → Answer
     → Type 0

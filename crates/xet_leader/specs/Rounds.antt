@@ -34,7 +34,8 @@ pub record IsLedAt (ls : List LedPlan) (p k : ℕ) (x : XorbBlock) : Type 0 wher
 abbrev pub IsLedAsk : List LedPlan → Ask → Type 0
 IsLedAsk ls a = IsLedAt ls a.request.acquisition.plan a.request.index a.block
 
--- the fetches of a round: each is of a block of these plans that is missing, by the block's own request, no two are of
+-- the fetches of a round: each is of a block of these plans that is missing, by the block's own request, no two are
+-- of
 -- one block, and each of one range waits
 pub record AreLedAsks (es : List Event) (pending : List PlannedBlock) (ls : List LedPlan)
     (fs : List Ask) : Type 0 where

@@ -74,7 +74,8 @@ pub record IsFailing (g : Setup) (b : RunTold) (m : Moment) (e : FileReconstruct
   pub spent : e ≡ error.UrlExpired → (p : ℕ) × (k : ℕ) × (count_by (expires p k) m.events ≡ g.tries)
   pub cache_tells : (s : Store) → IsOver s b.clients → CacheTells s b.cache → CacheTells s m.told.cache
 
--- a part of a turn that leaves the writer: over any start, a run that goes on goes on after it, or is to stop with its
+-- a part of a turn that leaves the writer: over any start, a run that goes on goes on after it, or is to stop with
+-- its
 -- error
 pub record LeadPart {A : Type 0} (g : Setup) (m n : Moment) (o u : Loose) (l k : Led)
     (answer : Result A FileReconstructionError) : Type 0 where

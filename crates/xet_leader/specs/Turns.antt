@@ -1,5 +1,5 @@
 -- What one turn of a leader does to a run, and what the loop of its turns does.
-use Rattle.std.specs.Prelude.{ℕ, ◌≡◌, ◌⊎◌, ◌<◌, ◌≤◌, ◌==◌, ◌&&◌, Bool, true, false, not, List, [], Result, Ok, OnOk, IfOk}
+use Rattle.std.specs.Prelude.{◌≡◌, ◌⊎◌, ◌<◌, ◌≤◌, ◌==◌, ◌&&◌, Bool, true, false, not, List, Result, Ok, OnOk, IfOk}
 use Rattle.xet_outside.specs.Told.{ClientTold, SignalTold, SinkTold}
 use Rattle.xet_error.specs.declared.error.FileReconstructionError.{FileReconstructionError}
 use Rattle.xet_run.specs.declared.event.Event.{Event}
@@ -9,12 +9,10 @@ use Rattle.xet_writers.specs.Sequential.{Sequential}
 use Rattle.xet_ties.specs.RunCalls.{IsFinished}
 use Rattle.xet_ties.specs.Setup.{RunTold, Setup}
 use Rattle.xet_leader.specs.declared.leader.Job.{Job}
-use Rattle.xet_leader.specs.declared.missing_blocks.BlockAt.{BlockAt}
 use Rattle.xet_leader.specs.Led.{Led, setup_of_job}
 use Rattle.xet_leader.specs.Measures.{measure}
-use Rattle.xet_leader.specs.Offering.{AreServed, due_of}
 use Rattle.xet_leader.specs.Plans.{Answer}
-use Rattle.xet_leader.specs.Steady.{IsGoing, IsSteady, LeadCall, LeadPart, Loose, Moment, no_loose}
+use Rattle.xet_leader.specs.Steady.{IsGoing, IsSteady, LeadCall, LeadPart, Moment, no_loose}
 
 -- a run that is steady, from some start
 pub record IsSteadyRun {S : Type 0} (told : S → SinkTold) (g : Setup) (m : Moment) (l : Led)
@@ -50,32 +48,6 @@ abbrev pub StartLeads : Job → List ClientTold → List ClientTold → SignalTo
 StartLeads j cs ns x y before after es fs l k answer = (m : Moment) → m.told.clients ≡ cs → m.told.signal ≡ x
     → m.told.limits ≡ before → m.events ≡ es → StartCall (setup_of_job j) m
     (record { told = record m.told { clients = ns; signal = y; limits = after }; events = fs }) l k answer
-
--- ---- a join, and what it leaves
-
--- no more is left, and less where some admitted term wasn't written
-pub record LeavesLess (g : Setup) (es fs : List Event) (l k : Led) : Type 0 where
-  pub stays : measure g fs k ≤ measure g es l
-  pub falls : l.finished < l.admitted → measure g fs k < measure g es l
-
--- these served blocks are due, and these plans are stale
-abbrev pub left_loose : List Event → List BlockAt → List ℕ → Loose
-left_loose es places stale = record { pending = []; due = due_of es places; stale = stale }
-
--- over any start, a steady run is steady after a join, and these blocks and plans are to be settled
-pub record JoinSteady {S : Type 0} (told : S → SinkTold) (g : Setup) (m n : Moment) (l k : Led) (v w : Sequential S)
-    (places : List BlockAt) (stale : List ℕ) : Type 0 where
-  pub steady : (b : RunTold) → IsSteady told g b m no_loose l v
-      → IsSteady told g b n (left_loose n.events places stale) k w
-  pub served : (b : RunTold) → IsSteady told g b m no_loose l v → AreServed k.plans places
-  pub less : (b : RunTold) → IsSteady told g b m no_loose l v → LeavesLess g m.events n.events l k
-
--- over any start, a steady run is steady after a join and what is settled then, or is to stop with its error; and no
--- more is left
-pub record WorkCall {S : Type 0} (told : S → SinkTold) (g : Setup) (m n : Moment) (l k : Led) (v w : Sequential S)
-    (answer : Answer) : Type 0 where
-  pub call : LeadCall told g m n no_loose no_loose l k v w answer
-  pub less : (b : RunTold) → IsSteady told g b m no_loose l v → OnOk answer (LeavesLess g m.events n.events l k)
 
 -- ---- turns
 

@@ -4,7 +4,7 @@ ghost use Rattle.xet_error.specs.declared.error.FileReconstructionError.TheVaria
 ghost use Rattle.xet_leader.specs.Expiries.{CountAll, CountFails, CountOne, CountedLate, one_more, spends_in, with_stale};
 ghost use Rattle.xet_leader.specs.Places.{place_at};
 
-use crate::by_number::place_of;
+use crate::by_number::plan_index;
 use crate::leader::{Leader, LedPlan};
 use crate::missing_blocks::BlockAt;
 use std::alloc::Global;
@@ -77,7 +77,7 @@ fn count_all(
 fn count_one(plans: &mut VecDeque<LedPlan>, at: BlockAt, tries: u32) -> Result<()>
     ensures { CountOne tries (place_at at) plans.old.items plans.new.items result }
 {
-    let place = place_of(plans, at.plan);
+    let place = plan_index(plans, at.plan);
     let Some(plan) = plans.get_mut(place) else {
         return Ok(());
     };

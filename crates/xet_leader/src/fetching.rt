@@ -7,8 +7,8 @@ ghost use Rattle.xet_leader.specs.FetchLists.{Each};
 ghost use Rattle.xet_leader.specs.Fetching.{AddsFetch, AreFetches, FetchLeads, IsFetch};
 ghost use Rattle.xet_leader.specs.Looks.{CanRequest};
 
+use crate::by_number::plan_index;
 use crate::leader::{Leader, LedPlan};
-use crate::looks::plan_index;
 use crate::missing_blocks::BlockAt;
 use std::alloc::Global;
 use std::collections::VecDeque;

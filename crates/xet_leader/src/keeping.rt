@@ -3,7 +3,7 @@ ghost use Rattle.std.specs.Prelude.{◌≡◌, [], ◌∷◌, IfOk, OnOk};
 ghost use Rattle.xet_leader.specs.ByNumber.{change_at};
 ghost use Rattle.xet_leader.specs.Keeping.{KeptRound, KeptSteps, all_steps, keep_data, keep_in, kept_one};
 
-use crate::by_number::place_of;
+use crate::by_number::plan_index;
 use crate::leader::{Leader, LedPlan};
 use crate::missing_blocks::BlockAt;
 use std::alloc::Global;
@@ -105,7 +105,7 @@ fn keep_step(
 fn keep_one(alloc: Global, plans: &mut VecDeque<LedPlan>, at: BlockAt, found: XorbBlockData)
     ensures { plans.new.items ≡ kept_one (at.plan, at.block, found) plans.old.items }
 {
-    let place = place_of(plans, at.plan);
+    let place = plan_index(plans, at.plan);
     let Some(plan) = plans.get_mut(place) else {
         return;
     };

@@ -1,6 +1,7 @@
 //! The leader of a run: the one thread that asks, admits, looks, joins, records and writes, turn by turn.
 #![tactic(auto)]
 
+mod accounts;
 pub mod admission;
 pub mod advancing;
 pub mod asking;
@@ -23,6 +24,7 @@ pub mod recording;
 pub mod refreshing;
 pub mod reporting;
 pub mod round;
+pub mod running;
 pub mod settling;
 pub mod turns;
 
@@ -45,4 +47,6 @@ pub use recording::record_round;
 pub use refreshing::refresh_stale;
 pub use reporting::report;
 pub use round::{Around, run_round};
+pub use running::{Order, run};
 pub use settling::settle;
+pub use turns::{lead, turn};

@@ -4,8 +4,9 @@ ghost use Rattle.xet_error.specs.declared.error.FileReconstructionError.TheVaria
 ghost use Rattle.xet_blocks.specs.declared.reconstruction_terms.xorb_block.XorbBlock.{XorbBlock};
 ghost use Rattle.xet_run.specs.Allowed.{IsAllowed, IsRunning};
 ghost use Rattle.xet_leader.specs.FetchLists.{Each};
-ghost use Rattle.xet_leader.specs.Looks.{CanLook, CanLookAll, CanRequest, EndsShort, IsLedBy, LookLeads, LookTurn, LookedBlock, LookedIn, LookedPlace, LooksCall, plan_index};
+ghost use Rattle.xet_leader.specs.Looks.{CanLook, CanLookAll, CanRequest, EndsShort, IsLedBy, LookLeads, LookTurn, LookedBlock, LookedIn, LookedPlace, LooksCall};
 
+use crate::by_number::plan_index;
 use crate::leader::{Leader, LedPlan};
 use crate::missing_blocks::{BlockAt, missing};
 use std::alloc::Global;
@@ -123,16 +124,6 @@ fn look_up_place<R: Wait, K: ChunkCache>(
 {
     let at = plan_index(plans, place.plan);
     look_up_in(rt, alloc, core, cache, &mut plans[at], progress, place)
-}
-
-/// Where the plan of a number stands.
-pub(crate) fn plan_index(plans: &VecDeque<LedPlan>, number: u64) -> usize
-    ensures { result ≡ plan_index plans.now.items number }
-{
-    match plans.front() {
-        Some(plan) => number.saturating_sub(plan.number) as usize,
-        None => 0,
-    }
 }
 
 /// Looks for a block of a plan, and reports it as transferred where it is found. Whether it is kept now.

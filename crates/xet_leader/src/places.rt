@@ -1,14 +1,14 @@
 //! Finds a plan, and a block, among the plans of a leader.
 ghost use Rattle.std.specs.Prelude.{◌≡◌, MatchOption, None, Some};
-ghost use Rattle.xet_leader.specs.Plans.{block_in, block_there, place_in};
+ghost use Rattle.xet_leader.specs.Plans.{block_in, block_there, find_plan};
 
 use crate::leader::LedPlan;
 use std::collections::VecDeque;
 use xet_blocks::XorbBlock;
 
 /// The place of the plan of this number, where numbers follow one another.
-pub(crate) fn place_of(plans: &VecDeque<LedPlan>, number: u64) -> Option<usize>
-    ensures { result ≡ place_in plans.now.items number }
+pub(crate) fn find_plan(plans: &VecDeque<LedPlan>, number: u64) -> Option<usize>
+    ensures { result ≡ find_plan plans.now.items number }
 {
     let first = match plans.front() {
         Some(plan) => plan.number,
@@ -29,7 +29,7 @@ pub(crate) fn find_block(plans: &VecDeque<LedPlan>, plan: u64, block: usize) -> 
     ensures { MatchOption result (block_in plans.now.items plan block ≡ None)
         (λ x. block_in plans.now.items plan block ≡ Some x.now) }
 {
-    match place_of(plans, plan) {
+    match find_plan(plans, plan) {
         Some(place) => block_of(plans, place, block),
         None => None,
     }

@@ -47,7 +47,7 @@ fn queue_next<P: FetchPolicy, S: Sink>(
 }
 
 /// How many planned terms come before the first plan's own.
-fn first_of(plans: &VecDeque<LedPlan>) -> u64
+pub(crate) fn first_of(plans: &VecDeque<LedPlan>) -> u64
     ensures { result ≡ first_number plans.now.items }
 {
     match plans.front() {
@@ -58,15 +58,15 @@ fn first_of(plans: &VecDeque<LedPlan>) -> u64
 
 /// A place among the terms of some plans.
 #[derive(Clone, Copy)]
-struct Place {
+pub(crate) struct Place {
     /// The plan, from 0.
-    plan: usize,
+    pub(crate) plan: usize,
     /// The term, from the plan's first one on.
-    term: usize,
+    pub(crate) term: usize,
 }
 
 /// Goes on to the plan that has the term of a place.
-fn seek(plans: &VecDeque<LedPlan>, at: Place) -> Place
+pub(crate) fn seek(plans: &VecDeque<LedPlan>, at: Place) -> Place
     ensures rest { drop result.term (led_terms (drop result.plan plans.now.items))
         ≡ drop at.term (led_terms (drop at.plan plans.now.items)) }
     ensures inside { (d : Led) → result.plan < length plans.now.items

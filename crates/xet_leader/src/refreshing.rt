@@ -5,7 +5,7 @@ ghost use Rattle.xet_leader.specs.Led.{AreStale};
 ghost use Rattle.xet_leader.specs.Refreshing.{RefreshCalls, RefreshLeads, RefreshTurn, RefreshedAt, RefreshedOne};
 
 use crate::leader::{Leader, LedPlan};
-use crate::places::place_of;
+use crate::places::find_plan;
 use std::alloc::Global;
 use std::collections::VecDeque;
 use xet_blocks::FetchPolicy;
@@ -94,7 +94,7 @@ fn refresh_one<C: Client>(
         (record { client = C.told client.old; events = core.old; plans = plans.old.items })
         (record { client = C.told client.new; events = core.new; plans = plans.new.items }) result }
 {
-    match place_of(plans, number) {
+    match find_plan(plans, number) {
         Some(place) => refresh_at(alloc, plans, core, client, number, place, multirange),
         None => Ok(()),
     }

@@ -4,10 +4,12 @@ ghost use Rattle.xet_leader.specs.FetchLists.{Each};
 ghost use Rattle.xet_leader.specs.Looks.{CanRequest};
 ghost use Rattle.xet_leader.specs.Joins.{CanRound, FetchTurn, RoundLeads, RoundTurn};
 
+use crate::accounts::record_blocks;
 use crate::fetching::{count_fetches, fetches};
 use crate::leader::Leader;
 use crate::missing_blocks::BlockAt;
 use crate::outcomes::{Outcome, take_outcome};
+use crate::reporting::report;
 use std::alloc::Global;
 use std::sync::Wait;
 use std::sync::ledger::Ledger;
@@ -109,6 +111,7 @@ fn fetch_and_take<
         Ok(joined) => joined,
         Err(error) => return Err(error),
     };
+    report(around.rt, leader, &joined, lengths.as_slice());
     count_fetches(leader, places.len());
     take_outcome(around.alloc, leader, core, joined, lengths, tries)
 }
@@ -152,6 +155,10 @@ fn fetch_blocks<
         Ok(made) => made,
         Err(error) => return Err(error),
     };
+    match record_blocks(around.rt, around.state, pass, places.len()) {
+        Ok(()) => {}
+        Err(error) => return Err(error),
+    }
     match fetch_and_write(
         around.rt,
         around.alloc,

@@ -6,4 +6,5 @@ pub returns-clause-leads : goal.returns-clause-leads
 returns-clause-leads g c = ask_leads _ _ _ _ _ _ _ _ _ _ c.check_history.ensures c.ask_due.ensures
 
 pub returns-clause-covered : goal.returns-clause-covered
-returns-clause-covered g c = ask_covered (setup_of_job c.args.job) _ _ _ _ _ _ _ _ _ _ c.requires.led c.ask_due.ensures
+returns-clause-covered g c = ask_covered (setup_of_job c.args.job) _ _ _ _ _ _ _ _ _ _ c.requires.led
+    c.ask_due.ensures

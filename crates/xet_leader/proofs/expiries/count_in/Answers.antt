@@ -10,5 +10,6 @@ returns-clause-counted c =
     let more = c.saturating_add-more.ensures in
     let few = c.if-tries-more.false in
     let fits = c.ranges.tries in
-    let is : c.saturating_add-more.result ≡ slice_index c.args.plan.now.tries.items c.args.block + 1 = omega (arith, was, more, few) in
+    let is : c.saturating_add-more.result ≡ slice_index c.args.plan.now.tries.items c.args.block + 1 =
+    omega (arith, was, more, few) in
     counted_in c.args.plan.now c.args.block c.saturating_add-more.result within is

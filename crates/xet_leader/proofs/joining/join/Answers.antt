@@ -8,20 +8,63 @@ prepare-requires g c = led_by _ _ _ _ _ _ _ c.requires.can
 
 pub returns-in-Err-clause-leads : goal.returns-in-Err-clause-leads
 returns-in-Err-clause-leads g c =
-    let a : Touching _ = record { cache = g.K.ChunkCache.told c.args.cache.now; signal = g.X.CancelSignal.told c.args.cancel.now; events = c.args.core.now; led = c.args.leader.now; writer = c.args.writer.now } in
-    let z : Touching _ = record { cache = g.K.ChunkCache.told c.prepare.new.cache; signal = g.X.CancelSignal.told c.prepare.new.cancel; events = c.prepare.new.core; led = c.prepare.new.leader; writer = c.prepare.new.writer } in
+    let a : Touching _ = record {
+      cache = g.K.ChunkCache.told c.args.cache.now;
+      signal = g.X.CancelSignal.told c.args.cancel.now;
+      events = c.args.core.now;
+      led = c.args.leader.now;
+      writer =
+          c.args.writer.now;
+    } in
+    let z : Touching _ = record {
+      cache = g.K.ChunkCache.told c.prepare.new.cache;
+      signal = g.X.CancelSignal.told c.prepare.new.cancel;
+      events = c.prepare.new.core;
+      led =
+          c.prepare.new.leader;
+      writer = c.prepare.new.writer;
+    } in
     join_refused _ _ _ a z c.in-Err.error c.in-Err.ensures.sink c.in-Err.ensures.leads
 
 pub run_round-requires-clause-can : goal.run_round-requires-clause-can
 run_round-requires-clause-can g c κs within =
-    let a : Touching _ = record { cache = g.K.ChunkCache.told c.args.cache.now; signal = g.X.CancelSignal.told c.args.cancel.now; events = c.args.core.now; led = c.args.leader.now; writer = c.args.writer.now } in
-    let z : Touching _ = record { cache = g.K.ChunkCache.told c.prepare.new.cache; signal = g.X.CancelSignal.told c.prepare.new.cancel; events = c.prepare.new.core; led = c.prepare.new.leader; writer = c.prepare.new.writer } in
+    let a : Touching _ = record {
+      cache = g.K.ChunkCache.told c.args.cache.now;
+      signal = g.X.CancelSignal.told c.args.cancel.now;
+      events = c.args.core.now;
+      led = c.args.leader.now;
+      writer =
+          c.args.writer.now;
+    } in
+    let z : Touching _ = record {
+      cache = g.K.ChunkCache.told c.prepare.new.cache;
+      signal = g.X.CancelSignal.told c.prepare.new.cancel;
+      events = c.prepare.new.core;
+      led =
+          c.prepare.new.leader;
+      writer = c.prepare.new.writer;
+    } in
     let same : c.as_slice.result.now ≡ c.in-Ok.prepared.places = search rules in
     can_round _ _ a z c.in-Ok.prepared c.as_slice.result.now same c.requires.can c.in-Ok.ensures.leads
 
 pub returns-clause-leads : goal.returns-clause-leads
 returns-clause-leads g c =
-    let a : Touching _ = record { cache = g.K.ChunkCache.told c.args.cache.now; signal = g.X.CancelSignal.told c.args.cancel.now; events = c.args.core.now; led = c.args.leader.now; writer = c.args.writer.now } in
-    let z : Touching _ = record { cache = g.K.ChunkCache.told c.prepare.new.cache; signal = g.X.CancelSignal.told c.prepare.new.cancel; events = c.prepare.new.core; led = c.prepare.new.leader; writer = c.prepare.new.writer } in
+    let a : Touching _ = record {
+      cache = g.K.ChunkCache.told c.args.cache.now;
+      signal = g.X.CancelSignal.told c.args.cancel.now;
+      events = c.args.core.now;
+      led = c.args.leader.now;
+      writer =
+          c.args.writer.now;
+    } in
+    let z : Touching _ = record {
+      cache = g.K.ChunkCache.told c.prepare.new.cache;
+      signal = g.X.CancelSignal.told c.prepare.new.cancel;
+      events = c.prepare.new.core;
+      led =
+          c.prepare.new.leader;
+      writer = c.prepare.new.writer;
+    } in
     let same : c.as_slice.result.now ≡ c.in-Ok.prepared.places = search rules in
-    join_done _ _ _ _ a z _ _ _ c.in-Ok.prepared c.as_slice.result.now c.run_round.result same c.in-Ok.ensures.leads c.run_round.ensures.leads
+    join_done _ _ _ _ a z _ _ _ c.in-Ok.prepared c.as_slice.result.now c.run_round.result same c.in-Ok.ensures.leads
+    c.run_round.ensures.leads

@@ -4,4 +4,5 @@ use Rattle.xet_leader.proofs.keeping.keep_steps.Goals as goal
 
 pub loop-step-preserved : goal.loop-step-preserved
 loop-step-preserved c =
-    steps_then c.loop-step.yielded (c.in-Some.step ∷ []) c.args.plans.now.items c.loop-step.plans.items _ c.args.places.now c.loop-step.places _ c.loop-step.invariant c.in-Ok.ensures
+    steps_then c.loop-step.yielded (c.in-Some.step ∷ []) c.args.plans.now.items c.loop-step.plans.items _
+    c.args.places.now c.loop-step.places _ c.loop-step.invariant c.in-Ok.ensures

@@ -10,4 +10,5 @@ look_up_places-requires g c =
     let listed : c.as_slice.result.now ≡ missing_of c.args.leader.now = search rules in
     let plans : c.args.leader.now.plans ≡ c.leader.inside.plans.items = search rules in
     subst (λ (ls : List LedPlan). CanLookAll c.args.core.now ls c.as_slice.result.now) plans
-    (subst (CanLookAll c.args.core.now c.args.leader.now.plans) (sym listed) (can_all c.args.core.now c.args.leader.now c.requires))
+    (subst (CanLookAll c.args.core.now c.args.leader.now.plans) (sym listed)
+    (can_all c.args.core.now c.args.leader.now c.requires))

@@ -12,4 +12,5 @@ returns-then-is_some c =
 pub returns : goal.returns
 returns c =
     let none : is_some c.position.result ≡ false = search rules in
-    on_ok_weaker c.push.result (λ (e : c.push.new.self ≡ c.args.found.now ++ c.args.place ∷ []). e ∙ place_new c.args.found.now c.args.place c.position.result c.position.ensures none) c.push.ensures.ok
+    on_ok_weaker c.push.result (λ (e : c.push.new.self ≡ c.args.found.now ++ c.args.place ∷ []). e
+    ∙ place_new c.args.found.now c.args.place c.position.result c.position.ensures none) c.push.ensures.ok

@@ -15,5 +15,6 @@ returns-in-Ok g c =
     let z : c.saturating_sub-length.result ≢ 0 = c.if-length-eq0.false in
     let h : 0 < size_in t = omega arith in
     let i : IsPieceIn t p = search rules in
-    let q : closed_by (told_of v) ≡ None → w ≡ with_piece v p = λ o. rw c.in-Ok.is at (c.queue_bytes.ensures.done o) in
+    let q : closed_by (told_of v) ≡ None → w ≡ with_piece v p =
+    λ o. rw c.in-Ok.is at (c.queue_bytes.ensures.done o) in
     (n, one_queued t v w p h i q)

@@ -19,4 +19,6 @@ loop-plan-preserved c =
     let k = ap (λ l. length l.block.terms) same in
     let t = c.if-len-term.true in
     let l : length p.block.terms ≤ c.loop-plan.term = omega (arith, m, k, t) in
-    subst (λ j. drop (c.loop-plan.term - j) (led_terms (drop (i + 1) ls)) ≡ drop c.args.at.term (led_terms (drop c.args.at.plan ls))) (sym n) (past_plan ls i c.loop-plan.term p h e l ∙ c.loop-plan.invariant)
+    subst (λ j. drop (c.loop-plan.term - j) (led_terms (drop (i + 1) ls)) ≡ drop c.args.at.term
+    (led_terms (drop c.args.at.plan ls))) (sym n)
+    (past_plan ls i c.loop-plan.term p h e l ∙ c.loop-plan.invariant)

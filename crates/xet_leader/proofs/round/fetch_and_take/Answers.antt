@@ -8,9 +8,11 @@ pub fetch_blocks-requires-clause-requests : goal.fetch_blocks-requires-clause-re
 fetch_blocks-requires-clause-requests g c κs within = can_fetch _ _ _ _ _ _ _ c.requires.can
 
 pub take_outcome-requires-clause-allowed : goal.take_outcome-requires-clause-allowed
-take_outcome-requires-clause-allowed g c = may_record _ _ _ _ _ _ _ c.in-Ok.joined c.requires.can c.in-Ok.ensures.turn.ok
+take_outcome-requires-clause-allowed g c = may_record _ _ _ _ _ _ _ c.in-Ok.joined c.requires.can
+    c.in-Ok.ensures.turn.ok
 
 pub returns-clause-turn : goal.returns-clause-turn
 returns-clause-turn g c =
     let same : c.count_fetches.new.leader ≡ fetched_led c.args.places.now c.args.leader.now = search rules in
-    turn_done _ _ _ _ _ _ _ _ _ c.count_fetches.new.leader _ c.in-Ok.joined c.take_outcome.result c.in-Ok.ensures.turn.ok same c.take_outcome.ensures.took c.take_outcome.ensures.fails
+    turn_done _ _ _ _ _ _ _ _ _ c.count_fetches.new.leader _ c.in-Ok.joined c.take_outcome.result
+    c.in-Ok.ensures.turn.ok same c.take_outcome.ensures.took c.take_outcome.ensures.fails
