@@ -1,150 +1,284 @@
--- Answers of a valid store fail no test of a run, and their pieces join to the window.
-use Rattle.std.proofs.Common.{◌≡◌, ℕ, List, [], ◌∷◌, length, take, get_or, Option, Some, None, refl, ap, sym, ◌∙◌}
-use Rattle.std.proofs.Common.{subst, arith, inl, inr}
-use Rattle.std.specs.Prelude.{All, Contains, MatchOption, slice_get, option_map, unwrap_or}
+-- Answers of a valid store fail no test of a run, and their pieces join to the windows of their queries.
+use Rattle.std.proofs.Common.{◌≡◌, ℕ, ◌-◌, ◌<◌, ◌≤◌, min, List, [], ◌∷◌, length, drop, Option, Some, None, refl, ap}
+use Rattle.std.proofs.Common.{sym, ◌∙◌, subst, arith, inl, inr}
+use Rattle.std.specs.Prelude.{All, IfSome, map, option_map, slice_get, sum, unwrap_or}
 use Rattle.std.specs.List.{AllZip, concat, flat_map}
-use Rattle.std.proofs.lemmas.List.{take_all}
-use Rattle.std.proofs.lemmas.List.Elements.{All-head, All-tail, Contains-get_or}
-use Rattle.xet_base.specs.Store.{Store, IsValid, window}
+use Rattle.std.proofs.lemmas.List.{length-drop, length-take}
+use Rattle.xet_base.specs.declared.cas_types.ChunkRange.{ChunkRange}
+use Rattle.xet_base.specs.declared.cas_types.FileRange.{FileRange}
+use Rattle.xet_base.specs.Store.{IsValid, Store, bytes_of, window}
 use Rattle.xet_outside.specs.declared.block.BlockBytes.{BlockBytes}
 use Rattle.xet_outside.specs.declared.plan.Plan.{Plan}
-use Rattle.xet_outside.specs.declared.plan.PlanAnswer.TheVariants.{Found}
+use Rattle.xet_outside.specs.declared.plan.PlanAnswer.{PlanAnswer}
+use Rattle.xet_outside.specs.declared.plan.PlanAnswer.TheVariants.{Found, NoFile, PastEnd}
+use Rattle.xet_outside.specs.declared.plan.PlanTerm.{PlanTerm}
 use Rattle.xet_outside.specs.Plan.{Shape, block_of, plan_of, shape}
+use Rattle.xet_outside.specs.Told.{Holds, IsHonest}
 use Rattle.xet_error.specs.declared.error.Corruption.{Corruption}
 use Rattle.xet_blocks.specs.declared.reconstruction_terms.file_term.FileTerm.{FileTerm}
 use Rattle.xet_blocks.specs.declared.reconstruction_terms.xorb_block.XorbBlock.{XorbBlock}
+use Rattle.xet_blocks.specs.declared.reconstruction_terms.xorb_block.XorbBlockData.{XorbBlockData}
+use Rattle.xet_blocks.specs.BlockCalls.{failed_check}
+use Rattle.xet_blocks.specs.BlockChecks.{block_data}
 use Rattle.xet_blocks.specs.Blocks.{PlanBlock, block_ranges, blocks_of}
 use Rattle.xet_blocks.specs.Extracts.{failed_term_test, term_bytes_in}
-use Rattle.xet_blocks.specs.PlanChecks.{failed_test}
-use Rattle.xet_blocks.specs.Terms.{terms_of}
-use Rattle.xet_blocks.proofs.CallerLemmas.{honest_accepted}
-use Rattle.xet_reconstruct.specs.Failures.{BlockFails, IsQueryAnswer, PlanFails, SomeFailed, TermFails}
-use Rattle.xet_reconstruct.specs.Forms.{failed_form_test, form_data, plan_form}
-use Rattle.xet_reconstruct.specs.InCall.{Exchange}
-use Rattle.xet_reconstruct.specs.Laws.{AreHonest}
-use Rattle.xet_reconstruct.specs.Pieces.{AllPieces, PieceOf}
-use Rattle.xet_reconstruct.specs.Setup.{Setup}
-use Rattle.xet_reconstruct.specs.steps.Blocks.{Fits, data_in, piece_in}
-use Rattle.xet_reconstruct.proofs.BlocksOfPlan.{bare_block, bare_plan, plain_at, terms_count}
-use Rattle.xet_reconstruct.proofs.HonestPlans.{all_fit, pieces_are}
+use Rattle.xet_blocks.specs.PlanChecks.{failed_test, sizes, sizes_from}
+use Rattle.xet_blocks.specs.TermBlocks.{covered, xorb_block, xorb_blocks}
+use Rattle.xet_blocks.specs.Terms.{piece_of, term_piece, terms_of}
+use Rattle.xet_blocks.proofs.CallerLemmas.{IsHonestTerm, honest_accepted, honest_terms, pieces_join}
+use Rattle.xet_fetch.specs.Fetches.{IsHonestFor}
+use Rattle.xet_fetch.specs.Refreshes.{extent_of}
+use Rattle.xet_ties.specs.Causes.{BlockFails, BlockFailsIn, EndFails, EndsAt, PlanFails, RefreshFails, SomeFailed}
+use Rattle.xet_ties.specs.Causes.{TermFails, TermFailsIn}
+use Rattle.xet_ties.specs.InCall.{Exchange, Look, SomeOne}
+use Rattle.xet_ties.specs.Saids.{BlockOfPlan, IsBlockAnswer, IsLookedData, IsPiece, IsPlanAccepted, IsQueryAnswer}
+use Rattle.xet_ties.specs.Saids.{IsPlanSaid, IsServedData, IsTestedData, TermOfPlan}
+use Rattle.xet_ties.proofs.CallerLemmas.{own_answer}
+use Rattle.xet_ties.specs.Setup.{IsHonestEntry, Setup}
+use Rattle.xet_reconstruct.specs.Laws.{AreHonest, AreHonestLooks, HonestAnswersPass, HonestPiecesJoin, PieceOf}
+use Rattle.xet_reconstruct.proofs.HonestPlans.{block_at, honest_block, plan_reaches, refresh_passes}
 
 module _ (s : Store) (v : IsValid s) (g : Setup) (xs : List Exchange) (h : AreHonest s g xs) where
-  -- the plan of the run's query
-  abbrev the_plan : Shape
-  the_plan = plan_of s g.file g.range
+  -- ---- plans
 
-  plan_is : (p : Plan) → IsQueryAnswer g xs (Found p) → shape p ≡ the_plan
-  plan_is p a = (h.plans (Found p) a).2
+  plan_is : (p : Plan) (q : FileRange) → IsQueryAnswer g.file xs q (Found p) → shape p ≡ plan_of s g.file q
+  plan_is p q a = (h.plans q (Found p) a).is.2
 
-  -- ---- a term in its block
-
-  -- of this plan
-  fits_plan : (t : FileTerm) (b : PlanBlock) → Contains (terms_of the_plan g.range g.multirange) t
-      → slice_get (blocks_of the_plan g.multirange) t.xorb_block ≡ Some b
-      → Fits s (bare_block the_plan g.multirange (t.xorb_block, b)) t
-  fits_plan t b listed of_term =
-      let ts = terms_of the_plan g.range g.multirange in
-      let bs = bare_plan the_plan g.multirange in
-      let fit : MatchOption (slice_get bs (get_or ts listed.0 t).xorb_block) ⊥
-      (λ x. Fits s x (get_or ts listed.0 t)) =
-      all_fit s v g.file g.range g.multirange listed.0 t listed.1 in
-      let here : MatchOption (slice_get bs t.xorb_block) ⊥ (λ x. Fits s x t) =
-      subst (λ (u : FileTerm). MatchOption (slice_get bs u.xorb_block) ⊥ (λ x. Fits s x u)) listed.2 fit in
-      rw (plain_at the_plan g.multirange t.xorb_block b of_term) at here
-
-  -- of a plan that was said
-  fits : (p : Plan) → IsQueryAnswer g xs (Found p) → (t : FileTerm) (b : PlanBlock)
-      → Contains (terms_of (shape p) g.range g.multirange) t
-      → slice_get (blocks_of (shape p) g.multirange) t.xorb_block ≡ Some b
-      → Fits s (bare_block (shape p) g.multirange (t.xorb_block, b)) t
-  fits p a t b =
-      subst (λ (q : Shape). Contains (terms_of q g.range g.multirange) t
-      → slice_get (blocks_of q g.multirange) t.xorb_block ≡ Some b
-      → Fits s (bare_block q g.multirange (t.xorb_block, b)) t)
-      (sym (plan_is p a)) (fits_plan t b)
-
-  -- ---- no test fails
+  -- a plan that was said is an answer to its query
+  said_to : (p : Plan) (q : FileRange) → IsPlanSaid g xs p q → IsQueryAnswer g.file xs q (Found p)
+  said_to p q a = own_answer g.file xs a.number q (Found p) a.answer
 
   plan_passes : (k : Corruption) → PlanFails g xs k → ⊥
   plan_passes k f =
-      let none : failed_test (shape f.plan) g.range g.multirange ≡ None =
-      ap (λ (q : Shape). failed_test q g.range g.multirange) (plan_is f.plan f.said.answer)
-      ∙ honest_accepted s v g.file g.range g.multirange in
+      let none : failed_test (shape f.plan) f.query g.multirange ≡ None =
+      ap (λ (p : Shape). failed_test p f.query g.multirange) (plan_is f.plan f.query (said_to f.plan f.query f.said))
+      ∙ honest_accepted s v g.file f.query g.multirange in
       let some = f.fails in
       cc
 
-  block_passes : (k : Corruption) → BlockFails g xs k → ⊥
-  block_passes k f =
-      let t = f.place.term in
-      let b = f.place.block in
-      let form = plan_form (shape f.plan) g.multirange t.xorb_block b in
-      let fit = fits f.plan f.accepted.said.answer t b f.place.listed f.place.of_term in
-      let failed = f.fails.2 in
-      let is : failed.bytes ≡ block_of s b.xorb (block_ranges b) =
-      h.blocks form.entry failed.bytes (f.fails.0, f.fails.1, failed.answer) fit.holds in
-      let none : failed_form_test form failed.bytes ≡ None = ap (failed_form_test form) is ∙ fit.block_passes in
-      let some = failed.fails in
+  refresh_fails : (k : Corruption) → RefreshFails g xs k → ⊥
+  refresh_fails k f =
+      let said = f.accepted.said in
+      let plan = h.plans f.query (Found f.plan) (said_to f.plan f.query said) in
+      let none = refresh_passes s v g f.plan f.query plan.is said.some
+      f.answer (h.plans (covered (shape f.plan) f.query) f.answer f.answered).is in
+      let some = f.fails in
       cc
 
-  term_passes : (k : Corruption) → TermFails g xs k → ⊥
-  term_passes k f =
-      let t = f.place.term in
-      let b = f.place.block in
-      let form = plan_form (shape f.plan) g.multirange t.xorb_block b in
-      let fit = fits f.plan f.accepted.said.answer t b f.place.listed f.place.of_term in
-      let failed = f.fails.2 in
-      let is : failed.bytes ≡ block_of s b.xorb (block_ranges b) =
-      h.blocks form.entry failed.bytes (f.fails.0, f.fails.1, failed.answer) fit.holds in
-      let none : failed_term_test t (form_data form failed.bytes) ≡ None =
-      ap (λ (c : BlockBytes). failed_term_test t (form_data form c)) is ∙ fit.term_passes in
-      let some = failed.fails in
+  -- ---- where the file ends
+
+  window_size : (q : FileRange)
+      → length (window s g.file q) ≡ min (q.end - q.start) (length (bytes_of s g.file) - q.start)
+  window_size q =
+      let a = length-take (q.end - q.start) (drop q.start (bytes_of s g.file)) in
+      let b = length-drop q.start (bytes_of s g.file) in
+      omega (arith, a, b)
+
+  reaches : (p : Plan) (q : FileRange) → shape p ≡ plan_of s g.file q
+      → min (q.end - q.start) (length (bytes_of s g.file) - q.start) ≤ sum (sizes (shape p))
+  reaches p q is =
+      let r = plan_reaches s v g.file q g.multirange in
+      let w = window_size q in
+      let e = ap (λ (r : Shape). sum (sizes r)) is in
+      omega (arith, r, w, e)
+
+  -- an end that was told is no earlier than the file's
+  told_end : (q : FileRange) (known : ℕ) (a : PlanAnswer) → q.start < q.end → IsHonest s g.file q a → EndsAt q known a
+      → length (bytes_of s g.file) ≤ known
+  told_end q known NoFile forward honest e = absurd e
+  told_end q known PastEnd forward honest e = let past = honest.1 in omega (arith, e, past)
+  told_end q known (Found p) forward honest (inl e) =
+      let reach = reaches p q honest.2 in
+      let none : sum (sizes (shape p)) ≡ 0 =
+      ap (λ (ts : List PlanTerm). sum (sizes_from p.offset_into_first_range ts)) e.0 in
+      let is = e.1 in
+      omega (arith, reach, none, is, forward)
+  told_end q known (Found p) forward honest (inr e) =
+      let reach = reaches p q honest.2 in
+      let early = e.0 in
+      let is = e.1 in
+      let some = honest.1 in
+      omega (arith, reach, early, is, some)
+
+  end_fails : (k : Corruption) → EndFails g xs k → ⊥
+  end_fails k f =
+      let other = h.plans f.other f.answer f.answered in
+      let told = told_end f.other f.known f.answer other.forward other.is f.ends in
+      let found = (h.plans f.query (Found f.plan) (said_to f.plan f.query f.accepted.said)).is.1 in
+      let past = f.past in
+      omega (arith, told, found, past)
+
+  -- ---- blocks
+
+  -- bytes that fail a test, with the answer that they are of
+  failing : (b : BlockOfPlan g xs) (n : ℕ) (k : Corruption) (ys : List Exchange)
+      → SomeOne (BlockFailsIn g xs b n k) ys
+      → (given : BlockBytes) × SomeOne (λ y. IsBlockAnswer y n b.number b.block given) ys
+      × (failed_check b.block given ≡ Some k)
+  failing b n k [] f = absurd f
+  failing b n k (y ∷ ys) (inl f) = (f.given, inl f.answer, f.fails)
+  failing b n k (y ∷ ys) (inr f) = let z = failing b n k ys f in (z.0, inr z.1, z.2)
+
+  block_of_plan : (b : BlockOfPlan g xs) → IsHonestFor s (record {
+    file = g.file;
+    range = covered (shape b.plan) b.query;
+    multirange = g.multirange;
+    blocks = map extent_of (xorb_blocks (shape b.plan) g.multirange);
+  }) b.block
+  block_of_plan b =
+      let said = b.accepted.said in
+      let plan = h.plans b.query (Found b.plan) (said_to b.plan b.query said) in
+      honest_block s v g b.plan b.query plan.is said.some b.number b.block
+      b.numbered
+
+  block_fails : (k : Corruption) → BlockFails g xs k → ⊥
+  block_fails k f =
+      let b = f.place in
+      let here = block_of_plan b in
+      let z = failing b f.number k xs f.bytes in
+      let is = h.blocks f.number b.number b.block z.0 z.1 here.holds in
+      let none : failed_check b.block z.0 ≡ None = ap (failed_check b.block) is ∙ here.passes in
+      let some = z.2 in
+      cc
+
+  -- ---- terms
+
+  -- the store's data of a block
+  abbrev data_in : XorbBlock → XorbBlockData
+  data_in b = block_data b.chunk_ranges (block_of s b.xorb_hash b.chunk_ranges)
+
+  -- a term is read in the store's data of its block
+  record IsRead (t : TermOfPlan g xs) : Type 0 where
+    holds : Holds s t.place.block.xorb_hash t.place.block.chunk_ranges
+    passes : failed_term_test t.term (data_in t.place.block) ≡ None
+    piece : term_bytes_in t.term (data_in t.place.block) ≡ term_piece s (shape t.place.plan) g.multirange t.term
+
+  honest_term : (t : TermOfPlan g xs) → IsHonestTerm s (shape t.place.plan) g.multirange t.term
+  honest_term t =
+      let p = shape t.place.plan in
+      let q = t.place.query in
+      let all : All (IsHonestTerm s p g.multirange) (terms_of p q g.multirange) =
+      subst (λ (r : Shape). All (IsHonestTerm s r g.multirange) (terms_of r q g.multirange))
+      (sym (plan_is t.place.plan q (said_to t.place.plan q t.place.accepted.said))) (honest_terms s v g.file q g.multirange) in
+      subst (IsHonestTerm s p g.multirange) t.listed.2 (all t.listed.0 t.term t.listed.1)
+
+  block_is : (t : TermOfPlan g xs) (b : PlanBlock)
+      → slice_get (blocks_of (shape t.place.plan) g.multirange) t.term.xorb_block ≡ Some b
+      → xorb_block (shape t.place.plan) g.multirange (t.term.xorb_block, b) ≡ t.place.block
+  block_is t b at =
+      let p = shape t.place.plan in
+      let here = block_at p g.multirange t.term.xorb_block b at in
+      let there = ap (λ (i : ℕ). slice_get (xorb_blocks p g.multirange) i) t.of_term ∙ t.place.numbered in
+      cc
+
+  is_read : (t : TermOfPlan g xs) → IsRead t
+  is_read t =
+      let u = honest_term t in
+      let p = shape t.place.plan in
+      let is = block_is t u.block u.listed in
+      record {
+        holds = subst (λ (x : XorbBlock). Holds s x.xorb_hash x.chunk_ranges) is u.holds;
+        passes = subst (λ (x : XorbBlock). failed_term_test t.term (data_in x) ≡ None) is u.passes;
+        piece = subst (λ (x : XorbBlock). term_bytes_in t.term (data_in x) ≡ term_piece s p g.multirange t.term) is
+            (u.piece ∙ ap (λ (o : Option PlanBlock). unwrap_or
+            (option_map (λ b. piece_of (block_of s b.xorb (block_ranges b)) t.term) o) []) (sym u.listed));
+      }
+
+  -- bytes in which a term fails, with the answer that they are of
+  failing_term : (t : TermOfPlan g xs) (n : ℕ) (k : Corruption) (ys : List Exchange)
+      → SomeOne (TermFailsIn g xs t n k) ys
+      → (given : BlockBytes) × SomeOne (λ y. IsBlockAnswer y n t.place.number t.place.block given) ys
+      × (failed_term_test t.term (block_data t.place.block.chunk_ranges given) ≡ Some k)
+  failing_term t n k [] f = absurd f
+  failing_term t n k (y ∷ ys) (inl f) = (f.given, inl f.answer, f.fails)
+  failing_term t n k (y ∷ ys) (inr f) = let z = failing_term t n k ys f in (z.0, inr z.1, z.2)
+
+  term_fails : (k : Corruption) → TermFails g xs k → ⊥
+  term_fails k f =
+      let t = f.place in
+      let b = t.place.block in
+      let read = is_read t in
+      let z = failing_term t f.number k xs f.bytes in
+      let is = h.blocks f.number t.place.number b z.0 z.1 read.holds in
+      let none : failed_term_test t.term (block_data b.chunk_ranges z.0) ≡ None =
+      ap (λ (c : BlockBytes). failed_term_test t.term (block_data b.chunk_ranges c)) is ∙ read.passes in
+      let some = z.2 in
       cc
 
   pub answers_pass : (k : Corruption) → SomeFailed g xs k → ⊥
   answers_pass k (inl f) = plan_passes k f
-  answers_pass k (inr (inl f)) = block_passes k f
-  answers_pass k (inr (inr f)) = term_passes k f
+  answers_pass k (inr (inl f)) = refresh_fails k f
+  answers_pass k (inr (inr (inl f))) = block_fails k f
+  answers_pass k (inr (inr (inr (inl f)))) = term_fails k f
+  answers_pass k (inr (inr (inr (inr f)))) = end_fails k f
 
   -- ---- pieces
 
-  piece_is : (p : Plan) → IsQueryAnswer g xs (Found p) → (t : FileTerm) (piece : List ℕ)
-      → Contains (terms_of (shape p) g.range g.multirange) t → PieceOf g xs (shape p) t piece
-      → piece ≡ piece_in s (bare_plan (shape p) g.multirange) t
-  piece_is p a t piece listed o =
-      let b = o.block in
-      let form = plan_form (shape p) g.multirange t.xorb_block b in
-      let fit = fits p a t b listed o.of_term in
-      let from = o.from.2 in
-      let is : from.bytes ≡ block_of s b.xorb (block_ranges b) =
-      h.blocks form.entry from.bytes (o.from.0, o.from.1, from.answer) fit.holds in
-      from.is
-      ∙ ap (λ (c : BlockBytes). term_bytes_in t (form_data form c)) is
-      ∙ sym (ap (λ (z : Option XorbBlock). unwrap_or (option_map (λ x. term_bytes_in t (data_in s x)) z) [])
-      (plain_at (shape p) g.multirange t.xorb_block b o.of_term))
+  -- data of a block, with the answer that it is made of
+  served_given : (n i : ℕ) (b : XorbBlock) (d : XorbBlockData) (ys : List Exchange)
+      → SomeOne (λ y. IsServedData y n i b d) ys
+      → (given : BlockBytes) × SomeOne (λ y. IsBlockAnswer y n i b given) ys × (d ≡ block_data b.chunk_ranges given)
+  served_given n i b d [] f = absurd f
+  served_given n i b d (y ∷ ys) (inl f) = (f.given, inl f.answer, f.made)
+  served_given n i b d (y ∷ ys) (inr f) = let z = served_given n i b d ys f in (z.0, inr z.1, z.2)
 
-  pieces_of : (p : Plan) → IsQueryAnswer g xs (Found p) → (ts : List FileTerm) (ps : List (List ℕ))
-      → All (λ t. Contains (terms_of (shape p) g.range g.multirange) t) ts → AllZip (PieceOf g xs (shape p)) ts ps
-      → concat ps ≡ flat_map (piece_in s (bare_plan (shape p) g.multirange)) ts
-  pieces_of p a [] [] listed z = refl
-  pieces_of p a [] (q ∷ ps) listed z = absurd z
-  pieces_of p a (t ∷ ts) [] listed z = absurd z
-  pieces_of p a (t ∷ ts) (q ∷ ps) listed z =
-      let one = piece_is p a t q
-      (All-head (λ t. Contains (terms_of (shape p) g.range g.multirange) t) t ts listed) z.0 in
-      let rest = pieces_of p a ts ps
-      (All-tail (λ t. Contains (terms_of (shape p) g.range g.multirange) t) t ts listed) z.1 in
-      cc
+  module _ (looks : List Look) (honest : AreHonestLooks s looks) where
+    looked_is : (b : XorbBlock) (d : XorbBlockData) → Holds s b.xorb_hash b.chunk_ranges → IsLookedData looks b d
+        → d ≡ data_in b
+    looked_is b d holds l =
+        let entry : IsHonestEntry s (b.xorb_hash, l.range, l.given) =
+        subst (λ (x : Look). IfSome x.2 (λ e. IsHonestEntry s (x.0, x.1, e))) l.looked.2
+        (honest l.looked.0 (b.xorb_hash, l.range, Some l.given) l.looked.1) in
+        let is : l.given ≡ block_of s b.xorb_hash (l.range ∷ []) =
+        entry (subst (Holds s b.xorb_hash) l.one holds) in
+        l.made
+        ∙ ap (block_data b.chunk_ranges) is
+        ∙ ap (λ (rs : List ChunkRange). block_data b.chunk_ranges (block_of s b.xorb_hash rs)) (sym l.one)
 
-  pub pieces_join : (pieces : List (List ℕ)) → AllPieces g xs pieces → concat pieces ≡ window s g.file g.range
-  pieces_join pieces all =
-      let p = all.first.plan in
-      let a = all.first.accepted.said.answer in
-      let ts = terms_of (shape p) g.range g.multirange in
-      let count = all.count in
-      let e : take (length pieces) ts ≡ ts =
-      take_all (length pieces) ts (omega (arith, count, terms_count (shape p) g.range g.multirange)) in
-      let each : AllZip (PieceOf g xs (shape p)) ts pieces = rw e at all.first.each in
-      pieces_of p a ts pieces (λ k d i. Contains-get_or ts k d i) each
-      ∙ ap (λ (q : Shape). flat_map (piece_in s (bare_plan q g.multirange)) (terms_of q g.range g.multirange))
-      (plan_is p a)
-      ∙ pieces_are s v g.file g.range g.multirange
+    data_is : (n i : ℕ) (b : XorbBlock) (d : XorbBlockData) → Holds s b.xorb_hash b.chunk_ranges
+        → IsTestedData xs looks n i b d → d ≡ data_in b
+    data_is n i b d holds (inl f) =
+        let z = served_given n i b d xs f in
+        z.2 ∙ ap (block_data b.chunk_ranges) (h.blocks n i b z.0 z.1 holds)
+    data_is n i b d holds (inr l) = looked_is b d holds l
+
+    piece_is : (t : TermOfPlan g xs) (n : ℕ) (piece : List ℕ) → IsPiece g xs looks n t piece
+        → piece ≡ term_piece s (shape t.place.plan) g.multirange t.term
+    piece_is t n piece p =
+        let read = is_read t in
+        p.bytes
+        ∙ ap (term_bytes_in t.term) (data_is n t.place.number t.place.block p.data_of read.holds p.tested)
+        ∙ read.piece
+
+    one_piece : (plan : Plan) (q : FileRange) (t : FileTerm) (piece : List ℕ) → PieceOf g xs looks plan q t piece
+        → piece ≡ term_piece s (shape plan) g.multirange t
+    one_piece plan q t piece o =
+        piece_is o.of_plan o.number piece o.piece_of
+        ∙ ap (λ (p : Plan). term_piece s (shape p) g.multirange o.of_plan.term) o.plan_is
+        ∙ ap (term_piece s (shape plan) g.multirange) o.term_is
+
+    all_pieces : (plan : Plan) (q : FileRange) (ts : List FileTerm) (ps : List (List ℕ))
+        → AllZip (PieceOf g xs looks plan q) ts ps
+        → concat ps ≡ flat_map (term_piece s (shape plan) g.multirange) ts
+    all_pieces plan q [] [] z = refl
+    all_pieces plan q [] (p ∷ ps) z = absurd z
+    all_pieces plan q (t ∷ ts) [] z = absurd z
+    all_pieces plan q (t ∷ ts) (p ∷ ps) z =
+        let one = one_piece plan q t p z.0 in
+        let rest = all_pieces plan q ts ps z.1 in
+        cc
+
+    pub window_is : (plan : Plan) (q : FileRange) → IsPlanAccepted g xs plan q → (ps : List (List ℕ))
+        → AllZip (PieceOf g xs looks plan q) (terms_of (shape plan) q g.multirange) ps
+        → concat ps ≡ window s g.file q
+    window_is plan q accepted ps z =
+        all_pieces plan q (terms_of (shape plan) q g.multirange) ps z
+        ∙ ap (λ (r : Shape). flat_map (term_piece s r g.multirange) (terms_of r q g.multirange))
+        (plan_is plan q (said_to plan q accepted.said))
+        ∙ pieces_join s v g.file q g.multirange
+
+pub pass : HonestAnswersPass
+pass s v g xs h = answers_pass s v g xs h
+
+pub join : HonestPiecesJoin
+join s v g xs looks h honest = window_is s v g xs h looks honest

@@ -1,91 +1,185 @@
--- The plan of a valid store: its terms fit its blocks, and their bytes are the window.
-use Rattle.std.proofs.Common.{◌≡◌, ℕ, ◌-◌, ◌^◌, ◌<◌, Bool, List, [], ◌∷◌, drop, length, get_or, Option, Some, None}
-use Rattle.std.proofs.Common.{refl, ap, sym, subst, ◌∙◌, arith}
-use Rattle.std.specs.Prelude.{All, option_map, slice_get, unwrap_or}
-use Rattle.std.specs.List.{flat_map}
-use Rattle.std.proofs.lemmas.List.{length-drop, length-take}
-use Rattle.std.proofs.lemmas.List.Elements.{All-head, All-tail}
+-- Plans of a valid store: their blocks, terms and refreshes pass their tests, and their terms reach the file's end.
+use Rattle.std.proofs.Common.{◌≡◌, ℕ, zero, suc, ◌+◌, ◌-◌, ◌^◌, ◌<◌, ◌≤◌, Bool, min, List, [], ◌∷◌, length, map, Some}
+use Rattle.std.proofs.Common.{None, refl, ap, subst, ◌∙◌, arith, length-append}
+use Rattle.std.specs.Prelude.{All, option_map, slice_get, sum}
+use Rattle.std.specs.List.{enumerate_from, flat_map}
+use Rattle.std.proofs.lemmas.List.{length-map}
+use Rattle.std.proofs.lemmas.List.Elements.{All-get_or, All-head, All-tail}
+use Rattle.std.proofs.lemmas.List.FromFn.{length-enumerate_from}
+use Rattle.std.proofs.lemmas.List.Sums.{sum_by-cons}
 use Rattle.std.proofs.lemmas.Option.{get_or_from_slice_get, slice_get_within}
 use Rattle.xet_base.specs.declared.cas_types.FileRange.{FileRange}
 use Rattle.xet_base.specs.declared.merklehash.MerkleHash.{MerkleHash}
-use Rattle.xet_base.specs.Ranges.{Ascend}
-use Rattle.xet_base.specs.Store.{Store, IsValid, window, chunks_of}
+use Rattle.xet_base.specs.declared.unique_id.UniqueId.{UniqueId}
+use Rattle.xet_base.specs.Lists.{firsts}
+use Rattle.xet_base.specs.Store.{IsValid, Store, window}
+use Rattle.xet_outside.specs.declared.plan.Plan.{Plan}
+use Rattle.xet_outside.specs.declared.plan.PlanAnswer.{PlanAnswer}
+use Rattle.xet_outside.specs.declared.plan.PlanAnswer.TheVariants.{Found}
 use Rattle.xet_outside.specs.declared.plan.PlanTerm.{PlanTerm}
-use Rattle.xet_outside.specs.Plan.{block_of, plan_of, plan_offset, plan_terms}
-use Rattle.xet_outside.proofs.CallerLemmas.{plan_within, planned_window, term_bytes}
+use Rattle.xet_outside.specs.Plan.{Shape, plan_of, shape}
+use Rattle.xet_outside.specs.Told.{IsHonest}
 use Rattle.xet_blocks.specs.declared.reconstruction_terms.file_term.FileTerm.{FileTerm}
+use Rattle.xet_blocks.specs.declared.reconstruction_terms.file_term.TermBlock.{TermBlock}
 use Rattle.xet_blocks.specs.declared.reconstruction_terms.xorb_block.XorbBlock.{XorbBlock}
-use Rattle.xet_blocks.specs.Blocks.{PlanBlock, block_ranges, blocks_of}
-use Rattle.xet_blocks.specs.BlockChecks.{failed_block_test}
-use Rattle.xet_blocks.specs.Extracts.{term_bytes_in}
-use Rattle.xet_blocks.specs.TermBlocks.{known_size, references}
-use Rattle.xet_blocks.specs.Terms.{piece_of, term_piece, terms_of}
-use Rattle.xet_blocks.proofs.CallerLemmas.{honest_block_passes, honest_terms, known_sizes, length_passes, pieces_join, sized_passes}
-use Rattle.xet_reconstruct.specs.steps.Blocks.{AllFit, Fits, data_in, piece_in}
-use Rattle.xet_reconstruct.proofs.BlocksOfPlan.{bare_block, bare_plan, plain_at}
-use Rattle.xet_reconstruct.proofs.PlanAnswers.{no_terms}
+use Rattle.xet_blocks.specs.Blocks.{PlanBlock, block_ranges, blocks_of, same_block, term_block, transfer_sum}
+use Rattle.xet_blocks.specs.Extracts.{term_size}
+use Rattle.xet_blocks.specs.PlanChecks.{sizes, sizes_from}
+use Rattle.xet_blocks.specs.PlanQuery.{PlanQuery}
+use Rattle.xet_blocks.specs.TermBlocks.{IsTermBlock, covered, urls_of, xorb_block, xorb_blocks}
+use Rattle.xet_blocks.specs.Terms.{term_piece, terms_from, terms_of}
+use Rattle.xet_blocks.proofs.CallerLemmas.{pieces_join, pieces_sized}
+use Rattle.xet_fetch.specs.Fetches.{IsHonestFor}
+use Rattle.xet_fetch.specs.Refreshes.{Extent, extent_of, plan_extents, refusal_of}
+use Rattle.xet_fetch.proofs.CallerLemmas.{honest_tables}
+use Rattle.xet_ties.specs.Setup.{Setup}
 
--- a block of an honest plan passes its tests
-honest_form_passes : (s : Store) → IsValid s → (f : MerkleHash) (q : FileRange) (multi : Bool) (i : ℕ) (b : PlanBlock)
-    → slice_get (blocks_of (plan_of s f q) multi) i ≡ Some b → Ascend 0 (length (chunks_of s b.xorb)) (block_ranges b)
-    → failed_block_test (block_ranges b) (known_size (block_ranges b) (references (plan_of s f q) multi b))
-    (block_of s b.xorb (block_ranges b)) ≡ None
-honest_form_passes s v f q multi i b listed ascends =
-    let bs = blocks_of (plan_of s f q) multi in
-    let bytes = block_of s b.xorb (block_ranges b) in
-    let size = known_size (block_ranges b) (references (plan_of s f q) multi b) in
-    let at : get_or bs i b ≡ b = get_or_from_slice_get bs i b b listed in
-    let told = subst (λ (c : PlanBlock). (n : ℕ)
-    → known_size (block_ranges c) (references (plan_of s f q) multi c) ≡ Some n
-    → n ≡ length (block_of s c.xorb (block_ranges c)).bytes) at
-    (known_sizes s v f q multi i b (slice_get_within bs i b listed)) in
-    sized_passes (block_ranges b) size bytes (honest_block_passes s v b.xorb (block_ranges b) ascends)
-    (length_passes size bytes told)
+-- ---- a plan's blocks by their numbers
 
-pub all_fit : (s : Store) → IsValid s → (f : MerkleHash) (q : FileRange) (multi : Bool)
-    → AllFit s (bare_plan (plan_of s f q) multi) (terms_of (plan_of s f q) q multi)
-all_fit s v f q multi = λ k d h.
+numbered_at : (p : Shape) (multi : Bool) (n k : ℕ) (bs : List PlanBlock)
+    → slice_get (map (xorb_block p multi) (enumerate_from n bs)) k
+    ≡ option_map (λ b. xorb_block p multi (n + k, b)) (slice_get bs k)
+numbered_at p multi n k [] = refl
+numbered_at p multi n zero (b ∷ bs) =
+    let e : n ≡ n + 0 = omega arith in ap (λ (i : ℕ). Some (xorb_block p multi (i, b))) e
+numbered_at p multi n (suc k) (b ∷ bs) =
+    let e : (n + 1) + k ≡ n + suc k = omega arith in
+    numbered_at p multi (n + 1) k bs
+    ∙ ap (λ (i : ℕ). option_map (λ c. xorb_block p multi (i, c)) (slice_get bs k)) e
+
+pub block_at : (p : Shape) (multi : Bool) (k : ℕ) (b : PlanBlock) → slice_get (blocks_of p multi) k ≡ Some b
+    → slice_get (xorb_blocks p multi) k ≡ Some (xorb_block p multi (k, b))
+block_at p multi k b is =
+    let e : 0 + k ≡ k = omega arith in
+    numbered_at p multi 0 k (blocks_of p multi)
+    ∙ ap (option_map (λ c. xorb_block p multi (0 + k, c))) is
+    ∙ ap (λ (i : ℕ). Some (xorb_block p multi (i, b))) e
+
+numbered_extents : (p : Shape) (multi : Bool) (k : ℕ) (bs : List PlanBlock)
+    → map extent_of (map (xorb_block p multi) (enumerate_from k bs)) ≡ map (λ b. (b.xorb, block_ranges b)) bs
+numbered_extents p multi k [] = refl
+numbered_extents p multi k (b ∷ bs) =
+    ap (λ (l : List Extent). (b.xorb, block_ranges b) ∷ l) (numbered_extents p multi (k + 1) bs)
+
+-- a plan with terms has blocks
+some_blocks : (p : Plan) (multi : Bool) (ts : List PlanTerm) → p.terms ≡ ts → 0 < length ts
+    → 0 < length (xorb_blocks (shape p) multi)
+some_blocks p multi [] e some = absurd (omega (arith, some))
+some_blocks p multi (t ∷ ts) e some =
+    let bs : List PlanBlock = blocks_of (shape p) multi in
+    let c : length bs ≡ length (firsts same_block (map (term_block (shape p) multi) (t ∷ ts))) =
+    ap (λ (l : List PlanTerm). length (firsts same_block (map (term_block (shape p) multi) l))) e in
+    let a = length-map (enumerate_from 0 bs) (xorb_block (shape p) multi) in
+    let b = length-enumerate_from 0 bs in
+    omega (arith, a, b, c)
+
+-- ---- the blocks and refreshes of a store's plan
+
+-- the table of a plan
+abbrev id_of : UniqueId
+id_of = record { plan = 0; refresh = 0 }
+
+abbrev made_query : Setup → FileRange → PlanQuery
+made_query g q = record { file = g.file; range = q; multirange = g.multirange; id = id_of }
+
+abbrev made_block : Setup → Plan → FileRange → TermBlock
+made_block g p q = record {
+  byte_range = covered (shape p) q;
+  transfer_bytes = min (transfer_sum (blocks_of (shape p) g.multirange)) (2 ^ 64 - 1);
+  terms = terms_of (shape p) q g.multirange;
+  blocks = xorb_blocks (shape p) g.multirange;
+  urls = record {
+    file_hash = g.file;
+    byte_range = covered (shape p) q;
+    acquisition_id = id_of;
+    retrieval_urls = urls_of p g.multirange;
+  };
+}
+
+is_made : (g : Setup) (p : Plan) (q : FileRange) → IsTermBlock p (made_query g q) (made_block g p q)
+is_made g p q = record {
+  range = refl;
+  transfer = refl;
+  terms = refl;
+  blocks = refl;
+  urls = refl;
+  of_file = refl;
+  of_query = refl;
+  with_id = refl;
+}
+
+module _ (s : Store) (v : IsValid s) (g : Setup) (p : Plan) (q : FileRange) (h : IsHonest s g.file q (Found p))
+    (some : 0 < length p.terms) where
+  abbrev extents : List Extent
+  extents = map extent_of (xorb_blocks (shape p) g.multirange)
+
+  -- the store's answer to the plan's refresh is not refused
+  abbrev Refreshes : List Extent → Type 0
+  Refreshes es = (a : PlanAnswer) → IsHonest s g.file (covered (shape p) q) a
+      → refusal_of (covered (shape p) q) g.multirange es a ≡ None
+
+  pub honest_block : (k : ℕ) (b : XorbBlock) → slice_get (xorb_blocks (shape p) g.multirange) k ≡ Some b
+      → IsHonestFor s (record {
+        file = g.file;
+        range = covered (shape p) q;
+        multirange = g.multirange;
+        blocks = extents;
+      }) b
+  honest_block k b at =
+      let bs = xorb_blocks (shape p) g.multirange in
+      let all = honest_tables s v p (made_query g q) (made_block g p q) (is_made g p q) h some in
+      subst (IsHonestFor s _) (get_or_from_slice_get bs k b b at)
+      (All-get_or (IsHonestFor s _) bs k b (slice_get_within bs k b at) all)
+
+  -- a block and its refresh
+  by_block : (bs : List XorbBlock) → xorb_blocks (shape p) g.multirange ≡ bs → 0 < length bs → Refreshes extents
+  by_block [] e n = absurd (omega (arith, n))
+  by_block (b ∷ bs) e n = (honest_block 0 b (ap (λ (l : List XorbBlock). slice_get l 0) e)).refreshes
+
+  pub refresh_passes : Refreshes (plan_extents (shape p) g.multirange)
+  refresh_passes =
+      subst Refreshes (numbered_extents (shape p) g.multirange 0 (blocks_of (shape p) g.multirange))
+      (by_block (xorb_blocks (shape p) g.multirange) refl (some_blocks p g.multirange p.terms refl some))
+
+-- ---- where a store's plan ends
+
+sum-of : (n : ℕ) (ns : List ℕ) → sum (n ∷ ns) ≡ n + sum ns
+sum-of n ns = sum_by-cons (λ x. x) n ns
+
+zero_offset : (ts : List PlanTerm) → sum (sizes_from 0 ts) ≡ sum (map (λ t. t.unpacked_length) ts)
+zero_offset [] = refl
+zero_offset (t ∷ ts) =
+    let rest = map (λ (u : PlanTerm). u.unpacked_length) ts in
+    omega (arith, sum-of (t.unpacked_length - 0) rest, sum-of t.unpacked_length rest)
+
+-- the terms that are cut at the query's end are no longer than those of the plan
+cut_sizes : (p : Shape) (q : FileRange) (multi : Bool) (place o : ℕ) (ts : List PlanTerm)
+    → sum (map term_size (terms_from p q multi place o ts)) ≤ sum (sizes_from o ts)
+cut_sizes p q multi place o [] = omega arith
+cut_sizes p q multi place o (t ∷ ts) =
+    let n = t.unpacked_length - o in
+    let rest = terms_from p q multi (place + n) 0 ts in
+    let next = cut_sizes p q multi (place + n) 0 ts in
+    let a = sum-of (min (place + n) q.end - place) (map term_size rest) in
+    let b = sum-of n (map (λ (u : PlanTerm). u.unpacked_length) ts) in
+    let z = zero_offset ts in
+    omega (arith, next, a, b, z)
+
+joined_size : (piece : FileTerm → List ℕ) (ts : List FileTerm) → All (λ t. length (piece t) ≡ term_size t) ts
+    → length (flat_map piece ts) ≡ sum (map term_size ts)
+joined_size piece [] a = refl
+joined_size piece (t ∷ ts) a =
+    let here = All-head (λ t. length (piece t) ≡ term_size t) t ts a in
+    let next = joined_size piece ts (All-tail (λ t. length (piece t) ≡ term_size t) t ts a) in
+    omega (arith, here, next, length-append (piece t) (flat_map piece ts), sum-of (term_size t) (map term_size ts))
+
+-- the plan's terms have all bytes of the query that the file has
+pub plan_reaches : (s : Store) → IsValid s → (f : MerkleHash) (q : FileRange) (multi : Bool)
+    → length (window s f q) ≤ sum (sizes (plan_of s f q))
+plan_reaches s v f q multi =
     let p = plan_of s f q in
-    let t = get_or (terms_of p q multi) k d in
-    let is = honest_terms s v f q multi k d h in
-    let fits : Fits s (bare_block p multi (t.xorb_block, is.block)) t = record {
-      holds = is.holds;
-      block_passes = honest_form_passes s v f q multi t.xorb_block is.block is.listed is.holds.1;
-      term_passes = is.passes;
-    } in
-    rw (plain_at p multi t.xorb_block is.block is.listed) fits
-
-same_pieces : (g h : FileTerm → List ℕ) (ts : List FileTerm) → All (λ t. g t ≡ h t) ts → flat_map g ts ≡ flat_map h ts
-same_pieces g h [] a = refl
-same_pieces g h (t ∷ ts) a =
-    let here = All-head (λ t. g t ≡ h t) t ts a in
-    let next = same_pieces g h ts (All-tail (λ t. g t ≡ h t) t ts a) in
-    cc
-
-pub pieces_are : (s : Store) → IsValid s → (f : MerkleHash) (q : FileRange) (multi : Bool)
-    → flat_map (piece_in s (bare_plan (plan_of s f q) multi)) (terms_of (plan_of s f q) q multi) ≡ window s f q
-pieces_are s v f q multi =
-    let p = plan_of s f q in
-    same_pieces (piece_in s (bare_plan p multi)) (term_piece s p multi) (terms_of p q multi) (λ k d h.
-    let t = get_or (terms_of p q multi) k d in
-    let is = honest_terms s v f q multi k d h in
-    ap (λ (o : Option XorbBlock). unwrap_or (option_map (λ x. term_bytes_in t (data_in s x)) o) [])
-    (plain_at p multi t.xorb_block is.block is.listed)
-    ∙ is.piece
-    ∙ sym (ap (λ (o : Option PlanBlock). unwrap_or
-    (option_map (λ b. piece_of (block_of s b.xorb (block_ranges b)) t) o) []) is.listed))
-    ∙ pieces_join s v f q multi
-
--- a window is shorter than 2 ^ 64
-pub window_short : (s : Store) → IsValid s → (f : MerkleHash) (q : FileRange) → length (window s f q) < 2 ^ 64
-window_short s v f q = by_terms (plan_terms s f q) refl
-  where
-    by_terms : (ts : List PlanTerm) → plan_terms s f q ≡ ts → length (window s f q) < 2 ^ 64
-    by_terms [] e = let none = ap length (no_terms f q s v e) in omega arith
-    by_terms (t ∷ ts) e =
-        let some : length (plan_terms s f q) ≡ length (t ∷ ts) = ap length e in
-        let within = plan_within s v f q (omega arith) in
-        let short = within.short in
-        let xs = flat_map (term_bytes s) (plan_terms s f q) in
-        let w = ap length (planned_window s v f q) in
-        omega (arith, length-take (q.end - q.start) (drop (plan_offset s f q) xs), length-drop (plan_offset s f q) xs)
+    let ts = terms_of p q multi in
+    let joined = ap length (pieces_join s v f q multi) in
+    let sized = joined_size (term_piece s p multi) ts (pieces_sized s v f q multi) in
+    let cut = cut_sizes p q multi q.start p.offset p.terms in
+    omega (arith, joined, sized, cut)

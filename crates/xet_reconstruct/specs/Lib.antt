@@ -1,9 +1,5 @@
-pub mod Causes
-pub mod Failures
-pub mod Forms
-pub mod InCall
 pub mod Laws
-pub mod Legal
-pub mod Pieces
+pub mod Ran
 pub mod Setup
 pub mod steps
+pub mod ToFile

@@ -1,66 +1,46 @@
--- What a run is for, and what its arguments tell.
-use Rattle.std.specs.Prelude.{◌≡◌, ◌≤◌, List, [], ◌∷◌, Bool, map, Some}
+-- What a reconstruction is for, and what the arguments of its calls tell.
+use Rattle.std.specs.Prelude.{false, List, None, map}
 use Rattle.xet_base.specs.declared.cas_types.FileRange.{FileRange}
 use Rattle.xet_base.specs.declared.merklehash.MerkleHash.{MerkleHash}
-use Rattle.xet_base.specs.Store.{Store}
 use Rattle.xet_outside.specs.Told.{CacheTold, ClientTold, SignalTold, SinkTold}
+use Rattle.xet_run.specs.Budgets.{LimitTold}
+use Rattle.xet_terms.specs.declared.reconstruction_config.ReconstructionConfig.{ReconstructionConfig}
+use Rattle.xet_ties.specs.Setup.{RunTold, Setup}
 
--- what a run is for: a range of a file's bytes, and whether a fetch entry is one block of all its ranges
-pub record Setup : Type 0 where
-  pub file : MerkleHash
-  pub range : FileRange
-  pub multirange : Bool
+-- the settings of a reconstruction that is given none
+abbrev pub first_config : ReconstructionConfig
+first_config = record {
+  min_reconstruction_fetch_size = 1048576;
+  max_reconstruction_fetch_size = 67108864;
+  min_prefetch_buffer = 2097152;
+  download_buffer_size = 67108864;
+  use_vectored_write = false;
+  enable_multirange_fetching = false;
+  tries = 3;
+}
 
--- the range has no bytes
-abbrev pub IsEmptyRange : FileRange → Type 0
-IsEmptyRange r = r.end ≤ r.start
+-- this file, these bytes of it, and of these settings those that its contract speaks of
+abbrev pub setup_of : MerkleHash → FileRange → ReconstructionConfig → Setup
+setup_of file range config = record {
+  file = file;
+  range = range;
+  least = config.min_reconstruction_fetch_size;
+  greatest = config.max_reconstruction_fetch_size;
+  multirange = config.enable_multirange_fetching;
+  tries = config.tries;
+}
 
--- what the arguments of a run tell at one moment
-pub record RunTold : Type 0 where
-  pub clients : List ClientTold
-  pub cache : CacheTold
-  pub signal : SignalTold
-  pub sink : SinkTold
+-- a source of limits that tells nothing
+abbrev pub no_limits : LimitTold
+no_limits = record { fixed = None; limits = None }
 
--- what these arguments tell
-abbrev pub told_of : {C K X S : Type 0} → (C → ClientTold) → (K → CacheTold) → (X → SignalTold) → (S → SinkTold)
+-- what these arguments tell, where the source of limits isn't one of them
+abbrev pub lent_of : {C K X S : Type 0} → (C → ClientTold) → (K → CacheTold) → (X → SignalTold) → (S → SinkTold)
     → List C → K → X → S → RunTold
-told_of c k x s clients cache signal sink = record {
+lent_of c k x s clients cache signal sink = record {
   clients = map c clients;
   cache = k cache;
   signal = x signal;
   sink = s sink;
+  limits = no_limits;
 }
-
--- the connections that a run asks: the first one, if there is one
-abbrev pub asked_clients : List ClientTold → List ClientTold
-asked_clients [] = []
-asked_clients (c ∷ cs) = c ∷ []
-
--- the connections that it doesn't ask
-abbrev pub other_clients : List ClientTold → List ClientTold
-other_clients [] = []
-other_clients (c ∷ cs) = cs
-
--- what the connections tell that a run asks
-abbrev pub asked_of : RunTold → List ClientTold
-asked_of t = asked_clients t.clients
-
--- each of these connections tells this store
-abbrev pub AllTell : Store → List ClientTold → Type 0
-AllTell s [] = Unit {0}
-AllTell s (c ∷ cs) = (c.store ≡ Some s) × AllTell s cs
-
--- a connection tells the store that it told and works through what it did, and its counts don't fall
-pub record ClientGoesOn (before after : ClientTold) : Type 0 where
-  pub store : after.store ≡ before.store
-  pub link : after.link ≡ before.link
-  pub faults : before.faults ≤ after.faults
-  pub expiries : before.expiries ≤ after.expiries
-
--- each connection goes on
-abbrev pub EachGoesOn : List ClientTold → List ClientTold → Type 0
-EachGoesOn [] [] = Unit {0}
-EachGoesOn [] (n ∷ ns) = ⊥
-EachGoesOn (b ∷ bs) [] = ⊥
-EachGoesOn (b ∷ bs) (n ∷ ns) = ClientGoesOn b n × EachGoesOn bs ns

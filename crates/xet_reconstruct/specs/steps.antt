@@ -1,3 +1,2 @@
--- What the private functions of a run say.
-pub mod Blocks
-pub mod Calls
+-- Working words of private functions.
+pub mod Placing

@@ -1,10 +1,10 @@
-//! Writes a range of a file's bytes from connections to a writer.
+//! Writes a range of a file's bytes from connections to a writer or into a file.
 #![tactic(auto)]
 
 pub mod file_reconstructor;
 pub mod laws;
-mod run;
-#[cfg(test)]
-mod tests;
+mod order;
+mod placing;
 
 pub use file_reconstructor::FileReconstructor;
+pub use xet_lanes::{Gate, OpenGate};

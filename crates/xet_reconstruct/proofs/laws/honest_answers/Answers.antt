@@ -1,5 +1,5 @@
-use Rattle.xet_reconstruct.proofs.HonestAnswers.{answers_pass, pieces_join}
+use Rattle.xet_reconstruct.proofs.HonestAnswers.{join, pass}
 use Rattle.xet_reconstruct.proofs.laws.honest_answers.Goals as goal
 
 pub returns : goal.returns
-returns c = record { pass = answers_pass; join = pieces_join }
+returns c = record { pass = pass; join = join }

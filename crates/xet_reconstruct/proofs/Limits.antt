@@ -1,0 +1,70 @@
+-- Legal answers whatever the source of limits tells.
+use Rattle.std.proofs.Common.{ap, refl}
+use Rattle.std.specs.Prelude.{ℕ, Result}
+use Rattle.xet_error.specs.declared.error.FileReconstructionError.{FileReconstructionError}
+use Rattle.xet_error.specs.declared.error.FileReconstructionError.TheVariants as error
+use Rattle.xet_ties.specs.Causes.{Cause}
+use Rattle.xet_ties.specs.Legal.{Legal}
+use Rattle.xet_ties.specs.RunCalls.{DidNothing}
+use Rattle.xet_ties.specs.Setup.{RunTold, Setup}
+use Rattle.xet_reconstruct.specs.Setup.{no_limits}
+use Rattle.xet_reconstruct.proofs.Mapping.{if_err}
+
+-- the same told without its limits
+abbrev unlimited : RunTold → RunTold
+unlimited t = record t { limits = no_limits }
+
+unlimited_cause : (g : Setup) (b n : RunTold) (e : FileReconstructionError) → Cause g b n e
+    → Cause g (unlimited b) (unlimited n) e
+unlimited_cause g b n error.OutOfMemory c = c
+unlimited_cause g b n error.ClientError c = c
+unlimited_cause g b n error.FileNotFound c = c
+unlimited_cause g b n error.UrlExpired c = c
+unlimited_cause g b n error.IoError c = c
+unlimited_cause g b n (error.CorruptedReconstruction k) c = c
+unlimited_cause g b n (error.ConfigurationError s) c = c
+unlimited_cause g b n error.Cancelled c = c
+unlimited_cause g b n (error.InternalWriterError w) c = c
+
+unlimited_nothing : (b n : RunTold) (answer : Result ℕ FileReconstructionError) → DidNothing b n answer
+    → DidNothing (unlimited b) (unlimited n) answer
+unlimited_nothing b n answer d = record {
+  untouched = record {
+    clients = d.untouched.clients;
+    cache = d.untouched.cache;
+    signal = d.untouched.signal;
+    limits = refl;
+  };
+  took = d.took;
+  none = d.none;
+  error = d.error;
+}
+
+pub unlimited_legal : (g : Setup) (b n : RunTold) (answer : Result ℕ FileReconstructionError) → Legal g b n answer
+    → Legal g (unlimited b) (unlimited n) answer
+unlimited_legal g b n answer l = record {
+  exact = l.exact;
+  prefix = l.prefix;
+  stored = l.stored;
+  tested = l.tested;
+  whole = l.whole;
+  total = l.total;
+  flushed = l.flushed;
+  cancelled = l.cancelled;
+  cause = if_err answer (Cause g b n) (Cause g (unlimited b) (unlimited n)) (unlimited_cause g b n) l.cause;
+  settings = λ e h. ((l.settings e h).0, ap unlimited (l.settings e h).1);
+  empty = λ e. unlimited_nothing b n answer (l.empty e);
+  asked = l.asked;
+  all_asked = l.all_asked;
+  refreshed = l.refreshed;
+  renewed = l.renewed;
+  served = l.served;
+  planned = l.planned;
+  passed = l.passed;
+  chunks = l.chunks;
+  past = l.past;
+  goes_on = l.goes_on;
+  cache_later = l.cache_later;
+  sink_later = l.sink_later;
+  link = l.link;
+}

@@ -1,0 +1,32 @@
+use Rattle.std.proofs.Common.{refl}
+use Rattle.xet_ties.specs.Setup.{told_of}
+use Rattle.xet_ties.proofs.CallerLemmas.{legal_of}
+use Rattle.xet_reconstruct.specs.Setup.{setup_of}
+use Rattle.xet_reconstruct.proofs.Limits.{unlimited_legal}
+use Rattle.xet_reconstruct.proofs.order.run_within.Goals as goal
+
+pub returns-clause-legal : goal.returns-clause-legal
+returns-clause-legal g c =
+    let a = c.args in
+    let w = a.wanted in
+    let n = c.run-answer.new in
+    let setup = setup_of w.file_hash w.byte_range w.config in
+    let b = told_of g.C.Client.told g.K.ChunkCache.told g.X.CancelSignal.told g.S.Sink.told
+    g.B.BudgetSource.told a.clients.now a.cache.now a.cancel.now a.writer.now a.budget in
+    let after = told_of g.C.Client.told g.K.ChunkCache.told g.X.CancelSignal.told g.S.Sink.told
+    g.B.BudgetSource.told n.clients n.cache n.cancel n.writer n.budget in
+    unlimited_legal setup b after c.run-answer.result
+    (legal_of setup b after n.core c.run-answer.result c.check_history.ensures c.run-answer.ensures)
+
+pub returns-clause-ran : goal.returns-clause-ran
+returns-clause-ran g c =
+    let a = c.args in
+    let n = c.run-answer.new in
+    record {
+      events = n.core;
+      limits = g.B.BudgetSource.told a.budget;
+      later = g.B.BudgetSource.told n.budget;
+      is_fixed = refl;
+      allowed = c.check_history.ensures;
+      call = c.run-answer.ensures;
+    }

@@ -1,0 +1,60 @@
+-- What a reconstruction into a file does to it.
+use Rattle.std.specs.Prelude.{ℕ, ◌≡◌, ◌⊎◌, Bool, false, cond, List, Option, option_map, unwrap_or, Some, OnOk, Result}
+use Rattle.std.specs.Prelude.{Err}
+use Rattle.xet_base.specs.declared.cas_types.FileRange.{FileRange}
+use Rattle.xet_base.specs.Store.{Store, window}
+use Rattle.xet_outside.specs.Places.{Placed, at_place, before_place, emptied, placed_of, written}
+use Rattle.xet_outside.specs.Told.{Link, SinkTold, Took}
+use Rattle.xet_error.specs.declared.error.FileReconstructionError.{FileReconstructionError}
+use Rattle.xet_error.specs.declared.error.FileReconstructionError.TheVariants as error
+use Rattle.xet_error.specs.declared.error.Setting.{Setting}
+use Rattle.xet_ties.specs.Causes.{failing_setting}
+use Rattle.xet_ties.specs.Legal.{Legal}
+use Rattle.xet_ties.specs.RunCalls.{DidNothing}
+use Rattle.xet_ties.specs.Setup.{CacheTells, IsOver, RunTold, Setup}
+
+-- where the bytes go: to the wanted offset, else to where the range starts
+abbrev pub place_for : Option ℕ → FileRange → ℕ
+place_for offset range = unwrap_or offset range.start
+
+-- the file made ready: emptied where it is to be truncated, and at its place
+abbrev pub ready_at : Bool → ℕ → Placed → Placed
+ready_at truncate place p = at_place place (cond truncate (emptied p) p)
+
+-- these bytes stand at the place in the file that was made ready, where it tells its content and its place
+abbrev pub StandAt : Bool → ℕ → SinkTold → SinkTold → List ℕ → Type 0
+StandAt truncate place before after bytes =
+    placed_of after ≡ option_map (λ p. written bytes (ready_at truncate place p)) (placed_of before)
+
+-- whatever the file took stands there
+abbrev pub StandsAt : Bool → ℕ → SinkTold → SinkTold → Type 0
+StandsAt truncate place before after =
+    (bytes : List ℕ) → Took before.took after.took bytes → StandAt truncate place before after bytes
+
+-- the file could not be made ready: nothing was asked and taken, and the answer is an error that needs no connection.
+-- Where it wasn't to be truncated its content and its place are as they were
+pub record IsUnready (truncate : Bool) (before after : RunTold)
+    (answer : Result ℕ FileReconstructionError) : Type 0 where
+  pub nothing : DidNothing before after answer
+  pub fails : OnOk answer ⊥
+  pub kept : truncate ≡ false → after.sink.link ≡ before.sink.link
+
+-- the same, told of a file whose place was set in this way
+abbrev pub placed_as : Link → RunTold → RunTold
+placed_as link told = record told { sink = record told.sink { link = link } }
+
+-- one call of `reconstruct_to_file`
+pub record ToFileCall (g : Setup) (truncate : Bool) (place : ℕ) (before after : RunTold)
+    (answer : Result ℕ FileReconstructionError) : Type 0 where
+  -- a failing setting is told before all else, the file included
+  pub settings : (e : Setting) → failing_setting g before.clients ≡ Some e
+      → (answer ≡ Err (error.ConfigurationError e)) × (after ≡ before)
+  -- but for how the file's place was set, the answer is legal
+  pub legal : Legal g (placed_as after.sink.link before) after answer
+  -- whatever the file took stands at its place, or it could not be made ready
+  pub content : StandsAt truncate place before.sink after.sink ⊎ IsUnready truncate before after answer
+  -- so on Ok, over connections and a cache that tell one valid store, does the window
+  pub exact : (s : Store) → IsOver s before.clients → CacheTells s before.cache
+      → OnOk answer (StandAt truncate place before.sink after.sink (window s g.file g.range))
+  -- the file writes through what it did
+  pub link : before_place after.sink.link ≡ before_place before.sink.link

@@ -1,0 +1,393 @@
+//! What runs answer and write.
+use crate::beside::{Meeting, Waiting};
+use crate::row::{Row, client, run_row, wanted, whole};
+use std::alloc::Global;
+use std::process::Abort;
+use std::sync::{Arc, Wait};
+use std::test::Fail;
+use std::thread::Threads;
+use xet_base::{FileRange, MerkleHash};
+use xet_error::{Corruption, FileReconstructionError, Result, Setting};
+use xet_outside::{NeverCancel, NoCache};
+use xet_progress::ItemProgressUpdater;
+use xet_reconstruct::OpenGate;
+use xet_run::{BookView, BudgetBook, BudgetSettings, Event, FixedBudget, RunCore, ScriptBudget};
+use xet_sinks::{MemFile, VecSink};
+use xet_store::MemClient;
+use xet_store::worked::{FILE_OF_ALL, FILE_OF_NOTHING, FILE_OF_REPEATS, worked_store};
+use xet_terms::ReconstructionConfig;
+
+const ALL: &str = "Hello, world!";
+
+const REPEATS: &str = "world!HelloHello, world";
+
+/// A row, its answer, and what the writer took.
+type Case<'a> = (Row<'a>, Result<u64>, &'static str);
+
+fn check<R: Threads + Wait + Sync + Abort>(
+    rt: &R,
+    alloc: Global,
+    cases: &[Case<'_>],
+) -> std::result::Result<(), Fail> {
+    for (number, (row, answer, taken)) in cases.iter().enumerate() {
+        let ended = run_row(rt, alloc, row)?;
+        assert_eq!(rt; ended.answer, *answer, "row {number}");
+        assert!(rt; ended.sink.taken() == taken.as_bytes(), "row {number}");
+    }
+    Ok(())
+}
+
+#[test]
+fn rows_that_write(rt: HostRuntime) -> std::result::Result<(), Fail> {
+    let all = whole(FILE_OF_ALL);
+    let repeats = whole(FILE_OF_REPEATS);
+    let config = all.config;
+    let many = ["."; 64];
+    let part = Row {
+        range: FileRange::new(4, 13),
+        ..repeats
+    };
+    let two_queries = Row {
+        config: ReconstructionConfig {
+            min_reconstruction_fetch_size: 4,
+            max_reconstruction_fetch_size: 8,
+            ..config
+        },
+        ..all
+    };
+    let no_budget = Row {
+        config: ReconstructionConfig {
+            download_buffer_size: 0,
+            ..config
+        },
+        ..repeats
+    };
+    let vectored = Row {
+        config: ReconstructionConfig {
+            use_vectored_write: true,
+            ..config
+        },
+        ..repeats
+    };
+    let three = Row {
+        lanes: &[".", ".", "."],
+        ..no_budget
+    };
+    let sixty_four = Row {
+        lanes: &many,
+        ..vectored
+    };
+    let one_byte = Row {
+        sink: "1111111111111",
+        ..all
+    };
+    let cached = Row {
+        lanes: &[".f"],
+        cached: ALL,
+        ..all
+    };
+    let lying = Row {
+        cached: "Hello, worl!",
+        ..all
+    };
+    let short = Row {
+        cached: "Hello, worl!",
+        offsets: [0, 5, 7, 11],
+        ..all
+    };
+    let expired = Row {
+        config: ReconstructionConfig { tries: 2, ..config },
+        lanes: &[".x"],
+        ..all
+    };
+    let empty_term = Row {
+        range: FileRange::new(0, 5),
+        lanes: &["p.f"],
+        ..all
+    };
+    let nothing = whole(FILE_OF_NOTHING);
+    let reversed = Row {
+        range: FileRange::new(7, 3),
+        lanes: &["f"],
+        ..all
+    };
+    let cases = [
+        (all, Ok(13), ALL),
+        (part, Ok(9), "d!HelloHe"),
+        (two_queries, Ok(13), ALL),
+        (no_budget, Ok(23), REPEATS),
+        (vectored, Ok(23), REPEATS),
+        (three, Ok(23), REPEATS),
+        (sixty_four, Ok(23), REPEATS),
+        (one_byte, Ok(13), ALL),
+        (cached, Ok(13), ALL),
+        (lying, Ok(13), ALL),
+        (short, Ok(13), ALL),
+        (expired, Ok(13), ALL),
+        (empty_term, Ok(5), "Hello"),
+        (nothing, Ok(0), ""),
+        (reversed, Ok(0), ""),
+    ];
+    check(&rt, rt.alloc(), &cases)
+}
+
+#[test]
+fn rows_that_fail(rt: HostRuntime) -> std::result::Result<(), Fail> {
+    let all = whole(FILE_OF_ALL);
+    let config = all.config;
+    let none = Row { lanes: &[], ..all };
+    let no_tries = Row {
+        config: ReconstructionConfig { tries: 0, ..config },
+        ..all
+    };
+    let least_zero = Row {
+        config: ReconstructionConfig {
+            min_reconstruction_fetch_size: 0,
+            ..config
+        },
+        ..all
+    };
+    let greatest_below = Row {
+        config: ReconstructionConfig {
+            min_reconstruction_fetch_size: 5,
+            max_reconstruction_fetch_size: 4,
+            ..config
+        },
+        ..all
+    };
+    let unknown = whole(MerkleHash([0xff; 32]));
+    let plan_fails = Row {
+        lanes: &["f"],
+        ..all
+    };
+    let block_fails = Row {
+        lanes: &[".f", "f", "f"],
+        ..all
+    };
+    let spent = Row {
+        config: ReconstructionConfig { tries: 2, ..config },
+        lanes: &[".x.x"],
+        ..all
+    };
+    let cancelled = Row {
+        config: ReconstructionConfig {
+            min_reconstruction_fetch_size: 4,
+            ..config
+        },
+        signal: "ny",
+        ..all
+    };
+    let sink_fails = Row { sink: "11f", ..all };
+    let corrupted = Row {
+        lanes: &[".s"],
+        ..all
+    };
+    let setting = |setting| Err(FileReconstructionError::ConfigurationError(setting));
+    let count = Corruption::OffsetCount {
+        expected: 4,
+        actual: 3,
+    };
+    let cases = [
+        (none, setting(Setting::NoConnection), ""),
+        (no_tries, setting(Setting::NoTries), ""),
+        (least_zero, setting(Setting::LeastZero), ""),
+        (greatest_below, setting(Setting::GreatestBelowLeast), ""),
+        (unknown, Err(FileReconstructionError::FileNotFound), ""),
+        (plan_fails, Err(FileReconstructionError::ClientError), ""),
+        (block_fails, Err(FileReconstructionError::ClientError), ""),
+        (spent, Err(FileReconstructionError::UrlExpired), ""),
+        (cancelled, Err(FileReconstructionError::Cancelled), ""),
+        (sink_fails, Err(FileReconstructionError::IoError), "He"),
+        (
+            corrupted,
+            Err(FileReconstructionError::CorruptedReconstruction(count)),
+            "",
+        ),
+    ];
+    check(&rt, rt.alloc(), &cases)
+}
+
+// The content of a file that held `zzzz`, after the bytes 3 to 9 were written into it.
+fn written<R: Threads + Wait + Sync>(
+    rt: &R,
+    alloc: Global,
+    write_offset: Option<u64>,
+    truncate_file: bool,
+) -> std::result::Result<(Result<u64>, MemFile), Fail> {
+    let store = worked_store(alloc)?;
+    let mut clients = [MemClient::new(alloc, &store)];
+    let mut file = MemFile::new(alloc, b"zzzz".to_vec(alloc)?);
+    let row = Row {
+        range: FileRange::new(3, 9),
+        ..whole(FILE_OF_ALL)
+    };
+    let answer = wanted(&row).reconstruct_to_file(
+        rt,
+        alloc,
+        &mut clients,
+        &mut NoCache,
+        &mut NeverCancel,
+        &mut file,
+        write_offset,
+        truncate_file,
+    );
+    Ok((answer, file))
+}
+
+#[test]
+fn files(rt: HostRuntime) -> std::result::Result<(), Fail> {
+    for (write_offset, truncate_file, content) in [
+        (None, false, b"zzzlo, wo".as_slice()),
+        (Some(0), true, b"lo, wo"),
+        (Some(6), false, b"zzzz\0\0lo, wo"),
+    ] {
+        let (answer, file) = written(&rt, rt.alloc(), write_offset, truncate_file)?;
+        assert_eq!(rt; answer, Ok(6));
+        assert!(rt; file.content() == content);
+    }
+    Ok(())
+}
+
+// The answer of a run that reports to the item.
+fn reported<R: Threads + Wait + Sync>(
+    rt: &R,
+    alloc: Global,
+    updater: ItemProgressUpdater,
+) -> std::result::Result<Result<u64>, Fail> {
+    let store = worked_store(alloc)?;
+    let mut clients = [MemClient::new(alloc, &store)];
+    let mut sink = VecSink::new(alloc);
+    Ok(
+        wanted(&whole(FILE_OF_ALL))
+            .with_progress_updater(updater)
+            .reconstruct_to_writer(
+                rt,
+                alloc,
+                &mut clients,
+                &mut NoCache,
+                &mut NeverCancel,
+                &mut sink,
+            ),
+    )
+}
+
+#[test]
+fn progress(rt: HostRuntime) -> std::result::Result<(), Fail> {
+    let alloc = rt.alloc();
+    let updater = ItemProgressUpdater::new_standalone(alloc, "file")?;
+    let other = updater.share()?;
+    assert_eq!(rt; reported(&rt, alloc, updater)?, Ok(13));
+    let item = other.item(&rt, alloc)?;
+    assert_eq!(rt; (item.total_bytes(), item.bytes_completed()), (13, 13));
+    assert_eq!(rt;
+        (item.transfer_bytes(), item.transfer_bytes_completed()),
+        (13, 13)
+    );
+    Ok(())
+}
+
+// The limits of the admissions of a run whose budget answers zeros, and its answer.
+fn limits<R: Threads + Wait + Sync>(
+    rt: &R,
+    alloc: Global,
+) -> std::result::Result<(Result<u64>, Vec<u64>), Fail> {
+    let store = worked_store(alloc)?;
+    let mut clients = [client(alloc, &store, "")?];
+    let mut core = RunCore::new(alloc);
+    let mut budget = ScriptBudget::new(vec![in alloc; 0u64, 0, 0]?);
+    let answer = wanted(&whole(FILE_OF_REPEATS)).run(
+        rt,
+        alloc,
+        &mut core,
+        &mut budget,
+        &OpenGate,
+        &mut clients,
+        &mut NoCache,
+        &mut NeverCancel,
+        &mut VecSink::new(alloc),
+    );
+    let mut limits = Vec::new(alloc);
+    for event in core.history() {
+        if let Event::Admit { limit } = event {
+            limits.push(*limit)?;
+        }
+    }
+    Ok((answer, limits))
+}
+
+// The answer of a run whose limit is that of a book with one running download.
+fn booked<R: Threads + Wait + Sync>(
+    rt: &R,
+    alloc: Global,
+) -> std::result::Result<Result<u64>, Fail> {
+    let store = worked_store(alloc)?;
+    let mut clients = [MemClient::new(alloc, &store)];
+    let settings = BudgetSettings {
+        base: 0,
+        per_file: 5,
+        limit: 8,
+    };
+    let book = Arc::new(alloc, BudgetBook::new(alloc, settings)?)?;
+    book.start(rt);
+    Ok(
+        wanted(&whole(FILE_OF_REPEATS))
+            .with_budget_book(BookView::new(book))
+            .reconstruct_to_writer(
+                rt,
+                alloc,
+                &mut clients,
+                &mut NoCache,
+                &mut NeverCancel,
+                &mut VecSink::new(alloc),
+            ),
+    )
+}
+
+#[test]
+fn budgets(rt: HostRuntime) -> std::result::Result<(), Fail> {
+    let (answer, limits) = limits(&rt, rt.alloc())?;
+    assert_eq!(rt; answer, Ok(23));
+    assert!(rt; limits.as_slice() == [0, 0, 0].as_slice());
+    assert_eq!(rt; booked(&rt, rt.alloc())?, Ok(23));
+    Ok(())
+}
+
+// A run whose second fetch waits for its first write, and that for the fetch.
+fn beside<R: Threads + Wait + Sync>(
+    rt: &R,
+    alloc: Global,
+    meeting: &Meeting,
+) -> std::result::Result<(Result<u64>, u64), Fail> {
+    let store = worked_store(alloc)?;
+    let mut clients = [MemClient::new(alloc, &store)];
+    let row = Row {
+        config: ReconstructionConfig {
+            min_reconstruction_fetch_size: 4,
+            max_reconstruction_fetch_size: 8,
+            ..ReconstructionConfig::new()
+        },
+        ..whole(FILE_OF_ALL)
+    };
+    let mut sink = Waiting { meeting, taken: 0 };
+    let answer = wanted(&row).run(
+        rt,
+        alloc,
+        &mut RunCore::new(alloc),
+        &mut FixedBudget { limit: 13 },
+        meeting,
+        &mut clients,
+        &mut NoCache,
+        &mut NeverCancel,
+        &mut sink,
+    );
+    Ok((answer, sink.taken))
+}
+
+#[test]
+fn a_write_runs_beside_a_fetch(rt: HostRuntime) -> std::result::Result<(), Fail> {
+    let meeting = Meeting::new();
+    let (answer, taken) = beside(&rt, rt.alloc(), &meeting)?;
+    assert_eq!(rt; (answer, taken), (Ok(13), 13));
+    assert!(rt; meeting.met(), "one gave up waiting for the other");
+    Ok(())
+}
