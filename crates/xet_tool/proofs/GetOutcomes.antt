@@ -1,34 +1,31 @@
 -- What the texts, and the command `get` over an input, print.
-use Rattle.std.proofs.Common.{◌≡◌, ℕ, ◌<◌, ◌≤◌, List, [], ◌∷◌, ◌++◌, drop, take, length, get_or, map, set, true, Option, Some, None, Err, refl, ap, sym, ◌∙◌, arith, inl, inr}
-use Rattle.std.specs.Prelude.{◌⊎◌, IfSome}
-use Rattle.std.proofs.Math.Seq.{drop-length, take-length}
-use Rattle.std.proofs.lemmas.List.{append-nil}
+use Rattle.std.proofs.Common.{◌≡◌, ℕ, ◌≤◌, List, [], ◌∷◌, ◌++◌, take, length, None, Some, Err, refl, sym, ◌∙◌, arith, inl, inr}
+use Rattle.std.specs.Prelude.{◌⊎◌}
+use Rattle.std.proofs.Math.Seq.{take-length}
 use Rattle.hex.specs.Hex.{encode_lower}
 use Rattle.xet_base.specs.Store.{Store}
-use Rattle.xet_outside.specs.declared.served.Served.{Served}
 use Rattle.xet_outside.specs.declared.sink.SinkError.{SinkError}
 use Rattle.xet_outside.specs.declared.sink.SinkError.TheVariants as sink_error
 use Rattle.xet_outside.specs.Told.{Rose, SinkTold, SourceTold, Took, TookPrefix}
 use Rattle.xet_outside.specs.Written.{WroteAll}
 use Rattle.xet_outside.proofs.CallerLemmas.{prefix_after, prefix_front, took_both, whole_prefix}
 use Rattle.xet_store.specs.Taps.{TapTold}
-use Rattle.xet_blocks.specs.ServedChunks.{AllServed}
-use Rattle.xet_reconstruct.specs.InCall.{joined, new_in}
+use Rattle.xet_error.specs.declared.error.Setting.{Setting}
 use Rattle.xet_tool.specs.declared.commands.get.digits.Printed.TheVariants.{All, NoFile, Part, Stopped}
 use Rattle.xet_tool.specs.declared.commands.get.digits.Printed.TheVariants as printed
 use Rattle.xet_tool.specs.declared.commands.get.wanted.Wanted.{Wanted}
 use Rattle.xet_tool.specs.declared.status.Status.{Status}
-use Rattle.xet_tool.specs.declared.status.Status.TheVariants.{Done, BadWords, BadStore, BadScript, NotFound, ReadFault, WriteFault, NoMemory, TooLong, BadBlock}
-use Rattle.xet_tool.specs.AnyBytes.{AnyCut, AnyGet, IsOfRun, counted, last_line}
+use Rattle.xet_tool.specs.declared.status.Status.TheVariants.{Done, BadWords, BadStore, BadScript, NotFound, ReadFault, WriteFault, NoMemory, TooLong, BadBlock, BadSettings}
+use Rattle.xet_tool.specs.AnyBytes.{AnyCut, AnyGet, IsOfRun, last_line}
 use Rattle.xet_tool.specs.Document.{HasStore, NoStore, OfNoDocument}
 use Rattle.xet_tool.specs.Ends.{Told, WasReadToEnd}
-use Rattle.xet_tool.specs.commands.Get.{GetOutcome, IsCut, IsCutGet, OverStore, memory_text}
+use Rattle.xet_tool.specs.commands.Get.{GetOutcome, IsCut, IsCutGet, OverStore, memory_text, settings_text}
 use Rattle.xet_tool.specs.Outcome.{Finished}
 use Rattle.xet_tool.specs.steps.PrintedDigits.{DigitsBehind, DigitsOf}
-use Rattle.xet_tool.specs.steps.Printing.{GetFrom, GotFrom, status_of}
-use Rattle.xet_tool.specs.Taps.{AllHonest, FromTap, FromTaps, all_passed, other_taps}
+use Rattle.xet_tool.specs.steps.Printing.{GetFrom, GotFrom, PrintedWithin, SettingsFrom, status_of}
+use Rattle.xet_tool.specs.Taps.{AllHonest, FromTaps}
 use Rattle.xet_tool.specs.Texts.{block_line, get_text, line, ok_line}
-use Rattle.xet_tool.specs.Wanted.{wanted_bytes}
+use Rattle.xet_tool.specs.Wanted.{failing_setting, wanted_bytes}
 use Rattle.xet_tool.proofs.PrintedDigits.{encode-nil, from_memory}
 
 -- a first text, and then a second one
@@ -53,13 +50,13 @@ lined s q b m n xs last whole status t f h done cut =
     by_case (inr (inr h)) = rw h.0 (cut h.1)
 
 -- all digits, and the last line
-pub got_all : (s : Store) (q : Wanted) (b m n : SinkTold) (k : ℕ) (status : Status) → DigitsOf s q b m (All k) → Finished (10 ∷ ok_line k) Done m n status → GetFrom s q b n status
-got_all s q b m n k status d h =
+pub got_all : (s : Store) (q : Wanted) (b m n : SinkTold) (k : ℕ) (status : Status) → failing_setting q ≡ None → DigitsOf s q b m (All k) → Finished (10 ∷ ok_line k) Done m n status → GetFrom s q b n status
+got_all s q b m n k status fit d h =
     let w = wanted_bytes s q in
     let e : k ≡ length w = d.digits.2 in
     lined s q b m n w (ok_line k) Done status d.digits.1 d.faults h
     (λ t. record { found = d.digits.0; took = rw e at t })
-    (λ p. inl (d.digits.0, rw e at p))
+    (λ p. inl (fit, d.digits.0, rw e at p))
 
 -- the digits of some first bytes, and want of memory
 memory_after : (s : Store) (q : Wanted) (b m n : SinkTold) (k : ℕ) (status : Status) → Took b.took m.took (encode_lower (take k (wanted_bytes s q))) → b.faults ≤ m.faults → Finished (10 ∷ line NoMemory) NoMemory m n status → GetFrom s q b n status
@@ -79,11 +76,11 @@ pub got_part : (s : Store) (q : Wanted) (b m n : SinkTold) (status : Status) →
 got_part s q b m n status d h = memory_after s q b m n d.digits.count status d.digits.took d.faults h
 
 -- no file
-pub got_no_file : (s : Store) (q : Wanted) (b m n : SinkTold) (status : Status) → DigitsOf s q b m NoFile → Finished (10 ∷ line NotFound) NotFound m n status → GetFrom s q b n status
-got_no_file s q b m n status d h =
+pub got_no_file : (s : Store) (q : Wanted) (b m n : SinkTold) (status : Status) → failing_setting q ≡ None → DigitsOf s q b m NoFile → Finished (10 ∷ line NotFound) NotFound m n status → GetFrom s q b n status
+got_no_file s q b m n status fit d h =
     lined s q b m n [] (line NotFound) NotFound status (rw encode-nil d.digits.1) d.faults h
     (λ t. record { missing = d.digits.0; took = t })
-    (λ p. inr (inr (d.digits.0, p)))
+    (λ p. inr (inr (inl (fit, d.digits.0, p))))
 
 -- a write of digits failed
 pub got_stopped : (s : Store) (q : Wanted) (b n : SinkTold) (e : SinkError) → DigitsOf s q b n (Stopped e) → GetFrom s q b n (status_of e)
@@ -128,129 +125,140 @@ not_done b n xs whole status other (inr (inr h)) e = wrong (sym h.0 ∙ e)
 no_memory : NoMemory ≡ Done → ⊥
 no_memory e = cc
 
--- all digits, and the last line
-pub tap_all : (s : Store) (q : Wanted) (t u : TapTold) (b m n : SinkTold) (k : ℕ) (status : Status) → DigitsBehind s q t u b m (All k) → Finished (10 ∷ ok_line k) Done m n status → GotFrom s q t u b n status
-tap_all s q t u b m n k status d h =
-    let e : k ≡ counted d.any.bytes = d.any.count in
-    record {
-      honest = λ honest. got_all s q b m n k status (d.digits honest) h;
-      any = lined_any (FromTap s q t u) b m n d.any.bytes Done status tt d.any.from d.any.took d.faults (rw e at h)
-          (λ w. (record { bytes = d.any.bytes; from = d.any.from }, w));
-      chunks = λ honest _. d.chunks honest;
-    }
+-- the settings, after a last line
+fits : (q : Wanted) (b m n : SinkTold) (xs : List ℕ) (whole status : Status) → Finished xs whole m n status → (Took m.took n.took xs → SettingsFrom q b n whole) → SettingsFrom q b n status
+fits q b m n xs whole status (inl h) done = rw h.0 (done h.1)
+fits q b m n xs whole status (inr (inl h)) done = rw h.0 tt
+fits q b m n xs whole status (inr (inr h)) done = rw h.0 tt
 
--- all digits, and want of memory
-pub tap_all_cut : (s : Store) (q : Wanted) (t u : TapTold) (b m n : SinkTold) (k : ℕ) (status : Status) → DigitsBehind s q t u b m (All k) → Finished (10 ∷ line NoMemory) NoMemory m n status → GotFrom s q t u b n status
-tap_all_cut s q t u b m n k status d h = record {
-  honest = λ honest. got_all_cut s q b m n k status (d.digits honest) h;
-  any = lined_memory (FromTap s q t u) b m n d.any.bytes status (from_memory s q t u Done d.any.bytes d.any.from) d.any.took d.faults h;
-  chunks = λ honest e. absurd (not_done m n (10 ∷ line NoMemory) NoMemory status no_memory h e);
-}
+module _ (s : Store) (q : Wanted) (ts us : List TapTold) where
+  abbrev P : Status → List ℕ → Type 0
+  P = FromTaps s q ts us
 
--- some digits, and want of memory
-pub tap_part : (s : Store) (q : Wanted) (t u : TapTold) (b m n : SinkTold) (status : Status) → DigitsBehind s q t u b m Part → Finished (10 ∷ line NoMemory) NoMemory m n status → GotFrom s q t u b n status
-tap_part s q t u b m n status d h = record {
-  honest = λ honest. got_part s q b m n status (d.digits honest) h;
-  any = lined_memory (FromTap s q t u) b m n d.any.bytes status d.any.from d.any.took d.faults h;
-  chunks = λ honest e. absurd (not_done m n (10 ∷ line NoMemory) NoMemory status no_memory h e);
-}
+  -- all digits, and the last line
+  pub tap_all : (b m n : SinkTold) (k : ℕ) (status : Status) → DigitsBehind s q ts us b m (All k) → Finished (10 ∷ ok_line k) Done m n status → GotFrom s q ts us b n status
+  tap_all b m n k status d h =
+      let e : k ≡ length d.any.bytes = d.any.count in
+      record {
+        honest = λ honest. got_all s q b m n k status d.settings (d.digits honest) h;
+        settings = fits q b m n _ Done status h (λ _. d.settings);
+        any = lined_any P b m n d.any.bytes Done status tt d.any.from d.any.took d.faults (rw e at h)
+            (λ w. (record { bytes = d.any.bytes; from = d.any.from }, w));
+        chunks = λ honest _. d.chunks honest;
+        others = d.others;
+      }
 
--- no file
-pub tap_no_file : (s : Store) (q : Wanted) (t u : TapTold) (b m n : SinkTold) (status : Status) → DigitsBehind s q t u b m NoFile → Finished (10 ∷ line NotFound) NotFound m n status → GotFrom s q t u b n status
-tap_no_file s q t u b m n status d h = record {
-  honest = λ honest. got_no_file s q b m n status (d.digits honest) h;
-  any = lined_any (FromTap s q t u) b m n d.any.bytes NotFound status tt d.any.from d.any.took d.faults h
-      (λ w. (record { bytes = d.any.bytes; from = d.any.from }, w));
-  chunks = λ honest e. absurd (not_done m n (10 ∷ line NotFound) NotFound status wrong h e);
-}
-  where
-    wrong : NotFound ≡ Done → ⊥
-    wrong e = cc
+  -- all digits, and want of memory
+  pub tap_all_cut : (b m n : SinkTold) (k : ℕ) (status : Status) → DigitsBehind s q ts us b m (All k) → Finished (10 ∷ line NoMemory) NoMemory m n status → GotFrom s q ts us b n status
+  tap_all_cut b m n k status d h = record {
+    honest = λ honest. got_all_cut s q b m n k status (d.digits honest) h;
+    settings = fits q b m n _ NoMemory status h (λ _. tt);
+    any = lined_memory P b m n d.any.bytes status (from_memory s q ts us Done d.any.bytes d.any.from) d.any.took d.faults h;
+    chunks = λ honest e. absurd (not_done m n (10 ∷ line NoMemory) NoMemory status no_memory h e);
+    others = d.others;
+  }
 
--- a block failed a test
-pub tap_bad : (s : Store) (q : Wanted) (t u : TapTold) (b m n : SinkTold) (k : ℕ) (status : Status) → DigitsBehind s q t u b m (printed.BadBlock k) → Finished (10 ∷ block_line k) (BadBlock k) m n status → GotFrom s q t u b n status
-tap_bad s q t u b m n k status d h = record {
-  honest = λ honest. absurd ((d.digits honest).digits);
-  any = lined_any (FromTap s q t u) b m n d.any.bytes (BadBlock k) status tt d.any.from d.any.took d.faults h
-      (λ w. (record { bytes = d.any.bytes; from = d.any.from }, w));
-  chunks = λ honest e. absurd (not_done m n (10 ∷ block_line k) (BadBlock k) status wrong h e);
-}
-  where
-    wrong : BadBlock k ≡ Done → ⊥
-    wrong e = cc
+  -- some digits, and want of memory
+  pub tap_part : (b m n : SinkTold) (status : Status) → DigitsBehind s q ts us b m Part → Finished (10 ∷ line NoMemory) NoMemory m n status → GotFrom s q ts us b n status
+  tap_part b m n status d h = record {
+    honest = λ honest. got_part s q b m n status (d.digits honest) h;
+    settings = fits q b m n _ NoMemory status h (λ _. tt);
+    any = lined_memory P b m n d.any.bytes status d.any.from d.any.took d.faults h;
+    chunks = λ honest e. absurd (not_done m n (10 ∷ line NoMemory) NoMemory status no_memory h e);
+    others = d.others;
+  }
 
--- a block failed a test, and want of memory
-pub tap_bad_cut : (s : Store) (q : Wanted) (t u : TapTold) (b m n : SinkTold) (k : ℕ) (status : Status) → DigitsBehind s q t u b m (printed.BadBlock k) → Finished (10 ∷ line NoMemory) NoMemory m n status → GotFrom s q t u b n status
-tap_bad_cut s q t u b m n k status d h = record {
-  honest = λ honest. absurd ((d.digits honest).digits);
-  any = lined_memory (FromTap s q t u) b m n d.any.bytes status (from_memory s q t u (BadBlock k) d.any.bytes d.any.from) d.any.took d.faults h;
-  chunks = λ honest e. absurd (not_done m n (10 ∷ line NoMemory) NoMemory status no_memory h e);
-}
+  -- no file
+  pub tap_no_file : (b m n : SinkTold) (status : Status) → DigitsBehind s q ts us b m NoFile → Finished (10 ∷ line NotFound) NotFound m n status → GotFrom s q ts us b n status
+  tap_no_file b m n status d h = record {
+    honest = λ honest. got_no_file s q b m n status d.settings (d.digits honest) h;
+    settings = fits q b m n _ NotFound status h (λ _. d.settings);
+    any = lined_any P b m n d.any.bytes NotFound status tt d.any.from d.any.took d.faults h
+        (λ w. (record { bytes = d.any.bytes; from = d.any.from }, w));
+    chunks = λ honest e. absurd (not_done m n (10 ∷ line NotFound) NotFound status wrong h e);
+    others = d.others;
+  }
+    where
+      wrong : NotFound ≡ Done → ⊥
+      wrong e = cc
 
--- a write of digits failed
-pub tap_stopped : (s : Store) (q : Wanted) (t u : TapTold) (b n : SinkTold) (e : SinkError) → DigitsBehind s q t u b n (Stopped e) → GotFrom s q t u b n (status_of e)
-tap_stopped s q t u b n e d = record {
-  honest = λ honest. got_stopped s q b n e (d.digits honest);
-  any = by_error e d.any.stops;
-  chunks = λ honest w. absurd (wrong e w);
-}
-  where
-    cut : AnyCut (FromTap s q t u) b n
-    cut = record {
-      status = NoMemory;
-      of_run = tt;
-      some = record { bytes = d.any.bytes; from = d.any.from };
-      took = prefix_front b.took n.took (encode_lower d.any.bytes) (10 ∷ line NoMemory) d.any.took;
-    }
+  -- a block failed a test
+  pub tap_bad : (b m n : SinkTold) (k : ℕ) (status : Status) → DigitsBehind s q ts us b m (printed.BadBlock k) → Finished (10 ∷ block_line k) (BadBlock k) m n status → GotFrom s q ts us b n status
+  tap_bad b m n k status d h = record {
+    honest = λ honest. absurd ((d.digits honest).digits);
+    settings = fits q b m n _ (BadBlock k) status h (λ _. d.settings);
+    any = lined_any P b m n d.any.bytes (BadBlock k) status tt d.any.from d.any.took d.faults h
+        (λ w. (record { bytes = d.any.bytes; from = d.any.from }, w));
+    chunks = λ honest e. absurd (not_done m n (10 ∷ block_line k) (BadBlock k) status wrong h e);
+    others = d.others;
+  }
+    where
+      wrong : BadBlock k ≡ Done → ⊥
+      wrong e = cc
 
-    by_error : (e : SinkError) → (e ≡ sink_error.Failed → Rose b.faults n.faults) → AnyGet (FromTap s q t u) b n (status_of e)
-    by_error sink_error.OutOfMemory rose = cut
-    by_error sink_error.Failed rose = (rose refl, cut)
+  -- a block failed a test, and want of memory
+  pub tap_bad_cut : (b m n : SinkTold) (k : ℕ) (status : Status) → DigitsBehind s q ts us b m (printed.BadBlock k) → Finished (10 ∷ line NoMemory) NoMemory m n status → GotFrom s q ts us b n status
+  tap_bad_cut b m n k status d h = record {
+    honest = λ honest. absurd ((d.digits honest).digits);
+    settings = fits q b m n _ NoMemory status h (λ _. tt);
+    any = lined_memory P b m n d.any.bytes status (from_memory s q ts us (BadBlock k) d.any.bytes d.any.from) d.any.took d.faults h;
+    chunks = λ honest e. absurd (not_done m n (10 ∷ line NoMemory) NoMemory status no_memory h e);
+    others = d.others;
+  }
 
-    wrong : (e : SinkError) → status_of e ≡ Done → ⊥
-    wrong sink_error.OutOfMemory w = cc
-    wrong sink_error.Failed w = cc
+  -- a setting fails
+  pub tap_settings : (b m n : SinkTold) (e : Setting) (status : Status) → DigitsBehind s q ts us b m (printed.BadSettings e) → Finished (10 ∷ line (BadSettings e)) (BadSettings e) m n status → GotFrom s q ts us b n status
+  tap_settings b m n e status d h =
+      let all = finished_more b m n [] (10 ∷ line (BadSettings e)) (BadSettings e) status d.nothing d.faults h in
+      record {
+        honest = λ honest. by_case all;
+        settings = fits q b b n _ (BadSettings e) status all (λ t. (d.settings, rw encode-nil t));
+        any = lined_any P b m n d.any.bytes (BadSettings e) status tt d.any.from d.any.took d.faults h
+            (λ w. (record { bytes = d.any.bytes; from = d.any.from }, w));
+        chunks = λ honest w. absurd (not_done m n (10 ∷ line (BadSettings e)) (BadSettings e) status wrong h w);
+        others = d.others;
+      }
+    where
+      wrong : BadSettings e ≡ Done → ⊥
+      wrong w = cc
 
--- ---- over all taps
+      cut : TookPrefix b.took n.took (10 ∷ line (BadSettings e)) → IsCutGet s q b n
+      cut p = inr (inr (inr (e, d.settings, rw encode-nil p)))
 
--- what was done over a store and all taps, by the status
-pub record GotAll (s : Store) (q : Wanted) (ts us : List TapTold) (b n : SinkTold) (status : Status) : Type 0 where
-  pub honest : AllHonest ts → GetFrom s q b n status
-  pub any : AnyGet (FromTaps s q ts us) b n status
-  pub chunks : AllHonest ts → status ≡ Done → IfSome (all_passed ts us) (AllServed s q.file q.range)
-  pub others : other_taps us ≡ other_taps ts
+      by_case : Finished (10 ∷ line (BadSettings e)) (BadSettings e) b n status → GetFrom s q b n status
+      by_case (inl h) = rw h.0 tt
+      by_case (inr (inl h)) = rw h.0 (h.1, cut h.2)
+      by_case (inr (inr h)) = rw h.0 (cut h.1)
 
--- nothing passed the taps that were not asked
-none_passed : (ts : List TapTold) → (all_passed ts ts ≡ None) ⊎ (all_passed ts ts ≡ Some [])
-none_passed [] = inr refl
-none_passed (t ∷ ts) = by_told t.passed (none_passed ts)
-  where
-    by_told : (o : Option (List Served)) → (all_passed ts ts ≡ None) ⊎ (all_passed ts ts ≡ Some []) → (joined (new_in o o) (all_passed ts ts) ≡ None) ⊎ (joined (new_in o o) (all_passed ts ts) ≡ Some [])
-    by_told None h = inl refl
-    by_told (Some xs) (inl e) = inl (ap (joined (Some (drop (length xs) xs))) e)
-    by_told (Some xs) (inr e) = inr (ap (joined (Some (drop (length xs) xs))) e ∙ ap (λ (l : List Served). Some (l ++ [])) (drop-length xs))
+  -- a write of digits failed
+  pub tap_stopped : (b n : SinkTold) (e : SinkError) → DigitsBehind s q ts us b n (Stopped e) → GotFrom s q ts us b n (status_of e)
+  tap_stopped b n e d = record {
+    honest = λ honest. got_stopped s q b n e (d.digits honest);
+    settings = fit e;
+    any = by_error e d.stops;
+    chunks = λ honest w. absurd (wrong e w);
+    others = d.others;
+  }
+    where
+      fit : (e : SinkError) → SettingsFrom q b n (status_of e)
+      fit sink_error.OutOfMemory = tt
+      fit sink_error.Failed = tt
 
--- what passed the first passed them all
-first_passed : (o : Option (List Served)) (ts : List TapTold) (P : List Served → Type 0) → IfSome o P → IfSome (joined o (all_passed ts ts)) P
-first_passed None ts P h = tt
-first_passed (Some xs) ts P h = by_others (none_passed ts)
-  where
-    by_others : (all_passed ts ts ≡ None) ⊎ (all_passed ts ts ≡ Some []) → IfSome (joined (Some xs) (all_passed ts ts)) P
-    by_others (inl e) = rw e tt
-    by_others (inr e) = rw (e, append-nil xs) h
+      cut : AnyCut P b n
+      cut = record {
+        status = NoMemory;
+        of_run = tt;
+        some = record { bytes = d.any.bytes; from = d.any.from };
+        took = prefix_front b.took n.took (encode_lower d.any.bytes) (10 ∷ line NoMemory) d.any.took;
+      }
 
-pub got_slice : {T : Type 0} (told : T → TapTold) (s : Store) (q : Wanted) (taps : List T) (d tap : T) (b n : SinkTold) (status : Status)
-    → 0 < length taps → GotFrom s q (told (get_or taps 0 d)) (told tap) b n status → GotAll s q (map told taps) (map told (set taps 0 tap)) b n status
-got_slice told s q [] d tap b n status some h = absurd (omega arith)
-got_slice {T} told s q (t ∷ ts) d tap b n status some h = record {
-  honest = λ all. h.honest (first all);
-  any = h.any;
-  chunks = λ all e. first_passed (new_in (told t).passed (told tap).passed) (map told ts) (AllServed s q.file q.range) (h.chunks (first all) e);
-  others = refl;
-}
-  where
-    first : AllHonest (told t ∷ map told ts) → (told t).honest ≡ true
-    first all = all 0 (told t) (omega arith)
+      by_error : (e : SinkError) → (e ≡ sink_error.Failed → Rose b.faults n.faults) → AnyGet P b n (status_of e)
+      by_error sink_error.OutOfMemory rose = cut
+      by_error sink_error.Failed rose = (rose refl, cut)
+
+      wrong : (e : SinkError) → status_of e ≡ Done → ⊥
+      wrong sink_error.OutOfMemory w = cc
+      wrong sink_error.Failed w = cc
 
 -- ---- the command over an input
 
@@ -282,27 +290,30 @@ got_no_store limit q b n text status w none unasked h =
     here t l = rw (w t l).0 at none
 
 -- a text that is a document of a store
-pub got_from : (limit : ℕ) (q : Wanted) (b n : Told) (text : List ℕ) (s : Store) (status : Status) → IsWhole limit b.source n.source text → HasStore text s → GotAll s q b.taps n.taps b.sink n.sink status → GetOutcome limit q b n status
-got_from limit q b n text s status w d g = by_status status g
+pub got_from : (limit : ℕ) (q : Wanted) (b n : Told) (text : List ℕ) (s : Store) (status : Status) → IsWhole limit b.source n.source text → HasStore text s → PrintedWithin s q b.taps n.taps b.sink n.sink status → GetOutcome limit q b n status
+got_from limit q b n text s status w d (inr h) = got_no_memory limit q b n status h
+got_from limit q b n text s status w d (inl g) = by_status status g
   where
     read : WasReadToEnd limit b.source n.source
     read = read_to_end limit b.source n.source text w
 
-    over : OverStore limit s b n
+    over : OverStore limit s q b n
     over = record { read = read; document = λ t l. rw (w t l).0 at d; others = g.others }
 
     cut : (AllHonest b.taps → IsCutGet s q b.sink n.sink) → AnyCut (FromTaps s q b.taps n.taps) b.sink n.sink → IsCut limit q b n
     cut honest any = inr (inr (inr (inr (record { store = s; over = over; honest = honest; any = any }))))
 
-    by_status : (status : Status) → GotAll s q b.taps n.taps b.sink n.sink status → GetOutcome limit q b n status
+    by_status : (status : Status) → GotFrom s q b.taps n.taps b.sink n.sink status → GetOutcome limit q b n status
     by_status Done g = record {
       store = s;
       over = over;
+      settings = g.settings;
       honest = λ all. record { printed = g.honest all; passed = g.chunks all refl };
       any = g.any;
     }
-    by_status NotFound g = record { store = s; over = over; honest = g.honest; any = g.any }
+    by_status NotFound g = record { store = s; over = over; settings = g.settings; honest = g.honest; any = g.any }
     by_status WriteFault g = (g.any.0, cut (λ all. (g.honest all).1) g.any.1)
     by_status NoMemory g = cut g.honest g.any
-    by_status (BadBlock k) g = record { store = s; over = over; dishonest = g.honest; any = g.any }
+    by_status (BadBlock k) g = record { store = s; over = over; settings = g.settings; dishonest = g.honest; any = g.any }
+    by_status (BadSettings e) g = record { store = s; over = over; failing = g.settings.0; took = g.settings.1 }
     by_status _ g = absurd g.any

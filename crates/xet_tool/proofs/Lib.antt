@@ -6,7 +6,10 @@ mod DocumentTerms
 mod GetNumbers
 mod GetOutcomes
 mod HashDigits
+mod HonestRefreshes
+mod OptionWords
 mod PrintedDigits
 mod StoreRefusals
+mod TapLanes
 mod TapRuns
 mod TrackOutcomes

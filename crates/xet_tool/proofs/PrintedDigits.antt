@@ -1,7 +1,7 @@
 -- What a run through a sink of digits leaves below.
 use Rattle.std.proofs.Common.{◌≡◌, ℕ, ◌-◌, ◌≤◌, List, [], ◌∷◌, ◌++◌, length, take, drop, Option, Some, None, IsNone, Ok, Err, refl, sym, ap, ◌∙◌, arith, inl, inr, subst}
 use Rattle.std.specs.Prelude.{◌⊎◌, IfSome, Result, option_map, slice_range, unwrap_or}
-use Rattle.std.specs.List.{concat, flat_map}
+use Rattle.std.specs.List.{AllZip, concat, flat_map}
 use Rattle.std.proofs.Math.Seq.{take-length}
 use Rattle.std.proofs.lemmas.List.{take-append-drop}
 use Rattle.hex.specs.Hex.{encode_lower, encode_with}
@@ -19,17 +19,19 @@ use Rattle.xet_store.specs.Taps.{TapTold}
 use Rattle.xet_error.specs.Errors.{corruption_number}
 use Rattle.xet_error.specs.declared.error.FileReconstructionError.{FileReconstructionError}
 use Rattle.xet_error.specs.declared.error.FileReconstructionError.TheVariants as error
-use Rattle.xet_reconstruct.specs.InCall.{Exchange, new_in}
-use Rattle.xet_reconstruct.specs.Pieces.{AllPieces, FirstPieces, HasNoTerms}
+use Rattle.xet_error.specs.declared.error.Setting.{Setting}
+use Rattle.xet_ties.specs.Cuts.{some_said}
+use Rattle.xet_ties.specs.InCall.{Exchange, Look, new_in}
 use Rattle.xet_tool.specs.declared.commands.get.digits.Printed.{Printed}
 use Rattle.xet_tool.specs.declared.commands.get.digits.Printed.TheVariants.{All, NoFile, Part, Stopped}
 use Rattle.xet_tool.specs.declared.commands.get.digits.Printed.TheVariants as printed
 use Rattle.xet_tool.specs.declared.commands.get.wanted.Wanted.{Wanted}
 use Rattle.xet_tool.specs.declared.status.Status.{Status}
-use Rattle.xet_tool.specs.declared.status.Status.TheVariants.{Done, BadWords, BadStore, BadScript, NotFound, ReadFault, WriteFault, NoMemory, TooLong, BadBlock}
-use Rattle.xet_tool.specs.steps.PrintedDigits.{DigitsAs, DigitsBehind, Driven, Ran, RanAs, StopsAs, Tapped, TookAs, WholeText, status_of_printed}
-use Rattle.xet_tool.specs.Taps.{FirstBytes, FromTap, IsMade, IsPassed}
-use Rattle.xet_tool.specs.Wanted.{setup_of, wanted_bytes}
+use Rattle.xet_tool.specs.declared.status.Status.TheVariants.{Done, BadWords, BadStore, BadScript, NotFound, ReadFault, WriteFault, NoMemory, TooLong, BadBlock, BadSettings}
+use Rattle.xet_tool.specs.steps.PrintedDigits.{AnyDigits, CountedAs, CountsAs, DigitsAs, DigitsBehind, Driven, IsRefusal, NothingAs, PassedAs, Ran, RanAs, StopsAs, Tapped, TookAs, TookMade, WholeText, Wrote, count_of, status_of_printed}
+use Rattle.xet_tool.specs.Taps.{AllHonest, FirstBytes, FromTap, FromTaps, IsMade, MadeOf}
+use Rattle.xet_tool.specs.Wanted.{failing_setting, setup_of, wanted_bytes}
+use Rattle.xet_tool.proofs.TapRuns.{took_same}
 
 -- the part of no list
 slice_range-nil : (xs : List ℕ) (i j : ℕ) → xs ≡ [] → slice_range xs i j ≡ []
@@ -52,142 +54,251 @@ PrintedBy (Err error.FileNotFound) p = p ≡ NoFile
 PrintedBy (Err error.UrlExpired) p = ⊥
 PrintedBy (Err error.IoError) p = p ≡ Stopped Failed
 PrintedBy (Err (error.CorruptedReconstruction c)) p = p ≡ printed.BadBlock (corruption_number c)
-PrintedBy (Err (error.ConfigurationError e)) p = ⊥
+PrintedBy (Err (error.ConfigurationError e)) p = p ≡ printed.BadSettings e
 PrintedBy (Err error.Cancelled) p = ⊥
 PrintedBy (Err (error.InternalWriterError w)) p = ⊥
 
--- a run, by how far the bytes were printed
-pub ran : (s : Store) (q : Wanted) (t u : TapTold) (b n : SinkTold) (a : Result ℕ FileReconstructionError) (p : Printed) → PrintedBy a p → Tapped s q t u b n a → Ran s q t u b n p
-ran s q t u b n (Ok k) p e h = subst (Ran s q t u b n) (sym e) (record {
-  bytes = h.exact;
-  any = record { bytes = h.any.bytes; took = h.any.took; count = h.any.total; stops = tt; from = h.any.from };
-  chunks = h.chunks;
-  faults = h.faults;
-  link = h.link;
-})
-ran s q t u b n (Err error.OutOfMemory) p e h = subst (Ran s q t u b n) (sym e) (record {
-  bytes = h.prefix;
-  any = record { bytes = h.any.bytes; took = h.any.took; count = tt; stops = tt; from = h.any.from };
-  chunks = λ honest. tt;
-  faults = h.faults;
-  link = h.link;
-})
-ran s q t u b n (Err error.ClientError) p e h = absurd e
-ran s q t u b n (Err error.FileNotFound) p e h = subst (Ran s q t u b n) (sym e) (record {
-  bytes = λ honest. (h.cause honest, nothing (h.prefix honest).count (rw (window-none s q (h.cause honest).1) at (h.prefix honest).took));
-  any = record { bytes = h.any.bytes; took = h.any.took; count = tt; stops = tt; from = h.any.from };
-  chunks = λ honest. tt;
-  faults = h.faults;
-  link = h.link;
-})
+-- where the answer is no refusal, no setting fails
+met : (q : Wanted) (A : Type 0) (answer : Result ℕ FileReconstructionError) → ((e : Setting) → failing_setting q ≡ Some e → IsRefusal e answer × A) → ((e : Setting) → IsRefusal e answer → ⊥) → failing_setting q ≡ None
+met q A answer refused other = by (failing_setting q) refl
   where
-    nothing : (i : ℕ) → Took b.took n.took (take i []) → Took b.took n.took []
-    nothing i e = rw (take-nil i) at e
-ran s q t u b n (Err error.UrlExpired) p e h = absurd e
-ran s q t u b n (Err error.IoError) p e h = subst (Ran s q t u b n) (sym e) (record {
-  bytes = λ honest. (λ _. h.cause, h.prefix honest);
-  any = record { bytes = h.any.bytes; took = h.any.took; count = tt; stops = λ _. h.cause; from = h.any.from };
-  chunks = λ honest. tt;
-  faults = h.faults;
-  link = h.link;
-})
-ran s q t u b n (Err (error.CorruptedReconstruction c)) p e h = subst (Ran s q t u b n) (sym e) (record {
-  bytes = λ honest. h.cause honest;
-  any = record { bytes = h.any.bytes; took = h.any.took; count = tt; stops = tt; from = h.any.from };
-  chunks = λ honest. tt;
-  faults = h.faults;
-  link = h.link;
-})
-ran s q t u b n (Err (error.ConfigurationError c)) p e h = absurd e
-ran s q t u b n (Err error.Cancelled) p e h = absurd e
-ran s q t u b n (Err (error.InternalWriterError w)) p e h = absurd e
+    by : (o : Option Setting) → failing_setting q ≡ o → o ≡ None
+    by None e = refl
+    by (Some x) e = absurd (other x (refused x e).0)
 
--- whatever the answer, a prefix was taken
-prefix_of : (s : Store) (q : Wanted) (b n : SinkTold) (answer : Printed) → RanAs s q b n answer → TookPrefix b.took n.took (wanted_bytes s q)
-prefix_of s q b n (All k) h = whole_prefix b.took n.took (wanted_bytes s q) h.took
-prefix_of s q b n NoFile h = record { count = 0; within = omega arith; took = h.1 }
-prefix_of s q b n Part h = h
-prefix_of s q b n (Stopped e) h = h.1
-prefix_of s q b n (printed.BadBlock k) h = absurd h
+ok_other : (k : ℕ) (e : Setting) → IsRefusal e (Ok k) → ⊥
+ok_other k e (inl w) = cc
+ok_other k e (inr w) = cc
 
--- bytes that stand in a text of another status stand in one of want of memory
-pub from_memory : (s : Store) (q : Wanted) (t u : TapTold) (status : Status) (bytes : List ℕ) → FromTap s q t u status bytes → FromTap s q t u NoMemory bytes
-from_memory s q t u status bytes h = by_lists (new_in t.passed u.passed) (new_in t.gave u.gave) h
+missing_other : (e : Setting) → IsRefusal e (Err error.FileNotFound) → ⊥
+missing_other e (inl w) = cc
+missing_other e (inr w) = cc
+
+module _ (s : Store) (q : Wanted) (ts us : List TapTold) (b n : SinkTold) where
+  -- a run, by how far the bytes were printed
+  pub ran : (a : Result ℕ FileReconstructionError) (p : Printed) → PrintedBy a p → Tapped s q ts us b n a → Ran s q ts us b n p
+  ran (Ok k) p e h = subst (Ran s q ts us b n) (sym e) (record {
+    bytes = h.exact;
+    settings = met q _ (Ok k) h.settings (ok_other k);
+    nothing = tt;
+    counts = h.counts;
+    stops = tt;
+    any = h.any;
+    chunks = h.chunks;
+    others = h.others;
+    faults = h.faults;
+    link = h.link;
+  })
+  ran (Err error.OutOfMemory) p e h = subst (Ran s q ts us b n) (sym e) (record {
+    bytes = h.prefix;
+    settings = tt;
+    nothing = tt;
+    counts = tt;
+    stops = tt;
+    any = h.any;
+    chunks = λ honest. tt;
+    others = h.others;
+    faults = h.faults;
+    link = h.link;
+  })
+  ran (Err error.ClientError) p e h = absurd e
+  ran (Err error.FileNotFound) p e h = subst (Ran s q ts us b n) (sym e) (record {
+    bytes = λ honest. (h.cause honest, nothing (h.prefix honest).count (rw (window-none s q (h.cause honest).1) at (h.prefix honest).took));
+    settings = met q _ (Err error.FileNotFound) h.settings missing_other;
+    nothing = tt;
+    counts = tt;
+    stops = tt;
+    any = h.any;
+    chunks = λ honest. tt;
+    others = h.others;
+    faults = h.faults;
+    link = h.link;
+  })
+    where
+      nothing : (i : ℕ) → Took b.took n.took (take i []) → Took b.took n.took []
+      nothing i e = rw (take-nil i) at e
+  ran (Err error.UrlExpired) p e h = absurd e
+  ran (Err error.IoError) p e h = subst (Ran s q ts us b n) (sym e) (record {
+    bytes = λ honest. (λ _. h.cause, h.prefix honest);
+    settings = tt;
+    nothing = tt;
+    counts = tt;
+    stops = λ _. h.cause;
+    any = h.any;
+    chunks = λ honest. tt;
+    others = h.others;
+    faults = h.faults;
+    link = h.link;
+  })
+  ran (Err (error.CorruptedReconstruction c)) p e h = subst (Ran s q ts us b n) (sym e) (record {
+    bytes = λ honest. h.cause honest;
+    settings = met q _ (Err (error.CorruptedReconstruction c)) h.settings other;
+    nothing = tt;
+    counts = tt;
+    stops = tt;
+    any = h.any;
+    chunks = λ honest. tt;
+    others = h.others;
+    faults = h.faults;
+    link = h.link;
+  })
+    where
+      other : (x : Setting) → IsRefusal x (Err (error.CorruptedReconstruction c)) → ⊥
+      other x (inl w) = cc
+      other x (inr w) = cc
+  ran (Err (error.ConfigurationError x)) p e h = subst (Ran s q ts us b n) (sym e) (record {
+    bytes = λ honest. tt;
+    settings = h.cause;
+    nothing = (h.settings x h.cause).1 ∙ took_same b.took;
+    counts = tt;
+    stops = tt;
+    any = h.any;
+    chunks = λ honest. tt;
+    others = h.others;
+    faults = h.faults;
+    link = h.link;
+  })
+  ran (Err error.Cancelled) p e h = absurd e
+  ran (Err (error.InternalWriterError w)) p e h = absurd e
+
+  -- whatever the answer, a prefix was taken
+  prefix_of : (answer : Printed) → NothingAs b n answer → RanAs s q b n answer → TookPrefix b.took n.took (wanted_bytes s q)
+  prefix_of (All k) w h = whole_prefix b.took n.took (wanted_bytes s q) h.took
+  prefix_of NoFile w h = record { count = 0; within = omega arith; took = h.1 }
+  prefix_of Part w h = h
+  prefix_of (Stopped e) w h = h.1
+  prefix_of (printed.BadBlock k) w h = absurd h
+  prefix_of (printed.BadSettings e) w h = record { count = 0; within = omega arith; took = w }
+
+-- ---- bytes that stand in a text of another status stand in one of want of memory
+
+zip_taken : {A B : Type 0} (P : A → B → Type 0) (xs : List A) (ys : List B) → AllZip P xs ys → AllZip P (take (length ys) xs) ys
+zip_taken P [] [] h = h
+zip_taken P [] (y ∷ ys) h = absurd h
+zip_taken P (x ∷ xs) [] h = absurd h
+zip_taken P (x ∷ xs) (y ∷ ys) h = (h.0, zip_taken P xs ys h.1)
+
+made_first : (s : Store) (q : Wanted) (xs : List Exchange) (looks : List Look) (status : Status) (bytes : List ℕ) → IsMade s q xs looks status bytes → FirstBytes (setup_of q) xs looks bytes
+made_first s q xs looks Done bytes m = inr (record {
+  planning = m.all.planning;
+  pieces = m.pieces;
+  each = zip_taken _ (some_said (setup_of q) m.all.planning.parts) m.pieces m.each;
+  count = length (concat m.pieces);
+  is = m.is ∙ sym (take-length (concat m.pieces));
+})
+made_first s q xs looks NotFound bytes m = inl m.1
+made_first s q xs looks NoMemory bytes m = m
+made_first s q xs looks (BadBlock k) bytes m = m.0
+made_first s q xs looks (BadSettings e) bytes m = inl m.1
+made_first s q xs looks _ bytes m = absurd m
+
+pub from_memory : (s : Store) (q : Wanted) (ts us : List TapTold) (status : Status) (bytes : List ℕ) → FromTaps s q ts us status bytes → FromTaps s q ts us NoMemory bytes
+from_memory s q [] us status bytes h = tt
+from_memory s q (t ∷ ts) [] status bytes h = tt
+from_memory s q (t ∷ ts) (u ∷ us) status bytes h = λ one. by_lists (new_in t.passed u.passed) (new_in t.gave u.gave) (h one)
   where
-    by_status : (x : Exchange) (status : Status) → IsMade s q x status bytes → FirstBytes (setup_of q) x bytes
-    by_status x Done m = record { pieces = m.pieces; from = by_from m.from; count = length (concat m.pieces); is = m.is ∙ sym (take-length (concat m.pieces)) }
-      where
-        by_from : (HasNoTerms (setup_of q) (x ∷ []) × (m.pieces ≡ [])) ⊎ AllPieces (setup_of q) (x ∷ []) m.pieces → (m.pieces ≡ []) ⊎ FirstPieces (setup_of q) (x ∷ []) m.pieces
-        by_from (inl e) = inl e.1
-        by_from (inr all) = inr all.first
-    by_status x NotFound m = record { pieces = []; from = inl refl; count = 0; is = m.1 }
-    by_status x NoMemory m = m
-    by_status x (BadBlock k) m = m.0
-    by_status x _ m = absurd m
-
     by_lists : (o : Option (List Served)) (p : Option (List BlockBytes))
-        → IfSome o (λ served. IfSome p (λ blocks. (x : Exchange) × IsPassed s served blocks x × IsMade s q x status bytes))
-        → IfSome o (λ served. IfSome p (λ blocks. (x : Exchange) × IsPassed s served blocks x × IsMade s q x NoMemory bytes))
+        → IfSome o (λ served. IfSome p (λ blocks. MadeOf s q served blocks status bytes))
+        → IfSome o (λ served. IfSome p (λ blocks. MadeOf s q served blocks NoMemory bytes))
     by_lists None p h = tt
     by_lists (Some es) None h = tt
-    by_lists (Some es) (Some bs) h = (h.0, h.1, by_status h.0 status h.2)
+    by_lists (Some es) (Some bs) h = record { x = h.x; passed = h.passed; looks = h.looks; looked = h.looked; made = made_first s q (h.x ∷ []) h.looks status bytes h.made }
 
--- a flush after a run
-pub driven_ok : (s : Store) (q : Wanted) (t u : TapTold) (a b n : SinkTold) (start inner : Option (List ℕ)) (answer : Printed) → Ran s q t u a b answer → FlushCall b n (Ok tt) → HexText start inner n.took → Driven s q t u a n start inner answer
-driven_ok s q t u a b n start inner answer r f text = record {
-  ran = record {
-    bytes = λ honest. later answer (r.bytes honest);
-    any = record { bytes = r.any.bytes; took = f.took ∙ r.any.took; count = r.any.count; stops = stops answer r.any.stops; from = r.any.from };
-    chunks = r.chunks;
-    faults = let l = f.faults in let m = r.faults in omega arith;
-    link = f.link ∙ r.link;
-  };
-  text = whole answer;
-}
-  where
-    rose : Rose a.faults b.faults → Rose a.faults n.faults
-    rose w = let l = f.faults in omega (arith, w)
+-- ---- a flush after a run
 
-    stops : (p : Printed) → StopsAs p a b → StopsAs p a n
-    stops (All k) h = tt
-    stops NoFile h = tt
-    stops Part h = tt
-    stops (Stopped e) h = λ w. rose (h w)
-    stops (printed.BadBlock k) h = tt
+module _ (s : Store) (q : Wanted) (ts us : List TapTold) (a b n : SinkTold) where
+  more : (P : Status → List ℕ → Type 0) (status : Status) (count : Option ℕ) → n.took ≡ b.took → Wrote P a b status count → Wrote P a n status count
+  more P status count same (inl h) = inl (record { bytes = h.bytes; took = same ∙ h.took; total = h.total; from = h.from })
+  more P status count same (inr h) = inr h
 
-    prefix : TookPrefix a.took b.took (wanted_bytes s q) → TookPrefix a.took n.took (wanted_bytes s q)
-    prefix p = record { count = p.count; within = p.within; took = f.took ∙ p.took }
+  pub driven_ok : (start inner : Option (List ℕ)) (answer : Printed) → Ran s q ts us a b answer → FlushCall b n (Ok tt) → HexText start inner n.took → Driven s q ts us a n start inner answer
+  driven_ok start inner answer r f text = record {
+    ran = record {
+      bytes = λ honest. later answer (r.bytes honest);
+      settings = r.settings;
+      nothing = still answer r.nothing;
+      counts = counted answer r.counts;
+      stops = stops answer r.stops;
+      any = more (FromTaps s q ts us) (status_of_printed answer) (count_of answer) f.took r.any;
+      chunks = r.chunks;
+      others = r.others;
+      faults = let l = f.faults in let m = r.faults in omega arith;
+      link = f.link ∙ r.link;
+    };
+    text = whole answer;
+  }
+    where
+      rose : Rose a.faults b.faults → Rose a.faults n.faults
+      rose w = let l = f.faults in omega (arith, w)
 
-    later : (p : Printed) → RanAs s q a b p → RanAs s q a n p
-    later (All k) h = record { stored = h.stored; took = f.took ∙ h.took; total = h.total }
-    later NoFile h = (h.0, f.took ∙ h.1)
-    later Part h = prefix h
-    later (Stopped e) h = (λ w. rose (h.0 w), prefix h.1)
-    later (printed.BadBlock k) h = h
+      stops : (p : Printed) → StopsAs p a b → StopsAs p a n
+      stops (All k) h = tt
+      stops NoFile h = tt
+      stops Part h = tt
+      stops (Stopped e) h = λ w. rose (h w)
+      stops (printed.BadBlock k) h = tt
+      stops (printed.BadSettings e) h = tt
 
-    whole : (p : Printed) → WholeText start inner n.took p
-    whole (All k) = text
-    whole NoFile = text
-    whole Part = text
-    whole (Stopped e) = tt
-    whole (printed.BadBlock k) = text
+      still : (p : Printed) → NothingAs a b p → NothingAs a n p
+      still (All k) h = tt
+      still NoFile h = tt
+      still Part h = tt
+      still (Stopped e) h = tt
+      still (printed.BadBlock k) h = tt
+      still (printed.BadSettings e) h = f.took ∙ h
 
--- a flush that failed after a run
-pub driven_err : (s : Store) (q : Wanted) (t u : TapTold) (a b n : SinkTold) (start inner : Option (List ℕ)) (answer : Printed) (e : SinkError) → Ran s q t u a b answer → FlushCall b n (Err e) → Driven s q t u a n start inner (Stopped e)
-driven_err s q t u a b n start inner answer e r f = record {
-  ran = record {
-    bytes = λ honest. (failed e f, rw f.took (prefix_of s q a b answer (r.bytes honest)));
-    any = record { bytes = r.any.bytes; took = f.took ∙ r.any.took; count = tt; stops = failed e f; from = from_memory s q t u (status_of_printed answer) r.any.bytes r.any.from };
-    chunks = λ honest. tt;
-    faults = let l = f.faults in let m = r.faults in omega arith;
-    link = f.link ∙ r.link;
-  };
-  text = tt;
-}
-  where
-    failed : (e : SinkError) → FlushCall b n (Err e) → e ≡ Failed → Rose a.faults n.faults
-    failed Failed f w = let l = f.failed refl in let m = r.faults in omega arith
-    failed OutOfMemory f w = cc
+      counted : (p : Printed) → CountedAs a b p → CountedAs a n p
+      counted (All k) h = (h.0, f.took ∙ h.1, h.2)
+      counted NoFile h = tt
+      counted Part h = tt
+      counted (Stopped e) h = tt
+      counted (printed.BadBlock k) h = tt
+      counted (printed.BadSettings e) h = tt
+
+      prefix : TookPrefix a.took b.took (wanted_bytes s q) → TookPrefix a.took n.took (wanted_bytes s q)
+      prefix p = record { count = p.count; within = p.within; took = f.took ∙ p.took }
+
+      later : (p : Printed) → RanAs s q a b p → RanAs s q a n p
+      later (All k) h = record { stored = h.stored; took = f.took ∙ h.took; total = h.total }
+      later NoFile h = (h.0, f.took ∙ h.1)
+      later Part h = prefix h
+      later (Stopped e) h = (λ w. rose (h.0 w), prefix h.1)
+      later (printed.BadBlock k) h = h
+      later (printed.BadSettings e) h = h
+
+      whole : (p : Printed) → WholeText start inner n.took p
+      whole (All k) = text
+      whole NoFile = text
+      whole Part = text
+      whole (Stopped e) = tt
+      whole (printed.BadBlock k) = text
+      whole (printed.BadSettings e) = text
+
+  -- a flush that failed after a run
+  pub driven_err : (start inner : Option (List ℕ)) (answer : Printed) (e : SinkError) → Ran s q ts us a b answer → FlushCall b n (Err e) → Driven s q ts us a n start inner (Stopped e)
+  driven_err start inner answer e r f = record {
+    ran = record {
+      bytes = λ honest. (failed e f, rw f.took (prefix_of s q ts us a b answer r.nothing (r.bytes honest)));
+      settings = tt;
+      nothing = tt;
+      counts = tt;
+      stops = failed e f;
+      any = stopped r.any;
+      chunks = λ honest. tt;
+      others = r.others;
+      faults = let l = f.faults in let m = r.faults in omega arith;
+      link = f.link ∙ r.link;
+    };
+    text = tt;
+  }
+    where
+      failed : (e : SinkError) → FlushCall b n (Err e) → e ≡ Failed → Rose a.faults n.faults
+      failed Failed f w = let l = f.failed refl in let m = r.faults in omega arith
+      failed OutOfMemory f w = cc
+
+      stopped : Wrote (FromTaps s q ts us) a b (status_of_printed answer) (count_of answer) → Wrote (FromTaps s q ts us) a n NoMemory None
+      stopped (inl h) = inl (record { bytes = h.bytes; took = f.took ∙ h.took; total = tt; from = from_memory s q ts us (status_of_printed answer) h.bytes h.from })
+      stopped (inr h) = inr h
 
 same_start : (a b : Option (List ℕ)) (x y : ℕ) (l m : Link) → over a (through x l) ≡ over b (through y m) → (a ≡ b) × (x ≡ y) × (l ≡ m)
 same_start a b x y l m e = (cc, cc, cc)
@@ -223,19 +334,17 @@ part_text (Some z) n t0 t1 xs f t h =
     prefix_of_take (Some z) n xs t.count (rw e at h)
 
 -- a run through a sink of digits that told `t0` at first and `t1` at last, over one that told `b` and `n`
-pub digits_of : (s : Store) (q : Wanted) (v w : TapTold) (b n t0 t1 : SinkTold) (start : Option (List ℕ)) (x y : ℕ) (answer : Printed) → t0.took ≡ option_map (λ _. []) b.took → t0.faults ≡ b.faults → t0.link ≡ over b.took (through x b.link) → t1.faults ≡ n.faults → t1.link ≡ over start (through y n.link) → Driven s q v w t0 t1 start n.took answer → HexPrefix start n.took t1.took → DigitsBehind s q v w b n answer × (y ≡ x)
-digits_of s q v w b n t0 t1 start x y answer e0 f0 l0 f1 l1 d p =
+pub digits_of : (s : Store) (q : Wanted) (ts us : List TapTold) (b n t0 t1 : SinkTold) (start : Option (List ℕ)) (x y : ℕ) (answer : Printed) → t0.took ≡ option_map (λ _. []) b.took → t0.faults ≡ b.faults → t0.link ≡ over b.took (through x b.link) → t1.faults ≡ n.faults → t1.link ≡ over start (through y n.link) → Driven s q ts us t0 t1 start n.took answer → HexPrefix start n.took t1.took → DigitsBehind s q ts us b n answer × (y ≡ x)
+digits_of s q ts us b n t0 t1 start x y answer e0 f0 l0 f1 l1 d p =
     let same = same_start start b.took y x n.link b.link (sym l1 ∙ d.ran.link ∙ l0) in (
       record {
         digits = λ honest. record { digits = by_answer answer (d.ran.bytes honest) (rw same.0 at d.text) (rw same.0 at p); faults = later };
-        any = record {
-          bytes = d.ran.any.bytes;
-          took = any answer (rw same.0 at d.text) (rw same.0 at p);
-          count = d.ran.any.count;
-          stops = stops answer d.ran.any.stops;
-          from = d.ran.any.from;
-        };
+        settings = d.ran.settings;
+        nothing = nothing answer d.ran.nothing (rw same.0 at d.text);
+        stops = stops answer d.ran.stops;
+        any = any answer d.ran.any d.ran.counts (rw same.0 at d.text) (rw same.0 at p);
         chunks = d.ran.chunks;
+        others = d.ran.others;
         faults = later;
       },
       same.1,
@@ -253,13 +362,38 @@ digits_of s q v w b n t0 t1 start x y answer e0 f0 l0 f1 l1 d p =
     stops Part h = tt
     stops (Stopped e) h = λ w. rose (h w)
     stops (printed.BadBlock k) h = tt
+    stops (printed.BadSettings e) h = tt
 
-    any : (answer : Printed) → WholeText b.took n.took t1.took answer → HexPrefix b.took n.took t1.took → TookAs answer b n d.ran.any.bytes
-    any (All k) t p = whole_text b.took n.took t0.took t1.took d.ran.any.bytes e0 d.ran.any.took t
-    any NoFile t p = whole_text b.took n.took t0.took t1.took d.ran.any.bytes e0 d.ran.any.took t
-    any Part t p = whole_text b.took n.took t0.took t1.took d.ran.any.bytes e0 d.ran.any.took t
-    any (Stopped e) t p = part_text b.took n.took t0.took t1.took d.ran.any.bytes e0 (whole_prefix t0.took t1.took d.ran.any.bytes d.ran.any.took) p
-    any (printed.BadBlock k) t p = whole_text b.took n.took t0.took t1.took d.ran.any.bytes e0 d.ran.any.took t
+    nothing : (p : Printed) → NothingAs t0 t1 p → WholeText b.took n.took t1.took p → NothingAs b n p
+    nothing (All k) h t = tt
+    nothing NoFile h t = tt
+    nothing Part h t = tt
+    nothing (Stopped e) h t = tt
+    nothing (printed.BadBlock k) h t = tt
+    nothing (printed.BadSettings e) h t = rw encode-nil at (whole_text b.took n.took t0.took t1.took [] e0 h t)
+
+    -- bytes of which this holds
+    one : (status : Status) (bytes : List ℕ) → Took t0.took t1.took bytes → HexText b.took n.took t1.took → Took b.took n.took (encode_lower bytes)
+    one status bytes took t = whole_text b.took n.took t0.took t1.took bytes e0 took t
+
+    any : (answer : Printed) → Wrote (FromTaps s q ts us) t0 t1 (status_of_printed answer) (count_of answer) → CountedAs t0 t1 answer → WholeText b.took n.took t1.took answer → HexPrefix b.took n.took t1.took → AnyDigits (FromTaps s q ts us) b n answer
+    any (All k) (inl h) w t p = record { bytes = h.bytes; took = one Done h.bytes h.took t; count = h.total; from = h.from }
+    any (All k) (inr h) w t p = record { bytes = w.0; took = one Done w.0 w.1 t; count = w.2; from = h Done w.0 }
+    any NoFile (inl h) w t p = record { bytes = h.bytes; took = one Done h.bytes h.took t; count = tt; from = h.from }
+    any NoFile (inr h) w t p = record { bytes = list_of t1.took; took = t; count = tt; from = h NotFound (list_of t1.took) }
+    any Part (inl h) w t p = record { bytes = h.bytes; took = one Done h.bytes h.took t; count = tt; from = h.from }
+    any Part (inr h) w t p = record { bytes = list_of t1.took; took = t; count = tt; from = h NoMemory (list_of t1.took) }
+    any (Stopped e) (inl h) w t p = record {
+      bytes = h.bytes;
+      took = part_text b.took n.took t0.took t1.took h.bytes e0 (whole_prefix t0.took t1.took h.bytes h.took) p;
+      count = tt;
+      from = h.from;
+    }
+    any (Stopped e) (inr h) w t p = record { bytes = list_of t1.took; took = p; count = tt; from = h NoMemory (list_of t1.took) }
+    any (printed.BadBlock k) (inl h) w t p = record { bytes = h.bytes; took = one Done h.bytes h.took t; count = tt; from = h.from }
+    any (printed.BadBlock k) (inr h) w t p = record { bytes = list_of t1.took; took = t; count = tt; from = h (BadBlock k) (list_of t1.took) }
+    any (printed.BadSettings e) (inl h) w t p = record { bytes = h.bytes; took = one Done h.bytes h.took t; count = tt; from = h.from }
+    any (printed.BadSettings e) (inr h) w t p = record { bytes = list_of t1.took; took = t; count = tt; from = h (BadSettings e) (list_of t1.took) }
 
     by_answer : (answer : Printed) → RanAs s q t0 t1 answer → WholeText b.took n.took t1.took answer → HexPrefix b.took n.took t1.took → DigitsAs s q b n answer
     by_answer (All k) r t p = (r.stored, whole_text b.took n.took t0.took t1.took (wanted_bytes s q) e0 r.took t, r.total)
@@ -267,3 +401,4 @@ digits_of s q v w b n t0 t1 start x y answer e0 f0 l0 f1 l1 d p =
     by_answer Part r t p = record { count = r.count; took = whole_text b.took n.took t0.took t1.took (take r.count (wanted_bytes s q)) e0 r.took t }
     by_answer (Stopped e) r t p = (λ f. rose (r.0 f), part_text b.took n.took t0.took t1.took (wanted_bytes s q) e0 r.1 p)
     by_answer (printed.BadBlock k) r t p = absurd r
+    by_answer (printed.BadSettings e) r t p = tt

@@ -1,17 +1,13 @@
 -- What `get` prints over any taps: the digits of some bytes, a line end, and the last line of a status.
-use Rattle.std.specs.Prelude.{ℕ, ◌-◌, ◌^◌, List, length, min}
+use Rattle.std.specs.Prelude.{ℕ, List, length}
 use Rattle.xet_outside.specs.Told.{Rose, SinkTold, Took, TookPrefix}
 use Rattle.xet_tool.specs.declared.status.Status.{Status}
-use Rattle.xet_tool.specs.declared.status.Status.TheVariants.{Done, BadWords, BadStore, BadScript, NotFound, ReadFault, WriteFault, NoMemory, TooLong, BadBlock}
+use Rattle.xet_tool.specs.declared.status.Status.TheVariants.{Done, BadWords, BadStore, BadScript, NotFound, ReadFault, WriteFault, NoMemory, TooLong, BadBlock, BadSettings}
 use Rattle.xet_tool.specs.Texts.{block_line, get_text, line, ok_line}
-
--- the number that stands for a count of bytes
-abbrev pub counted : List ℕ → ℕ
-counted bytes = min (length bytes) (2 ^ 64 - 1)
 
 -- the last line after these bytes
 abbrev pub last_line : Status → List ℕ → List ℕ
-last_line Done bytes = ok_line (counted bytes)
+last_line Done bytes = ok_line (length bytes)
 last_line (BadBlock number) bytes = block_line number
 last_line status bytes = line status
 
@@ -20,6 +16,7 @@ abbrev pub IsOfRun : Status → Type 0
 IsOfRun Done = Unit {0}
 IsOfRun NotFound = Unit {0}
 IsOfRun NoMemory = Unit {0}
+IsOfRun (BadSettings e) = Unit {0}
 IsOfRun (BadBlock number) = Unit {0}
 IsOfRun _ = ⊥
 
@@ -43,6 +40,8 @@ pub record AnyCut (P : Status → List ℕ → Type 0) (before after : SinkTold)
 abbrev pub AnyGet : (Status → List ℕ → Type 0) → SinkTold → SinkTold → Status → Type 0
 AnyGet P before after Done = (b : BytesOf P Done) × Took before.took after.took (text_of Done b)
 AnyGet P before after NotFound = (b : BytesOf P NotFound) × Took before.took after.took (text_of NotFound b)
+AnyGet P before after (BadSettings e) =
+    (b : BytesOf P (BadSettings e)) × Took before.took after.took (text_of (BadSettings e) b)
 AnyGet P before after WriteFault = Rose before.faults after.faults × AnyCut P before after
 AnyGet P before after NoMemory = AnyCut P before after
 AnyGet P before after (BadBlock k) = (b : BytesOf P (BadBlock k)) × Took before.took after.took (text_of (BadBlock k) b)

@@ -1,7 +1,9 @@
 pub mod AnyBytes
 pub mod Document
 pub mod Ends
+pub mod GetOptions
 pub mod GetWords
+pub mod Numbers
 pub mod Outcome
 pub mod Taps
 pub mod Texts

@@ -1,6 +1,6 @@
 -- What passed the taps of `get`, and which bytes a run makes of the blocks that the first one handed on.
-use Rattle.std.specs.Prelude.{ℕ, ◌≡◌, ◌⊎◌, List, [], ◌∷◌, take, true, All, Option, Some, None, IfSome}
-use Rattle.std.specs.List.{concat}
+use Rattle.std.specs.Prelude.{ℕ, ◌≡◌, ◌⊎◌, false, List, [], ◌∷◌, count_by, take, length, true, Bool, All, Option, Some, None, IfSome}
+use Rattle.std.specs.List.{AllZip, concat}
 use Rattle.xet_base.specs.Store.{Store}
 use Rattle.xet_outside.specs.Answers.{bytes_in, plans_in}
 use Rattle.xet_outside.specs.declared.block.BlockBytes.{BlockBytes}
@@ -8,15 +8,17 @@ use Rattle.xet_outside.specs.declared.served.Served.{Served}
 use Rattle.xet_store.specs.HonestPlans.{PlansAreHonest}
 use Rattle.xet_store.specs.Taps.{TapTold}
 use Rattle.xet_error.specs.declared.error.Corruption.{Corruption}
+use Rattle.xet_error.specs.declared.error.Setting.{Setting}
 use Rattle.xet_error.specs.Errors.{corruption_number}
-use Rattle.xet_reconstruct.specs.Failures.{BlockFails, TermFails}
-use Rattle.xet_reconstruct.specs.InCall.{Exchange, joined, new_in}
-use Rattle.xet_reconstruct.specs.Pieces.{AllPieces, FirstPieces, HasNoTerms}
-use Rattle.xet_reconstruct.specs.Setup.{Setup}
+use Rattle.xet_ties.specs.Causes.{BlockFails, EndFails, TermFails}
+use Rattle.xet_ties.specs.Cuts.{IsSaidPiece, Planning, PlansAll, some_said}
+use Rattle.xet_ties.specs.InCall.{Exchange, Look, joined, new_in}
+use Rattle.xet_ties.specs.Setup.{Setup}
 use Rattle.xet_tool.specs.declared.commands.get.wanted.Wanted.{Wanted}
 use Rattle.xet_tool.specs.declared.status.Status.{Status}
-use Rattle.xet_tool.specs.declared.status.Status.TheVariants.{Done, BadWords, BadStore, BadScript, NotFound, ReadFault, WriteFault, NoMemory, TooLong, BadBlock}
-use Rattle.xet_tool.specs.Wanted.{IsMissing, setup_of}
+use Rattle.xet_tool.specs.declared.status.Status.TheVariants.{Done, BadWords, BadStore, BadScript, NotFound, ReadFault, WriteFault, NoMemory, TooLong, BadBlock, BadSettings}
+use Rattle.xet_tool.specs.GetOptions.{lanes_of}
+use Rattle.xet_tool.specs.Wanted.{IsMissing, failing_setting, setup_of}
 
 -- each tap hands each block on as it came
 abbrev pub AllHonest : List TapTold → Type 0
@@ -29,11 +31,6 @@ all_passed [] [] = Some []
 all_passed [] (u ∷ us) = None
 all_passed (t ∷ ts) [] = None
 
--- the taps but the first
-abbrev pub other_taps : List TapTold → List TapTold
-other_taps [] = []
-other_taps (t ∷ ts) = ts
-
 -- ---- what a run makes of the blocks that a tap handed on
 
 -- the run's side of a call behind a tap: it was asked for these blocks and handed these on, each in answer to its own
@@ -43,42 +40,72 @@ pub record IsPassed (store : Store) (served : List Served) (blocks : List BlockB
   pub blocks_are : bytes_in x.said ≡ blocks
   pub plans : PlansAreHonest store x.asked (plans_in x.said)
 
--- the bytes of all terms of the plan, in these blocks, each of which passes its tests
-pub record AllBytes (setup : Setup) (x : Exchange) (bytes : List ℕ) : Type 0 where
+-- a look into a cache gave an entry
+abbrev pub gave_some : Option BlockBytes → Bool
+gave_some None = false
+gave_some (Some block) = true
+
+abbrev pub gave : Look → Bool
+gave look = gave_some look.2
+
+-- without `cache` no look gave one
+abbrev pub GaveNothing : Wanted → List Look → Type 0
+GaveNothing wanted looks = wanted.options.cache ≡ false → count_by gave looks ≡ 0
+
+-- the bytes of all terms of the plans that cut the range, in these blocks, each of which passes its tests
+pub record AllBytes (setup : Setup) (xs : List Exchange) (looks : List Look) (bytes : List ℕ) : Type 0 where
+  pub all : PlansAll setup xs
   pub pieces : List (List ℕ)
-  pub from : (HasNoTerms setup (x ∷ []) × (pieces ≡ [])) ⊎ AllPieces setup (x ∷ []) pieces
+  pub each : AllZip (IsSaidPiece setup xs looks) (some_said setup all.planning.parts) pieces
   pub is : bytes ≡ concat pieces
 
 -- some first bytes of the first terms
-pub record FirstBytes (setup : Setup) (x : Exchange) (bytes : List ℕ) : Type 0 where
+pub record SomeFirst (setup : Setup) (xs : List Exchange) (looks : List Look) (bytes : List ℕ) : Type 0 where
+  pub planning : Planning setup xs
   pub pieces : List (List ℕ)
-  pub from : (pieces ≡ []) ⊎ FirstPieces setup (x ∷ []) pieces
+  pub each : AllZip (IsSaidPiece setup xs looks) (take (length pieces) (some_said setup planning.parts)) pieces
   pub count : ℕ
   pub is : bytes ≡ take count (concat pieces)
 
--- a block of the plan fails the test of this number, or passes and a term fails it in the block
-pub record BlockFailed (setup : Setup) (x : Exchange) (number : ℕ) : Type 0 where
+-- these, or none
+abbrev pub FirstBytes : Setup → List Exchange → List Look → List ℕ → Type 0
+FirstBytes setup xs looks bytes = (bytes ≡ []) ⊎ SomeFirst setup xs looks bytes
+
+-- a block of a plan fails the test of this number, or passes and a term fails it in the block; or a plan with terms was
+-- answered to a query past the end that the answer to another one told
+pub record BlockFailed (setup : Setup) (xs : List Exchange) (number : ℕ) : Type 0 where
   pub test : Corruption
   pub number_is : number ≡ corruption_number test
-  pub fails : BlockFails setup (x ∷ []) test ⊎ TermFails setup (x ∷ []) test
+  pub fails : BlockFails setup xs test ⊎ TermFails setup xs test ⊎ EndFails setup xs test
 
 -- the bytes of a run with this status, over this store and these blocks
-abbrev pub IsMade : Store → Wanted → Exchange → Status → List ℕ → Type 0
-IsMade store wanted x Done bytes = AllBytes (setup_of wanted) x bytes
-IsMade store wanted x NotFound bytes = IsMissing store wanted × (bytes ≡ [])
-IsMade store wanted x NoMemory bytes = FirstBytes (setup_of wanted) x bytes
-IsMade store wanted x (BadBlock number) bytes =
-    FirstBytes (setup_of wanted) x bytes × BlockFailed (setup_of wanted) x number
-IsMade store wanted x _ bytes = ⊥
+abbrev pub IsMade : Store → Wanted → List Exchange → List Look → Status → List ℕ → Type 0
+IsMade store wanted xs looks Done bytes = AllBytes (setup_of wanted) xs looks bytes
+IsMade store wanted xs looks NotFound bytes = IsMissing store wanted × (bytes ≡ [])
+IsMade store wanted xs looks NoMemory bytes = FirstBytes (setup_of wanted) xs looks bytes
+IsMade store wanted xs looks (BadBlock number) bytes =
+    FirstBytes (setup_of wanted) xs looks bytes × BlockFailed (setup_of wanted) xs number
+IsMade store wanted xs looks (BadSettings e) bytes = (failing_setting wanted ≡ Some e) × (bytes ≡ [])
+IsMade store wanted xs looks _ bytes = ⊥
+
+-- a run over one connection made these bytes of the blocks that were handed on
+pub record MadeOf (store : Store) (wanted : Wanted) (served : List Served) (blocks : List BlockBytes) (status : Status)
+    (bytes : List ℕ) : Type 0 where
+  pub x : Exchange
+  pub passed : IsPassed store served blocks x
+  pub looks : List Look
+  pub looked : GaveNothing wanted looks
+  pub made : IsMade store wanted (x ∷ []) looks status bytes
 
 -- the same, of the blocks that a tap told in a call, where it tells what passed and what it handed on
 abbrev pub FromTap : Store → Wanted → TapTold → TapTold → Status → List ℕ → Type 0
 FromTap store wanted before after status bytes =
     IfSome (new_in before.passed after.passed) (λ served. IfSome (new_in before.gave after.gave) (λ blocks.
-    (x : Exchange) × IsPassed store served blocks x × IsMade store wanted x status bytes))
+    MadeOf store wanted served blocks status bytes))
 
--- and of those of the first of some taps
+-- and of those of the first of some taps, where there is one lane
 abbrev pub FromTaps : Store → Wanted → List TapTold → List TapTold → Status → List ℕ → Type 0
-FromTaps store wanted (t ∷ ts) (u ∷ us) status bytes = FromTap store wanted t u status bytes
-FromTaps store wanted [] us status bytes = ⊥
-FromTaps store wanted (t ∷ ts) [] status bytes = ⊥
+FromTaps store wanted (t ∷ ts) (u ∷ us) status bytes =
+    lanes_of wanted.options ≡ 1 → FromTap store wanted t u status bytes
+FromTaps store wanted [] us status bytes = Unit {0}
+FromTaps store wanted (t ∷ ts) [] status bytes = Unit {0}

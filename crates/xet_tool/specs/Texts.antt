@@ -2,8 +2,9 @@
 use Rattle.std.specs.Prelude.{ℕ, List, [], ◌∷◌, ◌++◌, codes}
 use Rattle.std.specs.Fmt.{decimal}
 use Rattle.hex.specs.Hex.{encode_lower}
+use Rattle.xet_error.specs.declared.error.Setting.TheVariants as setting
 use Rattle.xet_tool.specs.declared.status.Status.{Status}
-use Rattle.xet_tool.specs.declared.status.Status.TheVariants.{Done, BadWords, BadStore, BadScript, NotFound, ReadFault, WriteFault, NoMemory, TooLong, BadBlock}
+use Rattle.xet_tool.specs.declared.status.Status.TheVariants.{Done, BadWords, BadStore, BadScript, NotFound, ReadFault, WriteFault, NoMemory, TooLong, BadBlock, BadSettings}
 use Rattle.xet_tool.specs.declared.texts.TheConstants.{HELP, VERSION}
 
 -- the exit status
@@ -16,10 +17,11 @@ number_of NotFound = 3
 number_of ReadFault = 4
 number_of WriteFault = 5
 number_of NoMemory = 6
+number_of (BadSettings e) = 7
 number_of TooLong = 8
 number_of (BadBlock k) = 12
 
--- the line of a status other than 0 and 12 with its end; a write fault has none
+-- the line of a status other than 0 and 12 with its end; that of 7 has the setting's number; a write fault has none
 abbrev pub line : Status → List ℕ
 line Done = []
 line BadWords = codes "error words" ++ 10 ∷ []
@@ -29,6 +31,10 @@ line NotFound = codes "error file not found" ++ 10 ∷ []
 line ReadFault = codes "error read" ++ 10 ∷ []
 line WriteFault = []
 line NoMemory = codes "error memory" ++ 10 ∷ []
+line (BadSettings setting.NoConnection) = codes "error settings 1" ++ 10 ∷ []
+line (BadSettings setting.NoTries) = codes "error settings 2" ++ 10 ∷ []
+line (BadSettings setting.LeastZero) = codes "error settings 3" ++ 10 ∷ []
+line (BadSettings setting.GreatestBelowLeast) = codes "error settings 4" ++ 10 ∷ []
 line TooLong = codes "error input" ++ 10 ∷ []
 line (BadBlock k) = []
 

@@ -1,12 +1,27 @@
 -- What is wanted of a store.
-use Rattle.std.specs.Prelude.{ℕ, ◌⊎◌, ◌<◌, List, IsSome, IsNone}
+use Rattle.std.specs.Prelude.{ℕ, ◌≡◌, ◌⊎◌, ◌<◌, cond, nat_eq, List, Option, Some, None, IsSome, IsNone}
 use Rattle.xet_base.specs.Store.{Store, file_of, window}
-use Rattle.xet_reconstruct.specs.Setup.{IsEmptyRange, Setup}
+use Rattle.xet_error.specs.declared.error.Setting.{Setting}
+use Rattle.xet_error.specs.declared.error.Setting.TheVariants.{NoConnection}
+use Rattle.xet_ties.specs.Causes.{failing_size}
+use Rattle.xet_ties.specs.Setup.{IsEmptyRange, Setup}
 use Rattle.xet_tool.specs.declared.commands.get.wanted.Wanted.{Wanted}
+use Rattle.xet_tool.specs.GetOptions.{greatest_of, lanes_of, least_of}
 
--- what a run for it is for
+-- what a run for it is for: a block is asked for three times at most
 abbrev pub setup_of : Wanted → Setup
-setup_of wanted = record { file = wanted.file; range = wanted.range; multirange = wanted.multirange }
+setup_of wanted = record {
+  file = wanted.file;
+  range = wanted.range;
+  least = least_of wanted.options;
+  greatest = greatest_of wanted.options;
+  multirange = wanted.options.multirange;
+  tries = 3;
+}
+
+-- the setting that fails first, over as many connections as are wanted
+abbrev pub failing_setting : Wanted → Option Setting
+failing_setting wanted = cond (nat_eq (lanes_of wanted.options) 0) (Some NoConnection) (failing_size (setup_of wanted))
 
 -- the bytes that are wanted
 abbrev pub wanted_bytes : Store → Wanted → List ℕ

@@ -5,3 +5,4 @@ pub mod LaterFlushes
 pub mod PrintedDigits
 pub mod Printing
 pub mod Reading
+pub mod TapRuns

@@ -12,6 +12,8 @@ use crate::printing::{print_text, say};
 use crate::status::Status;
 use crate::texts::{HELP, VERSION};
 use std::alloc::Global;
+use std::sync::Wait;
+use std::thread::Threads;
 use xet_store::{Sink, Source, Tap};
 
 /// What the words ask for.
@@ -57,7 +59,8 @@ pub fn read_words(words: &[String]) -> Option<Command>
 }
 
 /// Does what the words ask for.
-pub fn run_words<I: Source, O: Sink + Send, T: Tap + Send>(
+pub fn run_words<R: Threads + Wait + Sync, I: Source, O: Sink, T: Tap + Send>(
+    rt: &R,
     alloc: Global,
     words: &[String],
     input: &mut I,
@@ -71,7 +74,7 @@ pub fn run_words<I: Source, O: Sink + Send, T: Tap + Send>(
     ensures flushed { IsFlushed result (O.told out.new) }
 {
     match read_words(words) {
-        Some(Command::Get(wanted)) => get::get(alloc, wanted, input, out, taps),
+        Some(Command::Get(wanted)) => get::get(rt, alloc, wanted, input, out, taps),
         Some(Command::Track) => track::track(alloc, input, out),
         Some(Command::Help) => print_text(out, Status::Done, HELP),
         Some(Command::Version) => print_text(out, Status::Done, VERSION),

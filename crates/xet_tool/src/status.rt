@@ -1,6 +1,21 @@
 //! How the program ends.
 ghost use Rattle.std.specs.Prelude.{◌≡◌};
 ghost use Rattle.xet_tool.specs.Texts.{line, number_of};
+ghost use Rattle.xet_tool.specs.declared.status.Status.TheVariants.{BadSettings};
+
+use xet_error::Setting;
+
+// The line of the setting that fails first.
+fn setting_line(setting: Setting) -> &'static [u8]
+    ensures { result.now ≡ line (BadSettings setting) }
+{
+    match setting {
+        Setting::NoConnection => b"error settings 1\n",
+        Setting::NoTries => b"error settings 2\n",
+        Setting::LeastZero => b"error settings 3\n",
+        Setting::GreatestBelowLeast => b"error settings 4\n",
+    }
+}
 
 /// How the program ends.
 #[derive(Clone, Copy, PartialEq, Eq, Debug)]
@@ -21,6 +36,8 @@ pub enum Status {
     WriteFault,
     /// An allocation was refused.
     NoMemory,
+    /// This setting of the run fails first.
+    BadSettings(Setting),
     /// The input has more bytes than the limit.
     TooLong,
     /// A block that a tap handed on failed the test of this number. The line is printed by the command.
@@ -41,6 +58,7 @@ impl Status {
             Status::ReadFault => 4,
             Status::WriteFault => 5,
             Status::NoMemory => 6,
+            Status::BadSettings(_) => 7,
             Status::TooLong => 8,
             Status::BadBlock(_) => 12,
         }
@@ -59,6 +77,7 @@ impl Status {
             Status::ReadFault => b"error read\n",
             Status::WriteFault => b"",
             Status::NoMemory => b"error memory\n",
+            Status::BadSettings(setting) => setting_line(setting),
             Status::TooLong => b"error input\n",
             Status::BadBlock(_) => b"",
         }

@@ -4,7 +4,9 @@ ghost use Rattle.std.specs.Prelude.{◌≡◌, length};
 use crate::tool::run_tool;
 use bytes::Bytes;
 use std::alloc::{AllocError, Global};
+use std::sync::Wait;
 use std::test::Fail;
+use std::thread::Threads;
 use xet_base::{ChunkRange, List, MerkleHash};
 use xet_store::{BlockBytes, MemTap, ScriptTap, Served, Tap, VecSink, VecSource};
 
@@ -24,7 +26,8 @@ const DOCUMENT: &[u8] = br#"{"xorbs":{
 }}"#;
 
 // The status of `get` of a file whose hash is this digit again and again, and what it printed.
-fn printed<T: Tap + Send>(
+fn printed<R: Threads + Wait + Sync, T: Tap + Send>(
+    rt: &R,
     alloc: Global,
     digit: char,
     range: &str,
@@ -44,7 +47,7 @@ fn printed<T: Tap + Send>(
     }
     let mut input = VecSource::new(DOCUMENT.to_vec(alloc)?);
     let mut out = VecSink::new(alloc);
-    let status = run_tool(alloc, words.as_slice(), &mut input, &mut out, taps);
+    let status = run_tool(rt, alloc, words.as_slice(), &mut input, &mut out, taps);
     Ok((status, out))
 }
 
@@ -104,7 +107,7 @@ fn what_a_tap_hands_on_is_printed(rt: HostRuntime) -> Result<(), Fail> {
     for (offsets, bytes, wanted, text) in cases {
         let mut taps = lying_taps(rt.alloc(), offsets, bytes)?;
         assert_eq!(rt; taps.len(), 64);
-        let (status, out) = printed(rt.alloc(), 'a', "0 end", taps.as_mut_slice())?;
+        let (status, out) = printed(&rt, rt.alloc(), 'a', "0 end", taps.as_mut_slice())?;
         assert_eq!(rt; status, wanted, "at {bytes}");
         assert!(rt; out.taken() == text.as_bytes(), "at {bytes}");
     }
@@ -154,7 +157,7 @@ fn each_block_passes_the_first_tap_once(rt: HostRuntime) -> Result<(), Fail> {
             taps.push(MemTap::new(rt.alloc()))?;
         }
         assert_eq!(rt; taps.len(), 64);
-        let (status, out) = printed(rt.alloc(), file, range, taps.as_mut_slice())?;
+        let (status, out) = printed(&rt, rt.alloc(), file, range, taps.as_mut_slice())?;
         assert_eq!(rt; status, 0, "at {range}");
         assert!(rt; out.taken() == text.as_bytes(), "at {range}");
         let passed = text_of(rt.alloc(), taps[0].passed())?;

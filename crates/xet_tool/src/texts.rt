@@ -5,7 +5,7 @@ pub const HELP: &[u8] = b"\
 xet_tool: prints a range of a file of a Xet store, or runs a script of calls of a tracker
 
 usage:
-  xet_tool get HASH START END [multi]
+  xet_tool get HASH START END [OPTION ..]
                                 print bytes START to before END of the file HASH
   xet_tool track                make the calls of a script, and print the reply to each
   xet_tool --help               print this text
@@ -17,7 +17,18 @@ words of get:
   START, END  places in the file in bytes, counted from 0: 1 to 20 decimal digits of at most
               18446744073709551615. END may also be the word end. What lies past the file's end
               is cut off, and a range with END at or before START is empty.
+
+options of get, in any order and each at most once; N is a number as START is:
+  lanes=N     fetch over N connections side by side, 0 to 64, else over 1
+  least=N     ask for plans of N bytes of the file at least, else 1048576
+  greatest=N  and of less than N and the least together, else 67108864
+  budget=N    keep N fetched bytes at most that are not written, else 67108864; a term of a file
+              that is longer is fetched alone
+  perfile=N   and N bytes more for this download, else 0
+  limit=N     but N bytes at most in all, else 18446744073709551615
   multi       fetch all ranges of a fetch entry as one block, and not each by itself
+  vectored    hand several pieces of the file to one write
+  cache       keep what was fetched in a cache of this run, and look there first
 
 input of get:
   A store as one JSON document on standard input, of at most 67108864 bytes:
@@ -69,6 +80,8 @@ last line, and exit status:
   error read              4  standard input failed
   (none)                  5  standard output failed
   error memory            6  an allocation was refused
+  error settings K        7  K is 1 for lanes=0, 3 for least=0, 4 for a greatest below the least;
+                             nothing was fetched
   error input             8  the input is longer than the limit
   After 5 and 6 the digits may be cut short, and lines may be missing.
 
@@ -77,6 +90,14 @@ example, with the store in the file hello.json:
 prints, where the bytes 3 to 8 are \"lo, wo\",
   6c6f2c20776f
   ok 6
+
+examples of the options, after the words of that one:
+  lanes=4 cache                     over four connections, with a cache
+  least=4 greatest=8                in plans of few bytes, of less than 12
+  budget=0                          a term at a time
+  budget=1000 perfile=500 limit=1200
+                                    with 1200 bytes at most that are not written
+  multi vectored                    whole fetch entries, and several pieces a write
 ";
 
 /// What `--version` prints.

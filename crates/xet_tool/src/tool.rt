@@ -5,6 +5,8 @@ ghost use Rattle.xet_tool.specs.commands.{Answers};
 
 use crate::commands::run_words;
 use std::alloc::Global;
+use std::sync::Wait;
+use std::thread::Threads;
 use xet_store::{Sink, Source, Tap};
 
 /// The whole program, over the words after its name, an input and an output. Answers the exit status.
@@ -16,28 +18,33 @@ use xet_store::{Sink, Source, Tap};
 /// - 1, `error words`: exactly where the words don't read. Nothing was read.
 /// - 2, `error store` for `get`: exactly where the input is within the limit and is no document of a valid store;
 ///   `error script` for `track`, after the lines of the calls before it: exactly where a line of it doesn't read.
-/// - 3, a line end and `error file not found`: exactly where the input is a document of a valid store, the range isn't
-///   empty and the store has no such file.
+/// - 3, a line end and `error file not found`: exactly where the input is a document of a valid store, no setting
+///   fails, the range isn't empty and the store has no such file.
 /// - 4, `error read`: only where the input's faults rose.
 /// - 5, no line: only where the output's faults rose. Nothing more is written.
 /// - 6, `error memory`: where an allocation was refused; after some first digits, or all, a line end comes before it.
+/// - 7, a line end and `error settings K`: exactly where the input is a document of a valid store and setting K of the
+///   words fails first, whatever the file and the range are. Nothing was fetched.
 /// - 8, `error input`: exactly where the input has more than 67,108,864 bytes, which is the limit.
-/// - 12, `error block K` after the digits of some bytes and a line end: over a tap that isn't honest. Where the first
-///   tap tells what passed and what it handed on, K is the test that a block of the store's own plan, or a term in one,
-///   fails in what it handed on. Never over taps that hand each block on as it came.
+/// - 12, `error block K` after the digits of some bytes and a line end: over a tap that isn't honest. With one lane,
+///   and where the first tap tells what passed and what it handed on, K is the test that a block of a plan of the
+///   store's, or a term in one, fails in what it handed on, or that of terms past an end that was told. Never over taps
+///   that hand each block on as it came.
 ///
-/// "Exactly" yields to 5 and 6, and for 2, 3 and 8 to 4 too: a read may fail first. What is said of the bytes of a
-/// store's file is said over taps that hand each block on as it came. Over such taps that tell what passed, each chunk
-/// with a byte in the range passed with status 0. Over a first tap of any kind that tells what passed and what it
-/// handed on, the digits of status 0 are those of all terms of the store's own plan in these blocks, which pass their
-/// tests, and with another status those of some first bytes. There are 64 taps, of which only the first is asked, and
-/// with 1, 2, 4 and 8 and for `track` none.
+/// "Exactly" yields to 5 and 6, and for 2, 3, 7 and 8 to 4 too: a read may fail first. What is said of the bytes of a
+/// store's file is said over taps that hand each block on as it came, for all options. With one lane and no cache, over
+/// such taps that tell what passed, each chunk with a byte in the range passed with status 0. With one lane, over a
+/// first tap of any kind that tells what passed and what it handed on, the digits of status 0 are those of all terms of
+/// the store's own plans in these blocks, which pass their tests, and with another status those of some first bytes; a
+/// cache may give other blocks that pass the tests. What passed a tap isn't known with more lanes. There are 64 taps,
+/// of which no more are asked than there are lanes, and with 1, 2, 4 and 8 and for `track` none.
 ///
 /// With 1, 2, 4 and 8, but 2 of `track`, that line and nothing else was printed. With 5 and 6 a prefix of one text was
 /// printed: of the text of another status, of which all that is said here holds; or of `error memory`, for `get` with
 /// no digits, or with the digits of some first bytes of the range and a line end before it, and for `track` after some
 /// first lines. With all others what was printed is flushed.
-pub fn run_tool<I: Source, O: Sink + Send, T: Tap + Send>(
+pub fn run_tool<R: Threads + Wait + Sync, I: Source, O: Sink + Send, T: Tap + Send>(
+    rt: &R,
     alloc: Global,
     words: &[String],
     input: &mut I,
@@ -49,7 +56,7 @@ pub fn run_tool<I: Source, O: Sink + Send, T: Tap + Send>(
         (record { source = I.told input.old; sink = O.told out.old; taps = map T.told taps.old })
         (record { source = I.told input.new; sink = O.told out.new; taps = map T.told taps.new }) result }
 {
-    run_words(alloc, words, input, out, taps).number()
+    run_words(rt, alloc, words, input, out, taps).number()
 }
 
 #[cfg(test)]
@@ -79,6 +86,7 @@ mod tests {
             let mut input = VecSource::new(text.as_bytes().to_vec(rt.alloc())?);
             let mut out = VecSink::new(rt.alloc());
             let number = run_tool(
+                &rt,
                 rt.alloc(),
                 words.as_slice(),
                 &mut input,

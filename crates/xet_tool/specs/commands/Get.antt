@@ -1,17 +1,19 @@
 -- What each status of the command `get` says.
-use Rattle.std.specs.Prelude.{ℕ, ◌≡◌, ◌⊎◌, List, [], length, take, IfSome}
+use Rattle.std.specs.Prelude.{ℕ, ◌≡◌, ◌⊎◌, false, List, [], drop, length, take, None, Some, IfSome}
 use Rattle.xet_base.specs.Store.{Store}
 use Rattle.xet_outside.specs.Told.{Rose, SinkTold, Took, TookPrefix}
+use Rattle.xet_error.specs.declared.error.Setting.{Setting}
 use Rattle.xet_blocks.specs.ServedChunks.{AllServed}
 use Rattle.xet_tool.specs.declared.status.Status.{Status}
-use Rattle.xet_tool.specs.declared.status.Status.TheVariants.{Done, BadWords, BadStore, BadScript, NotFound, ReadFault, WriteFault, NoMemory, TooLong, BadBlock}
+use Rattle.xet_tool.specs.declared.status.Status.TheVariants.{Done, BadWords, BadStore, BadScript, NotFound, ReadFault, WriteFault, NoMemory, TooLong, BadBlock, BadSettings}
 use Rattle.xet_tool.specs.declared.commands.get.wanted.Wanted.{Wanted}
 use Rattle.xet_tool.specs.AnyBytes.{AnyCut, AnyGet}
 use Rattle.xet_tool.specs.Document.{IsOfStore, OfNoDocument}
 use Rattle.xet_tool.specs.Ends.{IsTooLong, Told, WasReadToEnd}
-use Rattle.xet_tool.specs.Taps.{AllHonest, FromTaps, all_passed, other_taps}
+use Rattle.xet_tool.specs.GetOptions.{lanes_of}
+use Rattle.xet_tool.specs.Taps.{AllHonest, FromTaps, all_passed}
 use Rattle.xet_tool.specs.Texts.{get_text, line, ok_line}
-use Rattle.xet_tool.specs.Wanted.{IsFound, IsMissing, wanted_bytes}
+use Rattle.xet_tool.specs.Wanted.{IsFound, IsMissing, failing_setting, wanted_bytes}
 
 -- the text of status 0
 abbrev pub done_text : Store → Wanted → List ℕ
@@ -25,37 +27,46 @@ missing_text = get_text [] (line NotFound)
 abbrev pub memory_text : Store → Wanted → ℕ → List ℕ
 memory_text store wanted count = get_text (take count (wanted_bytes store wanted)) (line NoMemory)
 
+-- the text of status 7
+abbrev pub settings_text : Setting → List ℕ
+settings_text e = get_text [] (line (BadSettings e))
+
 -- a store, of which the whole text was printed
 pub record IsPrinted (store : Store) (wanted : Wanted) (before after : SinkTold) : Type 0 where
   pub found : IsFound store wanted
   pub took : Took before.took after.took (done_text store wanted)
 
--- and, with what the taps passed, each chunk of the file that has a byte in the range passed one in this call
+-- and, with what the taps passed, each chunk of the file that has a byte in the range passed one in this call, where
+-- there is one lane and no cache
 pub record IsGot (store : Store) (wanted : Wanted) (before after : Told) : Type 0 where
   pub printed : IsPrinted store wanted before.sink after.sink
-  pub passed : IfSome (all_passed before.taps after.taps) (AllServed store wanted.file wanted.range)
+  pub passed : lanes_of wanted.options ≡ 1 → wanted.options.cache ≡ false
+      → IfSome (all_passed before.taps after.taps) (AllServed store wanted.file wanted.range)
 
 -- a store without the file
 pub record IsRefused (store : Store) (wanted : Wanted) (before after : SinkTold) : Type 0 where
   pub missing : IsMissing store wanted
   pub took : Took before.took after.took missing_text
 
--- what was printed of a store where a write failed or memory ended: a prefix of one of the three texts
+-- what was printed of a store where a write failed or memory ended: a prefix of one of the four texts
 abbrev pub IsCutGet : Store → Wanted → SinkTold → SinkTold → Type 0
 IsCutGet store wanted before after =
-    (IsFound store wanted × TookPrefix before.took after.took (done_text store wanted))
+    ((failing_setting wanted ≡ None) × IsFound store wanted
+    × TookPrefix before.took after.took (done_text store wanted))
     ⊎ ((count : ℕ) × TookPrefix before.took after.took (memory_text store wanted count))
-    ⊎ (IsMissing store wanted × TookPrefix before.took after.took missing_text)
+    ⊎ ((failing_setting wanted ≡ None) × IsMissing store wanted × TookPrefix before.took after.took missing_text)
+    ⊎ ((e : Setting) × (failing_setting wanted ≡ Some e) × TookPrefix before.took after.took (settings_text e))
 
 -- ---- what holds of each run
 
--- the input was read to its end and is a document of this store, and no tap but the first was asked
-pub record OverStore (limit : ℕ) (store : Store) (before after : Told) : Type 0 where
+-- the input was read to its end and is a document of this store, and no tap past the lanes was asked
+pub record OverStore (limit : ℕ) (store : Store) (wanted : Wanted) (before after : Told) : Type 0 where
   pub read : WasReadToEnd limit before.source after.source
   pub document : IsOfStore before.source store
-  pub others : other_taps after.taps ≡ other_taps before.taps
+  pub others : drop (lanes_of wanted.options) after.taps ≡ drop (lanes_of wanted.options) before.taps
 
--- over any taps: what was printed are the digits of bytes that the run made of the blocks that the first one handed on
+-- over any taps: what was printed are the digits of bytes, with one lane of those that the run made of the blocks that
+-- the first tap handed on
 abbrev pub GetAny : Store → Wanted → Told → Told → Status → Type 0
 GetAny store wanted before after status =
     AnyGet (FromTaps store wanted before.taps after.taps) before.sink after.sink status
@@ -65,7 +76,8 @@ GetAny store wanted before after status =
 -- 0: all was printed
 pub record GetDone (limit : ℕ) (wanted : Wanted) (before after : Told) : Type 0 where
   pub store : Store
-  pub over : OverStore limit store before after
+  pub over : OverStore limit store wanted before after
+  pub settings : failing_setting wanted ≡ None
   pub honest : AllHonest before.taps → IsGot store wanted before after
   pub any : GetAny store wanted before after Done
 
@@ -79,7 +91,8 @@ pub record GetBadStore (limit : ℕ) (before after : Told) : Type 0 where
 -- 3: the store has no such file
 pub record GetNotFound (limit : ℕ) (wanted : Wanted) (before after : Told) : Type 0 where
   pub store : Store
-  pub over : OverStore limit store before after
+  pub over : OverStore limit store wanted before after
+  pub settings : failing_setting wanted ≡ None
   pub honest : AllHonest before.taps → IsRefused store wanted before.sink after.sink
   pub any : GetAny store wanted before after NotFound
 
@@ -88,6 +101,13 @@ pub record GetReadFault (before after : Told) : Type 0 where
   pub rose : Rose before.source.faults after.source.faults
   pub unasked : after.taps ≡ before.taps
   pub took : Took before.sink.took after.sink.took (line ReadFault)
+
+-- 7: this setting fails first
+pub record GetBadSettings (limit : ℕ) (wanted : Wanted) (before after : Told) (e : Setting) : Type 0 where
+  pub store : Store
+  pub over : OverStore limit store wanted before after
+  pub failing : failing_setting wanted ≡ Some e
+  pub took : Took before.sink.took after.sink.took (settings_text e)
 
 -- 8: the input is longer than the limit
 pub record GetTooLong (limit : ℕ) (before after : Told) : Type 0 where
@@ -98,14 +118,15 @@ pub record GetTooLong (limit : ℕ) (before after : Told) : Type 0 where
 -- 12: a block that the first tap handed on fails the test of this number, where the tap tells what it handed on
 pub record GetBadBlock (limit : ℕ) (wanted : Wanted) (before after : Told) (number : ℕ) : Type 0 where
   pub store : Store
-  pub over : OverStore limit store before after
+  pub over : OverStore limit store wanted before after
+  pub settings : failing_setting wanted ≡ None
   pub dishonest : AllHonest before.taps → ⊥
   pub any : GetAny store wanted before after (BadBlock number)
 
 -- a document of a store, of which a prefix of a text was printed
 pub record GetCut (limit : ℕ) (wanted : Wanted) (before after : Told) : Type 0 where
   pub store : Store
-  pub over : OverStore limit store before after
+  pub over : OverStore limit store wanted before after
   pub honest : AllHonest before.taps → IsCutGet store wanted before.sink after.sink
   pub any : AnyCut (FromTaps store wanted before.taps after.taps) before.sink after.sink
 
@@ -129,6 +150,7 @@ GetOutcome limit wanted before after ReadFault = GetReadFault before after
 GetOutcome limit wanted before after WriteFault =
     Rose before.sink.faults after.sink.faults × IsCut limit wanted before after
 GetOutcome limit wanted before after NoMemory = IsCut limit wanted before after
+GetOutcome limit wanted before after (BadSettings e) = GetBadSettings limit wanted before after e
 GetOutcome limit wanted before after TooLong = GetTooLong limit before after
 GetOutcome limit wanted before after (BadBlock number) = GetBadBlock limit wanted before after number
 GetOutcome limit wanted before after _ = ⊥

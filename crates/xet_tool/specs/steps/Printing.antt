@@ -1,20 +1,23 @@
 -- What the functions that print texts and the command `get` say.
-use Rattle.std.specs.Prelude.{ℕ, ◌≡◌, List, true, IfSome}
+use Rattle.std.specs.Prelude.{ℕ, ◌≡◌, ◌⊎◌, List, drop, None, Some}
 use Rattle.serde_json.specs.Data.{Data}
 use Rattle.xet_base.specs.Store.{Store}
 use Rattle.xet_outside.specs.declared.sink.SinkError.{SinkError}
 use Rattle.xet_outside.specs.declared.sink.SinkError.TheVariants as sink_error
-use Rattle.xet_reconstruct.specs.InCall.{new_in}
-use Rattle.xet_outside.specs.Told.{Rose, SinkTold}
+use Rattle.xet_outside.specs.Told.{Rose, SinkTold, Took}
 use Rattle.xet_store.specs.Taps.{TapTold}
-use Rattle.xet_blocks.specs.ServedChunks.{AllServed}
 use Rattle.xet_tool.specs.declared.status.Status.{Status}
-use Rattle.xet_tool.specs.declared.status.Status.TheVariants.{Done, BadWords, BadStore, BadScript, NotFound, ReadFault, WriteFault, NoMemory, TooLong, BadBlock}
+use Rattle.xet_tool.specs.declared.status.Status.TheVariants.{Done, BadWords, BadStore, BadScript, NotFound, ReadFault, WriteFault, NoMemory, TooLong, BadBlock, BadSettings}
 use Rattle.xet_tool.specs.declared.commands.get.wanted.Wanted.{Wanted}
 use Rattle.xet_tool.specs.Document.{Reads}
 use Rattle.xet_tool.specs.AnyBytes.{AnyGet}
-use Rattle.xet_tool.specs.commands.Get.{IsCutGet, IsPrinted, IsRefused}
-use Rattle.xet_tool.specs.Taps.{FromTap}
+use Rattle.xet_tool.specs.commands.Get.{IsCutGet, IsPrinted, IsRefused, settings_text}
+use Rattle.xet_tool.specs.GetOptions.{lanes_of}
+use Rattle.xet_tool.specs.Outcome.{Finished}
+use Rattle.xet_tool.specs.Taps.{AllHonest, FromTaps}
+use Rattle.xet_tool.specs.Texts.{line}
+use Rattle.xet_tool.specs.Wanted.{failing_setting}
+use Rattle.xet_tool.specs.steps.PrintedDigits.{AllPassed}
 
 -- the text does not read as a JSON value
 abbrev pub NoData : List ℕ → Type 0
@@ -31,10 +34,25 @@ GetFrom s q b n Done = IsPrinted s q b n
 GetFrom s q b n NotFound = IsRefused s q b n
 GetFrom s q b n WriteFault = Rose b.faults n.faults × IsCutGet s q b n
 GetFrom s q b n NoMemory = IsCutGet s q b n
+GetFrom s q b n (BadSettings e) = Unit {0}
 GetFrom s q b n _ = ⊥
 
--- what was done over a store and one tap, by the status
-pub record GotFrom (s : Store) (q : Wanted) (t u : TapTold) (b n : SinkTold) (status : Status) : Type 0 where
-  pub honest : t.honest ≡ true → GetFrom s q b n status
-  pub any : AnyGet (FromTap s q t u) b n status
-  pub chunks : t.honest ≡ true → status ≡ Done → IfSome (new_in t.passed u.passed) (AllServed s q.file q.range)
+-- the settings can be met, or this one fails first and its text was printed
+abbrev pub SettingsFrom : Wanted → SinkTold → SinkTold → Status → Type 0
+SettingsFrom q b n Done = failing_setting q ≡ None
+SettingsFrom q b n NotFound = failing_setting q ≡ None
+SettingsFrom q b n (BadBlock k) = failing_setting q ≡ None
+SettingsFrom q b n (BadSettings e) = (failing_setting q ≡ Some e) × Took b.took n.took (settings_text e)
+SettingsFrom q b n _ = Unit {0}
+
+-- what was done over a store and the taps, by the status
+pub record GotFrom (s : Store) (q : Wanted) (ts us : List TapTold) (b n : SinkTold) (status : Status) : Type 0 where
+  pub honest : AllHonest ts → GetFrom s q b n status
+  pub settings : SettingsFrom q b n status
+  pub any : AnyGet (FromTaps s q ts us) b n status
+  pub chunks : AllHonest ts → status ≡ Done → AllPassed s q ts us
+  pub others : drop (lanes_of q.options) us ≡ drop (lanes_of q.options) ts
+
+-- the same, or want of memory before it
+abbrev pub PrintedWithin : Store → Wanted → List TapTold → List TapTold → SinkTold → SinkTold → Status → Type 0
+PrintedWithin s q ts us b n status = GotFrom s q ts us b n status ⊎ Finished (line NoMemory) NoMemory b n status

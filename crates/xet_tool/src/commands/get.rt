@@ -5,11 +5,15 @@ ghost use Rattle.xet_tool.specs.Document.{HasStore, NoStore, Reads};
 ghost use Rattle.xet_tool.specs.Ends.{input_limit};
 ghost use Rattle.xet_tool.specs.commands.Get.{GetOutcome};
 ghost use Rattle.xet_tool.specs.Outcome.{IsFlushed};
-ghost use Rattle.xet_tool.specs.steps.Printing.{GotFrom, NoData};
+ghost use Rattle.xet_tool.specs.steps.Printing.{GotFrom, NoData, PrintedWithin};
 
+mod connections;
 mod digits;
 mod document;
+mod empty_cache;
 mod hex_digits;
+mod numbers;
+pub mod options;
 pub mod wanted;
 
 use crate::commands::get::digits::{Printed, print_digits};
@@ -20,7 +24,10 @@ use crate::reading::{LIMIT, ReadError, read_to_end};
 use crate::status::Status;
 use serde_json::Value;
 use std::alloc::Global;
+use std::sync::{Arc, Wait};
+use std::thread::Threads;
 use xet_base::OutOfMemory;
+use xet_run::{BookView, BudgetBook, BudgetSettings};
 use xet_store::{MemStore, Sink, Source, Tap};
 
 // The value of a text, or none where it is no JSON. The text's memory is given back.
@@ -48,19 +55,33 @@ fn document_of(alloc: Global, text: Vec<u8>) -> Result<Option<MemStore>, OutOfMe
     }
 }
 
+// A view of a new book of running downloads, in which this one runs.
+fn book_view<R: Wait>(
+    rt: &R,
+    alloc: Global,
+    settings: BudgetSettings,
+) -> Result<BookView, OutOfMemory> {
+    let book = Arc::new(alloc, BudgetBook::new(alloc, settings)?)?;
+    book.start(rt);
+    Ok(BookView::new(book))
+}
+
 // Prints the digits of the range and the last line.
-fn print<T: Tap + Send, O: Sink + Send>(
+fn print<R: Threads + Wait + Sync, T: Tap + Send, O: Sink>(
+    rt: &R,
     alloc: Global,
     wanted: Wanted,
+    view: BookView,
     store: &MemStore,
-    tap: &mut T,
+    taps: &mut [T],
     out: &mut O,
 ) -> Status
-    ensures printed { GotFrom store.now wanted (T.told tap.old) (T.told tap.new)
+    requires { length taps.old ≡ 64 }
+    ensures printed { GotFrom store.now wanted (map T.told taps.old) (map T.told taps.new)
         (O.told out.old) (O.told out.new) result }
     ensures flushed { IsFlushed result (O.told out.new) }
 {
-    match print_digits(alloc, wanted, store, tap, out) {
+    match print_digits(rt, alloc, wanted, view, store, taps, out) {
         Printed::All(count) => match format!(in alloc; "ok {count}\n") {
             Ok(line) => finish(out, Status::Done, line.as_bytes()),
             Err(_) => say_after(out, Status::NoMemory),
@@ -72,11 +93,34 @@ fn print<T: Tap + Send, O: Sink + Send>(
             Ok(line) => finish(out, Status::BadBlock(test), line.as_bytes()),
             Err(_) => say_after(out, Status::NoMemory),
         },
+        Printed::BadSettings(setting) => say_after(out, Status::BadSettings(setting)),
     }
 }
 
-/// Reads the input to its end, and prints the range of the file of its store. Its blocks go through the first tap.
-pub fn get<I: Source, O: Sink + Send, T: Tap + Send>(
+// Prints the range of the file of this store, within the limits of a new book.
+fn print_within<R: Threads + Wait + Sync, T: Tap + Send, O: Sink>(
+    rt: &R,
+    alloc: Global,
+    wanted: Wanted,
+    store: &MemStore,
+    taps: &mut [T],
+    out: &mut O,
+) -> Status
+    requires { length taps.old ≡ 64 }
+    ensures printed { PrintedWithin store.now wanted (map T.told taps.old) (map T.told taps.new)
+        (O.told out.old) (O.told out.new) result }
+    ensures flushed { IsFlushed result (O.told out.new) }
+{
+    match book_view(rt, alloc, wanted.options.budget_settings()) {
+        Ok(view) => print(rt, alloc, wanted, view, store, taps, out),
+        Err(_) => say(out, Status::NoMemory),
+    }
+}
+
+/// Reads the input to its end, and prints the range of the file of its store. Its blocks go through the first taps, one
+/// for each lane.
+pub fn get<R: Threads + Wait + Sync, I: Source, O: Sink, T: Tap + Send>(
+    rt: &R,
     alloc: Global,
     wanted: Wanted,
     input: &mut I,
@@ -96,7 +140,7 @@ pub fn get<I: Source, O: Sink + Send, T: Tap + Send>(
         Err(ReadError::TooLong) => return say(out, Status::TooLong),
     };
     match document_of(alloc, text) {
-        Ok(Some(store)) => print(alloc, wanted, &store, &mut taps[0], out),
+        Ok(Some(store)) => print_within(rt, alloc, wanted, &store, taps, out),
         Ok(None) => say(out, Status::BadStore),
         Err(_) => say(out, Status::NoMemory),
     }

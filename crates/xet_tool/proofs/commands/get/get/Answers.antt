@@ -1,6 +1,6 @@
-use Rattle.std.proofs.Common.{map, refl, rules, set}
+use Rattle.std.proofs.Common.{map, refl, rules}
 use Rattle.xet_tool.specs.Ends.{Told}
-use Rattle.xet_tool.proofs.GetOutcomes.{got_from, got_no_memory, got_no_store, got_slice}
+use Rattle.xet_tool.proofs.GetOutcomes.{got_from, got_no_memory, got_no_store}
 use Rattle.xet_tool.proofs.commands.get.get.Goals as goal
 
 pub returns-in-Err-OutOfMemory-clause-outcome : goal.returns-in-Err-OutOfMemory-clause-outcome
@@ -12,9 +12,9 @@ returns-in-Err-OutOfMemory-clause-outcome g c =
 pub returns-in-Ok-Some-clause-outcome : goal.returns-in-Ok-Some-clause-outcome
 returns-in-Ok-Some-clause-outcome g c =
     let b : Told = record { source = g.I.Source.told c.args.input.now; sink = g.O.Sink.told c.args.out.now; taps = map g.T.Tap.told c.args.taps.now } in
-    let n : Told = record { source = g.I.Source.told c.read_to_end.new.input; sink = g.O.Sink.told c.print.new.out; taps = map g.T.Tap.told (set c.args.taps.now 0 c.print.new.tap) } in
-    got_from _ _ b n c.in-Ok.text.items c.in-Ok-Some.store c.print.result (rw c.in-Ok.is at c.read_to_end.ensures).bytes (search rules)
-    (got_slice g.T.Tap.told _ _ c.args.taps.now _ c.print.new.tap _ _ _ (search rules) c.print.ensures.printed)
+    let n : Told = record { source = g.I.Source.told c.read_to_end.new.input; sink = g.O.Sink.told c.print_within.new.out; taps = map g.T.Tap.told c.print_within.new.taps } in
+    got_from _ _ b n c.in-Ok.text.items c.in-Ok-Some.store c.print_within.result (rw c.in-Ok.is at c.read_to_end.ensures).bytes (search rules)
+    c.print_within.ensures.printed
 
 pub returns-in-Ok-None-clause-outcome : goal.returns-in-Ok-None-clause-outcome
 returns-in-Ok-None-clause-outcome g c =

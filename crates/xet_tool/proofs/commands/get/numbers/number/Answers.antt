@@ -1,6 +1,6 @@
 use Rattle.std.proofs.Common.{◌∙◌, sym}
 use Rattle.xet_tool.proofs.GetNumbers.{number_of_text-parsed}
-use Rattle.xet_tool.proofs.commands.get.wanted.number.Goals as goal
+use Rattle.xet_tool.proofs.commands.get.numbers.number.Goals as goal
 
 pub returns : goal.returns
 returns c =

@@ -1,4 +1,4 @@
-use Rattle.std.proofs.Common.{rules, ◌≡◌, ◌∙◌, refl, subst, ap, cond, true, Bool, Some, None}
+use Rattle.std.proofs.Common.{rules, [], ◌∷◌, ◌≡◌, ◌∙◌, refl, sym, subst, ap, cond, true, Bool, Some, None, arith}
 use denote.Param.{param}
 use denote.Ref.{NamedLft}
 use denote.Exit.{no, unseen}
@@ -14,20 +14,20 @@ use Rattle.xet_outside.specs.Told.{ClientTold}
 use Rattle.xet_store.proofs.CallerLemmas.{client_log_send, mem_client_send, same_link}
 use Rattle.xet_store.specs.HonestPlans.{PlansAreHonest}
 use Rattle.xet_store.specs.Taps.{behind}
-use Rattle.xet_tool.specs.steps.PrintedDigits.{Tapped}
-use Rattle.xet_tool.proofs.TapRuns.{tapped}
-use Rattle.xet_tool.proofs.commands.get.digits.run_behind.Goals as goal
+use Rattle.xet_tool.specs.steps.TapRuns.{BehindOne}
+use Rattle.xet_tool.proofs.TapRuns.{behind_one, same_setting}
+use Rattle.xet_tool.proofs.commands.get.connections.run_behind_one.Goals as goal
 
 pub run_on_one-answer-requires-send-C : goal.run_on_one-answer-requires-send-C
 run_on_one-answer-requires-send-C g c = λ κs h.
-    let at : NamedLft = record { mir = named 4; lft = κs.1.1.1.1.0 } in
-    let to : NamedLft = record { mir = named 5; lft = κs.1.1.1.1.1.0 } in
-    let fields : Shape = shape (tap_client.the_type at to (param 0 g.row.T) g.T.Tap) in
+    let at : NamedLft = record { mir = named 6; lft = κs.1.1.1.1.1.1.1.1.0 } in
+    let to : NamedLft = record { mir = named 7; lft = κs.1.1.1.1.1.1.1.1.1.0 } in
+    let fields : Shape = shape (tap_client.the_type at to (param 1 g.row.T) g.T.Tap) in
     let s : IsSend (Struct fields) = struct_send fields
     (search (sendable, mem_client_send) depth 9, (mut_send _ _ _ c.type_bounds.send-T, (search (sendable, crosses) depth 9, (search (sendable, client_log_send) depth 9, tt)))) in
     record {
-      owned = λ x vs. s.owned ((tap_client.the_type at to (param 0 g.row.T) g.T.Tap).to x) vs;
-      leaving = λ k. Quiet-if (k (of_param 0)) _ unseen (λ x w. s.leaving no ((tap_client.the_type at to (param 0 g.row.T) g.T.Tap).to x) w) (λ x w. tt);
+      owned = λ x vs. s.owned ((tap_client.the_type at to (param 1 g.row.T) g.T.Tap).to x) vs;
+      leaving = λ k. Quiet-if (k (of_param 1)) _ unseen (λ x w. s.leaving no ((tap_client.the_type at to (param 1 g.row.T) g.T.Tap).to x) w) (λ x w. tt);
     }
 
 pub returns : goal.returns
@@ -47,9 +47,11 @@ returns g c =
     subst (λ (s : Store). PlansAreHonest s n.log.asked (plans_in n.log.said)) store c.into_tap-tap.ensures.plans in
     let told_store : t.honest ≡ true → before.store ≡ Some c.args.store.now =
     λ honest. ap (λ (x : ClientTold). x.store) at_first ∙ ap (λ (z : Bool). cond z (Some c.new.result.store.now) None) honest ∙ ap (λ (z : Store). Some z) mine in
-    let run : Tapped c.args.store.now c.args.wanted t u (g.O.Sink.told c.args.out.now) (g.O.Sink.told c.run_on_one-answer.new.out) c.run_on_one-answer.result =
-    tapped c.args.store.now c.new.ensures.valid c.args.wanted before after t u _ _ _ _ (g.O.Sink.told c.args.out.now) (g.O.Sink.told c.run_on_one-answer.new.out)
+    let lanes = c.requires in
+    let run : BehindOne c.args.store.now c.args.wanted t u (g.K.ChunkCache.told c.args.cache.now) (g.K.ChunkCache.told c.run_on_one-answer.new.cache) (g.O.Sink.told c.args.out.now) (g.O.Sink.told c.run_on_one-answer.new.out) c.run_on_one-answer.result =
+    behind_one c.args.store.now c.new.ensures.valid c.args.wanted before after t u (g.K.ChunkCache.told c.args.cache.now) (g.K.ChunkCache.told c.run_on_one-answer.new.cache) (g.O.Sink.told c.args.out.now) (g.O.Sink.told c.run_on_one-answer.new.out)
+    (same_setting c.args.wanted (before ∷ []) (λ e. absurd (omega (arith, e, lanes))) (λ e. absurd (omega (arith, e))))
     n.log.asked n.log.said (told n.start.value) (ap (λ (x : ClientTold). x.asked) at_first) refl (ap (λ (x : ClientTold). x.said) at_first) refl
     (ap (λ (x : ClientTold). x.served) at_first) refl link.1 c.into_tap-tap.ensures.given plans c.run_on_one-answer.result c.run_on_one-answer.ensures
-    refl refl refl refl told_store in
+    refl refl told_store in
     search rules

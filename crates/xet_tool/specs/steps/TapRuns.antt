@@ -1,0 +1,54 @@
+-- What runs over connections to a store say, whose blocks go through taps.
+use Rattle.std.specs.Prelude.{ℕ, ◌≡◌, ◌≤◌, true, List, [], ◌∷◌, drop, Some, IfSome, IfOk, IfErr, OnOk, Result}
+use Rattle.std.specs.Result.{result_ok}
+use Rattle.xet_base.specs.Store.{Store}
+use Rattle.xet_outside.specs.Told.{CacheTold, ClientTold, SinkTold, TookPrefix}
+use Rattle.xet_store.specs.Taps.{TapTold}
+use Rattle.xet_error.specs.declared.error.FileReconstructionError.{FileReconstructionError}
+use Rattle.xet_error.specs.declared.error.Setting.{Setting}
+use Rattle.xet_blocks.specs.ServedChunks.{AllServed}
+use Rattle.xet_ties.specs.InCall.{Look, new_in}
+use Rattle.xet_ties.specs.Legal.{IsExact}
+use Rattle.xet_ties.specs.Setup.{CacheTells}
+use Rattle.xet_tool.specs.declared.commands.get.wanted.Wanted.{Wanted}
+use Rattle.xet_tool.specs.GetOptions.{lanes_of}
+use Rattle.xet_tool.specs.Taps.{AllHonest, FromTap, FromTaps, GaveNothing, all_passed}
+use Rattle.xet_tool.specs.Wanted.{failing_setting, setup_of, wanted_bytes}
+use Rattle.xet_tool.specs.steps.PrintedDigits.{CountsOk, IsRefusal, TapCause, Wrote, status_of_answer}
+
+-- each connection behind an honest tap tells the store
+abbrev pub AreConnections : Store → List TapTold → List ClientTold → Type 0
+AreConnections s [] [] = Unit {0}
+AreConnections s [] (c ∷ cs) = ⊥
+AreConnections s (t ∷ ts) [] = ⊥
+AreConnections s (t ∷ ts) (c ∷ cs) = (t.honest ≡ true → c.store ≡ Some s) × AreConnections s ts cs
+
+-- a run over connections to a valid store behind taps, where `H` says that these are honest
+pub record BehindAll (s : Store) (q : Wanted) (H : Type 0) (k : CacheTold) (b n : SinkTold)
+    (answer : Result ℕ FileReconstructionError) : Type 0 where
+  pub exact : H → CacheTells s k → IfOk answer (IsExact s (setup_of q) b n)
+  pub prefix : H → CacheTells s k → TookPrefix b.took n.took (wanted_bytes s q)
+  pub cause : IfErr answer (TapCause s q H b n)
+  pub settings : (e : Setting) → failing_setting q ≡ Some e → IsRefusal e answer × (n.took ≡ b.took)
+  pub counts : CountsOk b n answer
+  pub faults : b.faults ≤ n.faults
+  pub link : n.link ≡ b.link
+
+-- a run over one connection behind a tap
+pub record BehindOne (s : Store) (q : Wanted) (t u : TapTold) (k l : CacheTold) (b n : SinkTold)
+    (answer : Result ℕ FileReconstructionError) : Type 0 where
+  pub all : BehindAll s q (t.honest ≡ true) k b n answer
+  pub chunks : t.honest ≡ true → l.entries ≡ Some []
+      → OnOk answer (IfSome (new_in t.passed u.passed) (AllServed s q.file q.range))
+  pub any : (looks : List Look) → new_in k.looked l.looked ≡ Some looks → GaveNothing q looks
+      → Wrote (FromTap s q t u) b n (status_of_answer answer) (result_ok answer)
+
+-- a run over as many connections as are wanted, with a cache
+pub record BehindTaps (s : Store) (q : Wanted) (ts us : List TapTold) (k l : CacheTold) (b n : SinkTold)
+    (answer : Result ℕ FileReconstructionError) : Type 0 where
+  pub all : BehindAll s q (AllHonest ts) k b n answer
+  pub chunks : AllHonest ts → l.entries ≡ Some []
+      → OnOk answer (lanes_of q.options ≡ 1 → IfSome (all_passed ts us) (AllServed s q.file q.range))
+  pub any : (looks : List Look) → new_in k.looked l.looked ≡ Some looks → GaveNothing q looks
+      → Wrote (FromTaps s q ts us) b n (status_of_answer answer) (result_ok answer)
+  pub others : drop (lanes_of q.options) us ≡ drop (lanes_of q.options) ts
