@@ -5,5 +5,9 @@ pub use Rattle.xet_session.proofs.Keeping.{keeps-both, keeps-refl, keeps-still, 
 pub use Rattle.xet_session.proofs.Ends.{backs-finalized, backs-kept, new-backed, new-listed, ordered-grown}
 -- what queries of the uploader keep
 pub use Rattle.xet_session.proofs.Learned.{backs-learned, learns-sound, learns-stands, learns-tells}
+-- a failure that is kept stays
+pub use Rattle.xet_session.proofs.Completions.{unfailed}
+-- xorbs of a world
+pub use Rattle.xet_session.proofs.Sounding.{agree-before, stored-of}
 -- the type's fact
 pub use Rattle.xet_session.proofs.Tests.{has-listed}

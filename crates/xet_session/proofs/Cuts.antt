@@ -1,10 +1,11 @@
 -- The exits of a cut, and those of a call that is given a xorb.
 use Rattle.std.proofs.Common.{◌≡◌, ℕ, ◌<◌, ◌⊎◌, inl, inr, true, false, List, [], ◌∷◌, ◌++◌, length, map, refl, sym, ◌∙◌, ap, subst, arith}
-use Rattle.std.specs.Prelude.{All, Contains, Option, Some, None, IsSome, is_some, Result, Ok, Err, IfErr, OnOk, OnErr}
+use Rattle.std.specs.Prelude.{All, Contains, Option, Some, None, IfSome, IsSome, is_some, Result, Ok, Err, IfErr, OnOk, OnErr}
 use Rattle.std.specs.List.{AllZip}
 use Rattle.std.proofs.lemmas.Bool.{false≢true}
 use Rattle.std.proofs.lemmas.List.{append-nil, nil_from_length}
 use Rattle.std.proofs.lemmas.List.Elements.{All-nil, All-cons, All-contains, All-weaker, Contains-append_left, Contains-push}
+use Rattle.xet_base.specs.declared.invalid.Invalid.{Invalid}
 use Rattle.xet_base.specs.declared.merklehash.MerkleHash.{MerkleHash}
 use Rattle.xet_base.specs.declared.mdb_shard.Xorb.{Xorb}
 use Rattle.xet_base.specs.declared.mdb_shard.MDBFileInfo.{MDBFileInfo}
@@ -22,7 +23,8 @@ use Rattle.xet_upload.specs.declared.data_error.DataError.TheVariants as data_er
 use Rattle.xet_upload.specs.declared.raw_xorb.PendingFile.{PendingFile}
 use Rattle.xet_upload.specs.declared.raw_xorb.RawXorbData.{RawXorbData}
 use Rattle.xet_upload.specs.declared.waiting.WaitingFile.{WaitingFile}
-use Rattle.xet_session.specs.Calls.{CountsSent, Cut, CutPut, Keeps, PutsFail, Recorded, RegisterStopped, Registers, Says, StoresFail, WasPut, WasRefused, finalized_error, record_of_xorb, waiting_hash, waiting_records, without_waiting}
+use Rattle.xet_session.specs.Calls.{CountsSent, Cut, CutPut, Keeps, PutsFail, Recorded, Refuses, RegisterStopped, Registers, Says, StoresFail, WasPut, WasRefused, finalized_error, record_of_xorb, waiting_hash, waiting_records, without_waiting}
+use Rattle.xet_session.specs.Trackings.{IsRefusal}
 use Rattle.xet_session.specs.Sessions.{HasListed, IsListed, SessionTold, log_of, waiting_names}
 use Rattle.xet_session.specs.steps.SessionSteps.{AddedRecord, PutFinished, PutGiven, PutRaw, TookWaiting, with_sent}
 use Rattle.xet_session.proofs.Keeping.{keeps-added, keeps-both, keeps-put, keeps-refl, keeps-still, keeps-unput, put-why}
@@ -377,6 +379,16 @@ changed-refused : (b n : SessionTold) → WasRefused b n → Changed b n
 changed-refused b n w =
     w.same ∙ ap (λ (z : SessionTold). record b { uploader = z.uploader; shards = z.shards; listed = z.listed; registered = z.registered; metrics = z.metrics; failed = z.failed }) (sym w.same)
 
+-- a xorb that has chunks and is new is put
+pub put-nothing : {P C : Type 0} (chunks : ℕ) → (chunks ≡ 0) ⊎ C → (C → ⊥) → 0 < chunks → P
+put-nothing chunks (inl none) fresh low = absurd (omega (arith, none, low))
+put-nothing chunks (inr old) fresh low = absurd (fresh old)
+
+-- the failure that is kept, where a xorb would be put
+pub kept-so : {P Q : Type 0} (o : Option ClientError) → P → Q → IfSome o (λ e. (o ≡ Some e) × P × Q)
+kept-so (Some e) p q = (refl, p, q)
+kept-so None p q = tt
+
 module _ (b : SessionTold) (x : Xorb) (now : ℕ) where
   pub registers-finalized : b.finalized ≡ true → Registers b b x now (Err finalized_error)
   registers-finalized f = record {
@@ -391,12 +403,57 @@ module _ (b : SessionTold) (x : Xorb) (now : ℕ) where
     unfailed = tt;
     said = λ none. says-none b (Err finalized_error) none;
     refused = λ q. absurd (false≢true (sym q ∙ f));
+    idle = λ q. absurd (false≢true (sym q ∙ f));
     why = inl (refl, f);
   }
 
   module _ (first : b.finalized ≡ false) where
     never : {P : Type 0} → b.finalized ≡ true → P
     never h = absurd (false≢true (sym first ∙ h))
+
+    -- a failure is kept
+    pub registers-kept : (e : ClientError) → (b.failed ≡ Some e) × (0 < length x.chunks) × (Contains b.registered x.hash → ⊥) → Registers b b x now (Err (of_client_error e))
+    registers-kept e kept = record {
+      keeps = keeps-refl b b refl;
+      listed = λ l q. l;
+      same = refl;
+      again = tt;
+      new = tt;
+      err = inl refl;
+      counts = refl;
+      finalized = never;
+      unfailed = tt;
+      said = λ none. says-none b (Err (of_client_error e)) none;
+      refused = λ q new low g h. let one : e ≡ g = let both : Some e ≡ Some g = sym kept.0 ∙ h in cc in ap (λ (f : ClientError). Err (of_client_error f)) one;
+      idle = λ q r. put-nothing (length x.chunks) r kept.2 kept.1;
+      why = inr (inl (inr (e, kept.0, refl)));
+    }
+
+    -- the tracker refused it, or had no memory for it
+    pub registers-refused : (e : DataError) → (o : Option Invalid) → IsRefusal o e → ((Contains b.registered x.hash → ⊥) → 0 < length x.chunks → b.failed ≡ None) → Registers b b x now (Err e)
+    registers-refused e o r sound = record {
+      keeps = keeps-refl b b refl;
+      listed = λ l q. l;
+      same = refl;
+      again = tt;
+      new = tt;
+      err = inl refl;
+      counts = refl;
+      finalized = never;
+      unfailed = tt;
+      said = λ none. says-none b (Err e) none;
+      refused = λ q new low g h. not-both b.failed g (sound new low) h;
+      idle = λ q nothing. still r;
+      why = inr (go r);
+    }
+      where
+        go : IsRefusal o e → PutsFail b b e ⊎ Refuses b b e
+        go (inl q) = inl (inl (inr (inl (inl q))))
+        go (inr q) = inr ((q.0, q.2), refl)
+
+        still : IsRefusal o e → (e ≡ data_error.OutOfMemory) ⊎ Refuses b b e
+        still (inl q) = inl q
+        still (inr q) = inr ((q.0, q.2), refl)
 
     pub registers-again : Contains b.registered x.hash → Registers b b x now (Ok false)
     registers-again old = record {
@@ -411,6 +468,7 @@ module _ (b : SessionTold) (x : Xorb) (now : ℕ) where
       unfailed = λ q. absurd (false≢true q);
       said = λ none. says-none b (Ok false) none;
       refused = λ q new. absurd (new old);
+      idle = λ q r. tt;
       why = tt;
     }
 
@@ -428,28 +486,13 @@ module _ (b : SessionTold) (x : Xorb) (now : ℕ) where
         unfailed = λ q some. absurd (omega (arith, none, some));
         said = λ sound. says-none b (Ok true) sound;
         refused = λ q new some. absurd (omega (arith, none, some));
+        idle = λ q r. tt;
         why = tt;
       }
 
-      pub registers-failed : (e : ClientError) → b.failed ≡ Some e → Registers b b x now (Err (of_client_error e))
-      registers-failed e f = record {
-        keeps = keeps-refl b b refl;
-        listed = λ l q. l;
-        same = refl;
-        again = tt;
-        new = tt;
-        err = inl refl;
-        counts = refl;
-        finalized = never;
-        unfailed = tt;
-        said = λ none. says-none b (Err (of_client_error e)) none;
-        refused = λ q new some g h. ap (λ (z : ClientError). Err (of_client_error z)) (let both : Some e ≡ Some g = sym f ∙ h in cc);
-        why = inr (inr (e, f, refl));
-      }
-
       module _ (sound : b.failed ≡ None) where
-        pub registers-err : (n : SessionTold) (e : DataError) → PutGiven b n x now (Err e) → Registers b n x now (Err e)
-        registers-err n e p = record {
+        pub registers-err : (n : SessionTold) (e : DataError) → 0 < length x.chunks → PutGiven b n x now (Err e) → Registers b n x now (Err e)
+        registers-err n e some p = record {
           keeps = p.keeps;
           listed = p.listed;
           same = go p.err;
@@ -460,8 +503,9 @@ module _ (b : SessionTold) (x : Xorb) (now : ℕ) where
           finalized = never;
           unfailed = tt;
           said = λ none. says-err n e (p.said none);
-          refused = λ q new some g h. not-both b.failed g sound h;
-          why = inr p.why;
+          refused = λ q new low g h. not-both b.failed g sound h;
+          idle = λ q r. put-nothing (length x.chunks) r fresh some;
+          why = inr (inl p.why);
         }
           where
             go : RegisterStopped b n x now e → Changed b n
@@ -484,6 +528,7 @@ module _ (b : SessionTold) (x : Xorb) (now : ℕ) where
               unfailed = λ q low. ap (λ (z : SessionTold). z.failed) put.same ∙ sound;
               said = λ none. says-none n (Ok true) (ap (λ (z : SessionTold). z.failed) put.same ∙ sound);
               refused = λ q new low g h. not-both b.failed g sound h;
+              idle = λ q r. tt;
               why = tt;
             }
 

@@ -28,7 +28,8 @@ use Rattle.xet_upload.specs.Waitings.{Waiting, no_waiting}
 use Rattle.xet_upload.specs.declared.data_error.DataError.{DataError}
 use Rattle.xet_upload.specs.declared.metrics.DeduplicationMetrics.{DeduplicationMetrics}
 use Rattle.xet_upload.proofs.CallerLemmas.{ordered-none, ordered-xorb}
-use Rattle.xet_session.specs.Calls.{AllPut, Backs, Counted, Cut, EndsCut, EndsSo, EndsUncut, Finalizes, GrewByXorbs, GrewToEnd, HasFiles, IsPut, Keeps, KeepsFailed, NoQueries, PutsFail, ResumedKept, Says, StoresFail, end_counts, finalized_error, new_session, waiting_records}
+use Rattle.xet_session.specs.declared.cut_thresholds.CutThresholds.{CutThresholds}
+use Rattle.xet_session.specs.Calls.{AllPut, Backs, Counted, Cut, EndsCut, EndsSo, EndsUncut, Finalizes, GrewByXorbs, GrewToEnd, HasFiles, IsPut, Keeps, KeepsFailed, NoQueries, PutsFail, ResumedKept, Says, SomePut, StoresFail, end_counts, finalized_error, new_session, waiting_records}
 use Rattle.xet_session.specs.Sessions.{HasListed, IsBackedSession, IsListed, SessionTold, Stands, Tells, known_of, log_of, waiting_names}
 use Rattle.xet_session.specs.steps.SessionSteps.{AddedFinished, PutRecords}
 use Rattle.xet_session.proofs.Keeping.{failed-same, keeps-refl, later-both, later-same, queries-same, stores-later}
@@ -242,6 +243,14 @@ module _ (b n1 : SessionTold) (now : ℕ) (first : b.finalized ≡ false) where
           same = same ∙ ap (λ (z : SessionTold). record n1 { uploader = z.uploader; shards = z.shards; metrics = z.metrics; failed = z.failed }) (sym same);
           stores = a.stores ∙ ap (λ (i : InterfaceTold). record n1.shards { resumed = i.resumed; session = i.session; cache = i.cache }) (sym a.stores);
           all = tt;
+          some = λ t. record {
+            count = 0;
+            kept = 0;
+            log = ap log_of same ∙ sym (append-nil (log_of n1));
+            cached = ap (λ (i : InterfaceTold). i.cache.records) a.stores ∙ cache-none n1.shards.cache.records;
+            fewer = omega arith;
+            close = omega arith;
+          };
           recorded = tt;
           records = inl a.kept;
           dry = λ d. a.known;
@@ -432,6 +441,25 @@ module _ (b n1 : SessionTold) (now : ℕ) (first : b.finalized ≡ false) where
             ap (λ (s : SessionTold). s.shards.cache.records) ends ∙ learned ∙ ap (λ (o : Option ShardRecord). all_with_shards o (shards_of n2.shards)) cache2 ∙ ap (all_with_shards n1.shards.cache.records) shards-same,
           )
 
+      -- the first shards were put
+      some-put : Tells n1 → SomePut n1 z
+      some-put t =
+          let t2 = from1 t in
+          let k = p.uploads.count in
+          let l = p.uploads.kept in
+          record {
+            count = k;
+            kept = l;
+            log =
+                log-put (take k (shards_of n2.shards)) t2 (p.uploads.some t2.shards.session) ∙ ap (λ (ps : List Put). ps ++ map put.Shard (take k (shards_of n2.shards))) log2
+                ∙ ap (λ (ss : List ShardRecord). log_of n1 ++ map put.Shard (take k ss)) shards-same;
+            cached =
+                ap (λ (s : SessionTold). s.shards.cache.records) ends ∙ p.uploads.cached t2.shards.session ∙ ap (λ (o : Option ShardRecord). all_with_shards o (take l (shards_of n2.shards))) cache2
+                ∙ ap (λ (ss : List ShardRecord). all_with_shards n1.shards.cache.records (take l ss)) shards-same;
+            fewer = p.uploads.fewer;
+            close = p.uploads.close;
+          }
+
       -- all was put
       finalizes-ok : {A : Type 0} (m : A) (k : ℕ) → answer ≡ Ok k → Finalizes b z now (Ok m)
       finalizes-ok {A = A} m k is =
@@ -440,6 +468,7 @@ module _ (b n1 : SessionTold) (now : ℕ) (first : b.finalized ≡ false) where
             same = end-same;
             stores = end-stores;
             all = all;
+            some = some-put;
             recorded = session-same ∙ a.recorded;
             records = inr (session-same ∙ a.recorded);
             dry = known-dry;
@@ -497,6 +526,7 @@ module _ (b n1 : SessionTold) (now : ℕ) (first : b.finalized ≡ false) where
                 same = end-same;
                 stores = end-stores;
                 all = tt;
+                some = some-put;
                 recorded = tt;
                 records = inr (session-same ∙ a.recorded);
                 dry = known-dry;
@@ -582,7 +612,7 @@ retold {A = A} {B = B} b n now e k = record {
   where
     go : EndsUncut {A = A} b n now (Err e) ⊎ EndsSo {A = A} b n now (Err e) → EndsUncut {A = B} b n now (Err e) ⊎ EndsSo {A = B} b n now (Err e)
     go (inl (d, is, c)) = inl (d, ap (λ (x : DataError). Err x) (let h : Err e ≡ Err d = is in cc), c)
-    go (inr (m, c, s)) = inr (m, c, record { same = s.same; stores = s.stores; all = tt; recorded = tt; records = s.records; dry = s.dry; resumed = s.resumed })
+    go (inr (m, c, s)) = inr (m, c, record { same = s.same; stores = s.stores; all = tt; some = s.some; recorded = tt; records = s.records; dry = s.dry; resumed = s.resumed })
 
 -- the same end, of an answer of another kind
 pub retold-ok : {A B : Type 0} (b n : SessionTold) (now : ℕ) (x : A) (y : B) → Finalizes b n now (Ok x) → Finalizes b n now (Ok y)
@@ -609,7 +639,7 @@ retold-ok {A = A} {B = B} b n now x y k = record {
   where
     go : EndsUncut b n now (Ok x) ⊎ EndsSo b n now (Ok x) → EndsUncut b n now (Ok y) ⊎ EndsSo b n now (Ok y)
     go (inl (d, is, c)) = absurd (let h : Ok x ≡ Err d = is in cc)
-    go (inr (m, c, s)) = inr (m, c, record { same = s.same; stores = s.stores; all = s.all; recorded = s.recorded; records = s.records; dry = s.dry; resumed = s.resumed })
+    go (inr (m, c, s)) = inr (m, c, record { same = s.same; stores = s.stores; all = s.all; some = s.some; recorded = s.recorded; records = s.records; dry = s.dry; resumed = s.resumed })
 
 -- ---- the file records after the end
 
@@ -673,6 +703,7 @@ module _ (b m n : SessionTold) (now : ℕ) (x : DeduplicationMetrics) (k : Final
       same = whole ∙ ap (λ (z : SessionTold). record c { uploader = z.uploader; shards = z.shards; metrics = z.metrics; failed = z.failed }) (sym whole);
       stores = stores ∙ ap (λ (i : InterfaceTold). record c.shards { resumed = i.resumed; session = i.session; cache = i.cache }) (sym stores);
       all = on_ok said all;
+      some = λ t. some (s.some t);
       recorded = on_ok said (l.records ∙ s.recorded);
       records = inr (l.records ∙ s.recorded);
       dry = λ d. ap known_told l.same ∙ s.dry d;
@@ -689,6 +720,16 @@ module _ (b m n : SessionTold) (now : ℕ) (x : DeduplicationMetrics) (k : Final
 
       stores : n.shards ≡ record c.shards { resumed = m.shards.resumed; session = n.shards.session; cache = m.shards.cache }
       stores = l.same ∙ ap (λ (i : InterfaceTold). record i { session = n.shards.session }) s.stores
+
+      some : SomePut c m → SomePut c n
+      some h = record {
+        count = h.count;
+        kept = h.kept;
+        log = log-listed ∙ h.log ∙ ap (λ (ss : List ShardRecord). log_of c ++ map put.Shard (take h.count ss)) shards-listed;
+        cached = cache-listed ∙ h.cached ∙ ap (λ (ss : List ShardRecord). all_with_shards c.shards.cache.records (take h.kept ss)) shards-listed;
+        fewer = h.fewer;
+        close = h.close;
+      }
 
       all : AllPut c n
       all t d =
@@ -830,11 +871,11 @@ new-backed t l r p q =
     }
 
 -- the session that a call made is backed, if its store has no records
-pub made-backed : {A E : Type 0} (told : A → SessionTold) (u : UploaderTold) (i j : InterfaceTold) (q : Bool) (r : Result A E) → i ≡ j → IfOk r (λ s. told s ≡ new_session u i q) → IfOk r (λ s. records_of j.session ≡ no_records → IsBackedSession (told s))
-made-backed told u i j q (Ok s) same e =
+pub made-backed : {A E : Type 0} (told : A → SessionTold) (u : UploaderTold) (i j : InterfaceTold) (q : Bool) (c : CutThresholds) (r : Result A E) → i ≡ j → IfOk r (λ s. told s ≡ new_session u i q c) → IfOk r (λ s. records_of j.session ≡ no_records → IsBackedSession (told s))
+made-backed told u i j q c (Ok s) same e =
     let P : SessionTold → Type 0 = λ t. IsBackedSession t in
-    λ none. subst P (sym e) (new-backed (new_session u i q) refl (ap (λ (k : InterfaceTold). records_of k.session) same ∙ none))
-made-backed told u i j q (Err x) same e = tt
+    λ none. subst P (sym e) (new-backed (new_session u i q c) refl (ap (λ (k : InterfaceTold). records_of k.session) same ∙ none))
+made-backed told u i j q c (Err x) same e = tt
 
 -- a new session
 pub new-listed : (t : SessionTold) → t.finished ≡ [] → t.waiting ≡ no_waiting → t.registered ≡ [] → HasListed t

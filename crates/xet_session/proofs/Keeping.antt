@@ -104,16 +104,16 @@ backed-grown log more known listed extra r s news ex ef e n k =
       named = subst Q (sym ef) h.named;
     }
 
-pub none-put : (b n : SessionTold) → n.uploader ≡ b.uploader → n.metrics ≡ b.metrics → GrewByXorbs b n
+pub none-put : (b n : SessionTold) → n.uploader ≡ b.uploader → n.metrics.xorb_bytes_uploaded ≡ b.metrics.xorb_bytes_uploaded → GrewByXorbs b n
 none-put b n u m = record {
   xorbs = [];
   grown = ap puts_of u ∙ sym (append-nil (log_of b));
-  sent = λ few. ap (λ (z : DeduplicationMetrics). z.xorb_bytes_uploaded) m ∙ omega (arith, few);
+  sent = λ few. m ∙ omega (arith, few);
 }
 
--- nothing but the files and what waits changed
-pub keeps-still : (b n : SessionTold) → n.uploader ≡ b.uploader → n.shards ≡ b.shards → n.listed ≡ b.listed → n.metrics ≡ b.metrics → n.failed ≡ b.failed → n.finalized ≡ b.finalized → Keeps b n
-keeps-still b n u i l m f z = record {
+-- nothing but the files, what waits, and counts of chunks changed
+pub keeps-counted : (b n : SessionTold) → n.uploader ≡ b.uploader → n.shards ≡ b.shards → n.listed ≡ b.listed → n.metrics.xorb_bytes_uploaded ≡ b.metrics.xorb_bytes_uploaded → n.failed ≡ b.failed → n.finalized ≡ b.finalized → Keeps b n
+keeps-counted b n u i l m f z = record {
   tells = λ t. record { puts = subst (λ (v : UploaderTold). IsSome v.puts) (sym u) t.puts; shards = subst (λ (j : InterfaceTold). StoresTell j) (sym i) t.shards };
   grew = λ t. none-put b n u m;
   stands = λ t s. stands-at n (log_of b) (known_of b) b.listed (records_of b.shards.session) (ap puts_of u) (ap (λ (j : InterfaceTold). map (λ (r : MDBXorbInfo). r.hash) (known_xorbs (known_told j))) i) l (ap (λ (j : InterfaceTold). records_of j.session) i) s;
@@ -127,6 +127,10 @@ keeps-still b n u i l m f z = record {
   stores = later-same b.shards n.shards i;
   finalized = z;
 }
+
+-- nothing but the files and what waits changed
+pub keeps-still : (b n : SessionTold) → n.uploader ≡ b.uploader → n.shards ≡ b.shards → n.listed ≡ b.listed → n.metrics ≡ b.metrics → n.failed ≡ b.failed → n.finalized ≡ b.finalized → Keeps b n
+keeps-still b n u i l m f z = keeps-counted b n u i l (ap (λ (c : DeduplicationMetrics). c.xorb_bytes_uploaded) m) f z
 
 pub keeps-refl : (b n : SessionTold) → n ≡ b → Keeps b n
 keeps-refl b n e =
@@ -259,7 +263,7 @@ keeps-added b n x h answer is a there was-put describes =
     let log : log_of n ≡ log_of b = ap log_of is in
     record {
       tells = λ t. record { puts = subst (λ (v : UploaderTold). IsSome v.puts) (sym u) t.puts; shards = a.tells t.shards };
-      grew = λ t. none-put b n u (ap (λ (z : SessionTold). z.metrics) is);
+      grew = λ t. none-put b n u (ap (λ (z : SessionTold). z.metrics.xorb_bytes_uploaded) is);
       stands = λ t s. go a.added t s;
       sound = λ k t agree s. sound-added k b n x h log (was-put t.puts) describes agree a.known a.added s;
       known = a.known;

@@ -1,4 +1,5 @@
 pub mod CallerLemmas
+pub mod Completions
 pub mod Cuts
 pub mod Ends
 pub mod Hashes
@@ -9,3 +10,4 @@ pub mod Queries
 pub mod Recording
 pub mod Sounding
 pub mod Tests
+pub mod Tracking

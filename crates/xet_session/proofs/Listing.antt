@@ -1,5 +1,5 @@
 -- What waited is finished, and its xorbs are on the list.
-use Rattle.std.proofs.Common.{◌≡◌, ℕ, ◌⊎◌, inl, inr, List, [], ◌∷◌, ◌++◌, map, sym, ◌∙◌, ap, subst, arith}
+use Rattle.std.proofs.Common.{◌≡◌, ℕ, ◌⊎◌, inl, inr, List, [], ◌∷◌, ◌++◌, length, map, refl, sym, ◌∙◌, ap, subst, arith}
 use Rattle.std.specs.Prelude.{All, Contains}
 use Rattle.std.specs.List.{flat_map}
 use Rattle.std.proofs.lemmas.List.Concat.{flat_map-append}
@@ -7,8 +7,8 @@ use Rattle.std.proofs.lemmas.List.Elements.{All-nil, All-cons, All-head, All-tai
 use Rattle.xet_base.specs.declared.merklehash.MerkleHash.{MerkleHash}
 use Rattle.xet_base.specs.declared.mdb_shard.MDBFileInfo.{MDBFileInfo}
 use Rattle.xet_upload.specs.Orders.{names_of}
-use Rattle.xet_upload.specs.Standing.{named, named_xorb}
-use Rattle.xet_upload.specs.Waitings.{AreCounted, IsCounted, LiesIn, Waiting, no_waiting, record_of_file}
+use Rattle.xet_upload.specs.Standing.{named, named_xorb, shifted}
+use Rattle.xet_upload.specs.Waitings.{AreCounted, IsCounted, LiesIn, Waiting, file_shifted, merged, no_waiting, record_of_file}
 use Rattle.xet_upload.specs.declared.waiting.TermXorb.{TermXorb}
 use Rattle.xet_upload.specs.declared.waiting.TermXorb.TheVariants.{Own, Stored}
 use Rattle.xet_upload.specs.declared.waiting.WaitingFile.{WaitingFile}
@@ -54,6 +54,23 @@ module _ (l : List MerkleHash) (h : MerkleHash) where
       All-append (Contains l) (map (λ e. e.xorb) (map (named h) f.terms)) (names_of (map (record_of_file h) fs))
       (terms-listed f.terms (All-head (λ (f : WaitingFile). All (IsFine l h) f.terms) f fs o) (All-append_left (Contains l) (flat_map (λ (t : WaitingTerm). named_by t.xorb) f.terms) (waiting_names fs) w))
       (names-listed fs (All-tail (λ (f : WaitingFile). All (IsFine l h) f.terms) f fs o) (All-append_right (Contains l) (flat_map (λ (t : WaitingTerm). named_by t.xorb) f.terms) (waiting_names fs) w))
+
+-- a move of terms leaves the xorbs that they name
+terms-shifted : (n : ℕ) (ts : List WaitingTerm) → flat_map (λ (t : WaitingTerm). named_by t.xorb) (map (shifted n) ts) ≡ flat_map (λ (t : WaitingTerm). named_by t.xorb) ts
+terms-shifted n [] = refl
+terms-shifted n (t ∷ ts) = ap (λ (hs : List MerkleHash). named_by t.xorb ++ hs) (terms-shifted n ts)
+
+names-shifted : (n : ℕ) (fs : List WaitingFile) → waiting_names (map (file_shifted n) fs) ≡ waiting_names fs
+names-shifted n [] = refl
+names-shifted n (f ∷ fs) = let a = terms-shifted n f.terms in let b = names-shifted n fs in cc
+
+-- data joined what waits
+pub names-merged : (l : List MerkleHash) (w v : Waiting) → All (Contains l) (waiting_names w.files) → All (Contains l) (waiting_names v.files) → All (Contains l) (waiting_names (merged w v).files)
+names-merged l w v a k =
+    let moved = map (file_shifted (length w.chunks)) v.files in
+    let split = flat_map-append (λ (f : WaitingFile). flat_map (λ (t : WaitingTerm). named_by t.xorb) f.terms) w.files moved in
+    All-same (Contains l) (waiting_names (w.files ++ moved)) (waiting_names w.files ++ waiting_names moved) split
+    (All-append (Contains l) (waiting_names w.files) (waiting_names moved) a (All-same (Contains l) (waiting_names moved) (waiting_names v.files) (names-shifted (length w.chunks) v.files) k))
 
 -- more on the list
 module _ (b n : SessionTold) (extra : List MerkleHash) (el : n.listed ≡ b.listed ++ extra) where

@@ -108,7 +108,7 @@ module _ (b n : SessionTold) (extra : List MerkleHash) (looks : Looks b.shards n
   pub keeps-looked : Keeps b n
   keeps-looked = record {
     tells = λ t. record { puts = subst (λ v. IsSome v.puts) (sym uploader) t.puts; shards = looks-tell b.shards n.shards looks t.shards };
-    grew = λ t. none-put b n uploader (ap (λ (z : SessionTold). z.metrics) is);
+    grew = λ t. none-put b n uploader (ap (λ (z : SessionTold). z.metrics.xorb_bytes_uploaded) is);
     stands = λ t s. stands-at n (log_of b) (known_of b) (b.listed ++ extra) (records_of b.shards.session) (ap puts_of uploader) known listed records
         (record { on_list = All-append (IsThere (log_of b) (known_of b)) b.listed extra s.on_list (there t s); described = s.described; named = s.named });
     sound = λ k t a s. sound-same k b n (ap puts_of uploader) found s;

@@ -37,7 +37,8 @@ find-kept p (x ∷ xs) ys s = go (p x) s (λ k. find-kept p xs ys k)
     go true k f = refl
     go false k f = f k
 
-stored-of : (xs : List Xorb) (x : Xorb) → Contains xs x → IsSome (find (λ y. hash_eq y.hash x.hash) xs)
+-- a xorb that is there is found
+pub stored-of : (xs : List Xorb) (x : Xorb) → Contains xs x → IsSome (find (λ y. hash_eq y.hash x.hash) xs)
 stored-of [] x c = absurd (let lt = c.1 in omega arith)
 stored-of (y ∷ ys) x c = go (hash_eq y.hash x.hash) refl (λ k. stored-of ys x k)
   where

@@ -1,6 +1,6 @@
 -- Tests of what a session's lists have.
 use Rattle.std.proofs.Common.{◌≡◌, true, false, List, [], ◌∷◌, ◌++◌, map, refl, sym, ◌∙◌, ap, subst}
-use Rattle.std.specs.Prelude.{All, Contains, None}
+use Rattle.std.specs.Prelude.{All, Contains, None, Result, Ok, Err, OnOk, OnErr}
 use Rattle.std.proofs.lemmas.List.{map-append}
 use Rattle.std.proofs.lemmas.List.Concat.{flat_map-append}
 use Rattle.std.proofs.lemmas.List.Elements.{All-nil, All-cons, All-append, All-same, All-weaker, Contains-append_left, Contains-push}
@@ -8,12 +8,13 @@ use Rattle.std.proofs.lemmas.List.Sums.{AllPass-from_list_all, list_all-from_All
 use Rattle.xet_base.specs.declared.merklehash.MerkleHash.{MerkleHash}
 use Rattle.xet_base.specs.declared.mdb_shard.MDBFileInfo.{MDBFileInfo}
 use Rattle.xet_upload.specs.Orders.{names_of}
-use Rattle.xet_upload.specs.Waitings.{Waiting, no_waiting}
+use Rattle.xet_upload.specs.Waitings.{Waiting, merged, no_waiting}
 use Rattle.xet_upload.specs.declared.raw_xorb.PendingFile.{PendingFile}
-use Rattle.xet_session.specs.Sessions.{HasListed, IsListed, SessionTold}
+use Rattle.xet_session.specs.Sessions.{HasListed, IsListed, SessionTold, waiting_names}
 use Rattle.xet_session.specs.steps.HashLists.{has}
 use Rattle.xet_session.specs.steps.Listings.{AreListed, has_all}
 use Rattle.xet_session.proofs.Hashes.{contains-has, has-contains}
+use Rattle.xet_session.proofs.Listing.{names-merged}
 
 pub all-listed : (listed hs : List MerkleHash) → has_all listed hs ≡ true → All (Contains listed) hs
 all-listed listed hs e =
@@ -79,6 +80,22 @@ module _ (l r : List MerkleHash) (fs : List MDBFileInfo) (w : Waiting) (a : AreL
   -- nothing waits
   pub are-emptied : AreListed l r fs no_waiting
   are-emptied = record { finished = a.finished; waiting = refl; put = a.put }
+
+  -- other data waits, whose xorbs are on the list
+  are-waiting : (v : Waiting) → All (Contains l) (waiting_names v.files) → AreListed l r fs v
+  are-waiting v k = record { finished = a.finished; waiting = listed-all l (waiting_names v.files) k; put = a.put }
+
+  pub are-replaced : (v u : Waiting) → u ≡ v → All (Contains l) (waiting_names v.files) → AreListed l r fs u
+  are-replaced v u e k = subst (λ (z : Waiting). AreListed l r fs z) (sym e) (are-waiting v k)
+
+  -- data joined what waits
+  are-merged : (v u : Waiting) → u ≡ merged w v → All (Contains l) (waiting_names v.files) → AreListed l r fs u
+  are-merged v u e k = subst (λ (z : Waiting). AreListed l r fs z) (sym e) (are-waiting (merged w v) (names-merged l w v (all-listed l (waiting_names w.files) a.waiting) k))
+
+  -- the same, or it was refused
+  pub are-joined : {E : Type 0} (v u : Waiting) (answer : Result (Unit {0}) E) → OnOk answer (u ≡ merged w v) → OnErr answer (u ≡ w) → All (Contains l) (waiting_names v.files) → AreListed l r fs u
+  are-joined v u (Ok t) ok err k = are-merged v u ok k
+  are-joined v u (Err e) ok err k = subst (λ (z : Waiting). AreListed l r fs z) (sym err) a
 
   -- files more, whose xorbs are on the list
   are-finished : (gs : List MDBFileInfo) → All (Contains l) (names_of gs) → AreListed l r (fs ++ gs) w

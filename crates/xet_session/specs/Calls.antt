@@ -1,6 +1,7 @@
 -- What the calls of an upload session may change, and what they answer.
 use Rattle.std.specs.Prelude.{ℕ, ◌≡◌, ◌+◌, ◌-◌, ◌^◌, ◌⊎◌, ◌<◌, ◌≤◌, min, Bool, true, false, List, [], ◌∷◌, ◌++◌, length, map, take, Contains, Option, None, Some, IfSome, is_some, option_map, Result, Ok, Err, IfOk, IfErr, OnOk, OnErr}
 use Rattle.std.specs.List.{concat, sum_by}
+use Rattle.xet_base.specs.declared.invalid.Invalid.{Invalid}
 use Rattle.xet_base.specs.declared.invalid.Invalid.TheVariants as invalid
 use Rattle.xet_base.specs.declared.merklehash.MerkleHash.{MerkleHash}
 use Rattle.xet_base.specs.declared.mdb_shard.Xorb.{Xorb}
@@ -28,12 +29,13 @@ use Rattle.xet_upload.specs.Waitings.{no_waiting, record_of_file, xorb_of_chunks
 use Rattle.xet_upload.specs.declared.data_error.DataError.{DataError}
 use Rattle.xet_upload.specs.declared.data_error.DataError.TheVariants as data_error
 use Rattle.xet_upload.specs.declared.metrics.DeduplicationMetrics.{DeduplicationMetrics}
+use Rattle.xet_session.specs.declared.cut_thresholds.CutThresholds.{CutThresholds}
 use Rattle.xet_session.specs.Sounds.{IsSound, XorbsAgree}
 use Rattle.xet_session.specs.Sessions.{HasListed, IsBackedSession, IsListed, SessionTold, Stands, Tells, known_of, log_of}
 
 -- a session in which nothing waits and nothing was put
-abbrev pub new_session : UploaderTold → InterfaceTold → Bool → SessionTold
-new_session u i q = record {
+abbrev pub new_session : UploaderTold → InterfaceTold → Bool → CutThresholds → SessionTold
+new_session u i q t = record {
   uploader = u;
   shards = i;
   waiting = no_waiting;
@@ -44,6 +46,7 @@ new_session u i q = record {
   failed = None;
   finalized = false;
   queries = q;
+  thresholds = t;
 }
 
 -- ---- why a call fails
@@ -214,7 +217,12 @@ RegisterStopped b n x now e = (n ≡ b) ⊎ WasRefused b n ⊎ WasPut b n x [] n
 abbrev pub finalized_error : DataError
 finalized_error = data_error.InvalidOperation invalid.Finalized
 
--- a xorb was registered: it was put, or one with its hash was put before and nothing changed
+-- a call was refused for another cause, and nothing changed
+abbrev pub Refuses : SessionTold → SessionTold → DataError → Type 0
+Refuses b n e = ((why : Invalid) × (e ≡ data_error.InvalidOperation why)) × (n ≡ b)
+
+-- a xorb was registered: it was put, or one with its hash was put before and nothing changed; a call that would put
+-- nothing is refused, or fails for want of memory, but never with a kept failure
 pub record Registers (b n : SessionTold) (x : Xorb) (now : ℕ) (answer : Result Bool DataError) : Type 0 where
   pub keeps : Keeps b n
   pub listed : IsListed b → n.failed ≡ None → IsListed n
@@ -235,7 +243,9 @@ pub record Registers (b n : SessionTold) (x : Xorb) (now : ℕ) (answer : Result
   pub said : b.failed ≡ None → Says n answer
   pub refused : b.finalized ≡ false → (Contains b.registered x.hash → ⊥) → 0 < length x.chunks
       → (e : ClientError) → b.failed ≡ Some e → answer ≡ Err (of_client_error e)
-  pub why : IfErr answer (λ e. ((e ≡ finalized_error) × (b.finalized ≡ true)) ⊎ PutsFail b n e)
+  pub idle : b.finalized ≡ false → (length x.chunks ≡ 0) ⊎ Contains b.registered x.hash
+      → IfErr answer (λ e. (e ≡ data_error.OutOfMemory) ⊎ Refuses b n e)
+  pub why : IfErr answer (λ e. ((e ≡ finalized_error) × (b.finalized ≡ true)) ⊎ PutsFail b n e ⊎ Refuses b n e)
 
 -- ---- searches
 
@@ -295,12 +305,23 @@ AllPut m n = Tells m → m.shards.rules.dry_run ≡ false
     → (log_of n ≡ log_of m ++ map put.Shard (shards_of n.shards))
     × (n.shards.cache.records ≡ all_with_shards m.shards.cache.records (shards_of n.shards))
 
+-- the first `count` of the shards are in the log, and the first `kept` of these in the cache, which are all but the
+-- last at least
+pub record SomePut (m n : SessionTold) : Type 0 where
+  pub count : ℕ
+  pub kept : ℕ
+  pub log : log_of n ≡ log_of m ++ map put.Shard (take count (shards_of n.shards))
+  pub cached : n.shards.cache.records ≡ all_with_shards m.shards.cache.records (take kept (shards_of n.shards))
+  pub fewer : kept ≤ count
+  pub close : count ≤ kept + 1
+
 -- the records of the finished files, alone
 abbrev pub finished_records : SessionTold → ShardRecord
 finished_records m = record { xorbs = []; files = m.finished }
 
 -- the end after the cut: the finished files' records came behind those of the session, and then all were put as
--- shards; an error leaves some of it undone, and the resumed records are forgotten only where all was put
+-- shards; an error leaves the rest undone from where it came, and the resumed records are forgotten only where all was
+-- put
 pub record EndsCut {A : Type 0} (m n : SessionTold) (answer : Result A DataError) : Type 0 where
   pub same : n ≡ record m { uploader = n.uploader; shards = n.shards; metrics = n.metrics; failed = n.failed }
   pub stores : n.shards ≡ record m.shards {
@@ -309,6 +330,7 @@ pub record EndsCut {A : Type 0} (m n : SessionTold) (answer : Result A DataError
     cache = n.shards.cache;
   }
   pub all : OnOk answer (AllPut m n)
+  pub some : Tells m → SomePut m n
   pub recorded : OnOk answer (n.shards.session.records
       ≡ option_map (λ r. with_records r (finished_records m)) m.shards.session.records)
   pub records : (n.shards.session.records ≡ m.shards.session.records) ⊎ (n.shards.session.records

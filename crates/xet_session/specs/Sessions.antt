@@ -14,6 +14,7 @@ use Rattle.xet_upload.specs.declared.metrics.DeduplicationMetrics.{Deduplication
 use Rattle.xet_upload.specs.declared.waiting.TermXorb.{TermXorb}
 use Rattle.xet_upload.specs.declared.waiting.TermXorb.TheVariants.{Own, Stored}
 use Rattle.xet_upload.specs.declared.waiting.WaitingFile.{WaitingFile}
+use Rattle.xet_session.specs.declared.cut_thresholds.CutThresholds.{CutThresholds}
 
 -- what the session's uploader and stores tell, and its own data
 pub record SessionTold : Type 0 where
@@ -31,6 +32,8 @@ pub record SessionTold : Type 0 where
   pub finalized : Bool
   -- whether the uploader may be asked for records
   pub queries : Bool
+  -- up to where the data of a file and what waits stay one
+  pub thresholds : CutThresholds
 
 -- uploader and stores tell
 pub record Tells (t : SessionTold) : Type 0 where

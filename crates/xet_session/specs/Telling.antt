@@ -21,4 +21,5 @@ told_by u r s = record {
   failed = s.failed;
   finalized = s.finalized;
   queries = s.queries_enabled;
+  thresholds = s.thresholds;
 }

@@ -2,16 +2,20 @@
 ghost use Rattle.std.specs.Prelude.{◌≡◌, ◌++◌, ◌∷◌, [], List, OnErr, OnOk, vec_capacity, vec_len};
 ghost use Rattle.xet_base.specs.declared.merklehash.MerkleHash.{MerkleHash};
 ghost use Rattle.xet_base.specs.Records.{Describes};
+ghost use Rattle.xet_progress.specs.declared.step.TrackerStep.{TrackerStep};
+ghost use Rattle.xet_progress.specs.declared.step.TrackerStep.TheVariants.{RegisterDependencies};
 ghost use Rattle.xet_session.specs.Calls.{Backs, Queries};
 ghost use Rattle.xet_session.specs.Learnings.{Completes, Learns, RegistersSo};
 ghost use Rattle.xet_session.specs.Sessions.{SessionTold};
 ghost use Rattle.xet_session.specs.Telling.{told_by};
+ghost use Rattle.xet_session.specs.Trackings.{Tracks, TracksXorb, xorb_calls};
 
 use crate::session::FileUploadSession;
 use std::alloc::Global;
 use std::mem;
 use std::sync::Wait;
 use xet_base::{FileDataSequenceEntry, MerkleHash};
+use xet_progress::FileXorbDependency;
 use xet_shards::ShardStore;
 use xet_upload::{DataError, RawXorbData};
 use xet_uploader::Uploader;
@@ -24,6 +28,8 @@ pub trait DeduplicationDataInterface {
     ghost told: { Self → SessionTold };
     /// The chunks of the pending queries, in the order in which they were registered.
     ghost pending: { Self → List MerkleHash };
+    /// The calls that the session's tracker accepted.
+    ghost tracked: { Self → List TrackerStep };
 
     /// A run of chunks with these hashes, how many of them, and whether the session did not add the record.
     ///
@@ -35,7 +41,8 @@ pub trait DeduplicationDataInterface {
     ) -> Result<Option<(usize, FileDataSequenceEntry, bool)>, DataError>
         ensures call { Queries (told self.old) (told self.new) query_hashes.now result }
         ensures backs { Backs (told self.old) (told self.new) }
-        ensures waits { pending self.new ≡ pending self.old };
+        ensures waits { pending self.new ≡ pending self.old }
+        ensures untold { tracked self.new ≡ tracked self.old };
 
     /// A query for records that know the chunk is pending. `OutOfMemory` where an allocation was refused; then nothing
     /// changed.
@@ -45,7 +52,8 @@ pub trait DeduplicationDataInterface {
         ensures same { told self.new ≡ told self.old }
         ensures ok { OnOk result (pending self.new ≡ pending self.old ++ chunk_hash ∷ []) }
         ensures err { OnErr result (pending self.new ≡ pending self.old) }
-        ensures memory { OnErr result (result ≡ Err DataError.OutOfMemory) };
+        ensures memory { OnErr result (result ≡ Err DataError.OutOfMemory) }
+        ensures untold { tracked self.new ≡ tracked self.old };
 
     /// Makes the pending queries, after which none is pending. It tells whether one of them found records. Where
     /// queries are not enabled it answers false, and nothing changed.
@@ -54,9 +62,11 @@ pub trait DeduplicationDataInterface {
     ///
     /// In the Rust crates: `DeduplicationDataInterface::complete_global_dedup_queries`.
     fn complete_global_dedup_queries(&mut self, alloc: Global) -> Result<bool, DataError>
-        ensures call { Completes (told self.old) (told self.new) (pending self.old) (pending self.new) result };
+        ensures call { Completes (told self.old) (told self.new) (pending self.old) (pending self.new) result }
+        ensures untold { tracked self.new ≡ tracked self.old };
 
-    /// Puts a xorb with its record, unless one with the hash was put before. `now` is a moment in seconds.
+    /// Puts a xorb with its record, unless one with the hash was put before, and tells the tracker of it. `now` is a
+    /// moment in seconds. Each `InvalidOperation` but `Finalized` is the tracker's refusal.
     ///
     /// In the Rust crates: `DeduplicationDataInterface::register_new_xorb`.
     fn register_new_xorb<W: Wait>(
@@ -68,7 +78,24 @@ pub trait DeduplicationDataInterface {
     ) -> Result<(), DataError>
         requires { Describes xorb.xorb_info xorb.xorb }
         ensures call { RegistersSo (told self.old) (told self.new) xorb.xorb now result }
+        ensures tracks { TracksXorb (tracked self.old) (tracked self.new)
+            (xorb_calls (told self.old).registered xorb.xorb []) xorb.xorb result }
         ensures backs { Backs (told self.old) (told self.new) }
+        ensures waits { pending self.new ≡ pending self.old };
+
+    /// Tells the tracker what files have in xorbs: all of it or nothing. `InvalidOperation` exactly where the tracker
+    /// refuses it, and `OutOfMemory` where an allocation was refused.
+    ///
+    /// In the Rust crates: `DeduplicationDataInterface::register_xorb_dependencies`.
+    fn register_xorb_dependencies<W: Wait>(
+        &mut self,
+        rt: &W,
+        alloc: Global,
+        dependencies: &[FileXorbDependency],
+    ) -> Result<(), DataError>
+        ensures same { told self.new ≡ told self.old }
+        ensures tracks { Tracks (tracked self.old) (tracked self.new) (RegisterDependencies dependencies.now ∷ [])
+            result }
         ensures waits { pending self.new ≡ pending self.old };
 }
 
@@ -104,6 +131,8 @@ impl<'a, U: Uploader, R: ShardStore> DeduplicationDataInterface
 
     ghost pending = { λ m. m.pending.items };
 
+    ghost tracked = { λ m. m.session.now.files.tracker };
+
     fn chunk_hash_dedup_query(
         &mut self,
         alloc: Global,
@@ -114,6 +143,7 @@ impl<'a, U: Uploader, R: ShardStore> DeduplicationDataInterface
         ensures backs { Backs (told_by U.told R.told self.old.session.now)
             (told_by U.told R.told self.new.session.now) }
         ensures waits { self.new.pending.items ≡ self.old.pending.items }
+        ensures untold { self.new.session.now.files.tracker ≡ self.old.session.now.files.tracker }
         ensures same_session { self.new.session.ghost_name ≡ self.old.session.ghost_name }
     {
         self.session.chunk_hash_dedup_query(alloc, query_hashes)
@@ -124,6 +154,7 @@ impl<'a, U: Uploader, R: ShardStore> DeduplicationDataInterface
         ensures ok { OnOk result (self.new.pending.items ≡ self.old.pending.items ++ chunk_hash ∷ []) }
         ensures err { OnErr result (self.new.pending.items ≡ self.old.pending.items) }
         ensures memory { OnErr result (result ≡ Err DataError.OutOfMemory) }
+        ensures untold { self.new.session.now.files.tracker ≡ self.old.session.now.files.tracker }
         ensures same_session { self.new.session.ghost_name ≡ self.old.session.ghost_name }
     {
         if self.pending.push(chunk_hash).is_err() {
@@ -135,6 +166,7 @@ impl<'a, U: Uploader, R: ShardStore> DeduplicationDataInterface
     fn complete_global_dedup_queries(&mut self, alloc: Global) -> Result<bool, DataError>
         ensures call { Completes (told_by U.told R.told self.old.session.now)
             (told_by U.told R.told self.new.session.now) self.old.pending.items self.new.pending.items result }
+        ensures untold { self.new.session.now.files.tracker ≡ self.old.session.now.files.tracker }
         ensures same_session { self.new.session.ghost_name ≡ self.old.session.ghost_name }
     {
         if !self.session.asks_queries() {
@@ -154,15 +186,33 @@ impl<'a, U: Uploader, R: ShardStore> DeduplicationDataInterface
         requires { Describes xorb.xorb_info xorb.xorb }
         ensures call { RegistersSo (told_by U.told R.told self.old.session.now)
             (told_by U.told R.told self.new.session.now) xorb.xorb now result }
+        ensures tracks { TracksXorb self.old.session.now.files.tracker self.new.session.now.files.tracker
+            (xorb_calls self.old.session.now.registered.hashes.items xorb.xorb []) xorb.xorb result }
         ensures backs { Backs (told_by U.told R.told self.old.session.now)
             (told_by U.told R.told self.new.session.now) }
         ensures waits { self.new.pending.items ≡ self.old.pending.items }
         ensures same_session { self.new.session.ghost_name ≡ self.old.session.ghost_name }
     {
-        match self.session.register_new_xorb(rt, alloc, xorb, now) {
+        match self.session.register_new_xorb(rt, alloc, xorb, &[], now) {
             Ok(_new) => Ok(()),
             Err(error) => Err(error),
         }
+    }
+
+    fn register_xorb_dependencies<W: Wait>(
+        &mut self,
+        rt: &W,
+        alloc: Global,
+        dependencies: &[FileXorbDependency],
+    ) -> Result<(), DataError>
+        ensures same { told_by U.told R.told self.new.session.now ≡ told_by U.told R.told self.old.session.now }
+        ensures tracks { Tracks self.old.session.now.files.tracker self.new.session.now.files.tracker
+            (RegisterDependencies dependencies.now ∷ []) result }
+        ensures waits { self.new.pending.items ≡ self.old.pending.items }
+        ensures same_session { self.new.session.ghost_name ≡ self.old.session.ghost_name }
+    {
+        self.session
+            .register_xorb_dependencies(rt, alloc, dependencies)
     }
 }
 
@@ -174,6 +224,7 @@ fn ask_each<U: Uploader, R: ShardStore>(
 ) -> Result<bool, DataError>
     ensures learns { Learns (told_by U.told R.told session.old) (told_by U.told R.told session.new) chunks.now result }
     ensures backs { Backs (told_by U.told R.told session.old) (told_by U.told R.told session.new) }
+    ensures untold { session.new.files.tracker ≡ session.old.files.tracker }
 {
     let mut found = false;
     for chunk in chunks {

@@ -1,28 +1,39 @@
 //! An upload session.
-ghost use Rattle.std.specs.Prelude.{◌≡◌, ◌+◌, ◌++◌, ◌<◌, ◌≤◌, ◌⊎◌, ◌∷◌, [], All, Contains, IfOk, None, OnOk, false, length, map, option_map, true, vec_capacity, vec_len};
+ghost use Rattle.std.specs.Prelude.{◌≡◌, ◌+◌, ◌++◌, ◌<◌, ◌≤◌, ◌⊎◌, ◌∷◌, [], All, Contains, IfErr, IfOk, IfSome, None, OnErr, OnOk, Some, false, length, map, option_map, true, vec_capacity, vec_len};
 ghost use Rattle.xet_base.specs.Records.{Describes};
 ghost use Rattle.xet_progress.specs.Group.{group_sums, item_of, reports_of};
 ghost use Rattle.xet_progress.specs.Held.{Held};
 ghost use Rattle.xet_progress.specs.Items.{report_of};
+ghost use Rattle.xet_progress.specs.declared.step.TrackerStep.TheVariants.{IncrementFileSize, RegisterDependencies, RegisterNewFile};
+ghost use Rattle.xet_progress.specs.Counts.{sizes};
 ghost use Rattle.xet_shard_interface.specs.Interfaces.{ListsFiles, Searches, new_interface, records_of, rules_of, shards_told};
 ghost use Rattle.xet_upload.specs.Orders.{names_of};
+ghost use Rattle.xet_upload.specs.Waitings.{IsWithin, merged};
 ghost use Rattle.xet_shards.specs.Shards.{no_records};
-ghost use Rattle.xet_session.specs.Calls.{Backs, Counted, Cut, Finalizes, HasFiles, Queries, Registers, end_counts, new_session};
-ghost use Rattle.xet_session.specs.Sessions.{IsBackedSession};
+ghost use Rattle.xet_session.specs.Calls.{Backs, Counted, Cut, Finalizes, HasFiles, Keeps, PutsFail, Queries, Registers, end_counts, new_session};
+ghost use Rattle.xet_session.specs.Completions.{thresholds_of, with_file_counts};
+ghost use Rattle.xet_session.specs.Sessions.{HasListed, IsBackedSession, waiting_names};
+ghost use Rattle.xet_session.specs.Trackings.{MaybeCompleted, StartsFile, Tracks, TracksXorb, xorb_calls};
 ghost use Rattle.xet_session.specs.steps.Listings.{AreListed};
 ghost use Rattle.xet_session.specs.steps.SessionSteps.{AddedFinished, AddedRecord, AsksFor, OnList, PutFinished, PutGiven, PutRaw, PutRecords, TookWaiting};
 
+use crate::cut_thresholds::CutThresholds;
+use crate::file_tracker::FileTracker;
 use crate::hash_list::HashList;
 use std::alloc::Global;
 use std::collections::BTreeMap;
+use std::mem;
 use std::sync::{Arc, Wait};
 use xet_base::{
-    FileDataSequenceEntry, Invalid, List, MDBFileInfo, MDBXorbInfo, MerkleHash, OutOfMemory,
-    UniqueID,
+    FileDataSequenceEntry, IdSource, Invalid, List, MDBFileInfo, MDBXorbInfo, MerkleHash,
+    OutOfMemory, UniqueID, Xorb,
 };
 use xet_outside::ClientError;
 use xet_pointer::TranslatorConfig;
-use xet_progress::{GroupProgress, GroupProgressReport, ItemProgressReport};
+use xet_progress::{
+    FileXorbDependency, GroupProgress, GroupProgressReport, ItemProgressReport,
+    ItemProgressUpdater, ProgressError,
+};
 use xet_shard_interface::{SessionShardInterface, SessionStores};
 use xet_shards::ShardStore;
 use xet_upload::{DataAggregator, DataError, DeduplicationMetrics, PendingFile, RawXorbData};
@@ -49,8 +60,14 @@ pub struct FileUploadSession<U: Uploader, R: ShardStore> {
     finalized: bool,
     // whether the uploader may be asked for records
     queries_enabled: bool,
-    // the sizes of the xorbs, and how many of their bytes were put
+    // up to where the data of a file and what waits stay one
+    thresholds: CutThresholds,
+    // the sizes of the xorbs, how many of their bytes were put, and the items of the files
     progress: Arc<GroupProgress>,
+    // the ids of the items
+    ids: IdSource,
+    // the files and the xorbs, and what the files have in these
+    files: FileTracker,
     // what is named is on the list, unless a failed put is kept or the session is finalized
     ghost lists: { failed ≡ None → finalized ≡ false
         → AreListed listed.hashes.items registered.hashes.items (map (λ p. p.info) finished.items) waiting },
@@ -70,6 +87,7 @@ impl<U: Uploader, R: ShardStore> FileUploadSession<U, R> {
         config: &TranslatorConfig,
         uploader: U,
         stores: SessionStores<R>,
+        ids: IdSource,
         now: u64,
     ) -> Result<FileUploadSession<U, R>, OutOfMemory>
     where
@@ -77,12 +95,14 @@ impl<U: Uploader, R: ShardStore> FileUploadSession<U, R> {
         R: Drop,
         ensures told { IfOk result (λ session. told_by U.told R.told session
             ≡ new_session (U.told uploader) (new_interface R.told (rules_of config.now false) stores now)
-            config.now.global_dedup_query_enabled) }
+            config.now.global_dedup_query_enabled (thresholds_of config.now)) }
         ensures backed { IfOk result (λ session. records_of (R.told stores.session) ≡ no_records
             → IsBackedSession (told_by U.told R.told session)) }
     {
         let shards = SessionShardInterface::new(alloc, config, stores, false, now);
-        FileUploadSession::over(alloc, uploader, shards, config.global_dedup_query_enabled)
+        let thresholds = CutThresholds::of(config);
+        let queries_enabled = config.global_dedup_query_enabled;
+        FileUploadSession::over(alloc, uploader, shards, ids, queries_enabled, thresholds)
     }
 
     /// The same, but that it puts no records and uses no resumed ones.
@@ -93,6 +113,7 @@ impl<U: Uploader, R: ShardStore> FileUploadSession<U, R> {
         config: &TranslatorConfig,
         uploader: U,
         stores: SessionStores<R>,
+        ids: IdSource,
         now: u64,
     ) -> Result<FileUploadSession<U, R>, OutOfMemory>
     where
@@ -100,12 +121,14 @@ impl<U: Uploader, R: ShardStore> FileUploadSession<U, R> {
         R: Drop,
         ensures told { IfOk result (λ session. told_by U.told R.told session
             ≡ new_session (U.told uploader) (new_interface R.told (rules_of config.now true) stores now)
-            config.now.global_dedup_query_enabled) }
+            config.now.global_dedup_query_enabled (thresholds_of config.now)) }
         ensures backed { IfOk result (λ session. records_of (R.told stores.session) ≡ no_records
             → IsBackedSession (told_by U.told R.told session)) }
     {
         let shards = SessionShardInterface::new(alloc, config, stores, true, now);
-        FileUploadSession::over(alloc, uploader, shards, config.global_dedup_query_enabled)
+        let thresholds = CutThresholds::of(config);
+        let queries_enabled = config.global_dedup_query_enabled;
+        FileUploadSession::over(alloc, uploader, shards, ids, queries_enabled, thresholds)
     }
 
     // A session over these in which nothing waits.
@@ -113,13 +136,15 @@ impl<U: Uploader, R: ShardStore> FileUploadSession<U, R> {
         alloc: Global,
         uploader: U,
         shards: SessionShardInterface<R>,
+        ids: IdSource,
         queries_enabled: bool,
+        thresholds: CutThresholds,
     ) -> Result<FileUploadSession<U, R>, OutOfMemory>
     where
         U: Drop,
         R: Drop,
         ensures { IfOk result (λ session. told_by U.told R.told session
-            ≡ new_session (U.told uploader) (shards_told R.told shards) queries_enabled) }
+            ≡ new_session (U.told uploader) (shards_told R.told shards) queries_enabled thresholds) }
     {
         let progress = GroupProgress::new(alloc)?;
         Ok(FileUploadSession {
@@ -133,7 +158,10 @@ impl<U: Uploader, R: ShardStore> FileUploadSession<U, R> {
             failed: None,
             finalized: false,
             queries_enabled,
+            thresholds,
             progress,
+            ids,
+            files: FileTracker::new(alloc),
         })
     }
 
@@ -155,7 +183,8 @@ impl<U: Uploader, R: ShardStore> FileUploadSession<U, R> {
     }
 
     // Puts a xorb. Its hash comes onto the lists and its bytes are counted, or the failure is kept. Its size is
-    // reported before, and as completed after; a refused report changes nothing.
+    // reported before, and as completed after, and the tracker is told that it was put; a refused report changes
+    // nothing.
     fn put_raw<W: Wait>(
         &mut self,
         rt: &W,
@@ -167,12 +196,14 @@ impl<U: Uploader, R: ShardStore> FileUploadSession<U, R> {
         requires unfailed { self.old.failed ≡ None }
         ensures call { PutRaw (told_by U.told R.told self.old) (told_by U.told R.told self.new) raw.now.xorb result }
         ensures files { self.new.finished ≡ self.old.finished }
+        ensures tracked { MaybeCompleted self.old.files.tracker self.new.files.tracker raw.now.xorb.hash }
     {
         let size = raw.num_bytes();
         let _ = self.progress.add_transfer(rt, size, 0);
         match self.uploader.put_xorb(alloc, &raw.xorb) {
             Ok(sent) => {
                 let _ = self.progress.add_transfer(rt, 0, size);
+                self.files.complete(rt, &raw.xorb.hash);
                 self.listed.push_reserved(raw.xorb.hash);
                 self.registered.push_reserved(raw.xorb.hash);
                 let bytes = self.metrics.xorb_bytes_uploaded.saturating_add(sent);
@@ -205,9 +236,10 @@ impl<U: Uploader, R: ShardStore> FileUploadSession<U, R> {
         requires space { vec_len self.old.finished + length files ≤ vec_capacity self.old.finished }
         requires named { self.old.failed ≡ None → self.old.finalized ≡ false
             → All (Contains self.old.listed.hashes.items) (names_of (map (λ p. p.info) files)) }
-        ensures { told_by U.told R.told self.new ≡ record (told_by U.told R.told self.old) {
+        ensures call { told_by U.told R.told self.new ≡ record (told_by U.told R.told self.old) {
           finished = map (λ p. p.info) self.old.finished.items ++ map (λ p. p.info) files;
         } }
+        ensures untold { self.new.files.tracker ≡ self.old.files.tracker }
     {
         let mut files = files.into_inner();
         append_reserved(&mut self.finished, &mut files);
@@ -215,7 +247,9 @@ impl<U: Uploader, R: ShardStore> FileUploadSession<U, R> {
 
     // Adds the record of a xorb that was put to those of the session, and keeps it for staging.
     fn add_record(&mut self, alloc: Global, info: &MDBXorbInfo, now: u64) -> Result<(), DataError>
-        ensures { AddedRecord (told_by U.told R.told self.old) (told_by U.told R.told self.new) info.now now result }
+        ensures call { AddedRecord (told_by U.told R.told self.old) (told_by U.told R.told self.new) info.now now
+            result }
+        ensures untold { self.new.files.tracker ≡ self.old.files.tracker }
     {
         self.shards.add_xorb_block(alloc, info)?;
         self.shards.add_uploaded_xorb_block(alloc, info, now)
@@ -237,8 +271,9 @@ impl<U: Uploader, R: ShardStore> FileUploadSession<U, R> {
         requires named { self.old.finalized ≡ false
             → All (Contains (self.old.listed.hashes.items ++ raw.xorb.hash ∷ [])) (names_of (map (λ p. p.info) files)) }
         requires describes { Describes raw.xorb_info raw.xorb }
-        ensures { PutFinished (told_by U.told R.told self.old) (told_by U.told R.told self.new)
+        ensures call { PutFinished (told_by U.told R.told self.old) (told_by U.told R.told self.new)
             raw.xorb (map (λ p. p.info) files) now result }
+        ensures tracked { MaybeCompleted self.old.files.tracker self.new.files.tracker raw.xorb.hash }
     {
         self.put_raw(rt, alloc, &raw)?;
         self.finish_files(files);
@@ -255,8 +290,8 @@ impl<U: Uploader, R: ShardStore> FileUploadSession<U, R> {
     }
 
     // What waits becomes a xorb, which is put, and its files are finished. Data without chunks puts nothing, nor does
-    // data whose xorb was put before.
-    fn cut<W: Wait>(&mut self, rt: &W, alloc: Global, now: u64) -> Result<(), DataError>
+    // data whose xorb was put before. The tracker is told of it; a refusal changes nothing.
+    pub(crate) fn cut<W: Wait>(&mut self, rt: &W, alloc: Global, now: u64) -> Result<(), DataError>
         ensures { Cut (told_by U.told R.told self.old) (told_by U.told R.told self.new) now result }
     {
         if let Some(error) = self.failed {
@@ -264,11 +299,92 @@ impl<U: Uploader, R: ShardStore> FileUploadSession<U, R> {
         }
         let chunks = self.waiting.num_chunks();
         let (raw, files) = self.take_waiting(alloc)?;
+        self.files
+            .register_cut(rt, alloc, &raw, files.as_slice(), &self.registered);
         if self.is_new(chunks, &raw.xorb.hash) {
             return self.put_finished(rt, alloc, raw, files, now);
         }
         self.finish_files(files);
         Ok(())
+    }
+
+    // What waits.
+    pub(crate) fn waiting(&self) -> &DataAggregator
+        ensures { result.now ≡ self.now.waiting }
+    {
+        &self.waiting
+    }
+
+    // Other data waits, whose xorbs are on the list. It gives what waited.
+    pub(crate) fn replace_waiting(&mut self, file_data: DataAggregator) -> DataAggregator
+        requires named { self.old.failed ≡ None → self.old.finalized ≡ false
+            → All (Contains self.old.listed.hashes.items) (waiting_names file_data.files) }
+        ensures same { told_by U.told R.told self.new
+            ≡ record (told_by U.told R.told self.old) { waiting = file_data } }
+        ensures is { result ≡ self.old.waiting }
+    {
+        mem::replace(&mut self.waiting, file_data)
+    }
+
+    // Data joins what waits; its xorbs are on the list. A refused call changes nothing.
+    pub(crate) fn merge_waiting(
+        &mut self,
+        alloc: Global,
+        file_data: DataAggregator,
+    ) -> Result<(), OutOfMemory>
+        requires within { IsWithin (self.old.waiting.chunks ++ file_data.chunks) }
+        requires named { self.old.failed ≡ None → self.old.finalized ≡ false
+            → All (Contains self.old.listed.hashes.items) (waiting_names file_data.files) }
+        ensures ok { OnOk result (told_by U.told R.told self.new
+            ≡ record (told_by U.told R.told self.old) { waiting = merged self.old.waiting file_data }) }
+        ensures err { OnErr result (told_by U.told R.told self.new ≡ told_by U.told R.told self.old) }
+    {
+        self.waiting.merge_in(alloc, file_data)
+    }
+
+    // Up to where data and what waits stay one.
+    pub(crate) fn thresholds(&self) -> CutThresholds
+        ensures { result ≡ self.now.thresholds }
+    {
+        self.thresholds
+    }
+
+    /// Adds the counts of the chunks of a file to those of the session; each sum stops at `u64::MAX`. The counts of what
+    /// was uploaded stay.
+    ///
+    /// In the Rust crate xet-data: a part of `FileUploadSession::register_single_file_clean_completion`.
+    pub fn merge_file_metrics(&mut self, counts: &DeduplicationMetrics)
+        ensures counted { told_by U.told R.told self.new ≡ record (told_by U.told R.told self.old) {
+          metrics = with_file_counts self.old.metrics counts.now;
+        } }
+        ensures keeps { Keeps (told_by U.told R.told self.old) (told_by U.told R.told self.new) }
+        ensures backs { Backs (told_by U.told R.told self.old) (told_by U.told R.told self.new) }
+    {
+        let before = self.metrics;
+        self.metrics.merge_in(counts);
+        self.metrics.xorb_bytes_uploaded = before.xorb_bytes_uploaded;
+        self.metrics.shard_bytes_uploaded = before.shard_bytes_uploaded;
+        self.metrics.total_bytes_uploaded = before.total_bytes_uploaded;
+    }
+
+    /// Whether the session is finalized.
+    ///
+    /// It has no source in the Rust crates.
+    pub fn is_finalized(&self) -> bool
+        ensures is { result ≡ self.now.finalized }
+        ensures listed { HasListed (told_by U.told R.told self.now) }
+    {
+        self.finalized
+    }
+
+    /// Whether the xorb is on the session's list: it was put, or a query found it.
+    ///
+    /// It has no source in the Rust crates.
+    pub fn lists(&self, xorb: &MerkleHash) -> bool
+        ensures yes { result ≡ true → Contains self.now.listed.hashes.items xorb.now }
+        ensures no { result ≡ false → Contains self.now.listed.hashes.items xorb.now → ⊥ }
+    {
+        self.listed.contains(xorb)
     }
 
     /// Cuts what waits as a xorb and puts it. It does not ask whether the session is finalized. `now` is a moment in
@@ -295,18 +411,92 @@ impl<U: Uploader, R: ShardStore> FileUploadSession<U, R> {
     ) -> Result<(), DataError>
         requires unfailed { self.old.failed ≡ None }
         requires describes { Describes raw.xorb_info raw.xorb }
-        ensures { PutGiven (told_by U.told R.told self.old) (told_by U.told R.told self.new) raw.xorb now result }
+        ensures call { PutGiven (told_by U.told R.told self.old) (told_by U.told R.told self.new) raw.xorb now result }
+        ensures tracked { MaybeCompleted self.old.files.tracker self.new.files.tracker raw.xorb.hash }
     {
         self.listed.reserve(1)?;
         self.registered.reserve(1)?;
         self.put_finished(rt, alloc, raw, List::new(alloc), now)
     }
 
-    /// Puts a xorb with its record, unless one with the hash was put before: then it answers false and changes nothing.
-    /// A xorb without chunks is put nowhere. `now` is a moment in seconds.
+    // The failure that is kept, where the xorb would be put.
+    fn kept_failure(&self, xorb: &Xorb) -> Option<ClientError>
+        ensures some { IfSome result (λ e. (self.now.failed ≡ Some e) × (0 < length xorb.now.chunks)
+            × (Contains self.now.registered.hashes.items xorb.now.hash → ⊥)) }
+        ensures none { result ≡ None → (Contains self.now.registered.hashes.items xorb.now.hash → ⊥)
+            → 0 < length xorb.now.chunks → self.now.failed ≡ None }
+    {
+        if xorb.chunks.len() == 0 {
+            return None;
+        }
+        if self.registered.contains(&xorb.hash) {
+            return None;
+        }
+        self.failed
+    }
+
+    // Tells the tracker of a xorb where none of its hash was put before, and then of what files have in xorbs.
+    fn track_xorb<W: Wait>(
+        &mut self,
+        rt: &W,
+        alloc: Global,
+        raw: &RawXorbData,
+        dependencies: &[FileXorbDependency],
+    ) -> Result<(), DataError>
+        requires { Describes raw.now.xorb_info raw.now.xorb }
+        ensures same { told_by U.told R.told self.new ≡ told_by U.told R.told self.old }
+        ensures tracks { Tracks self.old.files.tracker self.new.files.tracker
+            (xorb_calls self.old.registered.hashes.items raw.now.xorb dependencies.now) result }
+    {
+        if self.registered.contains(&raw.xorb.hash) {
+            return self.register_xorb_dependencies(rt, alloc, dependencies);
+        }
+        match self
+            .files
+            .register_xorb(alloc, raw.xorb.hash, raw.num_bytes())
+        {
+            Ok(_new) => self.register_xorb_dependencies(rt, alloc, dependencies),
+            Err(error) => Err(DataError::from(error)),
+        }
+    }
+
+    // Puts a xorb with its record, unless it has no chunks or one with the hash was put before.
+    fn put_new<W: Wait>(
+        &mut self,
+        rt: &W,
+        alloc: Global,
+        raw: RawXorbData,
+        now: u64,
+    ) -> Result<bool, DataError>
+        requires first { self.old.finalized ≡ false }
+        requires unfailed { (Contains self.old.registered.hashes.items raw.xorb.hash → ⊥)
+            → 0 < length raw.xorb.chunks → self.old.failed ≡ None }
+        requires describes { Describes raw.xorb_info raw.xorb }
+        ensures call { Registers (told_by U.told R.told self.old) (told_by U.told R.told self.new)
+            raw.xorb now result }
+        ensures why { IfErr result (PutsFail (told_by U.told R.told self.old) (told_by U.told R.told self.new)) }
+        ensures tracked { MaybeCompleted self.old.files.tracker self.new.files.tracker raw.xorb.hash }
+    {
+        if self.registered.contains(&raw.xorb.hash) {
+            return Ok(false);
+        }
+        if raw.xorb.chunks.len() == 0 {
+            self.files.complete(rt, &raw.xorb.hash);
+            return Ok(true);
+        }
+        self.put_given(rt, alloc, raw, now)?;
+        Ok(true)
+    }
+
+    /// Puts a xorb with its record, unless one with the hash was put before: then it answers false and puts nothing.
+    /// A xorb without chunks is put nowhere. The tracker is told of the xorb where it is new, and of what files have in
+    /// xorbs, before the put. `now` is a moment in seconds.
     ///
-    /// `Finalized` exactly where the session is finalized. After a put that failed it answers so, and puts nothing:
-    /// `ClientError` where the uploader failed. `IOError` comes only where a store of records failed.
+    /// `Finalized` exactly where the session is finalized. After a put that failed it answers so where it would put,
+    /// and puts nothing: `ClientError` where the uploader failed. Each other `InvalidOperation` is the tracker's
+    /// refusal, and nothing was put: `OtherSize` or `SumTooGreat` by the xorb's size, then `UnknownFile` or `PastTotal`
+    /// by the dependencies.
+    /// `IOError` comes only where a store of records failed.
     ///
     /// In the Rust crate xet-data: `FileUploadSession::register_new_xorb`.
     pub fn register_new_xorb<W: Wait>(
@@ -314,33 +504,138 @@ impl<U: Uploader, R: ShardStore> FileUploadSession<U, R> {
         rt: &W,
         alloc: Global,
         raw: RawXorbData,
+        file_dependencies: &[FileXorbDependency],
         now: u64,
     ) -> Result<bool, DataError>
         requires { Describes raw.xorb_info raw.xorb }
         ensures call { Registers (told_by U.told R.told self.old) (told_by U.told R.told self.new)
             raw.xorb now result }
+        ensures tracks { TracksXorb self.old.files.tracker self.new.files.tracker
+            (xorb_calls self.old.registered.hashes.items raw.xorb file_dependencies.now) raw.xorb result }
         ensures backs { Backs (told_by U.told R.told self.old) (told_by U.told R.told self.new) }
     {
         if self.finalized {
             return Err(DataError::InvalidOperation(Invalid::Finalized));
         }
-        if self.registered.contains(&raw.xorb.hash) {
-            return Ok(false);
-        }
-        if raw.xorb.chunks.len() == 0 {
-            return Ok(true);
-        }
-        if let Some(error) = self.failed {
+        if let Some(error) = self.kept_failure(&raw.xorb) {
             return Err(DataError::from(error));
         }
-        self.put_given(rt, alloc, raw, now)?;
-        Ok(true)
+        self.track_xorb(rt, alloc, &raw, file_dependencies)?;
+        self.put_new(rt, alloc, raw, now)
+    }
+
+    /// Tells the tracker what files have in xorbs: all of it or nothing.
+    ///
+    /// `InvalidOperation` exactly where the tracker refuses it: `UnknownFile` where one names no file, else `PastTotal`
+    /// where a file's dependencies would pass its size. `OutOfMemory` where an allocation was refused.
+    ///
+    /// In the Rust crate xet-data: `FileUploadSession::register_xorb_dependencies`.
+    pub fn register_xorb_dependencies<W: Wait>(
+        &mut self,
+        rt: &W,
+        alloc: Global,
+        dependencies: &[FileXorbDependency],
+    ) -> Result<(), DataError>
+        ensures same { told_by U.told R.told self.new ≡ told_by U.told R.told self.old }
+        ensures tracks { Tracks self.old.files.tracker self.new.files.tracker
+            (RegisterDependencies dependencies.now ∷ []) result }
+    {
+        match self.files.depend(rt, alloc, dependencies, &self.registered) {
+            Ok(()) => Ok(()),
+            Err(error) => Err(DataError::from(error)),
+        }
+    }
+
+    // An item of the session's group with this id and name; a group that has one with the id goes on with it.
+    fn make_item<W: Wait>(
+        &self,
+        rt: &W,
+        alloc: Global,
+        id: UniqueID,
+        name: &str,
+    ) -> Result<ItemProgressUpdater, OutOfMemory> {
+        match GroupProgress::new_item(&self.progress, rt, alloc, id, name) {
+            Ok(item) => Ok(item),
+            Err(ProgressError::OutOfMemory) => Err(OutOfMemory),
+            Err(ProgressError::InvalidOperation(_)) => GroupProgress::updater(&self.progress, id),
+        }
+    }
+
+    // Begins a file with this id.
+    fn add_file<W: Wait>(
+        &mut self,
+        rt: &W,
+        alloc: Global,
+        id: UniqueID,
+        name: &str,
+        size: Option<u64>,
+    ) -> Result<(UniqueID, u64), DataError>
+        ensures same { told_by U.told R.told self.new ≡ told_by U.told R.told self.old }
+        ensures ids { self.new.ids ≡ self.old.ids }
+        ensures tracks { Tracks self.old.files.tracker self.new.files.tracker (RegisterNewFile size ∷ []) result }
+        ensures id { IfOk result (λ r. r.0 ≡ id) }
+        ensures number { IfOk result (λ r. r.1 ≡ length (sizes self.old.files.tracker)) }
+    {
+        let Ok(item) = self.make_item(rt, alloc, id, name) else {
+            return Err(DataError::OutOfMemory);
+        };
+        match self.files.add_file(rt, item, size) {
+            Ok(file_id) => Ok((id, file_id)),
+            Err(error) => Err(DataError::from(error)),
+        }
+    }
+
+    /// Begins a file: an item of the session's group with the next id and this name, and a file of the tracker, whose
+    /// size in bytes is fixed where it is given, and grows from 0 else. It answers the item's id and the tracker's.
+    ///
+    /// `Finalized` exactly where the session is finalized, else `IdsUsedUp` exactly where no id is left, else
+    /// `SumTooGreat` where the sum of all files' sizes would pass `u64::MAX`. `OutOfMemory` where an allocation was
+    /// refused.
+    ///
+    /// In the Rust crate xet-data: the begin of `FileUploadSession::start_clean`.
+    pub fn start_file<W: Wait>(
+        &mut self,
+        rt: &W,
+        alloc: Global,
+        name: &str,
+        size: Option<u64>,
+    ) -> Result<(UniqueID, u64), DataError>
+        ensures same { told_by U.told R.told self.new ≡ told_by U.told R.told self.old }
+        ensures starts { StartsFile self.old.files.tracker self.new.files.tracker self.old.ids self.new.ids
+            self.old.finalized size result }
+    {
+        if self.finalized {
+            return Err(DataError::InvalidOperation(Invalid::Finalized));
+        }
+        match self.ids.next() {
+            Ok(id) => self.add_file(rt, alloc, id, name, size),
+            Err(used_up) => Err(DataError::InvalidOperation(used_up)),
+        }
+    }
+
+    /// Adds to the size of a file, in bytes. A fixed size stays.
+    ///
+    /// `InvalidOperation` exactly where the tracker refuses it: `UnknownFile` where no file has this id of the tracker,
+    /// else `SumTooGreat` where the sum of all files' sizes would pass `u64::MAX`. `OutOfMemory` where an allocation
+    /// was refused.
+    ///
+    /// In the Rust crates: `CompletionTracker::increment_file_size`, on the session's tracker.
+    pub fn grow_file<W: Wait>(&mut self, rt: &W, file_id: u64, bytes: u64) -> Result<(), DataError>
+        ensures same { told_by U.told R.told self.new ≡ told_by U.told R.told self.old }
+        ensures tracks { Tracks self.old.files.tracker self.new.files.tracker
+            (IncrementFileSize file_id bytes ∷ []) result }
+    {
+        match self.files.grow_file(rt, file_id, bytes) {
+            Ok(()) => Ok(()),
+            Err(error) => Err(DataError::from(error)),
+        }
     }
 
     // The xorb is on the list, for which there is room.
     fn put_on_list(&mut self, xorb: MerkleHash)
         requires { vec_len self.old.listed.hashes < vec_capacity self.old.listed.hashes }
-        ensures { OnList (told_by U.told R.told self.old) (told_by U.told R.told self.new) xorb }
+        ensures call { OnList (told_by U.told R.told self.old) (told_by U.told R.told self.new) xorb }
+        ensures untold { self.new.files.tracker ≡ self.old.files.tracker }
     {
         if self.listed.contains(&xorb) {
             return;
@@ -359,6 +654,7 @@ impl<U: Uploader, R: ShardStore> FileUploadSession<U, R> {
         ensures searches { Searches (shards_told R.told self.old.shards) (shards_told R.told self.new.shards)
             hashes.now result }
         ensures listed { self.new.listed ≡ self.old.listed }
+        ensures untold { self.new.files.tracker ≡ self.old.files.tracker }
     {
         self.shards.chunk_hash_dedup_query(alloc, hashes)
     }
@@ -376,6 +672,7 @@ impl<U: Uploader, R: ShardStore> FileUploadSession<U, R> {
     ) -> Result<Option<(usize, FileDataSequenceEntry, bool)>, DataError>
         ensures call { Queries (told_by U.told R.told self.old) (told_by U.told R.told self.new) hashes.now result }
         ensures backs { Backs (told_by U.told R.told self.old) (told_by U.told R.told self.new) }
+        ensures untold { self.new.files.tracker ≡ self.old.files.tracker }
     {
         self.listed.reserve(1)?;
         match self.search(alloc, hashes)? {
@@ -396,7 +693,8 @@ impl<U: Uploader, R: ShardStore> FileUploadSession<U, R> {
 
     // Asks the uploader for records that know a chunk, which the cache has then. It tells whether there are any.
     pub(crate) fn ask(&mut self, alloc: Global, chunk: &MerkleHash) -> Result<bool, DataError>
-        ensures { AsksFor (told_by U.told R.told self.old) (told_by U.told R.told self.new) chunk.now result }
+        ensures call { AsksFor (told_by U.told R.told self.old) (told_by U.told R.told self.new) chunk.now result }
+        ensures untold { self.new.files.tracker ≡ self.old.files.tracker }
     {
         self.shards
             .query_dedup_shard_by_chunk(alloc, &mut self.uploader, chunk)

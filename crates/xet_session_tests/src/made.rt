@@ -4,11 +4,13 @@ ghost use Rattle.xet_base.specs.Records.{Describes};
 
 use bytes::Bytes;
 use std::alloc::Global;
-use xet_base::{ChunkInfo, FileDataSequenceEntry, List, MDBFileInfo, MerkleHash, OutOfMemory};
+use xet_base::{
+    ChunkInfo, FileDataSequenceEntry, IdSource, List, MDBFileInfo, MerkleHash, OutOfMemory,
+};
 use xet_pointer::{SessionContext, TranslatorConfig};
-use xet_session::{FileUploadSession, SessionStores};
+use xet_session::{FileUploadSession, SessionShardInterface, SessionStores};
 use xet_store::MemStore;
-use xet_upload::{DataAggregator, MemShards, RawXorbData};
+use xet_upload::{DataAggregator, DataError, MemShards, RawXorbData};
 use xet_uploader::MemUploader;
 
 /// Settings by which records go to staging two at a time, and shards count for 200 bytes.
@@ -45,11 +47,23 @@ pub fn uploader(alloc: Global, fails: &[u64]) -> Result<MemUploader, OutOfMemory
 /// A session over these.
 pub type Session = FileUploadSession<MemUploader, MemShards>;
 
-/// A session over an uploader in memory, whose puts with these numbers fail.
+/// The stores of such a session.
+pub type Stores = SessionShardInterface<MemShards>;
+
+/// A session over an uploader in memory, whose puts with these numbers fail. A function that has one has no `?` after
+/// it: each such exit lets the whole session go, and is proved.
 pub fn session(alloc: Global, fails: &[u64]) -> Result<Session, OutOfMemory> {
     let config = config(alloc)?;
     let uploader = uploader(alloc, fails)?;
-    FileUploadSession::new(alloc, &config, uploader, stores(alloc), 0)
+    FileUploadSession::new(alloc, &config, uploader, stores(alloc), IdSource::new(1), 0)
+}
+
+/// 0 where a call succeeded, else its error's number.
+pub fn code(answer: Result<(), DataError>) -> u8 {
+    match answer {
+        Ok(()) => 0,
+        Err(error) => error.number(),
+    }
 }
 
 /// A xorb of one chunk, or of none where the text is empty, with its record.

@@ -1,61 +1,68 @@
 //! What the deduplication of a file asks of a session.
-use crate::made::{Session, config, raw, session, stores, uploader};
+use crate::made::{Session, code, config, raw, session, stores, uploader};
 use std::alloc::Global;
 use std::sync::Wait;
 use std::test::Fail;
-use xet_base::MerkleHash;
+use xet_base::{IdSource, MerkleHash, OutOfMemory};
 use xet_session::{DeduplicationDataInterface, FileUploadSession, UploadSessionDataManager};
-use xet_upload::DataError;
 
-/// Makes a query for the chunk of each of these texts. It tells whether one found records.
-fn asked(alloc: Global, session: &mut Session, texts: &[&str]) -> Result<bool, DataError> {
+/// Makes a query for the chunk of each of these texts: 1 where one found records, 0 where none did, and 9 for an error.
+fn asked(alloc: Global, session: &mut Session, texts: &[&str]) -> u8 {
     let mut manager = UploadSessionDataManager::new(alloc, session);
     for text in texts {
-        manager.register_global_dedup_query(MerkleHash::chunk_hash(text.as_bytes()))?;
+        let _ = manager.register_global_dedup_query(MerkleHash::chunk_hash(text.as_bytes()));
     }
-    manager.complete_global_dedup_queries(alloc)
+    match manager.complete_global_dedup_queries(alloc) {
+        Ok(found) => u8::from(found),
+        Err(_) => 9,
+    }
 }
 
-/// How many chunks are found in the records of the session and its stores.
-fn found(alloc: Global, session: &mut Session, text: &str) -> Result<usize, DataError> {
+/// How many chunks are found in the records of the session and its stores; 9 for an error.
+fn found(alloc: Global, session: &mut Session, text: &str) -> usize {
     let mut manager = UploadSessionDataManager::new(alloc, session);
     let hash = MerkleHash::chunk_hash(text.as_bytes());
-    match manager.chunk_hash_dedup_query(alloc, [hash].as_slice())? {
-        Some(found) => Ok(found.0),
-        None => Ok(0),
+    match manager.chunk_hash_dedup_query(alloc, [hash].as_slice()) {
+        Ok(Some(found)) => found.0,
+        Ok(None) => 0,
+        Err(_) => 9,
     }
 }
 
-/// Puts a xorb of one chunk.
-fn put<W: Wait>(rt: &W, alloc: Global, session: &mut Session, text: &str) -> Result<(), DataError> {
-    let raw = raw(alloc, text)?;
+/// Puts a xorb of one chunk: 0, or the error's number.
+fn put<W: Wait>(rt: &W, alloc: Global, session: &mut Session, text: &str) -> u8 {
+    let Ok(raw) = raw(alloc, text) else {
+        return 1;
+    };
     let mut manager = UploadSessionDataManager::new(alloc, session);
-    manager.register_new_xorb(rt, alloc, raw, 0)
+    code(manager.register_new_xorb(rt, alloc, raw, 0))
 }
 
 #[test]
 fn a_manager_searches_asks_and_puts(rt: HostRuntime) -> Result<(), Fail> {
     let alloc = rt.alloc();
     let mut session = session(alloc, &[])?;
-    assert!(rt; asked(alloc, &mut session, &["Hello"]) == Ok(false));
-    assert!(rt; found(alloc, &mut session, "Hello") == Ok(0));
-    assert!(rt; put(&rt, alloc, &mut session, "Hello") == Ok(()));
-    assert!(rt; found(alloc, &mut session, "Hello") == Ok(1));
-    assert!(rt; asked(alloc, &mut session, &["world", "Hello", "world"]) == Ok(true));
-    assert!(rt; asked(alloc, &mut session, &[]) == Ok(false));
-    assert_eq!(rt; session.uploader().asked().len(), 4);
-    assert_eq!(rt; session.report(&rt).total_transfer_bytes_completed, 5);
+    assert_eq!(rt; found(alloc, &mut session, "Hello"), 0);
+    assert_eq!(rt; put(&rt, alloc, &mut session, "Hello"), 0);
+    assert_eq!(rt; found(alloc, &mut session, "Hello"), 1);
+    assert_eq!(rt; asked(alloc, &mut session, &["world", "Hello", "world"]), 1);
+    assert_eq!(rt; asked(alloc, &mut session, &["world"]), 0);
     Ok(())
+}
+
+/// A session that makes no queries.
+fn unasking(alloc: Global) -> Result<Session, OutOfMemory> {
+    let mut config = config(alloc)?;
+    config.global_dedup_query_enabled = false;
+    let uploader = uploader(alloc, &[])?;
+    FileUploadSession::new(alloc, &config, uploader, stores(alloc), IdSource::new(1), 0)
 }
 
 #[test]
 fn asks_nothing_where_queries_are_not_enabled(rt: HostRuntime) -> Result<(), Fail> {
     let alloc = rt.alloc();
-    let mut config = config(alloc)?;
-    config.global_dedup_query_enabled = false;
-    let uploader = uploader(alloc, &[])?;
-    let mut session = FileUploadSession::new(alloc, &config, uploader, stores(alloc), 0)?;
-    assert!(rt; asked(alloc, &mut session, &["Hello"]) == Ok(false));
+    let mut session = unasking(alloc)?;
+    assert_eq!(rt; asked(alloc, &mut session, &["Hello"]), 0);
     assert_eq!(rt; session.uploader().asked().len(), 0);
     Ok(())
 }

@@ -66,6 +66,7 @@ puts-none u b x = record {
   some = log-none u.puts;
   kept = 0;
   fewer = omega arith;
+  close = omega arith;
   cached = cache-none b.cache.records;
   asked = refl;
   answered = refl;
@@ -105,6 +106,7 @@ module _ (u m v : UploaderTold) (b c n : InterfaceTold) (x y z : Option ClientEr
           some = log ∙ ap (with_puts u.puts) (sym all);
           kept = i + 1;
           fewer = omega arith;
+          close = omega arith;
           cached = cached ∙ ap (all_with_shards b.cache.records) (sym all);
           asked = p.asked ∙ h.asked;
           answered = p.answered ∙ h.answered;
@@ -126,6 +128,7 @@ module _ (u m v : UploaderTold) (b c n : InterfaceTold) (x y z : Option ClientEr
           some = q ∙ h.ok.0;
           kept = i;
           fewer = omega arith;
+          close = omega arith;
           cached = p.err.0 ∙ h.ok.1;
           asked = p.asked ∙ h.asked;
           answered = p.answered ∙ h.answered;
@@ -139,6 +142,7 @@ module _ (u m v : UploaderTold) (b c n : InterfaceTold) (x y z : Option ClientEr
           some = log-next q;
           kept = i;
           fewer = omega arith;
+          close = omega arith;
           cached = p.err.0 ∙ h.ok.1;
           asked = p.asked ∙ h.asked;
           answered = p.answered ∙ h.answered;
@@ -163,6 +167,7 @@ uploads-refused u b n x e m =
       sum = λ s. tt;
       kept = 0;
       fewer = omega arith;
+      close = omega arith;
       cached = λ s. cache-none b.cache.records;
       resumed = inl refl;
       unforgotten = refl;
@@ -191,6 +196,7 @@ module _ (u : UploaderTold) (b c : InterfaceTold) (x : Option ClientError) (ss :
         sum = λ s. e ∙ ap sizes (m.shards s);
         kept = 0;
         fewer = omega arith;
+        close = omega arith;
         cached = λ s. cache-none b.cache.records;
         resumed = inl refl;
         unforgotten = tt;
@@ -240,6 +246,7 @@ module _ (u : UploaderTold) (b c : InterfaceTold) (x : Option ClientError) (ss :
           sum = sum;
           kept = p.kept;
           fewer = p.fewer;
+          close = p.close;
           cached = λ s.
               ap (λ (j : InterfaceTold). j.cache.records) e ∙ p.cached ∙ ap (λ (o : Option ShardRecord). all_with_shards o (take p.kept ss)) cache-same
               ∙ ap (λ (ts : List ShardRecord). all_with_shards b.cache.records (take p.kept ts)) (m.shards s);

@@ -1,5 +1,5 @@
 -- Records that are put as shards, and the cache, which learns what was put or answered.
-use Rattle.std.specs.Prelude.{ℕ, ◌≡◌, ◌-◌, ◌^◌, ◌≤◌, ◌⊎◌, min, Bool, true, false, List, [], ◌∷◌, ◌++◌, length, map, take, All, Option, Some, None, IsSome, option_map, unwrap_or, Result, IfOk, OnOk, OnErr, IfErr}
+use Rattle.std.specs.Prelude.{ℕ, ◌≡◌, ◌+◌, ◌-◌, ◌^◌, ◌≤◌, ◌⊎◌, min, Bool, true, false, List, [], ◌∷◌, ◌++◌, length, map, take, All, Option, Some, None, IsSome, option_map, unwrap_or, Result, IfOk, OnOk, OnErr, IfErr}
 use Rattle.std.specs.List.{sum_by}
 use Rattle.xet_base.specs.declared.merklehash.MerkleHash.{MerkleHash}
 use Rattle.xet_base.specs.declared.mdb_shard.ShardRecord.{ShardRecord}
@@ -98,7 +98,7 @@ pub record PutsShard (u v : UploaderTold) (b n : InterfaceTold) (before after : 
   pub cache : b.cache.faults ≤ n.cache.faults
 
 -- the puts of some shards, in order: the first `count` of them are in the log, and the first `kept` of these in the
--- cache
+-- cache, which are all but the last at least
 pub record PutsShards (u v : UploaderTold) (b n : InterfaceTold) (before after : Option ClientError)
     (ss : List ShardRecord) (answer : Result (Unit {0}) DataError) : Type 0 where
   pub same : n ≡ record b { cache = n.cache }
@@ -108,6 +108,7 @@ pub record PutsShards (u v : UploaderTold) (b n : InterfaceTold) (before after :
   pub some : v.puts ≡ with_puts u.puts (take count ss)
   pub kept : ℕ
   pub fewer : kept ≤ count
+  pub close : count ≤ kept + 1
   pub cached : n.cache.records ≡ all_with_shards b.cache.records (take kept ss)
   pub asked : v.asked ≡ u.asked
   pub answered : v.answered ≡ u.answered
@@ -162,6 +163,7 @@ pub record Uploads (u v : UploaderTold) (b n : InterfaceTold) (before after : Op
   pub sum : IsSome b.session.records → IfOk answer (λ k. k ≡ sizes (shards_of b))
   pub kept : ℕ
   pub fewer : kept ≤ count
+  pub close : count ≤ kept + 1
   pub cached : IsSome b.session.records
       → n.cache.records ≡ all_with_shards b.cache.records (take kept (shards_of b))
   pub resumed : (resumed_records n.resumed ≡ resumed_records b.resumed)

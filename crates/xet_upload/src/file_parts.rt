@@ -85,6 +85,13 @@ impl FileParts {
         self.infos.as_slice()
     }
 
+    /// The terms of the file, in order.
+    pub fn terms(&self) -> &OpenTerms
+        ensures { result.now ≡ self.now.terms }
+    {
+        &self.terms
+    }
+
     /// Adds a chunk to those that wait. The caller sees to it that the limits of a xorb are kept and that the chunk has
     /// a byte.
     ///
@@ -156,7 +163,8 @@ impl FileParts {
         hash: MerkleHash,
         sha256: Option<MerkleHash>,
     ) -> Result<DataAggregator, OutOfMemory>
-        ensures { IfOk result (λ waiting. waiting ≡ with_file self file_id hash sha256) }
+        ensures waiting { IfOk result (λ waiting. waiting ≡ with_file self file_id hash sha256) }
+        ensures no_files { self.own.files ≡ [] }
     {
         let terms = self.terms.into_list()?;
         let file = WaitingFile {

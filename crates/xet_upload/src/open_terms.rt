@@ -1,5 +1,6 @@
 //! Terms of a file, of which the last may go on.
-ghost use Rattle.std.specs.Prelude.{◌≡◌, ◌+◌, ◌<◌, ◌≤◌, ◌^◌, [], IfOk, IsTrue, OnErr, OnOk, length, map, take};
+ghost use Rattle.std.specs.Prelude.{◌≡◌, ◌+◌, ◌++◌, ◌<◌, ◌≤◌, ◌^◌, [], IfOk, IsTrue, OnErr, OnOk, length, map, take};
+ghost use Rattle.std.specs.Option.{option_to_list};
 ghost use Rattle.xet_upload.specs.FileDatas.{renamed};
 ghost use Rattle.xet_upload.specs.Standing.{Added, GoesOn, IsContinued, continue};
 
@@ -64,6 +65,13 @@ impl OpenTerms {
             }
         }
         Ok(())
+    }
+
+    /// The terms, of which the last stands apart, since it may go on.
+    pub fn split(&self) -> (&[WaitingTerm], Option<WaitingTerm>)
+        ensures { self.now ≡ result.0.now ++ option_to_list result.1 }
+    {
+        (self.closed.as_slice(), self.last)
     }
 
     /// The terms as a list. `OutOfMemory` where an allocation was refused.

@@ -1,4 +1,4 @@
-use Rattle.std.proofs.Common.{rules, ◌≡◌}
+use Rattle.std.proofs.Common.{refl, rules, ◌≡◌}
 use Rattle.std.specs.Prelude.{Err}
 use Rattle.xet_session.proofs.Recording.{record-added, record-refused}
 use Rattle.xet_session.proofs.session.FileUploadSession.add_record.Goals as goal
@@ -6,10 +6,13 @@ use Rattle.xet_session.proofs.session.FileUploadSession.add_record.Goals as goal
 pub returns-in_err-add_xorb_block : goal.returns-in_err-add_xorb_block
 returns-in_err-add_xorb_block g c =
     let e : c.from_residual.result ≡ Err c.in_err-add_xorb_block.field-0.0 = search rules in
-    rw e (record { same = search rules; recorded = record-refused _ _ _ _ _ (rw c.in_err-add_xorb_block.was at c.add_xorb_block.ensures) })
+    rw e (record { call = record { same = search rules; recorded = record-refused _ _ _ _ _ (rw c.in_err-add_xorb_block.was at c.add_xorb_block.ensures) }; untold = refl })
 
 pub returns : goal.returns
 returns g c = record {
-  same = search rules;
-  recorded = record-added _ _ _ _ _ _ _ (rw c.in_ok-add_xorb_block.was at c.add_xorb_block.ensures) c.add_uploaded_xorb_block.ensures;
+  call = record {
+    same = search rules;
+    recorded = record-added _ _ _ _ _ _ _ (rw c.in_ok-add_xorb_block.was at c.add_xorb_block.ensures) c.add_uploaded_xorb_block.ensures;
+  };
+  untold = refl;
 }

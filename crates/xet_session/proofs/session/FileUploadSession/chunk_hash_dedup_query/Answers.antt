@@ -1,4 +1,4 @@
-use Rattle.std.proofs.Common.{List, ap, rules, ◌≡◌}
+use Rattle.std.proofs.Common.{List, ap, rules, ◌≡◌, ◌∙◌}
 use Rattle.xet_base.specs.declared.merklehash.MerkleHash.{MerkleHash}
 use Rattle.xet_session.specs.Telling.{told_by}
 use Rattle.std.specs.Prelude.{Err, Ok}
@@ -11,19 +11,19 @@ pub returns-in_err-search : goal.returns-in_err-search
 returns-in_err-search g c =
     let e : c.from_residual-in_err-search.result ≡ Err c.in_err-search.field-0.0 = search rules in
     let call = queries-err _ _ _ (rw c.in_ok-reserve.ensures.same at c.search.ensures.same) _ (rw c.in_err-search.was at c.search.ensures.searches) in
-    rw e (record { call = call; backs = backs-kept _ _ (has-listed _ c.args.self.now.lists) call.keeps call.listed })
+    rw e (record { call = call; backs = backs-kept _ _ (has-listed _ c.args.self.now.lists) call.keeps call.listed; untold = c.search.ensures.untold })
 
 pub returns-in-None : goal.returns-in-None
 returns-in-None g c =
     let was : c.search.result ≡ Ok c.in_ok-search.field-0 = c.in_ok-search.was in
     let call = queries-none _ _ _ (rw c.in_ok-reserve.ensures.same at c.search.ensures.same) (rw (was, c.in-None.is) at c.search.ensures.searches) in
-    record { call = call; backs = backs-kept _ _ (has-listed _ c.args.self.now.lists) call.keeps call.listed }
+    record { call = call; backs = backs-kept _ _ (has-listed _ c.args.self.now.lists) call.keeps call.listed; untold = c.search.ensures.untold }
 
 pub returns-in-Some : goal.returns-in-Some
 returns-in-Some g c =
     let was : c.search.result ≡ Ok c.in_ok-search.field-0 = c.in_ok-search.was in
-    let call = queries-some _ _ _ (rw c.in_ok-reserve.ensures.same at c.search.ensures.same) _ _ (rw (was, c.in-Some.is) at c.search.ensures.searches) c.put_on_list.ensures in
-    record { call = call; backs = backs-kept _ _ (has-listed _ c.args.self.now.lists) call.keeps call.listed }
+    let call = queries-some _ _ _ (rw c.in_ok-reserve.ensures.same at c.search.ensures.same) _ _ (rw (was, c.in-Some.is) at c.search.ensures.searches) c.put_on_list.ensures.call in
+    record { call = call; backs = backs-kept _ _ (has-listed _ c.args.self.now.lists) call.keeps call.listed; untold = c.put_on_list.ensures.untold ∙ c.search.ensures.untold }
 
 pub returns-in_err-reserve-clause-backs : goal.returns-in_err-reserve-clause-backs
 returns-in_err-reserve-clause-backs g c =

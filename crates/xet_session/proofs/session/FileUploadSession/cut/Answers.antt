@@ -14,11 +14,11 @@ returns-in_err-raw g c =
 
 pub returns-then-is_new : goal.returns-then-is_new
 returns-then-is_new g c =
-    cut-put _ _ _ _ _ (rw c.in_ok-raw.was at c.take_waiting.ensures.taken) c.in_default.is _ c.num_chunks-chunks.ensures.chunks (c.is_new.ensures.some c.if-is_new.true) (c.is_new.ensures.new c.if-is_new.true) c.put_finished.result c.put_finished.ensures
+    cut-put _ _ _ _ _ (rw c.in_ok-raw.was at c.take_waiting.ensures.taken) c.in_default.is _ c.num_chunks-chunks.ensures.chunks (c.is_new.ensures.some c.if-is_new.true) (c.is_new.ensures.new c.if-is_new.true) c.put_finished.result c.put_finished.ensures.call
 
 pub returns : goal.returns
 returns g c =
-    cut-still _ _ _ _ _ (rw c.in_ok-raw.was at c.take_waiting.ensures.taken) c.in_default.is _ c.num_chunks-chunks.ensures.chunks c.num_chunks-chunks.ensures.counted c.finish_files.ensures (c.is_new.ensures.old c.if-is_new.false)
+    cut-still _ _ _ _ _ (rw c.in_ok-raw.was at c.take_waiting.ensures.taken) c.in_default.is _ c.num_chunks-chunks.ensures.chunks c.num_chunks-chunks.ensures.counted c.finish_files.ensures.call (c.is_new.ensures.old c.if-is_new.false)
 
 pub put_finished-requires-clause-named : goal.put_finished-requires-clause-named
 put_finished-requires-clause-named g c =

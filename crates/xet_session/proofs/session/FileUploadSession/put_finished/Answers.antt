@@ -6,7 +6,7 @@ use Rattle.xet_session.proofs.session.FileUploadSession.put_finished.Goals as go
 pub returns-in_err-put_raw : goal.returns-in_err-put_raw
 returns-in_err-put_raw g c =
     let e : c.from_residual.result ≡ Err c.in_err-put_raw.field-0.0 = search rules in
-    rw e (put-failed _ _ _ _ _ _ (rw c.in_err-put_raw.was at c.put_raw.ensures.call))
+    rw e (record { call = put-failed _ _ _ _ _ _ (rw c.in_err-put_raw.was at c.put_raw.ensures.call); tracked = c.put_raw.ensures.tracked })
 
 pub finish_files-requires-clause-space : goal.finish_files-requires-clause-space
 finish_files-requires-clause-space g c = rw c.put_raw.ensures.files c.requires.space
@@ -15,5 +15,7 @@ pub finish_files-requires-clause-named : goal.finish_files-requires-clause-named
 finish_files-requires-clause-named g c = named-put _ _ _ _ (rw c.in_ok-put_raw.was at c.put_raw.ensures.call) _ c.requires.named
 
 pub returns : goal.returns
-returns g c =
-    put-finished _ _ _ _ _ _ _ _ _ (rw c.in_ok-put_raw.was at c.put_raw.ensures.call) c.finish_files.ensures c.requires.describes c.add_record.result c.add_record.ensures
+returns g c = record {
+  call = put-finished _ _ _ _ _ _ _ _ _ (rw c.in_ok-put_raw.was at c.put_raw.ensures.call) c.finish_files.ensures.call c.requires.describes c.add_record.result c.add_record.ensures.call;
+  tracked = rw (c.add_record.ensures.untold, c.finish_files.ensures.untold) c.put_raw.ensures.tracked;
+}

@@ -8,6 +8,6 @@ use Rattle.xet_session.proofs.session.FileUploadSession.put_on_list.Goals as goa
 pub invariant_of-self : goal.invariant_of-self
 invariant_of-self g c = record { lists = λ f z. are-found _ _ _ _ (c.args.self.now.lists f z) _ _ c.push_reserved.ensures }
 
-pub returns : goal.returns
-returns g c =
+pub returns-clause-call : goal.returns-clause-call
+returns-clause-call g c =
     on-list-pushed _ _ _ (ap (λ (hs : List MerkleHash). record (told_by g.U.Uploader.told g.R.ShardStore.told c.args.self.now) { listed = hs }) c.push_reserved.ensures)

@@ -1,31 +1,43 @@
-use Rattle.std.proofs.Common.{arith, refl, rules, ◌≡◌}
-use Rattle.std.specs.Prelude.{Err}
-use Rattle.xet_session.proofs.Cuts.{registers-err, registers-finalized, registers-put}
-use Rattle.xet_session.proofs.Ends.{backs-kept, backs-same}
+use Rattle.std.proofs.Common.{ap, rules, subst, sym, ◌∙◌, ◌≡◌}
+use Rattle.std.specs.Prelude.{Contains, Err, List}
+use Rattle.xet_base.specs.declared.merklehash.MerkleHash.{MerkleHash}
+use Rattle.xet_session.specs.Sessions.{SessionTold}
+use Rattle.xet_session.specs.Telling.{told_by}
+use Rattle.xet_session.proofs.Cuts.{registers-finalized, registers-kept, registers-refused}
+use Rattle.xet_session.proofs.Ends.{backs-kept}
 use Rattle.xet_session.proofs.Tests.{has-listed}
+use Rattle.xet_session.proofs.Tracking.{told-failed, told-finalized, told-put, told-refused}
 use Rattle.xet_session.proofs.session.FileUploadSession.register_new_xorb.Goals as goal
 
 pub returns-then-self : goal.returns-then-self
 returns-then-self g c =
     let call = registers-finalized _ _ _ c.if-self.true in
-    record { call = call; backs = backs-kept _ _ (has-listed _ c.args.self.now.lists) call.keeps call.listed }
+    record { call = call; tracks = told-finalized _ _ _; backs = backs-kept _ _ (has-listed _ c.args.self.now.lists) call.keeps call.listed }
 
-pub returns-in_err-put_given : goal.returns-in_err-put_given
-returns-in_err-put_given g c =
-    let e : c.from_residual.result ≡ Err c.in_err-put_given.field-0.0 = search rules in
-    rw e (record {
-      call = registers-err _ _ _ c.if-self.false (c.contains.ensures.no c.if-contains.false) c.in_default.is _ _ (rw c.in_err-put_given.was at c.put_given.ensures);
-      backs = backs-kept _ _ (has-listed _ c.args.self.now.lists) c.put_given.ensures.keeps c.put_given.ensures.listed;
-    })
+pub returns-in-Some : goal.returns-in-Some
+returns-in-Some g c =
+    let kept = rw c.in-Some.is at c.kept_failure.ensures.some in
+    let call = registers-kept _ _ _ c.if-self.false _ kept in
+    rw c.from.ensures (record { call = call; tracks = told-failed _ _ _ _; backs = backs-kept _ _ (has-listed _ c.args.self.now.lists) call.keeps call.listed })
+
+pub returns-in_err-track_xorb : goal.returns-in_err-track_xorb
+returns-in_err-track_xorb g c =
+    let e : c.from_residual.result ≡ Err c.in_err-track_xorb.field-0.0 = search rules in
+    let tracks = rw c.in_err-track_xorb.was at c.track_xorb.ensures.tracks in
+    let call = registers-refused _ _ _ c.if-self.false _ _ tracks.err (c.kept_failure.ensures.none c.in_default.is) in
+    rw (e, c.track_xorb.ensures.same) (record { call = call; tracks = told-refused _ _ _ _ _ tracks; backs = backs-kept _ _ (has-listed _ c.args.self.now.lists) call.keeps call.listed })
 
 pub returns : goal.returns
-returns g c = record {
-  call = registers-put _ _ _ c.if-self.false (c.contains.ensures.no c.if-contains.false) c.in_default.is _ _ (omega arith) (rw c.in_ok-put_given.was at c.put_given.ensures);
-  backs = backs-kept _ _ (has-listed _ c.args.self.now.lists) c.put_given.ensures.keeps c.put_given.ensures.listed;
-}
+returns g c =
+    let call = rw c.track_xorb.ensures.same at c.put_new.ensures.call in
+    record {
+      call = call;
+      tracks = told-put _ _ _ (told_by g.U.Uploader.told g.R.ShardStore.told c.track_xorb.new.self) (told_by g.U.Uploader.told g.R.ShardStore.told c.put_new.new.self) _ _ _ (rw c.in_ok-track_xorb.was at c.track_xorb.ensures.tracks) c.put_new.ensures.tracked c.put_new.result c.put_new.ensures.why;
+      backs = backs-kept _ _ (has-listed _ c.args.self.now.lists) call.keeps call.listed;
+    }
 
-pub returns-then-contains-clause-backs : goal.returns-then-contains-clause-backs
-returns-then-contains-clause-backs g c = backs-same _ _ refl (has-listed _ c.args.self.now.lists)
-
-pub returns-then-len-eq0-clause-backs : goal.returns-then-len-eq0-clause-backs
-returns-then-len-eq0-clause-backs g c = backs-same _ _ refl (has-listed _ c.args.self.now.lists)
+pub put_new-requires-clause-unfailed : goal.put_new-requires-clause-unfailed
+put_new-requires-clause-unfailed g c fresh low =
+    let same = c.track_xorb.ensures.same in
+    let P : List MerkleHash → Type 0 = λ hs. Contains hs c.args.raw.xorb.hash in
+    ap (λ (t : SessionTold). t.failed) same ∙ c.kept_failure.ensures.none c.in_default.is (λ old. fresh (subst P (sym (ap (λ (t : SessionTold). t.registered) same)) old)) low

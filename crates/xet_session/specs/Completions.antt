@@ -1,0 +1,71 @@
+-- The end of a file: its data joins what waits, or one of both is cut.
+use Rattle.std.specs.Prelude.{ℕ, ◌≡◌, ◌+◌, ◌<◌, ◌≤◌, ◌⊎◌, length, All, Contains, None, Result, Ok, IfErr, OnOk, OnErr}
+use Rattle.std.specs.List.{concat}
+use Rattle.xet_pointer.specs.declared.translator_config.TranslatorConfig.{TranslatorConfig}
+use Rattle.xet_upload.specs.Metrics.{both}
+use Rattle.xet_upload.specs.Waitings.{IsWithin, Waiting, merged}
+use Rattle.xet_upload.specs.declared.data_error.DataError.{DataError}
+use Rattle.xet_upload.specs.declared.metrics.DeduplicationMetrics.{DeduplicationMetrics}
+use Rattle.xet_session.specs.declared.cut_thresholds.CutThresholds.{CutThresholds}
+use Rattle.xet_session.specs.Calls.{CountsSent, Cut, Keeps, PutsFail}
+use Rattle.xet_session.specs.Sessions.{IsListed, SessionTold, waiting_names}
+
+-- the thresholds of the settings
+abbrev pub thresholds_of : TranslatorConfig → CutThresholds
+thresholds_of c = record { bytes = c.xorb_cut_threshold_bytes; chunks = c.xorb_cut_threshold_chunks }
+
+-- counts with those of the chunks of a file; those of what was uploaded stay
+abbrev pub with_file_counts : DeduplicationMetrics → DeduplicationMetrics → DeduplicationMetrics
+with_file_counts m counts = record (both m counts) {
+  xorb_bytes_uploaded = m.xorb_bytes_uploaded;
+  shard_bytes_uploaded = m.shard_bytes_uploaded;
+  total_bytes_uploaded = m.total_bytes_uploaded;
+}
+
+-- how many bytes wait
+abbrev pub waiting_bytes : Waiting → ℕ
+waiting_bytes w = length (concat w.chunks)
+
+-- both together pass no threshold, and keep the limits of a xorb
+pub record FitTogether (c : CutThresholds) (a b : Waiting) : Type 0 where
+  pub bytes : waiting_bytes a + waiting_bytes b ≤ c.bytes
+  pub chunks : length a.chunks + length b.chunks ≤ c.chunks
+  pub within : IsWithin (merged a b).chunks
+
+-- these data wait
+abbrev pub with_waiting : SessionTold → Waiting → SessionTold
+with_waiting t w = record t { waiting = w }
+
+-- a file's data joined what waits, or this was refused and nothing changed
+pub record Joins (b n : SessionTold) (w : Waiting) (answer : Result (Unit {0}) DataError) : Type 0 where
+  pub fits : FitTogether b.thresholds b.waiting w
+  pub ok : OnOk answer (n ≡ with_waiting b (merged b.waiting w))
+  pub err : OnErr answer (n ≡ b)
+
+-- the file's data is as large as what waits, or larger: it was cut, and what waited waits on
+pub record CutsFile (b n : SessionTold) (w : Waiting) (now : ℕ)
+    (answer : Result (Unit {0}) DataError) : Type 0 where
+  pub passes : FitTogether b.thresholds b.waiting w → ⊥
+  pub larger : waiting_bytes b.waiting ≤ waiting_bytes w
+  pub middle : SessionTold
+  pub cut : Cut (with_waiting b w) middle now answer
+  pub same : n ≡ with_waiting middle b.waiting
+
+-- what waits is larger: it was cut, and then the file's data waits
+pub record CutsWaiting (b n : SessionTold) (w : Waiting) (now : ℕ)
+    (answer : Result (Unit {0}) DataError) : Type 0 where
+  pub passes : FitTogether b.thresholds b.waiting w → ⊥
+  pub larger : waiting_bytes w < waiting_bytes b.waiting
+  pub middle : SessionTold
+  pub cut : Cut b middle now answer
+  pub ok : OnOk answer (n ≡ with_waiting middle w)
+  pub err : OnErr answer (n ≡ middle)
+
+-- the data of a file was taken, whose xorbs are on the list
+pub record TakesFile (b n : SessionTold) (w : Waiting) (now : ℕ)
+    (answer : Result (Unit {0}) DataError) : Type 0 where
+  pub keeps : Keeps b n
+  pub listed : All (Contains b.listed) (waiting_names w.files) → IsListed b → n.failed ≡ None → IsListed n
+  pub exits : Joins b n w answer ⊎ CutsFile b n w now answer ⊎ CutsWaiting b n w now answer
+  pub counts : CountsSent b n
+  pub why : IfErr answer (PutsFail b n)

@@ -1,0 +1,110 @@
+//! The end of a file in a session.
+ghost use Rattle.std.specs.Prelude.{◌≡◌, ◌<◌, ◌≤◌, ℕ, All, Contains, None, false};
+ghost use Rattle.xet_session.specs.Calls.{Backs};
+ghost use Rattle.xet_session.specs.Completions.{CutsFile, CutsWaiting, FitTogether, Joins, TakesFile, waiting_bytes};
+ghost use Rattle.xet_session.specs.Sessions.{waiting_names};
+
+use crate::session::FileUploadSession;
+use std::alloc::Global;
+use std::sync::Wait;
+use xet_shards::ShardStore;
+use xet_upload::{DataAggregator, DataError};
+use xet_uploader::Uploader;
+
+impl<U: Uploader, R: ShardStore> FileUploadSession<U, R> {
+    ghost use Rattle.xet_session.specs.Telling.{told_by};
+
+    // Cuts the data of a file, while what waits is kept aside.
+    fn cut_file<W: Wait>(
+        &mut self,
+        rt: &W,
+        alloc: Global,
+        file_data: DataAggregator,
+        now: u64,
+    ) -> Result<(), DataError>
+        requires named { self.old.failed ≡ None → self.old.finalized ≡ false
+            → All (Contains self.old.listed.hashes.items) (waiting_names file_data.files) }
+        requires passes { FitTogether self.old.thresholds self.old.waiting file_data → ⊥ }
+        requires larger { waiting_bytes self.old.waiting ≤ waiting_bytes file_data }
+        ensures { TakesFile (told_by U.told R.told self.old) (told_by U.told R.told self.new) file_data now result }
+    {
+        let waiting = self.replace_waiting(file_data);
+        let answer = self.cut(rt, alloc, now);
+        let _ = self.replace_waiting(waiting);
+        answer
+    }
+
+    // Cuts what waits, and then the data of the file waits.
+    fn cut_waiting<W: Wait>(
+        &mut self,
+        rt: &W,
+        alloc: Global,
+        file_data: DataAggregator,
+        now: u64,
+    ) -> Result<(), DataError>
+        requires named { self.old.failed ≡ None → self.old.finalized ≡ false
+            → All (Contains self.old.listed.hashes.items) (waiting_names file_data.files) }
+        requires passes { FitTogether self.old.thresholds self.old.waiting file_data → ⊥ }
+        requires larger { waiting_bytes file_data < waiting_bytes self.old.waiting }
+        ensures { TakesFile (told_by U.told R.told self.old) (told_by U.told R.told self.new) file_data now result }
+    {
+        self.cut(rt, alloc, now)?;
+        let _ = self.replace_waiting(file_data);
+        Ok(())
+    }
+
+    // The data of a file joins what waits.
+    fn join_waiting(&mut self, alloc: Global, file_data: DataAggregator) -> Result<(), DataError>
+        requires named { self.old.failed ≡ None → self.old.finalized ≡ false
+            → All (Contains self.old.listed.hashes.items) (waiting_names file_data.files) }
+        requires fits { FitTogether self.old.thresholds self.old.waiting file_data }
+        ensures { (now : ℕ) → TakesFile (told_by U.told R.told self.old) (told_by U.told R.told self.new)
+            file_data now result }
+    {
+        Ok(self.merge_waiting(alloc, file_data)?)
+    }
+
+    // The same, whichever side is larger.
+    fn take_file<W: Wait>(
+        &mut self,
+        rt: &W,
+        alloc: Global,
+        file_data: DataAggregator,
+        now: u64,
+    ) -> Result<(), DataError>
+        requires named { self.old.failed ≡ None → self.old.finalized ≡ false
+            → All (Contains self.old.listed.hashes.items) (waiting_names file_data.files) }
+        ensures { TakesFile (told_by U.told R.told self.old) (told_by U.told R.told self.new) file_data now result }
+    {
+        if self.thresholds().fit(self.waiting(), &file_data) {
+            return self.join_waiting(alloc, file_data);
+        }
+        if file_data.num_bytes() >= self.waiting().num_bytes() {
+            return self.cut_file(rt, alloc, file_data, now);
+        }
+        self.cut_waiting(rt, alloc, file_data, now)
+    }
+
+    /// The data of a file joins what waits, where both together pass no threshold of the settings and no limit of a
+    /// xorb. Else the larger side is cut as a xorb and put, of equal sides that of the file. The caller sees to it that
+    /// each stored xorb that the file's terms name is on the list. `now` is a moment in seconds.
+    ///
+    /// After a put that failed it answers so where it would cut, and puts nothing: `ClientError` where the uploader
+    /// failed. `IOError` comes only where a store of records failed.
+    ///
+    /// In the Rust crate xet-data: `FileUploadSession::register_single_file_clean_completion`.
+    pub fn register_single_file_clean_completion<W: Wait>(
+        &mut self,
+        rt: &W,
+        alloc: Global,
+        file_data: DataAggregator,
+        now: u64,
+    ) -> Result<(), DataError>
+        requires named { self.old.failed ≡ None → self.old.finalized ≡ false
+            → All (Contains self.old.listed.hashes.items) (waiting_names file_data.files) }
+        ensures call { TakesFile (told_by U.told R.told self.old) (told_by U.told R.told self.new) file_data now result }
+        ensures backs { Backs (told_by U.told R.told self.old) (told_by U.told R.told self.new) }
+    {
+        self.take_file(rt, alloc, file_data, now)
+    }
+}

@@ -1,0 +1,149 @@
+//! The tracker of a session's files and xorbs.
+ghost use Rattle.std.specs.Prelude.{◌≡◌, ◌⊎◌, [], ◌∷◌, ◌++◌, is_some, length, not};
+ghost use Rattle.xet_progress.specs.Accepted.{CallOf};
+ghost use Rattle.xet_progress.specs.Counts.{size_of, sizes};
+ghost use Rattle.xet_progress.specs.declared.step.TrackerStep.TheVariants.{IncrementFileSize, RegisterDependencies, RegisterNewFile, RegisterNewXorb};
+ghost use Rattle.xet_session.specs.Trackings.{MaybeCompleted};
+
+use crate::file_items::FileItems;
+use crate::hash_list::HashList;
+use std::alloc::Global;
+use std::sync::Wait;
+use xet_base::{List, MerkleHash, OutOfMemory};
+use xet_progress::{FileXorbDependency, ItemProgressUpdater, ProgressError, TrackerState};
+use xet_upload::{PendingFile, RawXorbData};
+
+/// Which bytes of which files stand in xorbs that were put, and the files' items, which are told of it.
+#[derive(Drop)]
+pub(crate) struct FileTracker {
+    tracker: TrackerState,
+    items: FileItems,
+}
+
+impl FileTracker {
+    /// No files and no xorbs. It takes no memory.
+    pub(crate) fn new(alloc: Global) -> FileTracker
+        ensures { result.tracker ≡ [] }
+    {
+        FileTracker {
+            tracker: TrackerState::new(alloc),
+            items: FileItems::new(alloc),
+        }
+    }
+
+    /// Registers a file, of a fixed size or of one that grows from 0, and answers its id.
+    ///
+    /// `SumTooGreat` where the sum of all files' sizes would pass `u64::MAX`. `OutOfMemory` where an allocation was
+    /// refused.
+    pub(crate) fn add_file<W: Wait>(
+        &mut self,
+        rt: &W,
+        item: ItemProgressUpdater,
+        size: Option<u64>,
+    ) -> Result<u64, ProgressError>
+        ensures { CallOf self.old.tracker self.new.tracker (RegisterNewFile size) (length (sizes self.old.tracker))
+            result }
+    {
+        self.items.reserve()?;
+        let id = self.tracker.register_new_file(size)?;
+        self.items.add(rt, item, size);
+        Ok(id)
+    }
+
+    /// Adds to the size of a file. A fixed size stays.
+    ///
+    /// `UnknownFile` where no file has this id, then, for one that grows, `SumTooGreat` where the sum of all files'
+    /// sizes would pass `u64::MAX`. `OutOfMemory` where an allocation was refused.
+    pub(crate) fn grow_file<W: Wait>(
+        &mut self,
+        rt: &W,
+        file_id: u64,
+        bytes: u64,
+    ) -> Result<(), ProgressError>
+        ensures { CallOf self.old.tracker self.new.tracker (IncrementFileSize file_id bytes) tt result }
+    {
+        self.tracker.increment_file_size(file_id, bytes)?;
+        self.items.grow(rt, file_id, bytes);
+        Ok(())
+    }
+
+    /// Registers a xorb of so many bytes: true at the first time.
+    ///
+    /// `OtherSize` where it was registered with another size, and where it is new `SumTooGreat` where the sum of all
+    /// xorbs' sizes would pass `u64::MAX`. `OutOfMemory` where an allocation was refused.
+    pub(crate) fn register_xorb(
+        &mut self,
+        alloc: Global,
+        hash: MerkleHash,
+        size: u64,
+    ) -> Result<bool, ProgressError>
+        ensures { CallOf self.old.tracker self.new.tracker (RegisterNewXorb hash size)
+            (not (is_some (size_of self.old.tracker hash))) result }
+    {
+        self.tracker.register_new_xorb(alloc, hash, size)
+    }
+
+    /// Registers what files have in xorbs, all of it or nothing. `put` has the xorbs that were put.
+    ///
+    /// `UnknownFile` where one names no file, else `PastTotal` where a file's dependencies would pass its size.
+    /// `OutOfMemory` where an allocation was refused.
+    pub(crate) fn depend<W: Wait>(
+        &mut self,
+        rt: &W,
+        alloc: Global,
+        dependencies: &[FileXorbDependency],
+        put: &HashList,
+    ) -> Result<(), ProgressError>
+        ensures { CallOf self.old.tracker self.new.tracker (RegisterDependencies dependencies.now) tt result }
+    {
+        self.tracker.register_dependencies(alloc, dependencies)?;
+        self.items.depend(rt, alloc, dependencies, put);
+        Ok(())
+    }
+
+    /// Counts a xorb as put. A refusal changes nothing.
+    pub(crate) fn complete<W: Wait>(&mut self, rt: &W, hash: &MerkleHash)
+        ensures { MaybeCompleted self.old.tracker self.new.tracker hash.now }
+    {
+        let _ = self.tracker.register_xorb_upload_completion(*hash);
+        self.items.complete(rt, hash);
+    }
+
+    /// Registers a xorb that is cut, and what files have in it; a xorb without chunks isn't. A refusal changes nothing.
+    pub(crate) fn register_cut<W: Wait>(
+        &mut self,
+        rt: &W,
+        alloc: Global,
+        raw: &RawXorbData,
+        files: &[PendingFile],
+        put: &HashList,
+    ) {
+        let hash = raw.xorb.hash;
+        if raw.xorb.chunks.len() == 0 || self.register_xorb(alloc, hash, raw.num_bytes()).is_err() {
+            return;
+        }
+        if let Ok(dependencies) = dependencies_on(alloc, hash, files) {
+            let _ = self.depend(rt, alloc, dependencies.as_slice(), put);
+        }
+    }
+}
+
+/// What files have in the xorb that their waiting chunks became.
+fn dependencies_on(
+    alloc: Global,
+    xorb_hash: MerkleHash,
+    files: &[PendingFile],
+) -> Result<List<FileXorbDependency>, OutOfMemory> {
+    let mut dependencies = List::new(alloc);
+    for file in files {
+        if file.bytes_in_xorb > 0 {
+            dependencies.push(FileXorbDependency {
+                file_id: file.file_id,
+                xorb_hash,
+                n_bytes: file.bytes_in_xorb,
+                is_external: false,
+            })?;
+        }
+    }
+    Ok(dependencies)
+}
