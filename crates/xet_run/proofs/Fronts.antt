@@ -1,14 +1,14 @@
 -- The terms at the front of the two queues.
 use Rattle.std.proofs.Common.{◌≡◌, ℕ, suc, zero, ◌+◌, ◌≤◌, ◌⊎◌, true, List, [], ◌∷◌, drop, Option, Some, None, refl, sym, subst, ◌∙◌, ap, arith}
 use Rattle.std.specs.Prelude.{map, count_by, slice_get, MatchOption, option_map}
-use Rattle.std.specs.BTreeSet as sorted
 use Rattle.xet_run.specs.declared.event.Event.{Event}
 use Rattle.xet_run.specs.declared.index.WaitingTerm.{WaitingTerm}
 use Rattle.xet_run.specs.declared.index.UnfinishedTerm.{UnfinishedTerm}
 use Rattle.xet_run.specs.declared.index.Index.{Index}
 use Rattle.xet_run.specs.Events.{Task, size, planned, is_admit, written, unwritten, unfinished, is_kept}
 use Rattle.xet_run.specs.Allowed.{MayAdmit, MayWrite}
-use Rattle.xet_run.specs.steps.Index.{IsIndexed, block_cmp, waiting_of, unfinished_of}
+use Rattle.xet_run.specs.BlockTables.{kept_in}
+use Rattle.xet_run.specs.steps.Index.{IsIndexed, waiting_of, unfinished_of}
 
 front_of : {A B : Type 0} (f : A → B) (n : ℕ) (xs : List A) → slice_get (map f (drop n xs)) 0 ≡ option_map f (slice_get xs n)
 front_of f zero [] = refl
@@ -55,7 +55,7 @@ none_may_write es taken h m = go (slice_get (unfinished es) 0) h m
     go (Some t) h m = cc
 
 pub may_write_is : (es : List Event) (i : Index) (taken : ℕ) (u : UnfinishedTerm) → IsIndexed es i → option_map unfinished_of (slice_get (unfinished es) 0) ≡ Some u
-    → sorted.contains block_cmp i.kept u.id ≡ true → written es + taken ≤ u.end → MayWrite es taken
+    → kept_in i.blocks u.id.plan u.id.block ≡ true → written es + taken ≤ u.end → MayWrite es taken
 may_write_is es i taken u x h k n = go (slice_get (unfinished es) 0) h
   where
     go : (o : Option (ℕ × Task)) → option_map unfinished_of o ≡ Some u → MatchOption o ⊥ (λ c. (is_kept es c.1.plan c.1.term.block ≡ true) × (written es + taken ≤ c.0))
@@ -63,17 +63,17 @@ may_write_is es i taken u x h k n = go (slice_get (unfinished es) 0) h
     go (Some c) h =
         let e : u ≡ unfinished_of c = cc in
         let to : u.end ≡ c.0 = ap (λ (v : UnfinishedTerm). v.end) e in
-        (sym (x.kept_are c.1.plan c.1.term.block) ∙ ap (λ (v : UnfinishedTerm). sorted.contains block_cmp i.kept v.id) (sym e) ∙ k, omega arith)
+        (sym (x.kept_are c.1.plan c.1.term.block) ∙ ap (λ (v : UnfinishedTerm). kept_in i.blocks v.id.plan v.id.block) (sym e) ∙ k, omega arith)
 
 pub may_write_back : (es : List Event) (i : Index) (taken : ℕ) (u : UnfinishedTerm) → IsIndexed es i → option_map unfinished_of (slice_get (unfinished es) 0) ≡ Some u
-    → MayWrite es taken → (sorted.contains block_cmp i.kept u.id ≡ true) × (written es + taken ≤ u.end)
+    → MayWrite es taken → (kept_in i.blocks u.id.plan u.id.block ≡ true) × (written es + taken ≤ u.end)
 may_write_back es i taken u x h m = go (slice_get (unfinished es) 0) h m
   where
     go : (o : Option (ℕ × Task)) → option_map unfinished_of o ≡ Some u → MatchOption o ⊥ (λ c. (is_kept es c.1.plan c.1.term.block ≡ true) × (written es + taken ≤ c.0))
-        → (sorted.contains block_cmp i.kept u.id ≡ true) × (written es + taken ≤ u.end)
+        → (kept_in i.blocks u.id.plan u.id.block ≡ true) × (written es + taken ≤ u.end)
     go None h m = absurd (cc)
     go (Some c) h m =
         let e : u ≡ unfinished_of c = cc in
         let to : u.end ≡ c.0 = ap (λ (v : UnfinishedTerm). v.end) e in
         let n : written es + taken ≤ c.0 = m.1 in
-        (ap (λ (v : UnfinishedTerm). sorted.contains block_cmp i.kept v.id) e ∙ x.kept_are c.1.plan c.1.term.block ∙ m.0, omega arith)
+        (ap (λ (v : UnfinishedTerm). kept_in i.blocks v.id.plan v.id.block) e ∙ x.kept_are c.1.plan c.1.term.block ∙ m.0, omega arith)

@@ -1,4 +1,5 @@
 pub mod CallerLemmas
+mod BlockMarks
 mod Bounds
 mod Counts
 mod Facts

@@ -3,7 +3,6 @@ use Rattle.std.proofs.Common.{◌≡◌, ℕ, ◌+◌, ◌-◌, ◌==◌, ◌&&�
 use Rattle.std.specs.Prelude.{map, filter, count_by, unwrap_or, not}
 use Rattle.std.specs.Option.{option_or}
 use Rattle.std.specs.List.{list_any, sum_by}
-use Rattle.std.specs.BTreeMap as tree
 use Rattle.std.specs.BTreeSet as sorted
 use Rattle.std.specs.Ordering.{nat_cmp}
 use Rattle.std.proofs.lemmas.List.{append-nil}
@@ -12,44 +11,46 @@ use Rattle.xet_error.specs.declared.error.FileReconstructionError.{FileReconstru
 use Rattle.xet_error.specs.declared.error.FileReconstructionError.TheVariants.{Cancelled}
 use Rattle.xet_run.specs.declared.event.Event.{Event}
 use Rattle.xet_run.specs.declared.event.Event.TheVariants.{Fetched, Cached, Expired, Refreshed, Fail, Cancel}
-use Rattle.xet_run.specs.declared.index.BlockId.{BlockId}
+use Rattle.xet_run.specs.declared.block_table.BlockTable.{BlockTable}
 use Rattle.xet_run.specs.declared.index.Index.{Index}
 use Rattle.xet_run.specs.Events.{Task, size, last_of, planned, plan_count, planned_end, tasks_in, is_plan, is_admit, admitted, written, taken_in, unwritten, ended, has_more, unfinished, keeps, is_kept, expiry_in, is_stale, first_error, error_in, is_cancel}
 use Rattle.xet_run.specs.Allowed.{IsAllowed, IsMissing}
-use Rattle.xet_run.specs.steps.Index.{IsIndexed, block_cmp, block_id, waiting_of, unfinished_of, last_end, ends_after}
+use Rattle.xet_run.specs.BlockTables.{Keeps, block_id, end_in, kept_in}
+use Rattle.xet_run.specs.steps.Index.{IsIndexed, waiting_of, unfinished_of, last_end, ends_after}
 use Rattle.xet_run.proofs.Push.{count_by-push, any-push, planned-push, written-push, error-push, stale-push}
 use Rattle.xet_run.proofs.Histories.{allowed_push}
 use Rattle.xet_run.proofs.Facts.{facts, admitted-same}
-use Rattle.xet_run.proofs.Keys.{at_block, is_eq-nat, or_true, or_false}
+use Rattle.xet_run.proofs.Keys.{is_eq-nat, or_true, or_false}
 use Rattle.xet_run.proofs.Wanted.{wanted_is}
 
 -- what the index says of a missing block
 pub missing : (p b : ℕ) (es : List Event) (i : Index) → IsIndexed es i
-    → (ends_after i.written (tree.get block_cmp i.ends (block_id p b)) && not (sorted.contains block_cmp i.kept (block_id p b))) ≡ true → IsMissing es p b
+    → (ends_after i.written (end_in i.blocks p b) && not (kept_in i.blocks p b)) ≡ true → IsMissing es p b
 missing p b es i x h =
-    let r = and_parts (ends_after i.written (tree.get block_cmp i.ends (block_id p b))) (not (sorted.contains block_cmp i.kept (block_id p b))) h in
+    let r = and_parts (ends_after i.written (end_in i.blocks p b)) (not (kept_in i.blocks p b)) h in
     record {
-      wanted = wanted_is (written es) p b 0 (admitted es) ∙ ap (λ (o : Option ℕ). ends_after (written es) o) (sym (x.ends_are p b)) ∙ ap (λ (w : ℕ). ends_after w (tree.get block_cmp i.ends (block_id p b))) (sym x.written_is) ∙ r.0;
-      absent = sym (x.kept_are p b) ∙ not-true (sorted.contains block_cmp i.kept (block_id p b)) r.1;
+      wanted = wanted_is (written es) p b 0 (admitted es) ∙ ap (λ (o : Option ℕ). ends_after (written es) o) (sym (x.ends_are p b)) ∙ ap (λ (w : ℕ). ends_after w (end_in i.blocks p b)) (sym x.written_is) ∙ r.0;
+      absent = sym (x.kept_are p b) ∙ not-true (kept_in i.blocks p b) r.1;
     }
 
 pub missing_back : (p b : ℕ) (es : List Event) (i : Index) → IsIndexed es i → IsMissing es p b
-    → (ends_after i.written (tree.get block_cmp i.ends (block_id p b)) && not (sorted.contains block_cmp i.kept (block_id p b))) ≡ true
+    → (ends_after i.written (end_in i.blocks p b) && not (kept_in i.blocks p b)) ≡ true
 missing_back p b es i x m =
-    and_from (ends_after i.written (tree.get block_cmp i.ends (block_id p b))) (not (sorted.contains block_cmp i.kept (block_id p b)))
-    (ap (λ (w : ℕ). ends_after w (tree.get block_cmp i.ends (block_id p b))) x.written_is ∙ ap (λ (o : Option ℕ). ends_after (written es) o) (x.ends_are p b) ∙ sym (wanted_is (written es) p b 0 (admitted es)) ∙ m.wanted)
-    (not_from_false (sorted.contains block_cmp i.kept (block_id p b)) (x.kept_are p b ∙ m.absent))
+    and_from (ends_after i.written (end_in i.blocks p b)) (not (kept_in i.blocks p b))
+    (ap (λ (w : ℕ). ends_after w (end_in i.blocks p b)) x.written_is ∙ ap (λ (o : Option ℕ). ends_after (written es) o) (x.ends_are p b) ∙ sym (wanted_is (written es) p b 0 (admitted es)) ∙ m.wanted)
+    (not_from_false (kept_in i.blocks p b) (x.kept_are p b ∙ m.absent))
 
 -- an event that plans, admits and writes nothing
 pub quiet : (es : List Event) (e : Event) (i j : Index) → IsIndexed es i → IsAllowed es e
     → tasks_in e ≡ [] → is_admit e ≡ false → is_plan e ≡ false → taken_in e ≡ 0
-    → j ≡ record i { kept = j.kept; stale = j.stale; first_error = j.first_error; cancelled = j.cancelled }
-    → ((p b : ℕ) → sorted.contains block_cmp j.kept (block_id p b) ≡ (is_kept es p b || keeps p b e))
+    → j ≡ record i { blocks = j.blocks; stale = j.stale; first_error = j.first_error; cancelled = j.cancelled }
+    → ((p b : ℕ) → end_in j.blocks p b ≡ end_in i.blocks p b)
+    → ((p b : ℕ) → kept_in j.blocks p b ≡ (is_kept es p b || keeps p b e))
     → ((p : ℕ) → sorted.contains nat_cmp j.stale p ≡ last_of (is_stale es p) (expiry_in p e))
     → j.first_error ≡ option_or (first_error es) (error_in e)
     → j.cancelled ≡ (list_any is_cancel es || is_cancel e)
     → IsIndexed (es ++ e ∷ []) j
-quiet es e i j x a none off plain nothing is k s f c =
+quiet es e i j x a none off plain nothing is m k s f c =
     let pl : planned (es ++ e ∷ []) ≡ planned es = planned-push es e ∙ ap (λ l. planned es ++ l) none ∙ append-nil (planned es) in
     let n : count_by is_admit (es ++ e ∷ []) ≡ count_by is_admit es = count_by-push is_admit es e ∙ ap (λ b. count_by is_admit es + cond b 1 0) off ∙ omega arith in
     let ps : plan_count (es ++ e ∷ []) ≡ plan_count es = count_by-push is_plan es e ∙ ap (λ b. count_by is_plan es + cond b 1 0) plain ∙ omega arith in
@@ -67,7 +68,7 @@ quiet es e i j x a none off plain nothing is k s f c =
       unfinished_are = ap (λ (m : Index). m.unfinished.items) is ∙ x.unfinished_are ∙ ap (λ (l : List (ℕ × Task)). map unfinished_of l) (sym more);
       written_is = ap (λ (m : Index). m.written) is ∙ x.written_is ∙ sym w;
       unwritten_is = ap (λ (m : Index). m.unwritten) is ∙ x.unwritten_is ∙ sym un;
-      ends_are = λ p b. ap (λ (m : Index). tree.get block_cmp m.ends (block_id p b)) is ∙ x.ends_are p b ∙ ap (λ (l : List Task). last_end p b (ended 0 l)) (sym ad);
+      ends_are = λ p b. m p b ∙ x.ends_are p b ∙ ap (λ (l : List Task). last_end p b (ended 0 l)) (sym ad);
       kept_are = λ p b. k p b ∙ sym (any-push (keeps p b) es e);
       stale_are = λ p. s p ∙ sym (stale-push es e p);
       error_is = f ∙ sym (error-push es e);
@@ -75,36 +76,35 @@ quiet es e i j x a none off plain nothing is k s f c =
     }
 
 -- a block more is kept
-pub more_kept : (x y p b : ℕ) (es : List Event) (m n : sorted.BTreeSet BlockId) → ((p b : ℕ) → sorted.contains block_cmp m (block_id p b) ≡ is_kept es p b)
-    → sorted.Updates block_cmp m n (block_id x y) true → sorted.contains block_cmp n (block_id p b) ≡ (is_kept es p b || (x == p && y == b))
-more_kept x y p b es m n h u =
-    u.0 (block_id p b) ∙ ap (λ (s : Bool). cond s true (sorted.contains block_cmp m (block_id p b))) (at_block x y p b) ∙ ap (λ (s : Bool). cond (x == p && y == b) true s) (h p b) ∙ or_true (x == p && y == b) (is_kept es p b)
+pub more_kept : (x y p b : ℕ) (es : List Event) (m n : BlockTable) → ((p b : ℕ) → kept_in m p b ≡ is_kept es p b)
+    → Keeps m n (block_id x y) → kept_in n p b ≡ (is_kept es p b || (x == p && y == b))
+more_kept x y p b es m n h u = u.kept p b ∙ ap (λ (s : Bool). cond (x == p && y == b) true s) (h p b) ∙ or_true (x == p && y == b) (is_kept es p b)
 
 or_nothing : (o : Option FileReconstructionError) → o ≡ option_or o None
 or_nothing None = refl
 or_nothing (Some e) = refl
 
--- an index that differs in what is kept alone
-still : (i j : Index) → j ≡ record i { kept = j.kept } → j ≡ record i { kept = j.kept; stale = j.stale; first_error = j.first_error; cancelled = j.cancelled }
+-- an index that differs in what it knows of blocks alone
+still : (i j : Index) → j ≡ record i { blocks = j.blocks } → j ≡ record i { blocks = j.blocks; stale = j.stale; first_error = j.first_error; cancelled = j.cancelled }
 still i j is = let a = ap (λ (m : Index). m.stale) is in let b = ap (λ (m : Index). m.first_error) is in let c = ap (λ (m : Index). m.cancelled) is in cc
 
-still_stale : (i j : Index) → j ≡ record i { stale = j.stale } → j ≡ record i { kept = j.kept; stale = j.stale; first_error = j.first_error; cancelled = j.cancelled }
-still_stale i j is = let a = ap (λ (m : Index). m.kept) is in let b = ap (λ (m : Index). m.first_error) is in let c = ap (λ (m : Index). m.cancelled) is in cc
+still_stale : (i j : Index) → j ≡ record i { stale = j.stale } → j ≡ record i { blocks = j.blocks; stale = j.stale; first_error = j.first_error; cancelled = j.cancelled }
+still_stale i j is = let a = ap (λ (m : Index). m.blocks) is in let b = ap (λ (m : Index). m.first_error) is in let c = ap (λ (m : Index). m.cancelled) is in cc
 
 pub fetched_step : (lane p b : ℕ) (es : List Event) (i j : Index) → IsIndexed es i → IsAllowed es (Fetched lane p b)
-    → j ≡ record i { kept = j.kept } → sorted.Updates block_cmp i.kept j.kept (block_id p b) true → IsIndexed (es ++ Fetched lane p b ∷ []) j
+    → j ≡ record i { blocks = j.blocks } → Keeps i.blocks j.blocks (block_id p b) → IsIndexed (es ++ Fetched lane p b ∷ []) j
 fetched_step lane p b es i j x a is u =
-    quiet es (Fetched lane p b) i j x a refl refl refl refl (still i j is)
-    (λ q c. more_kept p b q c es i.kept j.kept x.kept_are u)
+    quiet es (Fetched lane p b) i j x a refl refl refl refl (still i j is) u.ends
+    (λ q c. more_kept p b q c es i.blocks j.blocks x.kept_are u)
     (λ q. ap (λ (m : Index). sorted.contains nat_cmp m.stale q) is ∙ x.stale_are q)
     (ap (λ (m : Index). m.first_error) is ∙ x.error_is ∙ or_nothing (first_error es))
     (ap (λ (m : Index). m.cancelled) is ∙ x.cancelled_is ∙ or_false (list_any is_cancel es))
 
 pub cached_step : (p b : ℕ) (es : List Event) (i j : Index) → IsIndexed es i → IsAllowed es (Cached p b)
-    → j ≡ record i { kept = j.kept } → sorted.Updates block_cmp i.kept j.kept (block_id p b) true → IsIndexed (es ++ Cached p b ∷ []) j
+    → j ≡ record i { blocks = j.blocks } → Keeps i.blocks j.blocks (block_id p b) → IsIndexed (es ++ Cached p b ∷ []) j
 cached_step p b es i j x a is u =
-    quiet es (Cached p b) i j x a refl refl refl refl (still i j is)
-    (λ q c. more_kept p b q c es i.kept j.kept x.kept_are u)
+    quiet es (Cached p b) i j x a refl refl refl refl (still i j is) u.ends
+    (λ q c. more_kept p b q c es i.blocks j.blocks x.kept_are u)
     (λ q. ap (λ (m : Index). sorted.contains nat_cmp m.stale q) is ∙ x.stale_are q)
     (ap (λ (m : Index). m.first_error) is ∙ x.error_is ∙ or_nothing (first_error es))
     (ap (λ (m : Index). m.cancelled) is ∙ x.cancelled_is ∙ or_false (list_any is_cancel es))
@@ -116,8 +116,8 @@ last_filter false d s = refl
 pub expired_step : (lane p b : ℕ) (es : List Event) (i j : Index) → IsIndexed es i → IsAllowed es (Expired lane p b)
     → j ≡ record i { stale = j.stale } → sorted.Updates nat_cmp i.stale j.stale p true → IsIndexed (es ++ Expired lane p b ∷ []) j
 expired_step lane p b es i j x a is u =
-    quiet es (Expired lane p b) i j x a refl refl refl refl (still_stale i j is)
-    (λ q c. ap (λ (m : Index). sorted.contains block_cmp m.kept (block_id q c)) is ∙ x.kept_are q c ∙ or_false (is_kept es q c))
+    quiet es (Expired lane p b) i j x a refl refl refl refl (still_stale i j is) (λ q c. ap (λ (m : Index). end_in m.blocks q c) is)
+    (λ q c. ap (λ (m : Index). kept_in m.blocks q c) is ∙ x.kept_are q c ∙ or_false (is_kept es q c))
     (λ q. u.0 q ∙ ap (λ (s : Bool). cond s true (sorted.contains nat_cmp i.stale q)) (is_eq-nat p q) ∙ ap (λ (s : Bool). cond (p == q) true s) (x.stale_are q) ∙ sym (last_filter (p == q) (is_stale es q) true))
     (ap (λ (m : Index). m.first_error) is ∙ x.error_is ∙ or_nothing (first_error es))
     (ap (λ (m : Index). m.cancelled) is ∙ x.cancelled_is ∙ or_false (list_any is_cancel es))
@@ -125,8 +125,8 @@ expired_step lane p b es i j x a is u =
 pub refreshed_step : (p : ℕ) (es : List Event) (i j : Index) → IsIndexed es i → IsAllowed es (Refreshed p)
     → j ≡ record i { stale = j.stale } → sorted.Updates nat_cmp i.stale j.stale p false → IsIndexed (es ++ Refreshed p ∷ []) j
 refreshed_step p es i j x a is u =
-    quiet es (Refreshed p) i j x a refl refl refl refl (still_stale i j is)
-    (λ q c. ap (λ (m : Index). sorted.contains block_cmp m.kept (block_id q c)) is ∙ x.kept_are q c ∙ or_false (is_kept es q c))
+    quiet es (Refreshed p) i j x a refl refl refl refl (still_stale i j is) (λ q c. ap (λ (m : Index). end_in m.blocks q c) is)
+    (λ q c. ap (λ (m : Index). kept_in m.blocks q c) is ∙ x.kept_are q c ∙ or_false (is_kept es q c))
     (λ q. u.0 q ∙ ap (λ (s : Bool). cond s false (sorted.contains nat_cmp i.stale q)) (is_eq-nat p q) ∙ ap (λ (s : Bool). cond (p == q) false s) (x.stale_are q) ∙ sym (last_filter (p == q) (is_stale es q) false))
     (ap (λ (m : Index). m.first_error) is ∙ x.error_is ∙ or_nothing (first_error es))
     (ap (λ (m : Index). m.cancelled) is ∙ x.cancelled_is ∙ or_false (list_any is_cancel es))
@@ -134,7 +134,7 @@ refreshed_step p es i j x a is u =
 pub fail_step : (e : FileReconstructionError) (es : List Event) (i : Index) → IsIndexed es i → IsAllowed es (Fail e)
     → IsIndexed (es ++ Fail e ∷ []) (record i { first_error = option_or i.first_error (Some e) })
 fail_step e es i x a =
-    quiet es (Fail e) i (record i { first_error = option_or i.first_error (Some e) }) x a refl refl refl refl refl
+    quiet es (Fail e) i (record i { first_error = option_or i.first_error (Some e) }) x a refl refl refl refl refl (λ q c. refl)
     (λ q c. x.kept_are q c ∙ or_false (is_kept es q c))
     x.stale_are
     (ap (λ (o : Option FileReconstructionError). option_or o (Some e)) x.error_is)
@@ -143,7 +143,7 @@ fail_step e es i x a =
 pub cancel_step : (es : List Event) (i : Index) → IsIndexed es i → IsAllowed es Cancel
     → IsIndexed (es ++ Cancel ∷ []) (record i { first_error = Some Cancelled; cancelled = true })
 cancel_step es i x a =
-    quiet es Cancel i (record i { first_error = Some Cancelled; cancelled = true }) x a refl refl refl refl refl
+    quiet es Cancel i (record i { first_error = Some Cancelled; cancelled = true }) x a refl refl refl refl refl (λ q c. refl)
     (λ q c. x.kept_are q c ∙ or_false (is_kept es q c))
     x.stale_are
     (ap (λ (o : Option FileReconstructionError). option_or o (Some Cancelled)) (sym a))

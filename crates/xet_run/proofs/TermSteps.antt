@@ -3,7 +3,6 @@ use Rattle.std.proofs.Common.{◌≡◌, ℕ, suc, zero, ◌+◌, ◌-◌, ◌�
 use Rattle.std.specs.Prelude.{map, filter, count_by, slice_get, unwrap_or, option_map, nat_lt, MatchOption}
 use Rattle.std.specs.Option.{option_or}
 use Rattle.std.specs.List.{list_any, sum_by}
-use Rattle.std.specs.BTreeMap as tree
 use Rattle.std.specs.BTreeSet as sorted
 use Rattle.std.specs.Ordering.{nat_cmp}
 use Rattle.std.proofs.lemmas.List.{append-nil, map-append, drop-append-le}
@@ -21,11 +20,12 @@ use Rattle.xet_run.specs.declared.index.UnfinishedTerm.{UnfinishedTerm}
 use Rattle.xet_run.specs.declared.index.Index.{Index}
 use Rattle.xet_run.specs.Events.{Task, size, needs, last_of, planned, plan_count, planned_end, tasks_of, is_plan, is_admit, admitted, written, ended, has_more, unfinished, keeps, is_kept, first_error, is_cancel}
 use Rattle.xet_run.specs.Allowed.{MayWrite, IsAllowed}
-use Rattle.xet_run.specs.steps.Index.{IsIndexed, IsAdmitted, block_cmp, block_id, waiting_of, waiting_in, unfinished_of, finished, last_end, or_else, end_where}
+use Rattle.xet_run.specs.BlockTables.{end_in, is_block, kept_in}
+use Rattle.xet_run.specs.steps.Index.{IsIndexed, IsAdmitted, waiting_of, waiting_in, unfinished_of, finished, last_end, or_else, end_where}
 use Rattle.xet_run.proofs.Push.{count_by-push, any-push, planned-push, written-push, error-push, stale-push, end-push}
 use Rattle.xet_run.proofs.Histories.{allowed_push}
 use Rattle.xet_run.proofs.Facts.{facts, admitted-same, admitted-more, next_in, may_write}
-use Rattle.xet_run.proofs.Keys.{at_block, or_false}
+use Rattle.xet_run.proofs.Keys.{or_false}
 
 or_nothing : (o : Option FileReconstructionError) → o ≡ option_or o None
 or_nothing None = refl
@@ -130,8 +130,8 @@ wrote_step taken es i j x a f is =
       unfinished_are = f ∙ ap (λ (n : ℕ). finished (n + taken) i.unfinished.items) iw ∙ ap (λ l. finished (written es + taken) l) x.unfinished_are ∙ left (slice_get (unfinished es) 0) refl a.2 ∙ ap (λ (l : List (ℕ × Task)). map unfinished_of l) (sym more);
       written_is = let g = ap (λ (m : Index). m.written) is in omega (arith, g, iw, w);
       unwritten_is = let g = ap (λ (m : Index). m.unwritten) is in omega (arith, g, iu, w, all);
-      ends_are = λ p b. ap (λ (m : Index). tree.get block_cmp m.ends (block_id p b)) is ∙ x.ends_are p b ∙ ap (λ (l : List Task). last_end p b (ended 0 l)) (sym ad);
-      kept_are = λ p b. ap (λ (m : Index). sorted.contains block_cmp m.kept (block_id p b)) is ∙ x.kept_are p b ∙ or_false (is_kept es p b) ∙ sym (any-push (keeps p b) es e);
+      ends_are = λ p b. ap (λ (m : Index). end_in m.blocks p b) is ∙ x.ends_are p b ∙ ap (λ (l : List Task). last_end p b (ended 0 l)) (sym ad);
+      kept_are = λ p b. ap (λ (m : Index). kept_in m.blocks p b) is ∙ x.kept_are p b ∙ or_false (is_kept es p b) ∙ sym (any-push (keeps p b) es e);
       stale_are = λ p. ap (λ (m : Index). sorted.contains nat_cmp m.stale p) is ∙ x.stale_are p ∙ sym (stale-push es e p);
       error_is = ap (λ (m : Index). m.first_error) is ∙ x.error_is ∙ or_nothing (first_error es) ∙ sym (error-push es e);
       cancelled_is = ap (λ (m : Index). m.cancelled) is ∙ x.cancelled_is ∙ or_false (list_any is_cancel es) ∙ sym (any-push is_cancel es e);
@@ -177,7 +177,7 @@ admit_step limit es i j next x a h ad = go (slice_get (planned es) (count_by is_
         ∙ sym (ap (λ (b : Bool). map unfinished_of (cond (b && nat_lt (written es) ((0 + sum_by size (admitted es)) + size t)) (((0 + sum_by size (admitted es)) + size t, t) ∷ []) [])) z)
 
     end_more : (t : Task) → next ≡ waiting_of t → written es ≤ sum_by size (admitted es) → (p b : ℕ) (s : Bool) → nat_lt 0 (size t) ≡ s
-        → tree.get block_cmp j.ends (block_id p b) ≡ or_else (end_where (needs p b t && s) ((0 + sum_by size (admitted es)) + size t)) (last_end p b (ended 0 (admitted es)))
+        → end_in j.blocks p b ≡ or_else (end_where (needs p b t && s) ((0 + sum_by size (admitted es)) + size t)) (last_end p b (ended 0 (admitted es)))
     end_more t is covered p b true z =
         let some = ltb-true 0 (size t) z in
         let iw = x.written_is in
@@ -185,16 +185,25 @@ admit_step limit es i j next x a h ad = go (slice_get (planned es) (count_by is_
         let len : next.length ≡ size t = ap (λ (v : WaitingTerm). v.length) is in
         let to : i.written + i.unwritten + next.length ≡ (0 + sum_by size (admitted es)) + size t = omega arith in
         let u = ad.nonempty (omega arith) in
-        u.0 (block_id p b)
-        ∙ ap (λ (v : WaitingTerm). cond (tree.is_at (block_cmp v.id) (block_id p b)) (Some (i.written + i.unwritten + next.length)) (tree.get block_cmp i.ends (block_id p b))) is
-        ∙ ap (λ (s : Bool). cond s (Some (i.written + i.unwritten + next.length)) (tree.get block_cmp i.ends (block_id p b))) (at_block t.plan t.term.block p b)
-        ∙ ap (λ (n : ℕ). cond (needs p b t) (Some n) (tree.get block_cmp i.ends (block_id p b))) to
+        u.ends p b
+        ∙ ap (λ (v : WaitingTerm). cond (is_block v.id p b) (Some (i.written + i.unwritten + next.length)) (end_in i.blocks p b)) is
+        ∙ ap (λ (n : ℕ). cond (needs p b t) (Some n) (end_in i.blocks p b)) to
         ∙ ap (λ (o : Option ℕ). cond (needs p b t) (Some ((0 + sum_by size (admitted es)) + size t)) o) (x.ends_are p b)
         ∙ cond_or (needs p b t) ((0 + sum_by size (admitted es)) + size t) (last_end p b (ended 0 (admitted es)))
     end_more t is covered p b false z =
         let len : next.length ≡ size t = ap (λ (v : WaitingTerm). v.length) is in
         let none = ltb-false 0 (size t) z in
-        ap (λ m. tree.get block_cmp m (block_id p b)) (ad.empty (omega arith)) ∙ x.ends_are p b ∙ cond_none (needs p b t) ((0 + sum_by size (admitted es)) + size t) (last_end p b (ended 0 (admitted es)))
+        ap (λ m. end_in m p b) (ad.empty (omega arith)) ∙ x.ends_are p b ∙ cond_none (needs p b t) ((0 + sum_by size (admitted es)) + size t) (last_end p b (ended 0 (admitted es)))
+
+    kept_more : (t : Task) (p b : ℕ) (s : Bool) → nat_lt 0 (size t) ≡ s → next ≡ waiting_of t → kept_in j.blocks p b ≡ kept_in i.blocks p b
+    kept_more t p b true z is =
+        let some = ltb-true 0 (size t) z in
+        let len : next.length ≡ size t = ap (λ (v : WaitingTerm). v.length) is in
+        (ad.nonempty (omega arith)).kept p b
+    kept_more t p b false z is =
+        let none = ltb-false 0 (size t) z in
+        let len : next.length ≡ size t = ap (λ (v : WaitingTerm). v.length) is in
+        ap (λ m. kept_in m p b) (ad.empty (omega arith))
 
     go : (o : Option Task) → slice_get (planned es) (count_by is_admit es) ≡ o → option_map waiting_of o ≡ Some next → IsIndexed (es ++ Admit limit ∷ []) j
     go None e h = absurd (cc)
@@ -227,7 +236,7 @@ admit_step limit es i j next x a h ad = go (slice_get (planned es) (count_by is_
           written_is = ap (λ (m : Index). m.written) ad.rest ∙ iw ∙ sym w;
           unwritten_is = let g = ap (λ (m : Index). m.unwritten) ad.rest in omega (arith, g, iu, w, all, len, covered);
           ends_are = λ p b. end_more t nx covered p b (nat_lt 0 (size t)) refl ∙ sym (ap (λ (l : List (ℕ × Task)). last_end p b l) ends_all ∙ last_end-push p b (ended 0 (admitted es)) ((0 + sum_by size (admitted es)) + size t, t));
-          kept_are = λ p b. ap (λ (m : Index). sorted.contains block_cmp m.kept (block_id p b)) ad.rest ∙ x.kept_are p b ∙ or_false (is_kept es p b) ∙ sym (any-push (keeps p b) es (Admit limit));
+          kept_are = λ p b. kept_more t p b (nat_lt 0 (size t)) refl nx ∙ x.kept_are p b ∙ or_false (is_kept es p b) ∙ sym (any-push (keeps p b) es (Admit limit));
           stale_are = λ p. ap (λ (m : Index). sorted.contains nat_cmp m.stale p) ad.rest ∙ x.stale_are p ∙ sym (stale-push es (Admit limit) p);
           error_is = ap (λ (m : Index). m.first_error) ad.rest ∙ x.error_is ∙ or_nothing (first_error es) ∙ sym (error-push es (Admit limit));
           cancelled_is = ap (λ (m : Index). m.cancelled) ad.rest ∙ x.cancelled_is ∙ or_false (list_any is_cancel es) ∙ sym (any-push is_cancel es (Admit limit));
@@ -270,8 +279,8 @@ planned_step plan query ts blocks es i j x a q is to fits =
       unfinished_are = ap (λ (m : Index). m.unfinished.items) is ∙ x.unfinished_are ∙ ap (λ (l : List (ℕ × Task)). map unfinished_of l) (sym more);
       written_is = ap (λ (m : Index). m.written) is ∙ x.written_is ∙ sym w;
       unwritten_is = let g = ap (λ (m : Index). m.unwritten) is in let u = x.unwritten_is in omega (arith, g, u, w, all);
-      ends_are = λ p b. ap (λ (m : Index). tree.get block_cmp m.ends (block_id p b)) is ∙ x.ends_are p b ∙ ap (λ (l : List Task). last_end p b (ended 0 l)) (sym am);
-      kept_are = λ p b. ap (λ (m : Index). sorted.contains block_cmp m.kept (block_id p b)) is ∙ x.kept_are p b ∙ or_false (is_kept es p b) ∙ sym (any-push (keeps p b) es e);
+      ends_are = λ p b. ap (λ (m : Index). end_in m.blocks p b) is ∙ x.ends_are p b ∙ ap (λ (l : List Task). last_end p b (ended 0 l)) (sym am);
+      kept_are = λ p b. ap (λ (m : Index). kept_in m.blocks p b) is ∙ x.kept_are p b ∙ or_false (is_kept es p b) ∙ sym (any-push (keeps p b) es e);
       stale_are = λ p. ap (λ (m : Index). sorted.contains nat_cmp m.stale p) is ∙ x.stale_are p ∙ sym (stale-push es e p);
       error_is = ap (λ (m : Index). m.first_error) is ∙ x.error_is ∙ or_nothing (first_error es) ∙ sym (error-push es e);
       cancelled_is = ap (λ (m : Index). m.cancelled) is ∙ x.cancelled_is ∙ or_false (list_any is_cancel es) ∙ sym (any-push is_cancel es e);

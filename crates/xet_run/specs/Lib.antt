@@ -1,4 +1,5 @@
 pub mod Allowed
+pub mod BlockTables
 pub mod Books
 pub mod Budgets
 pub mod CoreCalls

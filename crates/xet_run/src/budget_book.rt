@@ -1,7 +1,7 @@
 //! A book of the running downloads, whose limit grows with them.
-ghost use Rattle.std.specs.Prelude.{◌≡◌, ◌+◌, ◌-◌, ◌^◌, min, IfOk, IsOk, None};
+ghost use Rattle.std.specs.Prelude.{◌≡◌, ◌+◌, ◌-◌, ◌^◌, min, IfOk, IsOk, None, Some};
 ghost use Rattle.std.specs.Arc.{arc_value};
-ghost use Rattle.xet_run.specs.Books.{target_of, IsTarget};
+ghost use Rattle.xet_run.specs.Books.{book_limit, target_of, IsTarget};
 
 use crate::budget_source::BudgetSource;
 use std::alloc::Global;
@@ -118,7 +118,8 @@ impl BudgetBook {
     }
 }
 
-/// A look into a shared book, as a source of limits. It tells nothing, since other threads start and end downloads.
+/// A look into a shared book, as a source of limits. It tells the limit of all that the settings have, which no answer
+/// passes, and nothing else, since other threads start and end downloads.
 #[derive(Drop)]
 pub struct BookView {
     book: Arc<BudgetBook, Global>,
@@ -134,7 +135,7 @@ impl BookView {
 }
 
 impl BudgetSource for BookView {
-    ghost told = { λ _. record { fixed = None; limits = None } };
+    ghost told = { λ v. record { fixed = None; most = Some (book_limit v); limits = None } };
 
     fn limit<R: Wait>(&mut self, rt: &R) -> u64
         ensures target { IsTarget (arc_value self.old.book).settings result }

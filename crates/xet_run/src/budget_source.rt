@@ -7,7 +7,8 @@ use std::sync::Wait;
 
 /// Says how many bytes may be admitted and unwritten. The limit may grow or shrink between two asks.
 pub trait BudgetSource {
-    /// The one limit that it always answers, and its answers so far, each where that is told.
+    /// The one limit that it always answers, the limit that it never passes, and its answers so far, each where that is
+    /// told.
     ghost told: { Self → LimitTold };
 
     /// The limit of this moment, in bytes. It may wait for a lock.
@@ -23,7 +24,7 @@ pub struct FixedBudget {
 }
 
 impl BudgetSource for FixedBudget {
-    ghost told = { λ b. record { fixed = Some b.limit; limits = None } };
+    ghost told = { λ b. record { fixed = Some b.limit; most = Some b.limit; limits = None } };
 
     fn limit<R: Wait>(&mut self, _rt: &R) -> u64
         ensures fixed { result ≡ self.old.limit }
@@ -58,7 +59,7 @@ impl ScriptBudget {
 }
 
 impl BudgetSource for ScriptBudget {
-    ghost told = { λ b. record { fixed = None; limits = Some b.given.limits } };
+    ghost told = { λ b. record { fixed = None; most = None; limits = Some b.given.limits } };
 
     fn limit<R: Wait>(&mut self, _rt: &R) -> u64
         ensures script { self.new.answers.items ≡ self.old.answers.items }

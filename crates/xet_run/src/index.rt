@@ -1,23 +1,17 @@
 //! What a core knows of its history without a look through it.
 ghost use Rattle.std.specs.Prelude.{◌≡◌, ◌+◌, ◌-◌, ◌<◌, ◌≤◌, ◌^◌, ◌&&◌, ℕ, not, [], true, false, OnOk, OnErr, ◌++◌, map, slice_get, unwrap_or};
-ghost use Rattle.std.specs.BTreeMap as tree;
 ghost use Rattle.std.specs.BTreeSet as sorted;
 ghost use Rattle.std.specs.Ordering.{nat_cmp};
 ghost use Rattle.xet_run.specs.Allowed.{Adjoin};
 ghost use Rattle.xet_run.specs.Events.{last_of};
-ghost use Rattle.xet_run.specs.steps.Index.{block_cmp, ends_after, IsIndexed, waiting_in, IsAdmitted, SameIndex, finished};
+ghost use Rattle.xet_run.specs.BlockTables.{Keeps, SameMarks, end_in, kept_in};
+ghost use Rattle.xet_run.specs.steps.Index.{ends_after, IsIndexed, waiting_in, IsAdmitted, SameIndex, finished};
 
+use crate::block_table::{BlockId, BlockTable};
 use crate::event::PlannedTerm;
 use std::alloc::{AllocError, Global};
-use std::collections::{BTreeMap, BTreeSet, VecDeque};
+use std::collections::{BTreeSet, VecDeque};
 use xet_error::FileReconstructionError;
-
-/// A block of a plan, by their numbers.
-#[derive(Clone, Copy, PartialEq, Eq, PartialOrd, Ord, Debug)]
-pub(crate) struct BlockId {
-    pub plan: u64,
-    pub block: usize,
-}
 
 /// A planned term that isn't admitted yet.
 #[derive(Clone, Copy, Debug)]
@@ -42,9 +36,8 @@ pub(crate) struct Index {
     pub unfinished: VecDeque<UnfinishedTerm>,
     pub written: u64,
     pub unwritten: u64,
-    /// Where the last nonempty admitted term of each block ends.
-    pub ends: BTreeMap<BlockId, u64>,
-    pub kept: BTreeSet<BlockId>,
+    /// Where the last nonempty admitted term of each block ends, and which blocks are kept.
+    pub blocks: BlockTable,
     /// The plans with an expired answer since their last refresh.
     pub stale: BTreeSet<u64>,
     pub first_error: Option<FileReconstructionError>,
@@ -63,8 +56,7 @@ impl Index {
             unfinished: VecDeque::new(alloc),
             written: 0,
             unwritten: 0,
-            ends: BTreeMap::new(alloc),
-            kept: BTreeSet::new(alloc),
+            blocks: BlockTable::new(alloc),
             stale: BTreeSet::new(alloc),
             first_error: None,
             cancelled: false,
@@ -73,13 +65,21 @@ impl Index {
 
     /// Whether an admitted term that isn't wholly written has this block, and it isn't kept.
     pub(crate) fn is_missing(&self, id: BlockId) -> bool
-        ensures { result ≡ (ends_after self.now.written (tree.get block_cmp self.now.ends id)
-            && not (sorted.contains block_cmp self.now.kept id)) }
+        ensures { result ≡ (ends_after self.now.written (end_in self.now.blocks id.plan id.block)
+            && not (kept_in self.now.blocks id.plan id.block)) }
     {
-        match self.ends.get(&id) {
-            Some(end) => *end > self.written && !self.kept.contains(&id),
+        let mark = self.blocks.mark(id);
+        match mark.end {
+            Some(end) => end > self.written && !mark.kept,
             None => false,
         }
+    }
+
+    /// Whether a block is kept.
+    pub(crate) fn is_kept(&self, id: BlockId) -> bool
+        ensures { result ≡ kept_in self.now.blocks id.plan id.block }
+    {
+        self.blocks.mark(id).kept
     }
 
     /// The first waiting term.
@@ -98,12 +98,11 @@ impl Index {
 
     /// Keeps a block.
     pub(crate) fn keep(&mut self, id: BlockId) -> Result<(), AllocError>
-        ensures ok { OnOk result (sorted.Updates block_cmp self.old.kept self.new.kept id true) }
-        ensures err { OnErr result (self.new.kept.keys ≡ self.old.kept.keys) }
-        ensures rest { self.new ≡ record self.old { kept = self.new.kept } }
+        ensures ok { OnOk result (Keeps self.old.blocks self.new.blocks id) }
+        ensures err { OnErr result (SameMarks self.old.blocks self.new.blocks) }
+        ensures rest { self.new ≡ record self.old { blocks = self.new.blocks } }
     {
-        self.kept.insert(id)?;
-        Ok(())
+        self.blocks.keep(id)
     }
 
     /// Notes an expired answer for a block of this plan.
@@ -137,7 +136,7 @@ impl Index {
         }
         let end = self.written + self.unwritten + next.length;
         self.unfinished.reserve(1)?;
-        self.ends.insert(next.id, end)?;
+        self.blocks.put_end(next.id, end)?;
         self.unfinished
             .push_back_reserved(UnfinishedTerm { id: next.id, end });
         self.waiting.pop_front();

@@ -2,6 +2,7 @@
 //! unwritten bytes, the numbers that lanes draw, and what the threads of a run know of it together.
 #![tactic(auto)]
 
+pub mod block_table;
 pub mod budget;
 pub mod budget_book;
 pub mod budget_source;
@@ -15,6 +16,7 @@ pub mod run_core;
 pub mod run_state;
 mod told_limits;
 
+pub use block_table::{BlockId, BlockMark, BlockTable};
 pub use budget::{Admission, Budget};
 pub use budget_book::{BookState, BookView, BudgetBook, BudgetSettings};
 pub use budget_source::{BudgetSource, FixedBudget, ScriptBudget};

@@ -5,9 +5,10 @@ ghost use Rattle.xet_run.specs.CoreCalls.{Adds};
 ghost use Rattle.xet_run.specs.Events.{planned, plan_count, is_admit, is_kept, written, unwritten, first_error};
 ghost use Rattle.xet_run.specs.steps.Index.{waiting_of};
 
+use crate::block_table::BlockId;
 use crate::core_refusal::CoreRefusal;
 use crate::event::{Event, PlannedBlock, PlannedTerm};
-use crate::index::{BlockId, Index, WaitingTerm, adjoin, end_after};
+use crate::index::{Index, WaitingTerm, adjoin, end_after};
 use std::alloc::Global;
 use std::marker::Model;
 use xet_base::{FileRange, List};
@@ -17,8 +18,8 @@ use xet_error::FileReconstructionError;
 ///
 /// Each event call adds its event, or is refused and leaves the history as it was: `NotAllowed` exactly where the event
 /// isn't allowed after the history, `OutOfMemory` where an allocation was refused. None looks through the history: it
-/// takes constant time, or logarithmic time in the blocks that were admitted, and `planned` besides linear time in its
-/// terms.
+/// takes constant time, amortized over the plans and their blocks, or logarithmic time in the stale plans (`expired`,
+/// `refreshed`), and `planned` besides linear time in its terms.
 ///
 /// In place of the loop, tasks and semaphore of `file_reconstruction::file_reconstructor` of the Rust crate.
 #[derive(Drop)]
@@ -77,7 +78,7 @@ impl RunCore {
     pub fn is_kept(&self, plan: u64, block: usize) -> bool
         ensures { result ≡ is_kept self.now plan block }
     {
-        self.index.kept.contains(&BlockId { plan, block })
+        self.index.is_kept(BlockId { plan, block })
     }
 
     /// The error of the first Fail event, or `Cancelled` where Cancel came first.
@@ -286,7 +287,7 @@ impl RunCore {
         let Some(oldest) = self.index.oldest() else {
             return false;
         };
-        if !self.index.kept.contains(&oldest.id) {
+        if !self.index.is_kept(oldest.id) {
             return false;
         }
         taken <= oldest.end.saturating_sub(self.index.written)

@@ -1,31 +1,21 @@
 -- What a core's index says of its history.
 use Rattle.std.specs.Prelude.{ℕ, ◌≡◌, ◌+◌, ◌-◌, ◌<◌, ◌==◌, ◌^◌, ◌++◌, cond, filter, Bool, true, false, ◌&&◌, List, [], ◌∷◌, map, drop, Option, Some, None, unwrap_or, count_by, nat_lt}
 use Rattle.std.specs.List.{list_any}
-use Rattle.std.specs.declared.cmp.Ordering.{Ordering}
-use Rattle.std.specs.Ordering.{nat_cmp, ordering_then}
-use Rattle.std.specs.BTreeMap as tree
+use Rattle.std.specs.Ordering.{nat_cmp}
 use Rattle.std.specs.BTreeSet as sorted
 use Rattle.xet_run.specs.declared.event.PlannedTerm.{PlannedTerm}
 use Rattle.xet_run.specs.declared.event.Event.{Event}
-use Rattle.xet_run.specs.declared.index.BlockId.{BlockId}
 use Rattle.xet_run.specs.declared.index.WaitingTerm.{WaitingTerm}
 use Rattle.xet_run.specs.declared.index.UnfinishedTerm.{UnfinishedTerm}
 use Rattle.xet_run.specs.declared.index.Index.{Index}
 use Rattle.xet_run.specs.Events.{Task, size, needs, planned, plan_count, planned_end, is_admit, admitted, written, unwritten, ended, unfinished, is_kept, is_stale, first_error, is_cancel}
 use Rattle.xet_run.specs.Allowed.{IsAllowedHistory}
-
--- blocks by their plan, and then by their number in it
-abbrev pub block_cmp : BlockId → BlockId → Ordering
-block_cmp x y = ordering_then (nat_cmp x.plan y.plan) (nat_cmp x.block y.block)
+use Rattle.xet_run.specs.BlockTables.{Ends, SameMarks, block_id, end_in, kept_in}
 
 -- a place that is there lies after the written bytes
 abbrev pub ends_after : ℕ → Option ℕ → Bool
 ends_after w None = false
 ends_after w (Some e) = nat_lt w e
-
--- a block by both numbers
-abbrev pub block_id : ℕ → ℕ → BlockId
-block_id p b = record { plan = p; block = b }
 
 -- a planned term, as it waits
 abbrev pub waiting_of : Task → WaitingTerm
@@ -60,8 +50,8 @@ pub record IsIndexed (es : List Event) (i : Index) : Type 0 where
   pub unfinished_are : i.unfinished.items ≡ map unfinished_of (unfinished es)
   pub written_is : i.written ≡ written es
   pub unwritten_is : i.unwritten ≡ unwritten es
-  pub ends_are : (p b : ℕ) → tree.get block_cmp i.ends (block_id p b) ≡ last_end p b (ended 0 (admitted es))
-  pub kept_are : (p b : ℕ) → sorted.contains block_cmp i.kept (block_id p b) ≡ is_kept es p b
+  pub ends_are : (p b : ℕ) → end_in i.blocks p b ≡ last_end p b (ended 0 (admitted es))
+  pub kept_are : (p b : ℕ) → kept_in i.blocks p b ≡ is_kept es p b
   pub stale_are : (p : ℕ) → sorted.contains nat_cmp i.stale p ≡ is_stale es p
   pub error_is : i.first_error ≡ first_error es
   pub cancelled_is : i.cancelled ≡ list_any is_cancel es
@@ -90,15 +80,15 @@ pub record IsAdmitted (before after : Index) (next : WaitingTerm) : Type 0 where
     waiting = after.waiting;
     unfinished = after.unfinished;
     unwritten = before.unwritten + next.length;
-    ends = after.ends;
+    blocks = after.blocks;
   }
   pub one_less : after.waiting.items ≡ drop 1 before.waiting.items
   pub behind : after.unfinished.items ≡ before.unfinished.items ++ queued before next
-  pub nonempty : 0 < next.length → tree.Updates block_cmp before.ends after.ends next.id (Some (end_of before next))
-  pub empty : next.length ≡ 0 → after.ends ≡ before.ends
+  pub nonempty : 0 < next.length → Ends before.blocks after.blocks next.id (end_of before next)
+  pub empty : next.length ≡ 0 → after.blocks ≡ before.blocks
 
 -- nothing changed but spare room
 pub record SameIndex (before after : Index) : Type 0 where
-  pub rest : after ≡ record before { unfinished = after.unfinished; ends = after.ends }
+  pub rest : after ≡ record before { unfinished = after.unfinished; blocks = after.blocks }
   pub unfinished_same : after.unfinished.items ≡ before.unfinished.items
-  pub ends_same : after.ends.entries ≡ before.ends.entries
+  pub blocks_same : SameMarks before.blocks after.blocks

@@ -1,18 +1,18 @@
 use Rattle.std.proofs.Common.{◌≡◌, ◌+◌, ◌≤◌, ◌<◌, None, Some, true, false, sym, ◌∙◌, rules, arith}
 use Rattle.std.specs.Prelude.{option_map, slice_get}
-use Rattle.std.specs.BTreeSet as sorted
 use Rattle.std.proofs.lemmas.Bool.{both_ways, leb-true, leb-false}
 use Rattle.xet_run.specs.Events.{unfinished, written}
-use Rattle.xet_run.specs.steps.Index.{unfinished_of, block_cmp}
+use Rattle.xet_run.specs.BlockTables.{kept_in}
+use Rattle.xet_run.specs.steps.Index.{unfinished_of}
 use Rattle.xet_run.proofs.Fronts.{unfinished_front, may_write_is, may_write_back}
 use Rattle.xet_run.proofs.run_core.RunCore.may_write.Goals as goal
 
-pub returns-then-not-contains-clause-no : goal.returns-then-not-contains-clause-no
-returns-then-not-contains-clause-no c = λ _.
+pub returns-then-not-is_kept-clause-no : goal.returns-then-not-is_kept-clause-no
+returns-then-not-is_kept-clause-no c = λ _.
     let es = c.self.inside.events.items in
     let front : slice_get c.self.inside.index.unfinished.items 0 ≡ Some c.in-Some.oldest = search rules in
     let h : option_map unfinished_of (slice_get (unfinished es) 0) ≡ Some c.in-Some.oldest = sym (unfinished_front _ _ c.self.invariant) ∙ front in
-    let absent : sorted.contains block_cmp c.self.inside.index.kept c.in-Some.oldest.id ≡ false = search rules in
+    let absent : kept_in c.self.inside.index.blocks c.in-Some.oldest.id.plan c.in-Some.oldest.id.block ≡ false = search rules in
     rw (← c.self.view_is) (λ r some m. both_ways _ absent (may_write_back es c.self.inside.index c.args.taken _ c.self.invariant h m).0)
 
 pub returns-clause-yes : goal.returns-clause-yes
@@ -21,7 +21,7 @@ returns-clause-yes c = λ e.
     let none : c.self.inside.index.first_error ≡ None = search rules in
     let front : slice_get c.self.inside.index.unfinished.items 0 ≡ Some c.in-Some.oldest = search rules in
     let h : option_map unfinished_of (slice_get (unfinished es) 0) ≡ Some c.in-Some.oldest = sym (unfinished_front _ _ c.self.invariant) ∙ front in
-    let present : sorted.contains block_cmp c.self.inside.index.kept c.in-Some.oldest.id ≡ true = search rules in
+    let present : kept_in c.self.inside.index.blocks c.in-Some.oldest.id.plan c.in-Some.oldest.id.block ≡ true = search rules in
     let within = leb-true c.args.taken c.saturating_sub.result e in
     let s = c.saturating_sub.ensures in
     let w = c.self.invariant.written_is in
