@@ -1,6 +1,6 @@
 -- A leader's manager after the answer to the query that was due, whose plan was handed out.
-use Rattle.std.proofs.Common.{◌≡◌, ℕ, zero, suc, ◌+◌, ◌<◌, ◌≤◌, Bool, true, false, cond, List, [], ◌∷◌, ◌++◌, length, take, drop, refl, sym, subst, ◌∙◌, ap, arith, inl, inr, Option, Some, None}
-use Rattle.std.specs.Prelude.{filter, map, nat_lt, ◌||◌}
+use Rattle.std.proofs.Common.{◌≡◌, ℕ, zero, suc, ◌+◌, ◌<◌, ◌≤◌, Bool, true, false, cond, List, [], ◌∷◌, ◌++◌, length, take, drop, refl, sym, subst, ◌∙◌, ap, arith, inl, inr, Option, Some, None, ⊎_elim}
+use Rattle.std.specs.Prelude.{filter, map, nat_lt, ◌||◌, All}
 use Rattle.std.proofs.lemmas.Bool.{le-ltb, lt-ltb, ltb-false, ltb-true}
 use Rattle.std.proofs.lemmas.List.{append-nil, length-take-le, take-append-drop, take-append-le, take_all}
 use Rattle.xet_base.specs.declared.cas_types.FileRange.{FileRange}
@@ -19,6 +19,9 @@ use Rattle.xet_ties.specs.Setup.{Setup}
 use Rattle.xet_ties.specs.steps.Parts.{blocks_of_answer, plan_event, terms_in}
 use Rattle.xet_leader.specs.Led.{IsLedManager}
 use Rattle.xet_leader.proofs.NextQueries.{IsDue, cut_last, due_cuts, end_last, take_next}
+use Rattle.xet_ties.specs.Ties.{IsLong}
+use Rattle.std.proofs.lemmas.List.Elements.{All-take}
+use Rattle.xet_ties.proofs.CallerLemmas.{early_back}
 
 -- ---- queries that weren't asked
 
@@ -120,7 +123,7 @@ module _ (g : Setup) (es : List Event) (m : Manager) (q : FileRange) (d : IsDue 
   asked_end = ap (end_from m.range.start) asked_are ∙ end_last m.range.start (queries es) q
 
   cut : (q.start ≡ end_from g.range.start (queries es)) × (q.start < q.end) × (q.end ≤ g.range.end)
-  cut = cut_last g.range.start g.range.end (g.greatest + g.least) (queries es) q (due_cuts g es m q d)
+  cut = cut_last g.range.start g.range.end (g.greatest + g.least) (queries es) q (due_cuts g es m q d).from
 
   -- an answer that ends early lets the end be known, at or before the query's end
   known_low : ends_early q t ≡ true → known_after m.known_end q t ≤ q.end
@@ -188,6 +191,14 @@ module _ (g : Setup) (es : List Event) (m : Manager) (q : FileRange) (d : IsDue 
           go true e = subst P (sym (queries_early e)) early
           go false e = subst P (sym (queries_same e)) same
 
+  long_now : All (IsLong g) queries_now
+  long_now = go (ends_early q t) refl
+    where
+      go : (b : Bool) → ends_early q t ≡ b → All (IsLong g) queries_now
+      go true e = subst (λ (l : List FileRange). All (IsLong g) l) (sym (queries_early e))
+          (All-take (IsLong g) m.asked m.queries d.long)
+      go false e = subst (λ (l : List FileRange). All (IsLong g) l) (sym (queries_same e)) d.long
+
   -- the queries that are answered now
   answered_are : take (m.answered + 1) queries_now ≡ queries es ++ q ∷ []
   answered_are = ap (λ (n : ℕ). take n queries_now) (sym d.one) ∙ asked_kept m known asked_within ∙ asked_are
@@ -218,6 +229,14 @@ module _ (g : Setup) (es : List Event) (m : Manager) (q : FileRange) (d : IsDue 
       go None e = cut.1
       go (Some b) e = ltb-true b.byte_range.end q.end e
 
+  goes_now : ends_early q t ≡ false → SomeEndsEarly (es ++ plan_event es q t ∷ []) → ⊥
+  goes_now e h =
+      ⊎_elim
+      (λ (k : SomeEndsEarly es). d.goes_on k)
+      (λ (k : EndsEarly (plan_event es q t)).
+      let end = a.ends in let to = ends_now e in absurd (omega (arith, k, end, to)))
+      (early_back es (plan_event es q t) h)
+
   led_after : (ws : List TermBlock) (end : ℕ) → ws ≡ [] → IsLedManager g (es ++ plan_event es q t ∷ []) (after ws end)
   led_after ws end none = record {
     is_for = record {
@@ -246,6 +265,8 @@ module _ (g : Setup) (es : List Event) (m : Manager) (q : FileRange) (d : IsDue 
         ap (end_from m.range.start) (queries_early (sym ended_is ∙ e)) in
         omega (arith, low, l, asked_end)
         );
+    goes_on = λ e. goes_now (sym ended_is ∙ e);
+    long = long_now;
   }
 
 -- so the leader's manager is one after it

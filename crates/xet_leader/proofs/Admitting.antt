@@ -144,7 +144,7 @@ failing g b m o l k before after fs e at a s =
           at s.ties;
       left = subst (λ (x : FileReconstructionError). MayLeave (Some x) b.clients s.slack) (sym memory)
           (short_leaves b.clients s.slack);
-      cause = subst (Cause g b (record m.told { limits = after })) (sym memory) tt;
+      cause = subst (Cause g s.slack.heard b (record m.told { limits = after })) (sym memory) tt;
       spent = λ h. absurd (let z : error.OutOfMemory ≡ error.UrlExpired = sym memory ∙ h in cc);
       cache_tells = s.cache_tells;
     }

@@ -334,7 +334,7 @@ memory_fails g b m o l e memory s = record {
   ties = s.ties;
   left = subst (λ (x : FileReconstructionError). MayLeave (Some x) b.clients s.slack) (sym memory)
       (short_leaves b.clients s.slack);
-  cause = subst (Cause g b m.told) (sym memory) tt;
+  cause = subst (Cause g s.slack.heard b m.told) (sym memory) tt;
   spent = λ h. absurd (let z : error.OutOfMemory ≡ error.UrlExpired = sym memory ∙ h in cc);
   cache_tells = s.cache_tells;
 }

@@ -24,18 +24,18 @@ use Rattle.xet_ties.specs.Saids.{InStep}
 use Rattle.xet_ties.specs.Setup.{RunTold, Setup}
 use Rattle.xet_ties.specs.steps.Moves.{heard_first}
 use Rattle.xet_ties.specs.steps.Parts.{AskedShort, plan_query}
-use Rattle.xet_ties.specs.Ties.{AllAre, CutsRange, EachLane, MayLeave, Slack, Ties, all_of}
+use Rattle.xet_ties.specs.Ties.{AllAre, EachLane, MayLeave, Slack, Ties, all_of, IsNextQuery, CutsRange}
 use Rattle.xet_ties.proofs.CallerLemmas.{asked_own, first_tells, none_hidden, none_late, short_leaves, steady_leaves}
 use Rattle.xet_parts.specs.DueQueries.{CancelledDue, NoneDue, OneDue, TakesDue}
 use Rattle.xet_parts.specs.PlanAsks.{AskPlanCall, PlanFails, QueryFails}
-use Rattle.xet_parts.proofs.CallerLemmas.{ask_cause, ask_fails_ties, asked_ties, cancelled_due_ties, none_due_ties, none_passes, one_due_ties, query_within}
+use Rattle.xet_parts.proofs.CallerLemmas.{AskedCause, ask_cause, asked_ties, cancelled_due_ties, none_due_ties, none_passes, one_due_ties, query_within}
 use Rattle.xet_leader.specs.declared.leader.Job.{Job}
 use Rattle.xet_leader.specs.Asking.{AskErr, AskLeads, AskTurn, DueAsked, HandsOn, NoneAsked, OneAsked, UntakenDue}
 use Rattle.xet_leader.specs.Led.{IsLed, IsLedManager, Led, setup_of_job}
 use Rattle.xet_leader.specs.Steady.{IsFailing, IsGoing, Moment, no_loose}
 use Rattle.xet_leader.proofs.LedPlanned.{led_planned}
 use Rattle.xet_leader.proofs.NewPlans.{none_later}
-use Rattle.xet_leader.proofs.NextQueries.{IsDue, due_cuts, due_first, led_due, led_looked}
+use Rattle.xet_leader.proofs.NextQueries.{IsDue, due_first, led_due, led_looked, due_next}
 
 -- ---- none was due
 
@@ -170,8 +170,8 @@ module _ (g : Setup) (b : RunTold) (m : Moment) (l : Led) (s : IsGoing g b m no_
     due : IsDue g m.events middle d.query
     due = led_due g m.events l.manager middle d s.led.manager one.takes
 
-    cuts : CutsRange g (queries m.events ++ d.query ∷ [])
-    cuts = due_cuts g m.events middle d.query due
+    next : IsNextQuery g m.events d.query
+    next = due_next g m.events middle d.query due
 
     abbrev polled : Slack
     polled = record s.slack { spare = s.slack.spare + 1 }
@@ -199,7 +199,7 @@ module _ (g : Setup) (b : RunTold) (m : Moment) (l : Led) (s : IsGoing g b m no_
 
       recorded : Ties g b told fs None slack × InStep slack.heard
       recorded = asked_ties g b quiet m.events fs polled s.slack.spare c n others middle now d.query d.id is call.ok
-          s.settled.lost refl s.settled.step cuts (due_first g m.events middle d.query due) polled_ties
+          s.settled.lost refl s.settled.step next (due_first g m.events middle d.query due) polled_ties
 
       led : (k : Led) → IsAllowedHistory m.events → HandsOn d.id.plan (record l { manager = now }) k now.waiting
           → IsLed g b fs slack [] k
@@ -213,7 +213,7 @@ module _ (g : Setup) (b : RunTold) (m : Moment) (l : Led) (s : IsGoing g b m no_
             from = call.ok.call.made.from;
             heard = record { heard = refl; looks = refl };
             answered = asked_own g b quiet m.events None polled d.query call.ok.call.made.plan polled_ties
-                s.settled.lost s.settled.step cuts;
+                s.settled.lost s.settled.step next;
             none = none_later m.events (plan_count m.events + 1) allowed (omega arith);
             own = due_number middle d one.takes;
             honest = λ st over. call.ok.call.made.honest st
@@ -258,13 +258,13 @@ module _ (g : Setup) (b : RunTold) (m : Moment) (l : Led) (s : IsGoing g b m no_
         (Err e)) where
       unpassed : (t : Option TermBlock) → PassesKnownEnd middle d.query t → ⊥
       unpassed t =
-          let within = query_within g (queries m.events) d.query cuts in
+          let within = query_within g (queries m.events) d.query next.cuts in
           none_passes middle d.query t due.kept due.unended within.1
           (subst (λ (r : FileRange). d.query.end ≤ r.end) (sym due.is_for.range) within.2)
 
-      asked : AskedShort g b quiet fs polled (n ∷ others)
-      asked = ask_fails_ties g b quiet m.events fs polled c n others middle now d.query d.id e is call s.settled.lost
-          cuts polled_ties
+      asked : AskedCause g b quiet fs polled (n ∷ others) e
+      asked = ask_cause g b quiet m.events fs polled c n others middle now d.query d.id e is call s.settled.lost
+          s.settled.step next unpassed polled_ties
 
       vain : IsFailing g b (record { told = told; events = fs }) e
       vain = record {
@@ -274,8 +274,7 @@ module _ (g : Setup) (b : RunTold) (m : Moment) (l : Led) (s : IsGoing g b m no_
           heard = heard_first asked.queries asked.answers polled.heard;
           lost = asked.queries;
         }) refl refl refl;
-        cause = ask_cause g b quiet m.events fs polled c n others middle now d.query d.id e is call s.settled.lost
-            s.settled.step cuts unpassed polled_ties;
+        cause = asked.cause;
         spent = λ h. absurd (other h);
         cache_tells = s.cache_tells;
       }

@@ -15,6 +15,7 @@ use Rattle.xet_writers.specs.Queues.{ready_bytes, wanted}
 use Rattle.xet_writers.specs.Sequential.{Ended, FinishSequential, NotEnded, Sequential}
 use Rattle.xet_writers.proofs.CallerLemmas.{open_writer}
 use Rattle.xet_ties.specs.Causes.{Cause, failing_setting}
+use Rattle.xet_ties.specs.InCall.{Exchange}
 use Rattle.xet_ties.specs.RunCalls.{IsFinished}
 use Rattle.xet_ties.specs.Setup.{CacheTells, IsOver, RunTold, Setup}
 use Rattle.xet_ties.specs.steps.Moves.{no_slack}
@@ -138,22 +139,23 @@ whole_ends g b m to k j s f c =
         slack = s.slack;
         ties = tie_flush g b m.told m.events s.slack to c.took c.faults c.link s.ties;
         left = steady_ends b.clients s.slack s.leaves s.late;
+        cause = tt;
       };
       finished = subst (IsFinished g m.events) (sym c.count_is) f;
       flushed = c.flushed;
       cancelled = λ h. absurd (omega (arith, h, q));
-      cause = tt;
       cache_later = s.cache_tells;
     }
 
 -- a sink's error has its cause in a run
-sink_cause : (g : Setup) (b n : RunTold) (faults : ℕ) (e : FileReconstructionError) → b.sink.faults ≤ faults
-    → SinkCause faults n.sink.faults e → Cause g b n e
-sink_cause g b n faults e le (inl h) = subst (Cause g b n) (sym h) tt
-sink_cause g b n faults e le (inr h) =
+sink_cause : (g : Setup) (xs : List Exchange) (b n : RunTold) (faults : ℕ) (e : FileReconstructionError)
+    → b.sink.faults ≤ faults
+    → SinkCause faults n.sink.faults e → Cause g xs b n e
+sink_cause g xs b n faults e le (inl h) = subst (Cause g xs b n) (sym h) tt
+sink_cause g xs b n faults e le (inr h) =
     let rose : Rose faults n.sink.faults = h.1 in
     let all : Rose b.sink.faults n.sink.faults = omega (arith, rose, le) in
-    subst (Cause g b n) (sym h.0) all
+    subst (Cause g xs b n) (sym h.0) all
 
 -- it is no expired URL
 sink_unspent : {A : Type 0} (before after : ℕ) (e : FileReconstructionError) → SinkCause before after e
@@ -168,7 +170,7 @@ whole_fails g b m to k e s c = record {
   slack = s.slack;
   ties = tie_flush g b m.told m.events s.slack to c.took c.faults c.link s.ties;
   left = steady_leaves b.clients e s.slack s.leaves.hidden s.late s.leaves.ahead;
-  cause = sink_cause g b (record m.told { sink = to }) m.told.sink.faults e s.ties.taken.faults c.cause;
+  cause = sink_cause g s.slack.heard b (record m.told { sink = to }) m.told.sink.faults e s.ties.taken.faults c.cause;
   spent = λ h. sink_unspent m.told.sink.faults to.faults e c.cause h;
   cache_tells = s.cache_tells;
 }
@@ -186,11 +188,11 @@ failing_ends g b n es fs e answer s f =
         slack = s.slack;
         ties = stopped_ties g b n es fs s.slack e x f.stopped s.spent s.ties;
         left = stopped_leaves b.clients s.slack es fs e x f.stopped s.left;
+        cause = stopped_cause g s.slack.heard b n es fs e x f.stopped s.cause;
       };
       finished = tt;
       flushed = tt;
       cancelled = λ h. tt;
-      cause = stopped_cause g b n es fs e x f.stopped s.cause;
       cache_later = s.cache_tells;
     })
 

@@ -2,20 +2,18 @@
 use Rattle.std.proofs.Common.{◌≡◌, ℕ, zero, suc, ◌+◌, ◌≤◌, Bool, true, cond, List, [], ◌∷◌, ◌++◌, length, refl, sym, subst, ◌∙◌, ap, arith, None, Some, Option, inl, inr, ⊎_elim}
 use Rattle.std.specs.Prelude.{All, IfSome, ◌⊎◌, false, nat_eq, option_map, slice_get}
 use Rattle.std.specs.Option.{is_some}
-use Rattle.std.proofs.lemmas.List.{append-nil, length-append}
 use Rattle.std.proofs.lemmas.Option.{slice_get-map}
 use Rattle.xet_base.specs.declared.cas_types.ChunkRange.{ChunkRange}
 use Rattle.xet_base.specs.declared.cas_types.FileRange.{FileRange}
 use Rattle.xet_base.specs.declared.merklehash.MerkleHash.{MerkleHash}
 use Rattle.xet_base.specs.Lists.{first_some}
 use Rattle.xet_base.specs.Store.{Store}
-use Rattle.xet_outside.specs.Answers.{AnswerTo, IsPaired, bytes_in}
+use Rattle.xet_outside.specs.Answers.{AnswerTo}
 use Rattle.xet_outside.specs.declared.block.BlockBytes.{BlockBytes}
 use Rattle.xet_outside.specs.declared.said.Said.{Said}
 use Rattle.xet_outside.specs.declared.served.Served.{Served}
 use Rattle.xet_outside.specs.Plan.{shape}
-use Rattle.xet_outside.specs.Told.{ClientTold, Query, Rose, served_of}
-use Rattle.xet_outside.proofs.CallerLemmas.{added_both, answer_after, bytes_both}
+use Rattle.xet_outside.specs.Told.{ClientTold, Query, Rose}
 use Rattle.xet_error.specs.declared.error.Corruption.{Corruption}
 use Rattle.xet_error.specs.declared.error.Corruption.TheVariants.{BlockLength, OffsetCount, OffsetOrder}
 use Rattle.xet_error.specs.declared.error.FileReconstructionError.{FileReconstructionError}
@@ -29,22 +27,24 @@ use Rattle.xet_run.specs.declared.event.Event.{Event}
 use Rattle.xet_ties.specs.Causes.{BlockFailsIn, Cause, FirstFailed, IsBlockTest, QueryFailed, SomeFailed, SomeRose}
 use Rattle.xet_ties.specs.Cuts.{AskedCut, FirstCut, StartsAt}
 use Rattle.xet_ties.specs.History.{range_at}
-use Rattle.xet_ties.specs.InCall.{answers_of, EachExchange, EachGrew, Exchange, IsExchange, SomeOne}
+use Rattle.xet_ties.specs.InCall.{answers_of, EachExchange, EachGrew, Exchange, SomeOne, EachAskedAs}
 use Rattle.xet_ties.specs.Lanes.{Ask, EachDrew, IsFor, entries_of}
 use Rattle.xet_ties.specs.Saids.{BlockOfPlan}
-use Rattle.xet_ties.specs.Setup.{AllTell, IsOver, RunTold, Setup}
-use Rattle.xet_ties.specs.steps.Rounds.{IsMissingAsk}
+use Rattle.xet_ties.specs.Setup.{IsOver, RunTold, Setup}
+use Rattle.xet_ties.specs.steps.Rounds.{IsMissingAsk, FailsAsk, IsHeardFailure, IsHeardStep}
 use Rattle.xet_ties.specs.Ties.{EachLane, FirstAsked, Slack, Ties}
-use Rattle.xet_ties.proofs.CallerLemmas.{accepted_more, block_fails, fetch_entry, grew_none, starts_at, tells_now}
+use Rattle.xet_ties.proofs.CallerLemmas.{accepted_more, block_fails, fetch_entry, starts_at, tells_now}
 use Rattle.xet_lanes.specs.Fetches.{last_error}
 use Rattle.xet_lanes.specs.Rounds.{End, steps_of}
 use Rattle.xet_lanes.proofs.CallerLemmas.{FailedLane}
-use Rattle.xet_parts.proofs.CallerLemmas.{told_of_all}
 use Rattle.xet_leader.specs.Led.{IsLed, IsLedPlan, Led, bare}
 use Rattle.xet_leader.specs.Rounds.{IsLedAsk}
 use Rattle.xet_leader.proofs.HonestBlocks.{IsHonestOf, led_honest}
-use Rattle.xet_leader.proofs.LastSteps.{LastFails, all_made, last_fails}
+use Rattle.xet_leader.proofs.LastSteps.{LastFails, all_made, last_fails, last_more}
 use Rattle.xet_leader.proofs.ServedLed.{led_keeps, plan_at}
+use Rattle.xet_ties.specs.declared.lane_step.LaneStep.{LaneStep}
+use Rattle.xet_ties.specs.declared.lane_step.LaneStep.TheVariants as step
+use Rattle.std.proofs.lemmas.List.Elements.{All-head, All-tail}
 
 -- ---- counts
 
@@ -110,161 +110,35 @@ since es l (b ∷ bs) (m ∷ ms) (n ∷ ns) (h ∷ hs) (k ∷ ks) t r =
 
 -- ---- what was heard in the join
 
-abbrev heard_of : Exchange → List Served → List Said → Exchange
-heard_of x h a = record { asked = x.asked; served = x.served ++ h; said = x.said ++ a }
+-- what holds of each step of a lane holds of the last one, which failed so
+last_holds : (P : LaneStep → Type 0) (ss : List LaneStep) (e : FileReconstructionError) → All P ss
+    → last_error ss ≡ Some e → P (step.Failed e)
+last_holds P [] e h last = absurd (cc)
+last_holds P (step.Served p k d ∷ []) e h last = absurd (cc)
+last_holds P (step.Expired p k ∷ []) e h last = absurd (cc)
+last_holds P (step.Failed x ∷ []) e h last =
+    let same : x ≡ e = cc in
+    subst (λ (y : FileReconstructionError). P (step.Failed y)) same (All-head P (step.Failed x) [] h)
+last_holds P (s ∷ t ∷ ss) e h last =
+    last_holds P (t ∷ ss) e (All-tail P s (t ∷ ss) h) (sym (last_more s t ss) ∙ last)
 
-one_heard : (b m n : ClientTold) (x : Exchange) (h : List Served) (a : List Said) → n.asked ≡ m.asked
-    → IsPaired m n h a → IsExchange b m x → IsExchange b n (heard_of x h a)
-one_heard b m n x h a asked pairs t = record {
-  asks = asked ∙ t.asks;
-  serves = added_both b.served m.served n.served x.served h t.serves pairs.serves;
-  says = added_both b.said m.said n.said x.said a t.says pairs.says;
-  paired =
-      let u = ap (λ (l : List BlockBytes). length l) (bytes_both x.said a) in
-      let v = length-append (bytes_in x.said) (bytes_in a) in
-      let w = length-append x.served h in
-      let y = t.paired in
-      let z = pairs.paired in
-      omega (arith, u, v, w, y, z);
-}
-
--- the first connection was asked the same
-abbrev SameAsked : List Exchange → List Exchange → Type 0
-SameAsked [] [] = Unit {0}
-SameAsked [] (y ∷ ys) = ⊥
-SameAsked (x ∷ xs) [] = ⊥
-SameAsked (x ∷ xs) (y ∷ ys) = y.asked ≡ x.asked
-
-same_asked : (xs : List Exchange) → SameAsked xs xs
-same_asked [] = tt
-same_asked (x ∷ xs) = refl
-
-record HeardAll (bs ns : List ClientTold) (xs : List Exchange) : Type 0 where
-  ys : List Exchange
-  each : EachExchange bs ns ys
-  grew : EachGrew xs ys
-  same : SameAsked xs ys
-
-heard_all : (fs : List Ask) (bs ms ns : List ClientTold) (drawn : List (List ℕ)) (es : List End) (xs : List Exchange)
-    → EachDrew fs ms ns drawn (steps_of es) → EachExchange bs ms xs → HeardAll bs ns xs
-heard_all fs bs ms ns [] [] xs d t = record {
-  ys = xs;
-  each = subst (λ (l : List ClientTold). EachExchange bs l xs) (sym d) t;
-  grew = grew_none xs;
-  same =
-      same_asked xs;
-}
-heard_all fs bs ms ns [] (x ∷ es) xs d t = absurd d
-heard_all fs bs ms ns (q ∷ qs) [] xs d t = absurd d
-heard_all fs bs [] ns (q ∷ qs) (x ∷ es) xs d t = absurd d
-heard_all fs bs (m ∷ ms) [] (q ∷ qs) (x ∷ es) xs d t = absurd d
-heard_all fs [] (m ∷ ms) (n ∷ ns) (q ∷ qs) (x ∷ es) xs d t = absurd t
-heard_all fs (b ∷ bs) (m ∷ ms) (n ∷ ns) (q ∷ qs) (x ∷ es) [] d t = absurd t
-heard_all fs (b ∷ bs) (m ∷ ms) (n ∷ ns) (q ∷ qs) (x ∷ es) (y ∷ xs) d t =
-    let did = d.0.did in
-    let h = entries_of d.0.made x.steps ++ did.hidden in
-    let r = heard_all fs bs ms ns qs es xs d.1 t.1 in
-    record {
-      ys = heard_of y h did.said ∷ r.ys;
-      each = (one_heard b m n y h did.said did.asked did.pairs t.0, r.each);
-      grew = (
-        record {
-          asked = [];
-          served = h;
-          said = did.said;
-          is_asked = sym (append-nil y.asked);
-          is_served = refl;
-          is_said = refl;
-        },
-        r.grew,
-      );
-      same = refl;
-    }
-
--- bytes that were said in answer to a fetch's own request fail this test
-record FailsIn (a : Ask) (k : Corruption) (y : Exchange) : Type 0 where
-  given : BlockBytes
-  answer : AnswerTo y.served y.said (served_of a.request) given
-  fails : failed_check a.block given ≡ Some k
-
-record FailedHeard (P : Ask → Type 0) (bs ms ns : List ClientTold) (xs : List Exchange) (k : Corruption)
-    : Type 0 where
-  heard : HeardAll bs ns xs
-  ask : Ask
-  holds : P ask
-  bytes : SomeOne (FailsIn ask k) heard.ys
-  untrue : (s : Store) → AllTell s ms → IsHonestOf s ask.block → ⊥
-
-failed_heard : (P : Ask → Type 0) (fs : List Ask) (bs ms ns : List ClientTold) (drawn : List (List ℕ)) (es : List End)
-    (i : ℕ) (end : End) (k : Corruption) (xs : List Exchange) → All P fs → EachDrew fs ms ns drawn (steps_of es)
-    → slice_get es i ≡ Some end → last_error end.steps ≡ Some (error.CorruptedReconstruction k)
-    → EachExchange bs ms xs → FailedHeard P bs ms ns xs k
-failed_heard P fs bs ms ns drawn [] i end k xs p d at last t = absurd (cc)
-failed_heard P fs bs ms ns [] (x ∷ es) i end k xs p d at last t = absurd d
-failed_heard P fs bs [] ns (q ∷ qs) (x ∷ es) i end k xs p d at last t = absurd d
-failed_heard P fs bs (m ∷ ms) [] (q ∷ qs) (x ∷ es) i end k xs p d at last t = absurd d
-failed_heard P fs [] (m ∷ ms) (n ∷ ns) (q ∷ qs) (x ∷ es) i end k xs p d at last t = absurd t
-failed_heard P fs (b ∷ bs) (m ∷ ms) (n ∷ ns) (q ∷ qs) (x ∷ es) i end k [] p d at last t = absurd t
-failed_heard P fs (b ∷ bs) (m ∷ ms) (n ∷ ns) (q ∷ qs) (x ∷ es) zero end k (y ∷ xs) p d at last t =
+-- so of the lane that has the error
+end_holds : (P : LaneStep → Type 0) (es : List End) (i : ℕ) (end : End) (e : FileReconstructionError)
+    → All (λ ss. All P ss) (steps_of es) → slice_get es i ≡ Some end → last_error end.steps ≡ Some e
+    → P (step.Failed e)
+end_holds P [] i end e h at last = absurd (cc)
+end_holds P (x ∷ es) zero end e h at last =
     let same : x ≡ end = cc in
-    let did = d.0.did in
-    let h = entries_of d.0.made x.steps ++ did.hidden in
-    let r = heard_all fs bs ms ns qs es xs d.1 t.1 in
-    let f = last_fails P m n h did.said d.0.made x.steps (error.CorruptedReconstruction k) did.are
-    (all_made P fs q d.0.made p d.0.at) (ap (λ (y : End). last_error y.steps) same ∙ last) in
-    record {
-      heard = record {
-        ys = heard_of y h did.said ∷ r.ys;
-        each = (one_heard b m n y h did.said did.asked did.pairs t.0, r.each);
-        grew = (
-          record {
-            asked = [];
-            served = h;
-            said = did.said;
-            is_asked = sym (append-nil y.asked);
-            is_served = refl;
-            is_said = refl;
-          },
-          r.grew,
-        );
-        same = refl;
-      };
-      ask = f.ask;
-      holds = f.holds;
-      bytes = inl (record {
-        given = f.cause.given;
-        answer = answer_after y.served h y.said did.said
-            (served_of f.ask.request) f.cause.given t.0.paired f.cause.answer;
-        fails = f.cause.fails;
-      });
-      untrue = λ s tell honest. f.cause.dishonest s tell.0 honest.holds honest.passes;
-    }
-failed_heard P fs (b ∷ bs) (m ∷ ms) (n ∷ ns) (q ∷ qs) (x ∷ es) (suc i) end k (y ∷ xs) p d at last t =
-    let did = d.0.did in
-    let h = entries_of d.0.made x.steps ++ did.hidden in
-    let r = failed_heard P fs bs ms ns qs es i end k xs p d.1 at last t.1 in
-    record {
-      heard = record {
-        ys = heard_of y h did.said ∷ r.heard.ys;
-        each = (one_heard b m n y h did.said did.asked did.pairs t.0, r.heard.each);
-        grew = (
-          record {
-            asked = [];
-            served = h;
-            said = did.said;
-            is_asked = sym (append-nil y.asked);
-            is_served = refl;
-            is_said = refl;
-          },
-          r.heard.grew,
-        );
-        same = refl;
-      };
-      ask = r.ask;
-      holds = r.holds;
-      bytes = inr r.bytes;
-      untrue = λ s tell honest. r.untrue s tell.1 honest;
-    }
+    last_holds P x.steps e (All-head (λ ss. All P ss) x.steps (steps_of es) h)
+    (ap (λ (y : End). last_error y.steps) same ∙ last)
+end_holds P (x ∷ es) (suc i) end e h at last =
+    end_holds P es i end e (All-tail (λ ss. All P ss) x.steps (steps_of es) h) at last
+
+-- a fetch by its place
+ask_at : (P : Ask → Type 0) (fs : List Ask) (k : ℕ) (a : Ask) → All P fs → slice_get fs k ≡ Some a → P a
+ask_at P [] k a h e = absurd (cc)
+ask_at P (f ∷ fs) zero a h e = let same : f ≡ a = cc in subst P same (All-head P f fs h)
+ask_at P (f ∷ fs) (suc k) a h e = ask_at P fs k a (All-tail P f fs h) e
 
 -- ---- the fetch is of a block of an accepted plan
 
@@ -290,13 +164,13 @@ some_of_all P Q (x ∷ xs) f h = ⊎_elim (λ (p : P x). inl (f x p))
     (λ (q : SomeOne P xs). inr (some_of_all P Q xs f q)) h
 
 -- a plan's number, where the first connection was asked the same
-first_cut : (xs ys : List Exchange) (cut : List FileRange) → SameAsked xs ys → FirstCut xs cut → FirstCut ys cut
+first_cut : (xs ys : List Exchange) (cut : List FileRange) → EachAskedAs xs ys → FirstCut xs cut → FirstCut ys cut
 first_cut [] [] cut s c = c
 first_cut [] (y ∷ ys) cut s c = absurd s
 first_cut (x ∷ xs) [] cut s c = absurd s
-first_cut (x ∷ xs) (y ∷ ys) cut s c = subst (λ (qs : List Query). AskedCut [] qs cut) (sym s) c
+first_cut (x ∷ xs) (y ∷ ys) cut s c = subst (λ (qs : List Query). AskedCut [] qs cut) (sym s.0) c
 
-starts_more : (g : Setup) (xs ys : List Exchange) (p start : ℕ) → SameAsked xs ys → StartsAt g xs p start
+starts_more : (g : Setup) (xs ys : List Exchange) (p start : ℕ) → EachAskedAs xs ys → StartsAt g xs p start
     → StartsAt g ys p start
 starts_more g xs ys p start s h =
     let n = h.numbered in
@@ -315,8 +189,8 @@ starts_more g xs ys p start s h =
     }
 
 lane_failed : (g : Setup) (b : RunTold) (es : List Event) (sl : Slack) (l : Led) (a : Ask) (k : Corruption)
-    (ys : List Exchange) → IsLed g b es sl [] l → IsOwnAsk es l a → EachGrew sl.heard ys → SameAsked sl.heard ys
-    → ((p : ℕ) (r : FileRange) → range_at es p ≡ r ∷ [] → StartsAt g sl.heard p r.start) → SomeOne (FailsIn a k) ys
+    (ys : List Exchange) → IsLed g b es sl [] l → IsOwnAsk es l a → EachGrew sl.heard ys → EachAskedAs sl.heard ys
+    → ((p : ℕ) (r : FileRange) → range_at es p ≡ r ∷ [] → StartsAt g sl.heard p r.start) → SomeOne (FailsAsk a k) ys
     → SomeFailed g ys k
 lane_failed g b es sl l a k ys led h grew asked starts bytes =
     let m = h.led in
@@ -345,7 +219,7 @@ lane_failed g b es sl l a k ys led h grew asked starts bytes =
     starts_more g sl.heard ys a.request.acquisition.plan p.query.start asked
     (starts a.request.acquisition.plan (covered (shape p.plan) p.query) range) in
     block_fails g ys k place a.request.acquisition.plan (sym m.number ∙ p.said_as) number
-    (some_of_all (FailsIn a k) (BlockFailsIn g ys place a.request.acquisition.plan k) ys
+    (some_of_all (FailsAsk a k) (BlockFailsIn g ys place a.request.acquisition.plan k) ys
     (λ y f. record {
       given = f.given;
       answer = subst (λ (e : Served). AnswerTo y.served y.said e f.given)
@@ -395,10 +269,10 @@ is_check k x b h =
     (is_length k x.uncompressed_size_if_known b)
     h
 
-some_test : (a : Ask) (k : Corruption) (ys : List Exchange) → SomeOne (FailsIn a k) ys → IsBlockTest k
+some_test : (a : Ask) (k : Corruption) (ys : List Exchange) → SomeOne (FailsAsk a k) ys → IsBlockTest k
 some_test a k [] h = absurd h
-some_test a k (y ∷ ys) h = ⊎_elim (λ (f : FailsIn a k y). is_check k a.block f.given f.fails)
-    (λ (s : SomeOne (FailsIn a k) ys). some_test a k ys s) h
+some_test a k (y ∷ ys) h = ⊎_elim (λ (f : FailsAsk a k y). is_check k a.block f.given f.fails)
+    (λ (s : SomeOne (FailsAsk a k) ys). some_test a k ys s) h
 
 -- so the first connection needs to tell nothing of it
 first_failed : (g : Setup) (f : MerkleHash) (es : List Event) (lost : List Query) (bs ms ns : List ClientTold)
@@ -414,45 +288,49 @@ first_failed g f es lost (b ∷ bs) ms (n ∷ ns) ys k a t test = always (answer
 
 -- ---- the causes
 
--- the error of a lane's last step has its cause
+-- the error of a lane's last step has its cause, by what was heard after the join
 pub lane_cause : (g : Setup) (b at : RunTold) (es : List Event) (sl : Slack) (ns : List ClientTold) (fs : List Ask)
-    (drawn : List (List ℕ)) (ends : List End) (l : Led) (e : FileReconstructionError) → All (IsOwnAsk es l) fs
-    → EachDrew fs at.clients ns drawn (steps_of ends) → FailedLane ends e
-    → Ties g b at es None sl → IsLed g b es sl [] l → Cause g b (record at { clients = ns }) e
-lane_cause g b at es sl ns fs drawn ends l error.OutOfMemory own d f t led = tt
-lane_cause g b at es sl ns fs drawn ends l error.ClientError own d f t led =
+    (drawn : List (List ℕ)) (ends : List End) (l : Led) (e : FileReconstructionError) (ys : List Exchange)
+    → All (IsOwnAsk es l) fs → EachDrew fs at.clients ns drawn (steps_of ends) → FailedLane ends e
+    → EachGrew sl.heard ys → EachAskedAs sl.heard ys → EachExchange b.clients ns ys
+    → All (λ ss. All (IsHeardStep fs at.clients ys) ss) (steps_of ends)
+    → Ties g b at es None sl → IsLed g b es sl [] l → Cause g ys b (record at { clients = ns }) e
+lane_cause g b at es sl ns fs drawn ends l error.OutOfMemory ys own d f grew asked each found t led = tt
+lane_cause g b at es sl ns fs drawn ends l error.ClientError ys own d f grew asked each found t led =
     since es 0 b.clients at.clients ns sl.hidden sl.late t.served.lanes
     (lane_rose fs at.clients ns drawn ends f.at f.end d f.there f.error)
-lane_cause g b at es sl ns fs drawn ends l error.FileNotFound own d f t led =
+lane_cause g b at es sl ns fs drawn ends l error.FileNotFound ys own d f grew asked each found t led =
     absurd (lane_fails (IsOwnAsk es l) fs at.clients ns drawn ends f.at f.end error.FileNotFound own d f.there
     f.error).last.cause
-lane_cause g b at es sl ns fs drawn ends l error.UrlExpired own d f t led =
+lane_cause g b at es sl ns fs drawn ends l error.UrlExpired ys own d f grew asked each found t led =
     absurd (lane_fails (IsOwnAsk es l) fs at.clients ns drawn ends f.at f.end error.UrlExpired own d f.there
     f.error).last.cause
-lane_cause g b at es sl ns fs drawn ends l error.IoError own d f t led =
+lane_cause g b at es sl ns fs drawn ends l error.IoError ys own d f grew asked each found t led =
     absurd (lane_fails (IsOwnAsk es l) fs at.clients ns drawn ends f.at f.end error.IoError own d f.there
     f.error).last.cause
-lane_cause g b at es sl ns fs drawn ends l (error.CorruptedReconstruction k) own d f t led =
-    let r = failed_heard (IsOwnAsk es l) fs b.clients at.clients ns drawn ends f.at f.end k sl.heard own d f.there
-    f.error t.heard in
+lane_cause g b at es sl ns fs drawn ends l (error.CorruptedReconstruction k) ys own d f grew asked each found t led =
+    let r : IsHeardFailure fs at.clients ys k =
+    end_holds (IsHeardStep fs at.clients ys) ends f.at f.end (error.CorruptedReconstruction k) found f.there f.error in
+    let holds = ask_at (IsOwnAsk es l) fs r.number r.ask own r.at in
     record {
-      untrue = λ s over. r.untrue s (tells_now s es 0 b.clients at.clients sl.hidden sl.late t.served.lanes over.tell)
-          (honest_ask g b es sl l r.ask s led over r.holds.led);
-      failed = told_of_all b.clients ns r.heard.ys (λ xs. SomeFailed g xs k) r.heard.each
-          (lane_failed g b es sl l r.ask k r.heard.ys led r.holds r.heard.grew r.heard.same
-          (λ p q h. starts_at g b at es None sl p q t h) r.bytes);
-      first = first_failed g g.file es sl.lost b.clients at.clients ns r.heard.ys k t.asked r.heard.each
-          (some_test r.ask k r.heard.ys r.bytes);
+      untrue = λ s over.
+          let honest = honest_ask g b es sl l r.ask s led over holds.led in
+          r.dishonest s (tells_now s es 0 b.clients at.clients sl.hidden sl.late t.served.lanes over.tell)
+          honest.holds honest.passes;
+      failed = lane_failed g b es sl l r.ask k ys led holds grew asked
+          (λ p q h. starts_at g b at es None sl p q t h) r.bytes;
+      first = first_failed g g.file es sl.lost b.clients at.clients ns ys k t.asked each
+          (some_test r.ask k ys r.bytes);
     }
-lane_cause g b at es sl ns fs drawn ends l (error.ConfigurationError k) own d f t led =
+lane_cause g b at es sl ns fs drawn ends l (error.ConfigurationError e) ys own d f grew asked each found t led =
     absurd (lane_fails (IsOwnAsk es l) fs at.clients ns drawn ends f.at f.end
-    (error.ConfigurationError k) own d f.there f.error).last.cause
-lane_cause g b at es sl ns fs drawn ends l error.Cancelled own d f t led =
+    (error.ConfigurationError e) own d f.there f.error).last.cause
+lane_cause g b at es sl ns fs drawn ends l error.Cancelled ys own d f grew asked each found t led =
     absurd (lane_fails (IsOwnAsk es l) fs at.clients ns drawn ends f.at f.end error.Cancelled own d f.there
     f.error).last.cause
-lane_cause g b at es sl ns fs drawn ends l (error.InternalWriterError k) own d f t led =
+lane_cause g b at es sl ns fs drawn ends l (error.InternalWriterError w) ys own d f grew asked each found t led =
     absurd (lane_fails (IsOwnAsk es l) fs at.clients ns drawn ends f.at f.end
-    (error.InternalWriterError k) own d f.there f.error).last.cause
+    (error.InternalWriterError w) own d f.there f.error).last.cause
 
 -- no lane's last step answers that tries are used up
 pub never_spent : (g : Setup) (es : List Event) (l : Led) (ms ns : List ClientTold) (fs : List Ask)

@@ -1,6 +1,6 @@
 -- A run after a whole join.
-use Rattle.std.proofs.Common.{true, ◌≡◌, ℕ, ◌+◌, ◌≤◌, List, [], ◌∷◌, refl, sym, subst, ◌∙◌, ap, arith, ⊎_elim, Ok, Err}
-use Rattle.std.specs.Prelude.{None, OnOk, Option, Result, Some}
+use Rattle.std.proofs.Common.{true, ◌≡◌, ◌⊎◌, inl, inr, zero, suc, ℕ, ◌+◌, ◌≤◌, List, [], ◌∷◌, refl, sym, subst, ◌∙◌, ap, arith, ⊎_elim, Ok, Err}
+use Rattle.std.specs.Prelude.{None, OnOk, Option, Result, Some, length}
 use Rattle.xet_outside.specs.Told.{AskCall, CacheTold, ClientTold, SignalTold, SinkTold}
 use Rattle.xet_error.specs.declared.error.FileReconstructionError.{FileReconstructionError}
 use Rattle.xet_error.specs.declared.error.FileReconstructionError.TheVariants as error
@@ -15,8 +15,8 @@ use Rattle.xet_writers.specs.Sequential.{Sequential, told_of}
 use Rattle.xet_writers.proofs.CallerLemmas.{open_writer}
 use Rattle.xet_ties.specs.Setup.{RunTold, Setup}
 use Rattle.xet_ties.specs.steps.Parts.{FoundBlock, PollCall}
-use Rattle.xet_ties.specs.Ties.{AllAre, all_of}
-use Rattle.xet_ties.proofs.CallerLemmas.{none_hidden, none_late, poll_ties, steady_leaves, stop_ties, tie_rest}
+use Rattle.xet_ties.specs.Ties.{AllAre, all_of, Slack}
+use Rattle.xet_ties.proofs.CallerLemmas.{none_hidden, none_late, poll_ties, steady_leaves, stop_ties, grew_none}
 use Rattle.xet_leader.specs.declared.joining.Prepared.{Prepared}
 use Rattle.xet_leader.specs.declared.leader.LedPlan.{LedPlan}
 use Rattle.xet_leader.specs.declared.missing_blocks.BlockAt.{BlockAt}
@@ -26,12 +26,13 @@ use Rattle.xet_leader.specs.JoinCalls.{CanJoin, JoinLeads, PolledFor, PrepareLea
 use Rattle.xet_leader.specs.Joins.{CanRound, RoundLeads}
 use Rattle.xet_leader.specs.Lacking.{missing_of}
 use Rattle.xet_leader.specs.Led.{IsLed, Led}
-use Rattle.xet_leader.specs.Looks.{IsLedBy, LookLeads, LookTurn, LooksFrom, to_fetch}
+use Rattle.xet_leader.specs.Looks.{IsLedBy, LookLeads, LookTurn, LooksFrom, to_fetch, to_round}
 use Rattle.xet_leader.specs.Plans.{Answer}
 use Rattle.xet_leader.specs.Measures.{LeavesLess, LeavesSame, measure}
 use Rattle.xet_leader.specs.RunWindows.{WindowLeads}
 use Rattle.xet_leader.specs.Steady.{IsFailing, IsGoing, IsIdle, IsSteady, Loose, Moment, no_loose}
 use Rattle.xet_leader.proofs.Measures.{measure_rest}
+use Rattle.xet_leader.proofs.MoreTold.{led_more, tells_more_heard}
 
 -- ---- the signal
 
@@ -39,16 +40,25 @@ abbrev with_signal : Moment → SignalTold → Moment
 with_signal m y = record { told = record m.told { signal = y }; events = m.events }
 
 calm_goes : (g : Setup) (b : RunTold) (m : Moment) (o : Loose) (l : Led) (y : SignalTold)
-    → PollCall m.told.signal y (Ok tt) → IsGoing g b m o l → IsGoing g b (with_signal m y) o l
+    → PollCall m.told.signal y (Ok tt) → IsGoing g b m o l
+    → IsGoing g b (with_signal m y) (record o { polls = o.polls + 1 }) l
 calm_goes g b m o l y c s =
     let sl = s.slack in
-    let asked = poll_ties g b m.told m.events sl m.told.signal y refl c s.ties in
+    let to : Slack = record sl { spare = sl.spare + 1 } in
     record {
-      slack = sl;
-      ties = tie_rest g b (record m.told { signal = y }) m.events
-          (record sl { spare = sl.spare + 1 }) sl.pending sl.spare (λ x r. omega arith) (omega arith) asked;
-      settled = s.settled;
-      led = s.led;
+      slack = to;
+      ties = poll_ties g b m.told m.events sl m.told.signal y refl c s.ties;
+      settled = record {
+        hidden = s.settled.hidden;
+        late = s.settled.late;
+        lost = s.settled.lost;
+        ahead = s.settled.ahead;
+        spare = ap (λ (n : ℕ). n + 1) s.settled.spare;
+        pending = s.settled.pending;
+        due = s.settled.due;
+        step = s.settled.step;
+      };
+      led = led_more g b m.events sl to o.stale l (tells_more_heard sl to (grew_none sl.heard) refl) s.led;
       calm = c.calm.no refl ∙ s.calm;
       cache_tells = s.cache_tells;
     }
@@ -70,19 +80,40 @@ stop_fails g b m o l y e is c s =
     } in
     subst (λ (x : FileReconstructionError). IsFailing g b (with_signal m y) x) (sym is) f
 
+-- the signal was asked, or was not and said nothing
+abbrev pub MayPoll : SignalTold → SignalTold → Answer → Type 0
+MayPoll x y answer = PollCall x y answer ⊎ ((y ≡ x) × (answer ≡ Ok tt))
+
+pub may_poll : (count : ℕ) (x y : SignalTold) (answer : Answer) → PolledFor count x y answer → MayPoll x y answer
+may_poll zero x y answer p = inr p
+may_poll (suc count) x y answer p = inl p
+
+pub polled_as : (n count : ℕ) (x y : SignalTold) (answer : Answer) → n ≡ count → PolledFor n x y answer
+    → PolledFor count x y answer
+polled_as n count x y answer e p = subst (λ (i : ℕ). PolledFor i x y answer) e p
+
+pub polled_none : (count : ℕ) (x : SignalTold) → count ≡ 0 → PolledFor count x x (Ok tt)
+polled_none zero x e = (refl, refl)
+polled_none (suc count) x e = absurd (omega (arith, e))
+
+pub polled_some : (count : ℕ) (x y : SignalTold) (answer : Answer) → (count ≡ 0 → ⊥) → PollCall x y answer
+    → PolledFor count x y answer
+polled_some zero x y answer some p = absurd (some refl)
+polled_some (suc count) x y answer some p = p
+
 -- the signal was not asked
 abbrev Unasked : SignalTold → SignalTold → Answer → Type 0
 Unasked x y answer = (y ≡ x) × (answer ≡ Ok tt)
 
-polled_goes : (g : Setup) (b : RunTold) (m : Moment) (o : Loose) (l : Led) (y : SignalTold)
-    → PolledFor m.told.signal y (Ok tt) → IsGoing g b m o l → IsGoing g b (with_signal m y) o l
-polled_goes g b m o l y c s =
-    ⊎_elim (λ (p : PollCall m.told.signal y (Ok tt)). calm_goes g b m o l y p s)
-    (λ (p : Unasked m.told.signal y (Ok tt)). subst (λ (z : SignalTold). IsGoing g b (with_signal m z) o l)
-    (sym p.0) s) c
+polled_goes : (g : Setup) (b : RunTold) (m : Moment) (es : List Event) (places : List BlockAt) (l : Led)
+    (y : SignalTold) → PolledFor (length places) m.told.signal y (Ok tt) → IsGoing g b m (to_fetch es places) l
+    → IsGoing g b (with_signal m y) (to_round es places) l
+polled_goes g b m es [] l y c s = subst (λ (z : SignalTold). IsGoing g b (with_signal m z) (to_round es []) l)
+    (sym c.0) s
+polled_goes g b m es (p ∷ places) l y c s = calm_goes g b m (to_fetch es (p ∷ places)) l y c s
 
 polled_fails : (g : Setup) (b : RunTold) (m : Moment) (o : Loose) (l : Led) (y : SignalTold)
-    (e : FileReconstructionError) → PolledFor m.told.signal y (Err e) → IsGoing g b m o l
+    (e : FileReconstructionError) → MayPoll m.told.signal y (Err e) → IsGoing g b m o l
     → IsFailing g b (with_signal m y) e
 polled_fails g b m o l y e c s =
     ⊎_elim (λ (p : PollCall m.told.signal y (Err e)). stop_fails g b m o l y e p.stop.0 p.stop.1 s)
@@ -110,13 +141,13 @@ look_fails told c d x es fs l k v e looks g m cache signal events = record {
 -- the signal said yes
 pub poll_fails : {S : Type 0} (told : S → SinkTold) (c d : CacheTold) (x y : SignalTold) (es fs : List Event)
     (l k : Led) (v : Sequential S) (places : List BlockAt) (e : FileReconstructionError)
-    → LookLeads c d es fs l k (Ok places) → PolledFor x y (Err e)
+    → LookLeads c d es fs l k (Ok places) → MayPoll x y (Err e)
     → PrepareLeads told (record { cache = c; signal = x; events = es; led = l; writer = v })
     (record { cache = d; signal = y; events = fs; led = k; writer = v }) (Err e)
 poll_fails told c d x y es fs l k v places e looks polled g m cache signal events = record {
   ok = λ b s. tt;
   err = λ b s. polled_fails g b (looked_at m d fs) (to_fetch fs places) k y e
-      (subst (λ (z : SignalTold). PolledFor z y (Err e)) (sym signal) polled)
+      (subst (λ (z : SignalTold). MayPoll z y (Err e)) (sym signal) polled)
       ((looks g m cache events).ok b s.going).0;
   same = tt;
 }
@@ -171,21 +202,21 @@ idle_still told m n v sink same i = record {
 -- a run that goes on after looks and the signal
 polled_on : {S : Type 0} (told : S → SinkTold) (g : Setup) (b : RunTold) (m : Moment) (c d : CacheTold)
     (x y : SignalTold) (es fs : List Event) (l k : Led) (v : Sequential S) (places : List BlockAt)
-    → LookLeads c d es fs l k (Ok places) → PolledFor x y (Ok tt) → m.told.cache ≡ c → m.told.signal ≡ x
+    → LookLeads c d es fs l k (Ok places) → PolledFor (length places) x y (Ok tt) → m.told.cache ≡ c → m.told.signal ≡ x
     → m.events ≡ es
-    → IsSteady told g b m no_loose l v → IsGoing g b (with_signal (looked_at m d fs) y) (to_fetch fs places) k
+    → IsSteady told g b m no_loose l v → IsGoing g b (with_signal (looked_at m d fs) y) (to_round fs places) k
     × IsFetchList fs k.finished places
 polled_on told g b m c d x y es fs l k v places looks polled cache signal events s =
     let r = (looks g m cache events).ok b s.going in (
-      polled_goes g b (looked_at m d fs) (to_fetch fs places) k y
-          (subst (λ (z : SignalTold). PolledFor z y (Ok tt)) (sym signal) polled) r.0,
+      polled_goes g b (looked_at m d fs) fs places k y
+          (subst (λ (z : SignalTold). PolledFor (length places) z y (Ok tt)) (sym signal) polled) r.0,
       r.1,
     )
 
 -- the window was made
 pub window_made : {S : Type 0} (told : S → SinkTold) (c d : CacheTold) (x y : SignalTold) (es fs : List Event)
     (l k : Led) (v w : Sequential S) (places : List BlockAt) (lengths : List ℕ) → LookTurn c d es fs l k (Ok places)
-    → LookLeads c d es fs l k (Ok places) → PolledFor x y (Ok tt) → WindowLeads k v w (Ok lengths)
+    → LookLeads c d es fs l k (Ok places) → PolledFor (length places) x y (Ok tt) → WindowLeads k v w (Ok lengths)
     → PrepareLeads told (record { cache = c; signal = x; events = es; led = l; writer = v })
     (record { cache = d; signal = y; events = fs; led = k; writer = w })
     (Ok (record { places = places; lengths = lengths }))
@@ -193,7 +224,7 @@ window_made told c d x y es fs l k v w places lengths turn looks polled win g m 
   ok = λ b s.
       let r = polled_on told g b m c d x y es fs l k v places looks polled cache signal events s in
       let n : Moment = with_signal (looked_at m d fs) y in
-      let made = (win g b n (to_fetch fs places) r.0).ok in
+      let made = (win g b n (to_round fs places) r.0).ok in
       let same : written fs ≡ written m.events = looks_same c d es fs l.plans k.plans
       (missing_of l) places turn.looks.ok ∙ ap written (sym events) in
       record {
@@ -223,14 +254,14 @@ window_made told c d x y es fs l k v w places lengths turn looks polled win g m 
 -- or it was not
 pub window_fails : {S : Type 0} (told : S → SinkTold) (c d : CacheTold) (x y : SignalTold) (es fs : List Event)
     (l k : Led) (v w : Sequential S) (places : List BlockAt) (e : FileReconstructionError)
-    → LookLeads c d es fs l k (Ok places) → PolledFor x y (Ok tt) → WindowLeads k v w (Err e)
+    → LookLeads c d es fs l k (Ok places) → PolledFor (length places) x y (Ok tt) → WindowLeads k v w (Err e)
     → PrepareLeads told (record { cache = c; signal = x; events = es; led = l; writer = v })
     (record { cache = d; signal = y; events = fs; led = k; writer = w }) (Err e)
 window_fails told c d x y es fs l k v w places e looks polled win g m cache signal events = record {
   ok = λ b s. tt;
   err = λ b s.
       let r = polled_on told g b m c d x y es fs l k v places looks polled cache signal events s in
-      (win g b (with_signal (looked_at m d fs) y) (to_fetch fs places) r.0).err
+      (win g b (with_signal (looked_at m d fs) y) (to_round fs places) r.0).err
       (open_writer v s.writer.kept s.writer.open_still);
   same = tt;
 }

@@ -123,7 +123,7 @@ running_after es q t r = error-push es (plan_event es q t)
 answers : (g : Setup) (b : RunTold) (es : List Event) (sl to : Slack) (m : Manager) (q : FileRange) (id : UniqueId)
     (t : Option TermBlock) (a : PlanAnswer) → PlanTaken g b es sl to m q id t a → Answers q t
 answers g b es sl to m q id t a p =
-    let cut = (cut_last g.range.start g.range.end (g.greatest + g.least) (queries es) q (due_cuts g es m q p.due)).1
+    let cut = (cut_last g.range.start g.range.end (g.greatest + g.least) (queries es) q (due_cuts g es m q p.due).from).1
     in
     made_answers g q id t a (omega (arith, cut)) p.from
 
@@ -171,7 +171,7 @@ led_some g b es sl to m q id a l x p led unended added fits =
       planned = l.planned + length x.block.terms;
     } in
     let made = made_plan g q id x.block a p.from in
-    let cut = cut_last g.range.start g.range.end (g.greatest + g.least) (queries es) q (due_cuts g es m q p.due) in
+    let cut = cut_last g.range.start g.range.end (g.greatest + g.least) (queries es) q (due_cuts g es m q p.due).from in
     let low : g.range.start ≤ q.start = (query_within g (queries es) q (due_cuts g es m q p.due)).0 in
     let number : x.number ≡ plan_count es + 1 = added.number_is ∙ p.own in
     let first : x.first ≡ length (planned es) = added.first_is ∙ sym led.counted.planned_are in

@@ -6,7 +6,6 @@ mod AskedBlocks
 mod AsksLeads
 mod AwaitedBlocks
 mod ChangedPlans
-mod Complete
 mod Counting
 mod EndTies
 mod ExpiredEvents
@@ -17,6 +16,7 @@ mod FirstSettles
 mod FoundBlocks
 mod HonestBlocks
 mod JoinRuns
+mod JoinTurns
 mod KeptEvents
 mod KeptOutcomes
 mod KeptSteps
@@ -26,6 +26,7 @@ mod LastSteps
 mod LateLed
 mod Leading
 mod LedPlanned
+mod LongQueries
 mod LookLeading
 mod LookSteps
 mod LookTies

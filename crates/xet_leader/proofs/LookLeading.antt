@@ -2,7 +2,6 @@
 use Rattle.std.proofs.Common.{◌≡◌, ℕ, List, [], ◌++◌, take, drop, refl, sym, subst, ◌∙◌, ap, ⊎_elim, Ok, Err}
 use Rattle.std.specs.Prelude.{◌⊎◌, Result, Some, count_by}
 use Rattle.std.proofs.lemmas.List.{append-nil, take-append-drop}
-use Rattle.xet_base.specs.Store.{Store}
 use Rattle.xet_outside.specs.Told.{CacheTold}
 use Rattle.xet_error.specs.declared.error.FileReconstructionError.{FileReconstructionError}
 use Rattle.xet_error.specs.declared.error.FileReconstructionError.TheVariants as error
@@ -13,12 +12,11 @@ use Rattle.xet_ties.specs.Setup.{RunTold, Setup}
 use Rattle.xet_ties.specs.Ties.{MayLeave, Slack}
 use Rattle.xet_ties.proofs.CallerLemmas.{look_short_ties, short_leaves}
 use Rattle.xet_parts.proofs.CallerLemmas.{look_tells}
-use Rattle.xet_leader.specs.declared.leader.LedPlan.{LedPlan}
 use Rattle.xet_leader.specs.declared.missing_blocks.BlockAt.{BlockAt}
 use Rattle.xet_leader.specs.FetchLists.{IsFetchList}
 use Rattle.xet_leader.specs.Lacking.{missing_of}
 use Rattle.xet_leader.specs.Led.{Led}
-use Rattle.xet_leader.specs.Looks.{EndsShort, IsLedBy, LookLeads, LookTurn, LooksFrom, LooksShort, ShortLook, to_fetch}
+use Rattle.xet_leader.specs.Looks.{EndsShort, IsLedBy, LookLeads, LookTurn, LooksShort, ShortLook, to_fetch}
 use Rattle.xet_leader.specs.Steady.{IsFailing, IsGoing, Loose, Moment, no_loose}
 use Rattle.xet_leader.proofs.FetchFacts.{missing_lists}
 use Rattle.xet_leader.proofs.LookTies.{Looking, look_each}
@@ -73,8 +71,8 @@ failing g b m o l t u es fs e memory short s =
     left sl = subst (λ (x : FileReconstructionError). MayLeave (Some x) b.clients sl) (sym memory)
         (short_leaves b.clients sl)
 
-    cause : (c : CacheTold) → Cause g b (record m.told { cache = c }) e
-    cause c = subst (Cause g b (record m.told { cache = c })) (sym memory) tt
+    cause : (c : CacheTold) → Cause g s.slack.heard b (record m.told { cache = c }) e
+    cause c = subst (Cause g s.slack.heard b (record m.told { cache = c })) (sym memory) tt
 
     spent : (x : List Event) → e ≡ error.UrlExpired → (p : ℕ) × (k : ℕ) × (count_by (expires p k) x ≡ g.tries)
     spent x h = absurd (let z : error.OutOfMemory ≡ error.UrlExpired = sym memory ∙ h in cc)

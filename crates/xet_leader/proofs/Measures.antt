@@ -119,7 +119,7 @@ ends_are place (q ∷ qs) = ends_are q.end qs
 bytes_fall : (g : Setup) (es : List Event) (n : ℕ) (q : FileRange) (ts : List PlannedTerm) (bs : List PlannedBlock)
     → CutsRange g (queries es ++ q ∷ []) → left_bytes g (es ++ Planned n q ts bs ∷ []) < left_bytes g es
 bytes_fall g es n q ts bs cuts =
-    let cut = cut_last g.range.start g.range.end (g.greatest + g.least) (queries es) q cuts in
+    let cut = cut_last g.range.start g.range.end (g.greatest + g.least) (queries es) q cuts.from in
     let from = cut.0 in
     let forward = cut.1 in
     let within = cut.2 in

@@ -1,6 +1,6 @@
 -- The query that is due is the next one of the cut, and the plan of its answer may be recorded.
 use Rattle.std.proofs.Common.{◌≡◌, ℕ, zero, suc, ◌+◌, ◌<◌, ◌≤◌, ◌-◌, ◌^◌, Bool, true, false, cond, List, [], ◌∷◌, ◌++◌, length, take, refl, sym, subst, ◌∙◌, ap, arith, inl, inr, ◌⊎◌, ⊎_elim, Option, Some, None}
-use Rattle.std.specs.Prelude.{map, max, nat_le, nat_lt, slice_get, ◌&&◌}
+use Rattle.std.specs.Prelude.{map, max, nat_le, nat_lt, slice_get, ◌&&◌, All}
 use Rattle.std.proofs.lemmas.Bool.{le-leb}
 use Rattle.std.proofs.lemmas.List.{take-append-le}
 use Rattle.std.proofs.lemmas.Option.{slice_get_past}
@@ -14,7 +14,7 @@ use Rattle.xet_run.specs.declared.event.PlannedBlock.{PlannedBlock}
 use Rattle.xet_run.specs.declared.event.PlannedTerm.{PlannedTerm}
 use Rattle.xet_run.specs.Allowed.{Adjoin, IsRunning}
 use Rattle.xet_run.specs.Events.{Task, last_of, planned, planned_end}
-use Rattle.xet_history.specs.TrueHistory.{planned_block, planned_term, queries}
+use Rattle.xet_history.specs.TrueHistory.{planned_block, planned_term, queries, SomeEndsEarly}
 use Rattle.xet_terms.specs.Managers.{IsManager, Manager, looked_ahead, cut_end, scheduled_end}
 use Rattle.xet_terms.specs.Queries.{CutFrom, end_from}
 use Rattle.xet_terms.specs.declared.manager.PlanDue.{PlanDue}
@@ -22,7 +22,7 @@ use Rattle.xet_terms.proofs.CallerLemmas.{cuts-take, looked_same}
 use Rattle.xet_ties.specs.Saids.{IsMadeOf, IsMadeOfPlan}
 use Rattle.xet_ties.specs.Setup.{Setup}
 use Rattle.xet_ties.specs.steps.Parts.{blocks_of_answer, plan_query, terms_in}
-use Rattle.xet_ties.specs.Ties.{CutsRange}
+use Rattle.xet_ties.specs.Ties.{CutsRange, IsLong, IsNextQuery}
 use Rattle.xet_ties.proofs.CallerLemmas.{answer_makes}
 use Rattle.xet_parts.specs.DueQueries.{TakesDue}
 use Rattle.xet_parts.specs.PlanAsks.{PlansAllowed}
@@ -31,6 +31,8 @@ use Rattle.xet_leader.proofs.PlanTerms.{plan_adjoins}
 use Rattle.std.proofs.lemmas.List.{length-map}
 use Rattle.xet_blocks.specs.Blocks.{blocks_of}
 use Rattle.xet_blocks.specs.Terms.{terms_of}
+use Rattle.xet_leader.proofs.LongQueries.{looked_long}
+use Rattle.std.proofs.lemmas.List.Elements.{All-take}
 
 -- ---- lists of queries
 
@@ -109,7 +111,14 @@ led_looked g es m now policy is kept a =
           (a.over (sym ended ∙ h));
       covered = λ h. subst (λ (x : Manager). x.known_end ≤ scheduled_end x) (sym (past (sym ended ∙ h)))
           (a.covered (sym ended ∙ h));
+      goes_on = λ h. a.goes_on (sym ended ∙ h);
+      long = by_end m.ended refl past;
     }
+  where
+    by_end : (b : Bool) → m.ended ≡ b → (m.ended ≡ true → now ≡ m) → All (IsLong g) now.queries
+    by_end true e past = subst (λ (x : Manager). All (IsLong g) x.queries) (sym (past e)) a.long
+    by_end false e past = subst (λ (x : Manager). All (IsLong g) x.queries) (sym is)
+        (looked_long g m policy a.is_for a.kept.range_fits (a.kept.still_open e) a.long)
 
 -- ---- the query that is due
 
@@ -123,6 +132,8 @@ pub record IsDue (g : Setup) (es : List Event) (m : Manager) (q : FileRange) : T
   pub unended : m.ended ≡ false
   pub at : slice_get m.queries m.answered ≡ Some q
   pub going : planned_end es g.range.start ≡ end_from g.range.start (queries es)
+  pub goes_on : SomeEndsEarly es → ⊥
+  pub long : All (IsLong g) m.queries
 
 pub led_due : (g : Setup) (es : List Event) (m now : Manager) (d : PlanDue) → IsLedManager g es m → TakesDue m now d
     → IsDue g es now d.query
@@ -164,6 +175,8 @@ led_due g es m now d a t =
       at = ap (λ (n : ℕ). slice_get now.queries n) (answered ∙ sym idle)
           ∙ ap (λ (x : List FileRange). slice_get x t.looked.asked) qs ∙ t.due;
       going = l.going unended ∙ ap (end_from g.range.start) (sym l.queries_are);
+      goes_on = l.goes_on unended;
+      long = subst (λ (x : List FileRange). All (IsLong g) x) (sym qs) l.long;
     }
   where
     go : (t.looked.ended ≡ true → t.looked.answered ≡ length t.looked.queries) → (b : Bool) → t.looked.ended ≡ b
@@ -193,7 +206,15 @@ due_cuts g es m q d =
     d.is_for.least
     (subst (λ (r : FileRange). CutFrom r.start r.end (m.greatest + m.least) (take (suc m.answered) m.queries))
     d.is_for.range cuts)) in
-    subst (λ (l : List FileRange). CutFrom g.range.start g.range.end (g.greatest + g.least) l) next of_run
+    record {
+      from = subst (λ (l : List FileRange). CutFrom g.range.start g.range.end (g.greatest + g.least) l) next of_run;
+      long = subst (λ (l : List FileRange). All (IsLong g) l) next
+          (All-take (IsLong g) (suc m.answered) m.queries d.long);
+    }
+
+-- and it may be asked
+pub due_next : (g : Setup) (es : List Event) (m : Manager) (q : FileRange) → IsDue g es m q → IsNextQuery g es q
+due_next g es m q d = record { cuts = due_cuts g es m q d; goes_on = d.goes_on }
 
 -- ---- its plan may be recorded
 
@@ -205,7 +226,7 @@ last_or_none a b (x ∷ xs) = inr refl
 pub due_place : (g : Setup) (es : List Event) (m : Manager) (q : FileRange) → IsDue g es m q
     → planned_end es q.start ≡ q.start
 due_place g es m q d =
-    let cut = cut_last g.range.start g.range.end (g.greatest + g.least) (queries es) q (due_cuts g es m q d) in
+    let cut = cut_last g.range.start g.range.end (g.greatest + g.least) (queries es) q (due_cuts g es m q d).from in
     ⊎_elim
     (λ (h : planned_end es q.start ≡ q.start). h)
     (λ (h : planned_end es q.start ≡ planned_end es g.range.start). h ∙ d.going ∙ sym cut.0)
@@ -231,7 +252,7 @@ made_adjoins g q ts bs (Found p) m =
 pub due_first : (g : Setup) (es : List Event) (m : Manager) (q : FileRange) → IsDue g es m q → planned es ≡ []
     → q.start ≡ g.range.start
 due_first g es m q d none =
-    let cut = cut_last g.range.start g.range.end (g.greatest + g.least) (queries es) q (due_cuts g es m q d) in
+    let cut = cut_last g.range.start g.range.end (g.greatest + g.least) (queries es) q (due_cuts g es m q d).from in
     cut.0 ∙ sym d.going ∙ ap (λ (l : List Task). last_of g.range.start (map (λ t. t.term.byte_range.end) l)) none
 
 -- whatever a connection answers

@@ -236,7 +236,7 @@ short_failing g b m o l x d e call s =
           (sym same) s.ties;
       left = subst (λ (y : FileReconstructionError). MayLeave (Some y) b.clients s.slack) (sym memory)
           (short_leaves b.clients s.slack);
-      cause = subst (Cause g b (record m.told { cache = d })) (sym memory) tt;
+      cause = subst (Cause g s.slack.heard b (record m.told { cache = d })) (sym memory) tt;
       spent = λ h. absurd (let z : error.OutOfMemory ≡ error.UrlExpired = sym memory ∙ h in cc);
       cache_tells = λ z over tells. subst (CacheTells z) (sym same) (s.cache_tells z over tells);
     }

@@ -15,7 +15,7 @@ use Rattle.xet_terms.specs.Managers.{Manager}
 use Rattle.xet_ties.specs.History.{expiry_of, is_expired}
 use Rattle.xet_ties.specs.Setup.{Setup}
 use Rattle.xet_ties.specs.Saids.{planned_of}
-use Rattle.xet_ties.proofs.CallerLemmas.{count-same, expired-push, first_stays, range_at-push}
+use Rattle.xet_ties.proofs.CallerLemmas.{count-same, expired-push, first_stays, range_at-push, goes_same}
 use Rattle.xet_leader.specs.declared.leader.LedPlan.{LedPlan}
 use Rattle.xet_leader.specs.Led.{AreStale, IsCounted, IsLedManager, IsReady, IsRecordedPlan, LastNumberIs, Led}
 
@@ -51,6 +51,8 @@ quiet_manager g es e m q a = record {
   early = λ h. early_stays es e (a.early h);
   over = a.over;
   covered = a.covered;
+  goes_on = λ h. goes_same es e q.query (a.goes_on h);
+  long = a.long;
 }
 
 -- how the history has a plan

@@ -20,7 +20,7 @@ use Rattle.xet_ties.specs.steps.Moves.{heard_first}
 use Rattle.xet_ties.specs.Ties.{AllAre, Slack, all_of}
 use Rattle.xet_ties.proofs.CallerLemmas.{drop_at, grew_first, none_hidden, none_late, steady_leaves}
 use Rattle.xet_parts.specs.PlanRefreshes.{again}
-use Rattle.xet_parts.proofs.CallerLemmas.{refresh_cause, refresh_fails_ties, refreshed_ties}
+use Rattle.xet_parts.proofs.CallerLemmas.{refresh_cause, refreshed_ties}
 use Rattle.xet_leader.specs.declared.leader.LedPlan.{LedPlan}
 use Rattle.xet_leader.specs.Led.{IsLed, IsLedPlan, Led}
 use Rattle.xet_leader.specs.Plans.{Answer, find_plan}
@@ -161,24 +161,23 @@ refused g b m o cs c multi p place rest l a e same is found r s =
     let plan = own.plan_is.plan in
     let query = own.plan_is.query in
     let table = own.plan_is.table in
-    let short = refresh_fails_ties g b m.told m.events a.events s.slack p x.block r.block multi c a.client cs e is
-    r.call s.settled.lost own.at_range table.file s.ties in
+    let covers : range_at m.events p ≡ covered (shape plan) query ∷ [] =
+    own.at_range ∙ ap (λ (q : FileRange). q ∷ []) table.range_is in
+    let short = refresh_cause g b m.told m.events a.events s.slack p x.block r.block multi plan query c a.client cs e is
+    r.call (asks_again g x plan query multi same own.plan_is.blocks table) s.settled.lost s.settled.step covers
+    s.led.some own.plan_is.accepted
+    (λ z over y h. refresh_passes g z over.valid plan query
+    (own.plan_is.true_plan z over) own.plan_is.accepted.said.some y h) s.ties in
     let sl : Slack = record s.slack {
       heard = heard_first short.queries short.answers s.slack.heard;
       lost = short.queries;
     } in
-    let covers : range_at m.events p ≡ covered (shape plan) query ∷ [] =
-    own.at_range ∙ ap (λ (q : FileRange). q ∷ []) table.range_is in
     record {
       slack = sl;
       ties = short.ties;
       left = steady_leaves b.clients e sl (ap all_of s.settled.hidden ∙ none_hidden b.clients)
           (subst (AllAre 0) (sym s.settled.late) (none_late b.clients)) s.settled.ahead;
-      cause = refresh_cause g b m.told m.events a.events s.slack p x.block r.block multi plan query c a.client cs e is
-          r.call (asks_again g x plan query multi same own.plan_is.blocks table) s.settled.lost s.settled.step covers
-          s.led.some own.plan_is.accepted
-          (λ z over y h. refresh_passes g z over.valid plan query
-          (own.plan_is.true_plan z over) own.plan_is.accepted.said.some y h) s.ties;
+      cause = short.cause;
       spent = λ h. absurd (subst (λ (y : FileReconstructionError). RefreshCause (again x.block multi) c a.client y) h
           r.call.cause);
       cache_tells = s.cache_tells;

@@ -17,7 +17,7 @@ use Rattle.xet_leader.specs.declared.missing_blocks.BlockAt.{BlockAt}
 use Rattle.xet_leader.specs.FetchLists.{Each, IsFetchList}
 use Rattle.xet_leader.specs.Fetching.{AreFetches, IsFetch}
 use Rattle.xet_leader.specs.Led.{IsLed, Led}
-use Rattle.xet_leader.specs.Looks.{to_fetch}
+use Rattle.xet_leader.specs.Looks.{to_round}
 use Rattle.xet_leader.specs.Rounds.{AreLedAsks, IsLedAsk}
 use Rattle.xet_leader.specs.Steady.{IsGoing, Moment}
 use Rattle.xet_leader.proofs.AskedBlocks.{asked, fetch_leads, request_parts}
@@ -63,7 +63,7 @@ all_led g b es sl l (c ∷ cs) n (f ∷ fs) led m h =
 
 -- of a run that goes on and is to fetch these blocks
 pub are_led_asks : (g : Setup) (b : RunTold) (m : Moment) (l : Led) (cs : List BlockAt) (n : ℕ) (fs : List Fetch)
-    → (s : IsGoing g b m (to_fetch m.events cs) l) → IsFetchList m.events l.finished cs → AreFetches l.plans n cs fs
+    → (s : IsGoing g b m (to_round m.events cs) l) → IsFetchList m.events l.finished cs → AreFetches l.plans n cs fs
     → AreLedAsks m.events s.slack.pending l.plans (map ask_of fs)
 are_led_asks g b m l cs n fs s list h =
     let q = (fetch_leads l n cs (Ok fs) h tt g m).ok b s list in

@@ -1,5 +1,5 @@
 -- A run after a round.
-use Rattle.std.proofs.Common.{◌≡◌, ℕ, ◌+◌, true, false, List, [], ◌∷◌, ◌++◌, length, take, drop, refl, sym, subst, ◌∙◌, ap, arith, append_assoc, ⊎_elim, inr, None, Some, Ok, Err}
+use Rattle.std.proofs.Common.{◌≡◌, ℕ, ◌+◌, true, false, List, [], ◌∷◌, ◌++◌, length, take, drop, refl, sym, subst, ◌∙◌, ap, arith, append_assoc, ⊎_elim, inr, None, Some, Ok, Err, ◌<◌, ◌≤◌}
 use Rattle.std.specs.Prelude.{Result, IfErr, IfOk, count_by, filter, map}
 use Rattle.std.specs.List.{concat, flat_map, sum_by}
 use Rattle.std.proofs.Math.Seq.{drop-length}
@@ -56,6 +56,10 @@ use Rattle.xet_leader.proofs.ServedStay.{IsPassed, lanes_missing, round_kept, se
 use Rattle.xet_leader.proofs.WindowTies.{window_tied}
 use Rattle.xet_leader.proofs.WindowWriters.{HoldsPieces, holds_pieces}
 use Rattle.xet_leader.proofs.WroteEvents.{are_writes, planned_same, sizes_sum}
+use Rattle.xet_leader.specs.Looks.{polls_for}
+use Rattle.xet_leader.specs.Fetching.{AreFetches}
+use Rattle.xet_lanes.specs.declared.lane.Fetch.{Fetch}
+use Rattle.xet_leader.specs.declared.leader.LedPlan.{LedPlan}
 
 -- ---- the window's bytes
 
@@ -168,6 +172,13 @@ record JoinTold {S : Type 0} (told : S → SinkTold) (g : Setup) (b : RunTold) (
   whole : (k : ℕ) → j.wrote ≡ Ok k → count ≡ total lengths
   cause : (x : FileReconstructionError) → j.wrote ≡ Err x → SinkCause b.sink.faults (told z.writer.sink).faults x
 
+-- where there are fetches the signal was asked
+polled_once : (ls : List LedPlan) (n : ℕ) (cs : List BlockAt) (fs : List Fetch) {spare : ℕ} → spare ≡ polls_for cs
+    → AreFetches ls n cs fs → 0 < length (map ask_of fs) → 1 ≤ spare
+polled_once ls n [] [] e a h = absurd (omega (arith, h))
+polled_once ls n [] (f ∷ fs) e a h = absurd a
+polled_once ls n (c ∷ cs) fs e a h = omega (arith, e)
+
 join_told : {S : Type 0} (told : S → SinkTold) (g : Setup) (b : RunTold) (m : Moment) (l : Led) (cs : List BlockAt)
     (lengths : List ℕ) (a z : RoundTold S) (j : Joined) → m.told.clients ≡ a.clients
     → (p : IsPrepared told g b m l cs lengths a.writer) → (f : FetchedBeside told l cs a z j)
@@ -202,7 +213,8 @@ join_told told g b m l cs lengths a z j same p f =
       ties = ties;
       led = led;
       left = round_left g b (record m.told { sink = to }) m.events now z.clients fs
-          (lanes_of j.ends.items) l asks drew.drew s.settled.hidden s.settled.late ties led;
+          (lanes_of j.ends.items) l asks drew.drew s.settled.hidden s.settled.late
+          (polled_once l.plans l.fetches cs f.asked s.settled.spare f.made) ties led;
       whole = λ k e. some.whole k e ∙ window_total g b m.events sl l lengths p.pieces p.window;
       cause = λ x e. sink_since g b m.told m.events sl to.faults x s.ties
           (window_cause m.told.sink to (concat p.pieces) j.wrote x call e);
@@ -383,7 +395,7 @@ went told g b m l k cs lengths a z j tries fs o few same p f h =
     ap (λ (i : ℕ). spends i (flat_map places_of ls) (plans_kept ls l.plans)) few ∙ kept.left in
     let go = round_goes g b at es sl z.clients (map ask_of f.asked) ls l ts w.rest t.left
     (lanes_well ends t.drew.last n.1) tries_left w.next w.within
-    (t.whole n.0.0 n.0.1 ∙ ap total w.lengths_are) s.settled.lost s.settled.spare s.settled.step s.calm
+    (t.whole n.0.0 n.0.1 ∙ ap total w.lengths_are) s.settled.lost s.settled.step s.calm
     s.cache_tells in
     let all = lanes_events ls ++ wrote_of (map size ts) in
     let events : fs ≡ es ++ all = h.recorded ∙ ap (λ (r : Result ℕ FileReconstructionError). es ++
@@ -403,7 +415,7 @@ went told g b m l k cs lengths a z j tries fs o few same p f h =
     (let d = due_now in omega (arith, zero_due, d)) in
     let stale_is = sym kept.stale_are in
     let loose_is : loose_after es ls sl.due ≡ to_settle (es ++ all) o =
-    (λ i. record { pending = []; due = due_is i; stale = stale_is i }) in
+    (λ i. record { pending = []; due = due_is i; stale = stale_is i; polls = 0 }) in
     let going : IsGoing g b (after_round told m z (es ++ all)) (to_settle (es ++ all) o) k1 =
     subst (λ (u : Loose). IsGoing g b (after_round told m z (es ++ all)) u k1) loose_is
     (going_fetches g b (after_round told m z (es ++ all)) (loose_after es ls sl.due) k0 count go) in

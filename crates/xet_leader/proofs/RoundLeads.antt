@@ -73,6 +73,7 @@ loose_after es ls due = record {
   pending = [];
   due = due + count_by has_one (blocks_at es (flat_map got_of ls));
   stale = stale_after (flat_map places_of ls) [];
+  polls = 0;
 }
 
 -- no step may hide a served block, each expired block has tries left, and the bytes that were taken are those of the
@@ -82,14 +83,14 @@ pub round_goes : (g : Setup) (b at : RunTold) (es : List Event) (sl : Slack) (ns
     → spends g.tries (flat_map places_of ls) (plans_kept ls l.plans) ≡ false
     → drop l.finished (planned es) ≡ ts ++ rest → l.finished + length ts ≤ l.admitted
     → sl.ahead ≡ total (map size ts)
-    → sl.lost ≡ [] → sl.spare ≡ 0 → InStep sl.heard → at.signal.yes ≡ b.signal.yes
+    → sl.lost ≡ [] → InStep sl.heard → at.signal.yes ≡ b.signal.yes
     → ((s : Store) → IsOver s b.clients → CacheTells s b.cache → CacheTells s at.cache)
     → IsGoing g b (record {
       told = record at { clients = ns };
       events = es ++ (lanes_events ls ++ wrote_of (map size ts));
     }) (loose_after es ls sl.due)
     (advanced (length ts) (record l { plans = plans_after ls l.plans }))
-round_goes g b at es sl ns fs ls l ts rest r none left next within ahead lost spare step calm tells =
+round_goes g b at es sl ns fs ls l ts rest r none left next within ahead lost step calm tells =
     let n : RunTold = record at { clients = ns } in
     let mid = es ++ lanes_events ls in
     let sizes = map size ts in
@@ -111,7 +112,7 @@ round_goes g b at es sl ns fs ls l ts rest r none left next within ahead lost sp
         late = a.late;
         lost = a.lost ∙ lost;
         ahead = refl;
-        spare = a.spare ∙ spare;
+        spare = a.spare;
         pending = a.pending;
         due = a.due;
         step = a.step step;

@@ -26,7 +26,7 @@ use Rattle.xet_leader.specs.FetchLists.{Each, IsFetchList}
 use Rattle.xet_leader.specs.Fetching.{AreFetches}
 use Rattle.xet_leader.specs.Joins.{CanRound, FetchedBeside}
 use Rattle.xet_leader.specs.Led.{Led}
-use Rattle.xet_leader.specs.Looks.{CanRequest, to_fetch}
+use Rattle.xet_leader.specs.Looks.{CanRequest, to_round}
 use Rattle.xet_leader.specs.RoundRecords.{RoundMayBe, lanes_events, lanes_of, window_events}
 use Rattle.xet_leader.specs.RunWindows.{IsWindow}
 use Rattle.xet_leader.specs.Steady.{IsGoing, Moment}
@@ -62,7 +62,7 @@ can_fetch told cs es l places lengths w c = can_request c.setup c.start c.moment
 
 may_by : (g : Setup) (b : RunTold) (m : Moment) (l : Led) (cs : List BlockAt) (lengths : List ℕ)
     (pieces : List (List ℕ)) (fs : List Fetch) (bs ns : List ClientTold) (ls : List (List LaneStep))
-    (wrote : Result ℕ FileReconstructionError) → (s : IsGoing g b m (to_fetch m.events cs) l)
+    (wrote : Result ℕ FileReconstructionError) → (s : IsGoing g b m (to_round m.events cs) l)
     → IsFetchList m.events l.finished cs
     → IsWindow g b m.events s.slack l lengths pieces → AreFetches l.plans l.fetches cs fs
     → DrewApart (map ask_of fs) bs ns ls → RoundMayBe m.events ls (window_events wrote lengths)

@@ -14,6 +14,7 @@ use Rattle.xet_run.specs.declared.event.Event.{Event}
 use Rattle.xet_writers.specs.Calls.{SinkCause}
 use Rattle.xet_ties.specs.declared.lane_step.LaneStep.{LaneStep}
 use Rattle.xet_ties.specs.Causes.{Cause}
+use Rattle.xet_ties.specs.InCall.{Exchange}
 use Rattle.xet_ties.specs.Lanes.{Ask}
 use Rattle.xet_ties.specs.Setup.{CacheTells, IsOver, RunTold, Setup}
 use Rattle.xet_ties.specs.steps.Parts.{total}
@@ -37,6 +38,7 @@ record JoinTied (g : Setup) (b n : RunTold) (new : List Event) (from : Slack)
     (wrote : Result ℕ FileReconstructionError) : Type 0 where
   slack : Slack
   ties : Ties g b n new None slack
+  heard : slack.heard ≡ from.heard
   hidden : slack.hidden ≡ from.hidden
   late : slack.late ≡ from.late
   ahead : (k : ℕ) → wrote ≡ Ok k → slack.ahead ≡ 0
@@ -55,6 +57,7 @@ join_tied g b at es sl ns fs ls l lengths (Ok k) r whole =
           (append_assoc es (lanes_events ls) (wrote_of lengths))
           (tie_written g b (record at { clients = ns }) (es ++ lanes_events ls) r.slack lengths 0
           (omega (arith, a, h)) r.ties);
+      heard = refl;
       hidden = refl;
       late = refl;
       ahead = λ k e. refl;
@@ -63,6 +66,7 @@ join_tied g b at es sl ns fs ls l lengths (Err e) r whole = record {
   slack = r.slack;
   ties = subst (λ (x : List Event). Ties g b (record at { clients = ns }) x None r.slack)
       (ap (λ (x : List Event). es ++ x) (sym (append-nil (lanes_events ls)))) r.ties;
+  heard = refl;
   hidden = refl;
   late = refl;
   ahead = λ k f. absurd (cc);
@@ -130,7 +134,7 @@ write_stops g b at es sl ns fs ends l e new wrote asks d r t led m j sink tells 
       slack = j.slack;
       ties = j.ties;
       left = leaves g b at es sl ns fs ends l e j.slack asks d r m t led j.hidden j.late (λ io. absurd (io h.0));
-      cause = subst (Cause g b n) (sym h.0) h.1;
+      cause = subst (Cause g j.slack.heard b n) (sym h.0) h.1;
       spent = λ u. absurd (let z : error.IoError ≡ error.UrlExpired = sym h.0 ∙ u in cc);
       cache_tells = tells;
     }
@@ -150,7 +154,9 @@ lane_stops g b at es sl ns fs ends l e new k asks d r t led m j f tells =
       slack = j.slack;
       ties = j.ties;
       left = leaves g b at es sl ns fs ends l e j.slack asks d r m t led j.hidden j.late (λ io. j.ahead k refl);
-      cause = lane_cause g b at es sl ns fs d.drew.drawn ends l e own d.drew.each f t led;
+      cause = subst (λ (xs : List Exchange). Cause g xs b (record at { clients = ns }) e) (sym j.heard)
+          (lane_cause g b at es sl ns fs d.drew.drawn ends l e r.slack.heard own d.drew.each f r.after.grew
+          r.after.asked r.ties.heard (r.after.found asks.own) t led);
       spent = λ u. absurd (never_spent g es l at.clients ns fs d.drew.drawn ends own d.drew.each
           (subst (FailedLane ends) u f));
       cache_tells = tells;

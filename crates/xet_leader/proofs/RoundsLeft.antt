@@ -1,5 +1,5 @@
 -- What a round leaves: its ties, and the leader that keeps and counts what the lanes did.
-use Rattle.std.proofs.Common.{◌≡◌, ℕ, zero, suc, ◌≤◌, List, [], ◌∷◌, ◌++◌, refl, sym, subst, ◌∙◌, ap, arith, append_assoc, inl, inr, ⊎_elim}
+use Rattle.std.proofs.Common.{◌≡◌, ℕ, zero, suc, ◌≤◌, List, [], ◌∷◌, ◌++◌, refl, sym, subst, ◌∙◌, ap, arith, append_assoc, inl, inr, ⊎_elim, ◌<◌, length}
 use Rattle.std.specs.Prelude.{All, Contains, None, Option, false, get_or, Some, count_by, map, option_map, option_to_list, slice_get}
 use Rattle.std.specs.List.{flat_map}
 use Rattle.std.specs.Option.{is_some}
@@ -189,15 +189,15 @@ lanes_given g b at es sl to fs l (ss ∷ ls) t led asks h =
 
 pub round_left : (g : Setup) (b at : RunTold) (es : List Event) (sl : Slack) (ns : List ClientTold) (fs : List Ask)
     (ls : List (List LaneStep)) (l : Led) → AreLedAsks es sl.pending l.plans fs → DrewApart fs at.clients ns ls
-    → sl.hidden ≡ no_hidden b.clients → sl.late ≡ no_late b.clients
+    → sl.hidden ≡ no_hidden b.clients → sl.late ≡ no_late b.clients → (0 < length fs → 1 ≤ sl.spare)
     → Ties g b at es None sl → IsLed g b es sl [] l → RoundLeft g b at es sl ns fs ls l
-round_left g b at es sl ns fs ls l asks d none_h none_l t led =
+round_left g b at es sl ns fs ls l asks d none_h none_l polled t led =
     let both = all_fresh g b es sl l fs led asks.own asks.led in
     let before : (p k : ℕ) → count_by (fetches p k) es ≤ 1 = λ p k. let o = t.served.once p k in omega (arith, o) in
     let new = new_pairs es fs (are_unkept es fs asks.missing) asks.once before in
     let may = round_may_expire g.tries es fs at.clients ns ls d both.1 asks.once in
     let of_plans = plan_asks g b es sl l fs led asks.own asks.led asks.missing in
-    let tied = round_tied g b at es sl fs ns ls d new both.0 asks.waits none_h none_l of_plans may t in
+    let tied = round_tied g b at es sl fs ns ls d new both.0 asks.waits none_h none_l of_plans may polled t in
     let to : Slack = tied.0 in
     let after : AfterRound b.clients at.clients es fs ls sl to = tied.2 in
     let allowed = round_allowed es fs at.clients ns ls d led.running asks.missing asks.once in
@@ -213,7 +213,7 @@ round_left g b at es sl ns fs ls l asks d none_h none_l t led =
       led = λ left. subst (λ (x : List Event). IsLed g b x to (stale_after (flat_map places_of ls) [])
           (record l { plans = plans_after ls l.plans })) (append_assoc es F E)
           (led_late g b (es ++ F) to [] 0 ls (record l { plans = plans_kept ls l.plans }) left allowed.1 served);
-      short = λ k. round_short g b at es sl fs ns ls k d new both.0 asks.waits none_h none_l of_plans may t;
+      short = λ k. round_short g b at es sl fs ns ls k d new both.0 asks.waits none_h none_l of_plans may polled t;
       spent = λ some. subst (IsSpent g.tries) (append_assoc es F E)
           (led_spent g b (es ++ F) to [] 0 ls (record l { plans = plans_kept ls l.plans }) some allowed.1 served);
     }

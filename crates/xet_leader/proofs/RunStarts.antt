@@ -31,7 +31,6 @@ refused_call g b e h = record {
   finished = tt;
   flushed = tt;
   cancelled = λ h2. tt;
-  cause = h;
   empty = λ r. record {
     untouched = record { clients = refl; cache = refl; signal = refl; limits = refl };
     took = refl;
@@ -50,7 +49,6 @@ ends_call g b n answer h some r = record {
   finished = r.finished;
   flushed = r.flushed;
   cancelled = r.cancelled;
-  cause = r.cause;
   empty = λ none. absurd (omega (arith, some, none));
   cache_later = r.cache_later;
 }
@@ -103,7 +101,6 @@ empty_call g b to fs answer h none t =
       finished = r.finished;
       flushed = r.flushed;
       cancelled = r.cancelled;
-      cause = r.cause;
       empty = λ e. record {
         untouched = record { clients = refl; cache = refl; signal = refl; limits = refl };
         took = t.flushed.took;

@@ -17,7 +17,7 @@ abbrev settled_at : Moment → List ClientTold → Reached → Moment
 settled_at m cs b = record { told = record m.told { clients = b.client ∷ cs; cache = b.cache }; events = b.events }
 
 abbrev loose_of : ℕ → List ℕ → Loose
-loose_of due stale = record { pending = []; due = due; stale = stale }
+loose_of due stale = record { pending = []; due = due; stale = stale; polls = 0 }
 
 both_lead : (g : Setup) (m : Moment) (cs : List ClientTold) (multi : Bool) (places : List BlockAt) (stale : List ℕ)
     (a b : Reached) (answer : Answer) → g.multirange ≡ multi → m.told.clients ≡ a.client ∷ cs → m.told.cache ≡ a.cache

@@ -17,6 +17,7 @@ use Rattle.xet_leader.specs.declared.leader.Job.{Job}
 use Rattle.xet_leader.specs.declared.leader.LedPlan.{LedPlan}
 use Rattle.xet_leader.specs.Led.{IsLed, IsLedManager, IsLedPlan, setup_of_job}
 use Rattle.xet_leader.specs.Starts.{LeadStarts, first_led}
+use Rattle.xet_leader.proofs.LongQueries.{begun_long}
 
 take_none : (qs : List FileRange) → take 0 qs ≡ []
 take_none [] = refl
@@ -57,6 +58,8 @@ manager_start j k =
       early = λ h. absurd (cc);
       over = λ h. absurd (cc);
       covered = λ h. absurd (cc);
+      goes_on = λ h e. e;
+      long = begun_long j k.range_fits;
     }
 
 -- it is led

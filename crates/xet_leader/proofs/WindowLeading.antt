@@ -162,7 +162,7 @@ module _ (g : Setup) (b : RunTold) (m : Moment) (o : Loose) (l : Led) (s : IsGoi
     slack = s.slack;
     ties = s.ties;
     left = leaves e;
-    cause = subst (Cause g b m.told) (sym memory) tt;
+    cause = subst (Cause g s.slack.heard b m.told) (sym memory) tt;
     spent = λ h. absurd (let z : error.OutOfMemory ≡ error.UrlExpired = sym memory ∙ h in cc);
     cache_tells = s.cache_tells;
   }

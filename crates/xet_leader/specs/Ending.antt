@@ -8,7 +8,6 @@ use Rattle.xet_run.specs.Events.{written}
 use Rattle.xet_writers.specs.Calls.{SinkCause}
 use Rattle.xet_writers.specs.Sequential.{FinishSequential, Sequential}
 use Rattle.xet_parts.specs.Stops.{IsStopped}
-use Rattle.xet_ties.specs.Causes.{Cause}
 use Rattle.xet_ties.specs.RunCalls.{IsFinished, RunTies, stop_of}
 use Rattle.xet_ties.specs.Setup.{CacheTells, IsOver, RunTold, Setup}
 use Rattle.xet_leader.specs.Led.{Led}
@@ -60,7 +59,6 @@ pub record RunEnds (g : Setup) (b : RunTold) (n : Moment) (answer : RunAnswer) :
   pub finished : IfOk answer (IsFinished g n.events)
   pub flushed : OnOk answer (n.told.sink.flushed ≡ option_map length n.told.sink.took)
   pub cancelled : b.signal.yes < n.told.signal.yes → OnOk answer ⊥
-  pub cause : IfErr answer (Cause g b n.told)
   pub cache_later : (s : Store) → IsOver s b.clients → CacheTells s b.cache → CacheTells s n.told.cache
 
 -- over any start: a steady run whose loop is done ends so, and a run that is to stop with the loop's error

@@ -18,7 +18,7 @@ use Rattle.xet_leader.specs.declared.leader.LedPlan.{LedPlan}
 use Rattle.xet_leader.specs.declared.missing_blocks.BlockAt.{BlockAt}
 use Rattle.xet_leader.specs.FetchLists.{IsFetchList}
 use Rattle.xet_leader.specs.Led.{Led}
-use Rattle.xet_leader.specs.Looks.{blocks_of, to_fetch}
+use Rattle.xet_leader.specs.Looks.{blocks_of, to_round}
 use Rattle.xet_leader.specs.Steady.{IsFailing, IsGoing, Moment}
 
 -- a fetch of the block of this place, by its own request
@@ -57,9 +57,9 @@ pub record AreAsked (tries : ℕ) (es : List Event) (waiting : List PlannedBlock
 -- over any start, a run that goes on and is to fetch these blocks asks for them so; or it is to stop
 pub record FetchesLead (g : Setup) (m : Moment) (l : Led) (cs : List BlockAt)
     (answer : Result (List Fetch) FileReconstructionError) : Type 0 where
-  pub ok : (b : RunTold) → IsGoing g b m (to_fetch m.events cs) l → IsFetchList m.events l.finished cs
+  pub ok : (b : RunTold) → IsGoing g b m (to_round m.events cs) l → IsFetchList m.events l.finished cs
       → IfOk answer (λ fs. AreAsked g.tries m.events (blocks_of m.events cs) (map ask_of fs))
-  pub err : (b : RunTold) → IsGoing g b m (to_fetch m.events cs) l → IfErr answer (IsFailing g b m)
+  pub err : (b : RunTold) → IsGoing g b m (to_round m.events cs) l → IfErr answer (IsFailing g b m)
 
 abbrev pub FetchLeads : Led → List BlockAt → Result (List Fetch) FileReconstructionError → Type 0
 FetchLeads l cs answer = (g : Setup) (m : Moment) → FetchesLead g m l cs answer

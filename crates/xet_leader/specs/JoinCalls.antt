@@ -1,5 +1,5 @@
 -- What a whole join does to a run.
-use Rattle.std.specs.Prelude.{ℕ, ◌≡◌, ◌⊎◌, List, Ok, Result, IfErr, IfOk, OnOk}
+use Rattle.std.specs.Prelude.{ℕ, zero, suc, ◌≡◌, List, Ok, Result, IfErr, IfOk, OnOk}
 use Rattle.xet_outside.specs.Told.{CacheTold, ClientTold, SignalTold, SinkTold}
 use Rattle.xet_error.specs.declared.error.FileReconstructionError.{FileReconstructionError}
 use Rattle.xet_run.specs.declared.event.Event.{Event}
@@ -15,9 +15,10 @@ use Rattle.xet_leader.specs.Offering.{AreServed}
 use Rattle.xet_leader.specs.Plans.{Answer}
 use Rattle.xet_leader.specs.Steady.{IsFailing, IsSteady, Moment, no_loose}
 
--- the signal was asked, or was not and said nothing
-abbrev pub PolledFor : SignalTold → SignalTold → Answer → Type 0
-PolledFor x y answer = PollCall x y answer ⊎ ((y ≡ x) × (answer ≡ Ok tt))
+-- the signal was asked once for so many fetches; for none it wasn't asked and said nothing
+abbrev pub PolledFor : ℕ → SignalTold → SignalTold → Answer → Type 0
+PolledFor zero x y answer = (y ≡ x) × (answer ≡ Ok tt)
+PolledFor (suc count) x y answer = PollCall x y answer
 
 -- ---- before a round
 

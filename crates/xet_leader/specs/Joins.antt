@@ -17,7 +17,7 @@ use Rattle.xet_leader.specs.declared.outcomes.Outcome.{Outcome}
 use Rattle.xet_leader.specs.FetchLists.{IsFetchList}
 use Rattle.xet_leader.specs.Fetching.{AreFetches}
 use Rattle.xet_leader.specs.Led.{Led}
-use Rattle.xet_leader.specs.Looks.{to_fetch}
+use Rattle.xet_leader.specs.Looks.{to_round}
 use Rattle.xet_leader.specs.Measures.{LeavesLess}
 use Rattle.xet_leader.specs.Offering.{AreServed, due_of}
 use Rattle.xet_leader.specs.Outcomes.{OutcomeFails, TookOutcome}
@@ -93,7 +93,7 @@ pub record HoldsWindow {S : Type 0} (told : S → SinkTold) (m : Moment) (pieces
 -- a run that goes on and is to fetch these blocks, with a window of terms of these lengths
 pub record IsPrepared {S : Type 0} (told : S → SinkTold) (g : Setup) (b : RunTold) (m : Moment) (l : Led)
     (cs : List BlockAt) (lengths : List ℕ) (w : Sequential S) : Type 0 where
-  pub going : IsGoing g b m (to_fetch m.events cs) l
+  pub going : IsGoing g b m (to_round m.events cs) l
   pub listed : IsFetchList m.events l.finished cs
   pub pieces : List (List ℕ)
   pub window : IsWindow g b m.events going.slack l lengths pieces
@@ -113,7 +113,7 @@ pub record CanRound {S : Type 0} (told : S → SinkTold) (cs : List ClientTold) 
 
 -- what is to be settled
 abbrev pub to_settle : List Event → Outcome → Loose
-to_settle es o = record { pending = []; due = due_of es o.served.items; stale = o.stale.items }
+to_settle es o = record { pending = []; due = due_of es o.served.items; stale = o.stale.items; polls = 0 }
 
 -- over any start, such a run is steady after it and has blocks to offer, which keep data, and plans to ask for again;
 -- or it is to stop

@@ -21,7 +21,7 @@ use Rattle.xet_terms.specs.Queries.{end_from}
 use Rattle.xet_ties.specs.History.{blocks_in, is_expired, range_at}
 use Rattle.xet_ties.specs.Saids.{IsLookedData, IsPlanAccepted, IsTestedData, planned_of}
 use Rattle.xet_ties.specs.Setup.{CacheTells, IsOver, RunTold, Setup}
-use Rattle.xet_ties.specs.Ties.{Slack}
+use Rattle.xet_ties.specs.Ties.{Slack, IsLong}
 use Rattle.xet_leader.specs.declared.leader.Job.{Job}
 use Rattle.xet_leader.specs.declared.leader.LedPlan.{LedPlan}
 
@@ -57,7 +57,7 @@ pub record IsManagerOf (g : Setup) (m : Manager) : Type 0 where
   pub multirange : m.multirange ≡ g.multirange
 
 -- each query that was asked is planned, in order, and no plan waits; where no plan ended early the planned terms end
--- where these queries do, and where one did all is asked
+-- where these queries do, and where one did all is asked. None but one up to the range's end is shorter than the least
 pub record IsLedManager (g : Setup) (es : List Event) (m : Manager) : Type 0 where
   pub is_for : IsManagerOf g m
   pub kept : IsManager m
@@ -68,6 +68,8 @@ pub record IsLedManager (g : Setup) (es : List Event) (m : Manager) : Type 0 whe
   pub early : m.ended ≡ true → SomeEndsEarly es
   pub over : m.ended ≡ true → m.answered ≡ length m.queries
   pub covered : m.ended ≡ true → m.known_end ≤ scheduled_end m
+  pub goes_on : m.ended ≡ false → SomeEndsEarly es → ⊥
+  pub long : All (IsLong g) m.queries
 
 -- ---- a plan's blocks
 

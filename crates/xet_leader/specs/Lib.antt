@@ -2,13 +2,13 @@ pub mod Admission
 pub mod Advances
 pub mod Asking
 pub mod ByNumber
-pub mod Completeness
 pub mod EmptyRuns
 pub mod Ending
 pub mod Expiries
 pub mod FetchLists
 pub mod Fetching
 pub mod JoinCalls
+pub mod JoinTurns
 pub mod Joins
 pub mod Keeping
 pub mod KeptBlocks

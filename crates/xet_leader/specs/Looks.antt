@@ -136,6 +136,15 @@ blocks_of es cs = flat_map (λ c. block_at es c.plan c.block) cs
 abbrev pub to_fetch : List Event → List BlockAt → Loose
 to_fetch es cs = record no_loose { pending = blocks_of es cs }
 
+-- the signal is asked once where there are blocks to fetch
+abbrev pub polls_for : List BlockAt → ℕ
+polls_for [] = 0
+polls_for (c ∷ cs) = 1
+
+-- they are to be fetched, and the signal was asked for that
+abbrev pub to_round : List Event → List BlockAt → Loose
+to_round es cs = record (to_fetch es cs) { polls = polls_for cs }
+
 -- over any start, a run that goes on goes on after the looks, and is to fetch those blocks that are left; or it is to
 -- stop with want of memory
 pub record LooksLead (g : Setup) (m n : Moment) (l k : Led)

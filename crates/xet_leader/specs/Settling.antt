@@ -42,4 +42,4 @@ SettleLeads multi places stale a b answer = (g : Setup) (m : Moment) (cs : List 
     → m.told.clients ≡ a.client ∷ cs → m.told.cache ≡ a.cache → m.events ≡ a.events → AreServed a.led.plans places
     → LeadPart g m
     (record { told = record m.told { clients = b.client ∷ cs; cache = b.cache }; events = b.events })
-    (record { pending = []; due = due_of m.events places; stale = stale }) no_loose a.led b.led answer
+    (record { pending = []; due = due_of m.events places; stale = stale; polls = 0 }) no_loose a.led b.led answer

@@ -21,14 +21,16 @@ pub record Moment : Type 0 where
   pub events : List Event
 
 -- what a part of a turn leaves for the next part: the blocks that are to be fetched, how many fetched ones are to be
--- offered to the cache, and the plans whose URLs are to be asked for again. Nothing between turns
+-- offered to the cache, the plans whose URLs are to be asked for again, and how often the signal was asked for the
+-- fetches. Nothing between turns
 pub record Loose : Type 0 where
   pub pending : List PlannedBlock
   pub due : ℕ
   pub stale : List ℕ
+  pub polls : ℕ
 
 abbrev pub no_loose : Loose
-no_loose = record { pending = []; due = 0; stale = [] }
+no_loose = record { pending = []; due = 0; stale = []; polls = 0 }
 
 -- all that was told is recorded, but for what is loose
 pub record IsSettled (b : RunTold) (o : Loose) (sl : Slack) : Type 0 where
@@ -36,7 +38,7 @@ pub record IsSettled (b : RunTold) (o : Loose) (sl : Slack) : Type 0 where
   pub late : sl.late ≡ no_late b.clients
   pub lost : sl.lost ≡ []
   pub ahead : sl.ahead ≡ 0
-  pub spare : sl.spare ≡ 0
+  pub spare : sl.spare ≡ o.polls
   pub pending : sl.pending ≡ o.pending
   pub due : sl.due ≡ o.due
   pub step : InStep sl.heard
@@ -70,7 +72,7 @@ pub record IsFailing (g : Setup) (b : RunTold) (m : Moment) (e : FileReconstruct
   pub slack : Slack
   pub ties : Ties g b m.told m.events None slack
   pub left : MayLeave (Some e) b.clients slack
-  pub cause : Cause g b m.told e
+  pub cause : Cause g slack.heard b m.told e
   pub spent : e ≡ error.UrlExpired → (p : ℕ) × (k : ℕ) × (count_by (expires p k) m.events ≡ g.tries)
   pub cache_tells : (s : Store) → IsOver s b.clients → CacheTells s b.cache → CacheTells s m.told.cache
 

@@ -3,6 +3,7 @@ ghost use Rattle.std.specs.Prelude.{◌≡◌, ◌<◌, None, OnErr, length, map
 ghost use Rattle.xet_writers.specs.Calls.{closed_by};
 ghost use Rattle.xet_writers.specs.Sequential.{told_of};
 ghost use Rattle.xet_leader.specs.JoinCalls.{CanJoin, JoinLeads, PolledFor, PrepareLeads};
+ghost use Rattle.xet_leader.specs.JoinTurns.{JoinTurn, PrepareTurn};
 ghost use Rattle.xet_leader.specs.Looks.{IsLedBy};
 
 use crate::leader::Leader;
@@ -37,8 +38,8 @@ pub struct Prepared {
 /// the next terms whose bytes are there, and the missing blocks are fetched while it writes; what came of that is
 /// recorded and kept. Afterwards the served blocks are to be offered to the cache, and the stale plans asked for again.
 ///
-/// `Cancelled` where the signal says yes; the error of `window` or of `run_round`; `OutOfMemory` where memory was
-/// refused. A run that goes on goes on after it, or is to stop with that error.
+/// `Cancelled` where the signal says yes; the error of `window` or of `run_round`, which is the first error of what was
+/// joined; `OutOfMemory` where memory was refused. A run that goes on goes on after it, or is to stop with that error.
 ///
 /// In the Rust crate: a step of `file_reconstruction::file_reconstructor::FileReconstructor::run`.
 pub fn join<
@@ -64,6 +65,23 @@ pub fn join<
     requires parts { 65536 < pass.old.share.parts }
     requires can { CanJoin S.told (map C.told clients.old) (K.told cache.old) (X.told cancel.old) core.old leader.old
         writer.old }
+    ensures turn { JoinTurn S.told tries
+        (record {
+          clients = map C.told clients.old;
+          cache = K.told cache.old;
+          signal = X.told cancel.old;
+          events = core.old;
+          led = leader.old;
+          writer = writer.old;
+        })
+        (record {
+          clients = map C.told clients.new;
+          cache = K.told cache.new;
+          signal = X.told cancel.new;
+          events = core.new;
+          led = leader.new;
+          writer = writer.new;
+        }) result }
     ensures leads { JoinLeads S.told tries
         (record {
           clients = map C.told clients.old;
@@ -113,6 +131,7 @@ fn prepare<R: Wait, P: FetchPolicy, K: ChunkCache, X: CancelSignal, S: Sink>(
     writer: &mut SequentialWriter<S>,
 ) -> Result<Prepared>
     requires { IsLedBy core.old leader.old }
+    ensures turn { PrepareTurn (X.told cancel.old) (X.told cancel.new) leader.old leader.new result }
     ensures leads { PrepareLeads S.told
         (record {
           cache = K.told cache.old;
@@ -146,7 +165,7 @@ fn prepare<R: Wait, P: FetchPolicy, K: ChunkCache, X: CancelSignal, S: Sink>(
 
 /// Asks the signal once, where there are fetches.
 fn poll_for<X: CancelSignal>(cancel: &mut X, fetches: usize) -> Result<()>
-    ensures { PolledFor (X.told cancel.old) (X.told cancel.new) result }
+    ensures { PolledFor fetches (X.told cancel.old) (X.told cancel.new) result }
 {
     if fetches == 0 {
         return Ok(());

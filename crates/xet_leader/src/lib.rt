@@ -12,7 +12,6 @@ pub mod expiries;
 pub mod fetching;
 pub mod joining;
 pub mod keeping;
-pub mod laws;
 pub mod leader;
 pub mod looks;
 pub mod missing_blocks;

@@ -1,16 +1,16 @@
 -- The causes of the errors of asking for a plan.
 use Rattle.std.proofs.Common.{◌≡◌, ℕ, ◌+◌, ◌<◌, ◌≤◌, false, List, [], ◌∷◌, ◌++◌, Option, Some, None, Err, sym, subst, ◌∙◌, ap, arith, inl, ⊎_elim}
-use Rattle.std.specs.Prelude.{IfSome}
 use Rattle.xet_base.specs.declared.cas_types.FileRange.{FileRange}
 use Rattle.xet_base.specs.declared.unique_id.UniqueId.{UniqueId}
 use Rattle.xet_base.specs.Store.{IsValid, Store}
 use Rattle.xet_outside.specs.declared.plan.PlanAnswer.{PlanAnswer}
 use Rattle.xet_outside.specs.declared.plan.PlanAnswer.TheVariants.{Found, NoFile, PastEnd}
 use Rattle.xet_outside.specs.declared.plan.PlanTerm.{PlanTerm}
+use Rattle.xet_outside.specs.declared.said.Said.{Said}
 use Rattle.xet_outside.specs.declared.said.Said.TheVariants as said
 use Rattle.xet_outside.specs.declared.served.Served.{Served}
 use Rattle.xet_outside.specs.Plan.{Shape, shape}
-use Rattle.xet_outside.specs.Told.{ClientTold, IsHonest, Rose}
+use Rattle.xet_outside.specs.Told.{ClientTold, IsHonest, Query, Rose}
 use Rattle.xet_error.specs.declared.error.Corruption.{Corruption}
 use Rattle.xet_error.specs.declared.error.FileReconstructionError.{FileReconstructionError}
 use Rattle.xet_error.specs.declared.error.FileReconstructionError.TheVariants as error
@@ -24,13 +24,14 @@ use Rattle.xet_history.specs.Queries.{CutFrom}
 use Rattle.xet_history.specs.TrueHistory.{queries}
 use Rattle.xet_terms.specs.Managers.{IsManager, Manager, PassesKnownEnd}
 use Rattle.xet_ties.specs.Causes.{Cause, SomeFailed, SomeRose}
-use Rattle.xet_ties.specs.InCall.{EachExchange, Exchange, all_exchanges}
+use Rattle.xet_ties.specs.InCall.{Exchange}
 use Rattle.xet_ties.specs.Saids.{InStep}
 use Rattle.xet_ties.specs.Setup.{AllTell, IsOver, RunTold, Setup}
 use Rattle.xet_ties.specs.steps.Moves.{heard_first}
-use Rattle.xet_ties.specs.steps.Parts.{AskedSaid, plan_query}
-use Rattle.xet_ties.specs.Ties.{CutsRange, EachLane, Slack, Ties}
-use Rattle.xet_ties.proofs.CallerLemmas.{all_told, ask_said, asked_own, corrupted, file_missing, first_tells, if_some, plan_fails, missing_file}
+use Rattle.xet_ties.specs.steps.Parts.{AskedSaid, plan_query, AskedShort}
+use Rattle.xet_ties.specs.Ties.{CutsRange, EachLane, Slack, Ties, IsNextQuery}
+use Rattle.xet_ties.proofs.CallerLemmas.{all_told, ask_said, asked_own, corrupted, file_missing, first_tells, if_some, plan_fails, missing_file, ask_short}
+use Rattle.xet_parts.proofs.AskTies.{ask_fails_ties}
 use Rattle.xet_parts.specs.PlanAsks.{AskPlanCall, PlanFails, QueryFails}
 
 -- ---- counts
@@ -45,12 +46,6 @@ first_rose es (b ∷ bs) c n cs (h ∷ hs) (k ∷ ks) t r = inl (rose b.faults c
     rose : (x y z : ℕ) → x ≤ y → Rose y z → Rose x z
     rose x y z a h = omega arith
 
--- ---- what was said
-
--- what holds of all that was heard holds of all that is told
-pub told_of_all : (bs ns : List ClientTold) (xs : List Exchange) (P : List Exchange → Type 0) → EachExchange bs ns xs → P xs → IfSome (all_exchanges bs ns) P
-told_of_all bs ns xs P h p = if_some (all_exchanges bs ns) (λ ys. ys ≡ xs) P (λ ys e. subst P (sym e) p) (all_told bs ns xs h)
-
 -- ---- a query of the cut
 
 cut_within : (qs : List FileRange) (place end bound : ℕ) (q : FileRange) → CutFrom place end bound (qs ++ q ∷ []) → (place ≤ q.start) × (q.start < q.end) × (q.end ≤ end)
@@ -59,7 +54,7 @@ cut_within (r ∷ qs) place end bound q c = let at = c.0 in let some = c.1 in le
 
 -- it lies in the range, and isn't empty
 pub query_within : (g : Setup) (qs : List FileRange) (q : FileRange) → CutsRange g (qs ++ q ∷ []) → (g.range.start ≤ q.start) × (q.start < q.end) × (q.end ≤ g.range.end)
-query_within g qs q c = cut_within qs g.range.start g.range.end (g.greatest + g.least) q c
+query_within g qs q c = cut_within qs g.range.start g.range.end (g.greatest + g.least) q c.from
 
 -- no answer to it passes the known end, while no plan ended early
 pub none_passes : (m : Manager) (q : FileRange) (t : Option TermBlock) → IsManager m → m.ended ≡ false → q.start < q.end → q.end ≤ m.range.end → PassesKnownEnd m q t → ⊥
@@ -92,18 +87,18 @@ tells_now s g b at es sl c cs is t tell = first_tells s es b.clients c cs sl.hid
 
 -- it said that the file isn't stored
 pub missing_cause : (g : Setup) (b at : RunTold) (es : List Event) (sl : Slack) (c n : ClientTold) (cs : List ClientTold) (q : FileRange) → at.clients ≡ c ∷ cs → Ties g b at es None sl → g.range.start < g.range.end
-    → QueryAnswered c n (g.file, q) NoFile → AskedSaid g b at es sl (n ∷ cs) q NoFile → Cause g b (record at { clients = n ∷ cs }) error.FileNotFound
+    → QueryAnswered c n (g.file, q) NoFile → AskedSaid g b at es sl (n ∷ cs) q NoFile → Cause g (heard_first ((g.file, q) ∷ []) (said.Plan NoFile ∷ []) sl.heard) b (record at { clients = n ∷ cs }) error.FileNotFound
 missing_cause g b at es sl c n cs q is t some answered heard =
     missing_file g b (record at { clients = n ∷ cs }) es None _ q heard.ties some heard.own (λ s tell. answered.honest s (tells_now s g b at es sl c cs is t tell))
 
 -- its faults rose
-pub rose_cause : (g : Setup) (b at : RunTold) (es : List Event) (sl : Slack) (c n : ClientTold) (cs : List ClientTold) → at.clients ≡ c ∷ cs → Ties g b at es None sl → Rose c.faults n.faults → Cause g b (record at { clients = n ∷ cs }) error.ClientError
-rose_cause g b at es sl c n cs is t r = first_rose es b.clients c n cs sl.hidden sl.late (subst (λ (l : List ClientTold). EachLane es 0 b.clients l sl.hidden sl.late) is t.served.lanes) r
+pub rose_cause : (g : Setup) (b at : RunTold) (es : List Event) (sl : Slack) (c n : ClientTold) (cs : List ClientTold) → at.clients ≡ c ∷ cs → Ties g b at es None sl → Rose c.faults n.faults → (xs : List Exchange) → Cause g xs b (record at { clients = n ∷ cs }) error.ClientError
+rose_cause g b at es sl c n cs is t r xs = first_rose es b.clients c n cs sl.hidden sl.late (subst (λ (l : List ClientTold). EachLane es 0 b.clients l sl.hidden sl.late) is t.served.lanes) r
 
 -- its answer fails this test, and over a valid store none does
 pub failed_cause : (g : Setup) (b at : RunTold) (es : List Event) (sl : Slack) (c n : ClientTold) (cs : List ClientTold) (q : FileRange) (a : PlanAnswer) (k : Corruption) → at.clients ≡ c ∷ cs → Ties g b at es None sl
     → QueryAnswered c n (g.file, q) a → AskedSaid g b at es sl (n ∷ cs) q a → ((s : Store) → IsOver s b.clients → IsHonest s g.file q a → ⊥) → SomeFailed g (heard_first ((g.file, q) ∷ []) (said.Plan a ∷ []) sl.heard) k
-    → Cause g b (record at { clients = n ∷ cs }) (error.CorruptedReconstruction k)
+    → Cause g (heard_first ((g.file, q) ∷ []) (said.Plan a ∷ []) sl.heard) b (record at { clients = n ∷ cs }) (error.CorruptedReconstruction k)
 failed_cause g b at es sl c n cs q a k is t answered heard untrue failed = corrupted g b (record at { clients = n ∷ cs }) es None _ k heard.ties (λ s over. untrue s over (answered.honest s (tells_now s g b at es sl c cs is t over.tell))) failed
 
 -- ---- asking
@@ -111,40 +106,67 @@ failed_cause g b at es sl c n cs q a k is t answered heard untrue failed = corru
 answered_of : (g : Setup) (q : FileRange) (id : UniqueId) (c n : ClientTold) (answer : Answer) → (from : FromSaid c n (plan_query g q id) answer) → QueryAnswered c n (g.file, q) from.plan
 answered_of g q id c n answer from = record { asked = from.asked; said = from.said; honest = from.honest }
 
+-- the first connection was asked, no event says so, and the error has its cause by what was heard then
+pub record AskedCause (g : Setup) (b at : RunTold) (es : List Event) (sl : Slack) (after : List ClientTold) (e : FileReconstructionError) : Type 0 where
+  pub queries : List Query
+  pub answers : List Said
+  pub ties : Ties g b (record at { clients = after }) es None (record sl { heard = heard_first queries answers sl.heard; lost = queries })
+  pub cause : Cause g (heard_first queries answers sl.heard) b (record at { clients = after }) e
+
+-- whatever was answered
+pub short_cause : (g : Setup) (b at : RunTold) (es : List Event) (sl : Slack) (after : List ClientTold) (e : FileReconstructionError) → AskedShort g b at es sl after → ((xs : List Exchange) → Cause g xs b (record at { clients = after }) e)
+    → AskedCause g b at es sl after e
+short_cause g b at es sl after e s c = record { queries = s.queries; answers = s.answers; ties = s.ties; cause = c (heard_first s.queries s.answers sl.heard) }
+
+-- by an answer that is the query's own
+pub said_cause : (g : Setup) (b at : RunTold) (es : List Event) (sl : Slack) (after : List ClientTold) (q : FileRange) (a : PlanAnswer) (e : FileReconstructionError) → AskedSaid g b at es sl after q a
+    → Cause g (heard_first ((g.file, q) ∷ []) (said.Plan a ∷ []) sl.heard) b (record at { clients = after }) e → AskedCause g b at es sl after e
+said_cause g b at es sl after q a e s c = record { queries = (g.file, q) ∷ []; answers = said.Plan a ∷ []; ties = s.ties; cause = c }
+
 query_cause : (g : Setup) (b at : RunTold) (es : List Event) (sl : Slack) (c n : ClientTold) (cs : List ClientTold) (q : FileRange) (id : UniqueId) (answer : Answer) (e : FileReconstructionError)
-    → at.clients ≡ c ∷ cs → sl.lost ≡ [] → InStep sl.heard → CutsRange g (queries es ++ q ∷ []) → Ties g b at es None sl → TermBlockCall c n (plan_query g q id) answer → TermBlockCause c n (plan_query g q id) e
-    → Cause g b (record at { clients = n ∷ cs }) e
-query_cause g b at es sl c n cs q id answer error.OutOfMemory is none step cuts t call h = tt
-query_cause g b at es sl c n cs q id answer error.ClientError is none step cuts t call h = rose_cause g b at es sl c n cs is t h
-query_cause g b at es sl c n cs q id answer error.FileNotFound is none step cuts t call h =
-    let within = query_within g (queries es) q cuts in
+    → at.clients ≡ c ∷ cs → sl.lost ≡ [] → InStep sl.heard → IsNextQuery g es q → Ties g b at es None sl → TermBlockCall c n (plan_query g q id) answer → TermBlockCause c n (plan_query g q id) e
+    → AskedShort g b at es sl (n ∷ cs) → AskedCause g b at es sl (n ∷ cs) e
+query_cause g b at es sl c n cs q id answer error.OutOfMemory is none step next t call h short = short_cause g b at es sl (n ∷ cs) error.OutOfMemory short (λ xs. tt)
+query_cause g b at es sl c n cs q id answer error.ClientError is none step next t call h short = short_cause g b at es sl (n ∷ cs) error.ClientError short (rose_cause g b at es sl c n cs is t h)
+query_cause g b at es sl c n cs q id answer error.FileNotFound is none step next t call h short =
+    let within = query_within g (queries es) q next.cuts in
     let a = within.0 in
     let d = within.1 in
     let f = within.2 in
     let no_file : h.plan ≡ NoFile = file_missing g q id c n h in
-    missing_cause g b at es sl c n cs q is t (omega (arith, a, d, f)) (subst (QueryAnswered c n (g.file, q)) no_file (answered_of g q id c n (Err error.FileNotFound) h))
-    (subst (AskedSaid g b at es sl (n ∷ cs) q) no_file (ask_said g b at es sl c n cs q id answer (Err error.FileNotFound) is none step call h cuts t))
-query_cause g b at es sl c n cs q id answer error.UrlExpired is none step cuts t call h = absurd h
-query_cause g b at es sl c n cs q id answer error.IoError is none step cuts t call h = absurd h
-query_cause g b at es sl c n cs q id answer (error.CorruptedReconstruction k) is none step cuts t call h =
-    let within = query_within g (queries es) q cuts in
+    let own = subst (AskedSaid g b at es sl (n ∷ cs) q) no_file (ask_said g b at es sl c n cs q id answer (Err error.FileNotFound) is none step call h next t) in
+    said_cause g b at es sl (n ∷ cs) q NoFile error.FileNotFound own
+    (missing_cause g b at es sl c n cs q is t (omega (arith, a, d, f)) (subst (QueryAnswered c n (g.file, q)) no_file (answered_of g q id c n (Err error.FileNotFound) h)) own)
+query_cause g b at es sl c n cs q id answer error.UrlExpired is none step next t call h short = absurd h
+query_cause g b at es sl c n cs q id answer error.IoError is none step next t call h short = absurd h
+query_cause g b at es sl c n cs q id answer (error.CorruptedReconstruction k) is none step next t call h short =
+    let within = query_within g (queries es) q next.cuts in
     let made : Answer = Err (error.CorruptedReconstruction k) in
-    let heard = ask_said g b at es sl c n cs q id answer made is none step call h cuts t in
-    failed_cause g b at es sl c n cs q h.plan k is t (answered_of g q id c n made h) heard
+    let heard = ask_said g b at es sl c n cs q id answer made is none step call h next t in
+    said_cause g b at es sl (n ∷ cs) q h.plan (error.CorruptedReconstruction k) heard
+    (failed_cause g b at es sl c n cs q h.plan k is t (answered_of g q id c n made h) heard
     (λ s over honest. honest_passes s over.valid g q id k h.plan honest h.from)
-    (plan_fails g (heard_first ((g.file, q) ∷ []) (said.Plan h.plan ∷ []) sl.heard) (plan_count es + 1) q id k c n within.0 within.2 h (asked_own g b at es None sl q h.plan t none step cuts))
-query_cause g b at es sl c n cs q id answer (error.ConfigurationError k) is none step cuts t call h = absurd h
-query_cause g b at es sl c n cs q id answer error.Cancelled is none step cuts t call h = absurd h
-query_cause g b at es sl c n cs q id answer (error.InternalWriterError k) is none step cuts t call h = absurd h
+    (plan_fails g (heard_first ((g.file, q) ∷ []) (said.Plan h.plan ∷ []) sl.heard) (plan_count es + 1) q id k c n within.0 within.2 h (asked_own g b at es None sl q h.plan t none step next)))
+query_cause g b at es sl c n cs q id answer (error.ConfigurationError k) is none step next t call h short = absurd h
+query_cause g b at es sl c n cs q id answer error.Cancelled is none step next t call h short = absurd h
+query_cause g b at es sl c n cs q id answer (error.InternalWriterError k) is none step next t call h short = absurd h
 
 -- each error of asking for a plan has its cause, where no answer passes the known end
 pub ask_cause : (g : Setup) (b at : RunTold) (es fs : List Event) (sl : Slack) (c n : ClientTold) (cs : List ClientTold) (m now : Manager) (q : FileRange) (id : UniqueId) (e : FileReconstructionError)
-    → at.clients ≡ c ∷ cs → AskPlanCall m now c n es fs (plan_query g q id) (Err e) → sl.lost ≡ [] → InStep sl.heard → CutsRange g (queries es ++ q ∷ []) → ((t : Option TermBlock) → PassesKnownEnd m q t → ⊥)
-    → Ties g b at es None sl → Cause g b (record at { clients = n ∷ cs }) e
-ask_cause g b at es fs sl c n cs m now q id e is call none step cuts unpassed t = ⊎_elim asked answered call.err
+    → at.clients ≡ c ∷ cs → AskPlanCall m now c n es fs (plan_query g q id) (Err e) → sl.lost ≡ [] → InStep sl.heard → IsNextQuery g es q → ((t : Option TermBlock) → PassesKnownEnd m q t → ⊥)
+    → Ties g b at es None sl → AskedCause g b at fs sl (n ∷ cs) e
+ask_cause g b at es fs sl c n cs m now q id e is call none step next unpassed t = ⊎_elim asked answered call.err
   where
-    asked : QueryFails m now c n es fs (plan_query g q id) e → Cause g b (record at { clients = n ∷ cs }) e
-    asked h = query_cause g b at es sl c n cs q id (Err e) e is none step cuts t h.call h.call.cause
+    asked : QueryFails m now c n es fs (plan_query g q id) e → AskedCause g b at fs sl (n ∷ cs) e
+    asked h =
+        subst (λ (l : List Event). AskedCause g b at l sl (n ∷ cs) e) (sym h.unrecorded)
+        (query_cause g b at es sl c n cs q id (Err e) e is none step next t h.call h.call.cause (ask_short g b at es sl c n cs q id (Err e) is none h.call next t))
 
-    answered : PlanFails m now c n es fs (plan_query g q id) e → Cause g b (record at { clients = n ∷ cs }) e
-    answered h = ⊎_elim (λ (short : e ≡ error.OutOfMemory). subst (Cause g b (record at { clients = n ∷ cs })) (sym short) tt) (λ p. absurd (unpassed h.answer p.0)) h.left.fails
+    answered : PlanFails m now c n es fs (plan_query g q id) e → AskedCause g b at fs sl (n ∷ cs) e
+    answered h =
+        ⊎_elim
+        (λ (short : e ≡ error.OutOfMemory).
+        short_cause g b at fs sl (n ∷ cs) e (ask_fails_ties g b at es fs sl c n cs m now q id e is call none next t)
+        (λ xs. subst (Cause g xs b (record at { clients = n ∷ cs })) (sym short) tt))
+        (λ p. absurd (unpassed h.answer p.0))
+        h.left.fails

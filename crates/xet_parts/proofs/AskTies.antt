@@ -13,23 +13,23 @@ use Rattle.xet_ties.specs.Saids.{InStep}
 use Rattle.xet_ties.specs.Setup.{RunTold, Setup}
 use Rattle.xet_ties.specs.steps.Moves.{heard_first}
 use Rattle.xet_ties.specs.steps.Parts.{AskedShort, plan_query}
-use Rattle.xet_ties.specs.Ties.{CutsRange, Slack, Ties}
+use Rattle.xet_ties.specs.Ties.{Slack, Ties, IsNextQuery}
 use Rattle.xet_ties.proofs.CallerLemmas.{ask_short, ask_ties}
 use Rattle.xet_parts.specs.PlanAsks.{AskPlanCall, AskedPlan, PlanFails, QueryFails}
 
 -- its query was answered and is recorded, so nothing is lost
 pub asked_ties : (g : Setup) (b at : RunTold) (es fs : List Event) (sl : Slack) (spare : ℕ) (c n : ClientTold) (cs : List ClientTold) (m now : Manager) (q : FileRange) (id : UniqueId)
-    → at.clients ≡ c ∷ cs → (ok : AskedPlan m now c n es fs (plan_query g q id)) → sl.lost ≡ [] → sl.spare ≡ spare + 1 → InStep sl.heard → CutsRange g (queries es ++ q ∷ []) → (planned es ≡ [] → q.start ≡ g.range.start)
+    → at.clients ≡ c ∷ cs → (ok : AskedPlan m now c n es fs (plan_query g q id)) → sl.lost ≡ [] → sl.spare ≡ spare + 1 → InStep sl.heard → IsNextQuery g es q → (planned es ≡ [] → q.start ≡ g.range.start)
     → Ties g b at es None sl
     → (let heard = heard_first ((g.file, q) ∷ []) (said.Plan ok.call.made.plan ∷ []) sl.heard in Ties g b (record at { clients = n ∷ cs }) fs None (record sl { heard = heard; lost = []; spare = spare }) × InStep heard)
-asked_ties g b at es fs sl spare c n cs m now q id is ok none polls step cuts first_is t =
-    ask_ties g b at es fs sl spare c n cs q id ok.answer is ok.call ok.took.recorded none polls step cuts first_is t
+asked_ties g b at es fs sl spare c n cs m now q id is ok none polls step next first_is t =
+    ask_ties g b at es fs sl spare c n cs q id ok.answer is ok.call ok.took.recorded none polls step next first_is t
 
 -- where it isn't recorded its query is lost
 pub ask_fails_ties : (g : Setup) (b at : RunTold) (es fs : List Event) (sl : Slack) (c n : ClientTold) (cs : List ClientTold) (m now : Manager) (q : FileRange) (id : UniqueId) (e : FileReconstructionError)
-    → at.clients ≡ c ∷ cs → AskPlanCall m now c n es fs (plan_query g q id) (Err e) → sl.lost ≡ [] → CutsRange g (queries es ++ q ∷ []) → Ties g b at es None sl → AskedShort g b at fs sl (n ∷ cs)
-ask_fails_ties g b at es fs sl c n cs m now q id e is call none cuts t =
+    → at.clients ≡ c ∷ cs → AskPlanCall m now c n es fs (plan_query g q id) (Err e) → sl.lost ≡ [] → IsNextQuery g es q → Ties g b at es None sl → AskedShort g b at fs sl (n ∷ cs)
+ask_fails_ties g b at es fs sl c n cs m now q id e is call none next t =
     ⊎_elim
-    (λ (h : QueryFails m now c n es fs (plan_query g q id) e). subst (λ (l : List Event). AskedShort g b at l sl (n ∷ cs)) (sym h.unrecorded) (ask_short g b at es sl c n cs q id (Err e) is none h.call cuts t))
-    (λ (h : PlanFails m now c n es fs (plan_query g q id) e). subst (λ (l : List Event). AskedShort g b at l sl (n ∷ cs)) (sym h.left.unrecorded) (ask_short g b at es sl c n cs q id (Ok h.answer) is none h.call cuts t))
+    (λ (h : QueryFails m now c n es fs (plan_query g q id) e). subst (λ (l : List Event). AskedShort g b at l sl (n ∷ cs)) (sym h.unrecorded) (ask_short g b at es sl c n cs q id (Err e) is none h.call next t))
+    (λ (h : PlanFails m now c n es fs (plan_query g q id) e). subst (λ (l : List Event). AskedShort g b at l sl (n ∷ cs)) (sym h.left.unrecorded) (ask_short g b at es sl c n cs q id (Ok h.answer) is none h.call next t))
     call.err

@@ -5,8 +5,8 @@ pub use Rattle.xet_parts.proofs.Dues.{cancelled_due_ties, due_oldest, none_due_t
 -- a plan that was asked for, and a query that isn't recorded
 pub use Rattle.xet_parts.proofs.AskTies.{ask_fails_ties, asked_ties}
 -- and why it isn't
-pub use Rattle.xet_parts.proofs.AskCauses.{ask_cause, failed_cause, missing_cause, rose_cause}
-pub use Rattle.xet_parts.proofs.AskCauses.{first_rose, none_passes, query_within, told_of_all}
+pub use Rattle.xet_parts.proofs.AskCauses.{AskedCause, ask_cause, failed_cause, missing_cause, rose_cause}
+pub use Rattle.xet_parts.proofs.AskCauses.{first_rose, none_passes, query_within}
 -- admissions
 pub use Rattle.xet_parts.proofs.AdmitTies.{admits_counted, admits_left, admits_planned, admits_running, admits_stuck}
 pub use Rattle.xet_parts.proofs.AdmitTies.{admitted_ties}

@@ -7,6 +7,7 @@ use Rattle.xet_error.specs.declared.error.FileReconstructionError.TheVariants as
 use Rattle.xet_run.specs.declared.event.Event.{Event}
 use Rattle.xet_run.specs.Events.{expires}
 use Rattle.xet_ties.specs.Causes.{Cause}
+use Rattle.xet_ties.specs.InCall.{Exchange}
 use Rattle.xet_ties.specs.Setup.{RunTold, Setup}
 use Rattle.xet_ties.specs.steps.Parts.{stop_event}
 use Rattle.xet_ties.specs.Ties.{MayLeave, Slack, Ties}
@@ -27,11 +28,11 @@ stopped_ties g b n es fs sl x answer s spent t =
     s
 
 -- it has a cause where the error has one
-pub stopped_cause : (g : Setup) (b n : RunTold) (es fs : List Event) (x answer : FileReconstructionError) → IsStopped es fs x answer → Cause g b n x → Cause g b n answer
-stopped_cause g b n es fs x answer s c =
+pub stopped_cause : (g : Setup) (xs : List Exchange) (b n : RunTold) (es fs : List Event) (x answer : FileReconstructionError) → IsStopped es fs x answer → Cause g xs b n x → Cause g xs b n answer
+stopped_cause g xs b n es fs x answer s c =
     ⊎_elim
-    (λ (h : (answer ≡ x) × (fs ≡ es ++ stop_event x ∷ [])). subst (Cause g b n) (sym h.0) c)
-    (λ (h : (answer ≡ error.OutOfMemory) × (fs ≡ es)). subst (Cause g b n) (sym h.0) tt)
+    (λ (h : (answer ≡ x) × (fs ≡ es ++ stop_event x ∷ [])). subst (Cause g xs b n) (sym h.0) c)
+    (λ (h : (answer ≡ error.OutOfMemory) × (fs ≡ es)). subst (Cause g xs b n) (sym h.0) tt)
     s
 
 -- and it may leave open what the error may

@@ -30,7 +30,6 @@ refused_call g b e h = record {
   finished = tt;
   flushed = tt;
   cancelled = λ h2. tt;
-  cause = h;
   empty = λ r. record {
     untouched = record { clients = refl; cache = refl; signal = refl; limits = refl };
     took = refl;
@@ -55,18 +54,20 @@ short_ties g b to h took faults link =
       slack = sl;
       ties = tie_short g b (record b { sink = to }) [] sl (tie_flush g b b [] sl to took faults link (tie_start g b h));
       left = short_leaves b.clients sl;
+      cause = tt;
     }
 
 failed_ties : (g : Setup) (b : RunTold) (to : SinkTold) → failing_setting g b.clients ≡ None
-    → to.took ≡ b.sink.took → b.sink.faults ≤ to.faults → to.link ≡ b.sink.link
+    → to.took ≡ b.sink.took → b.sink.faults ≤ to.faults → to.link ≡ b.sink.link → Rose b.sink.faults to.faults
     → RunTies g b (record b { sink = to }) (Fail error.IoError ∷ []) (Some error.IoError)
-failed_ties g b to h took faults link =
+failed_ties g b to h took faults link rose =
     let sl = no_slack b.clients in
     record {
       slack = sl;
       ties = tie_stop g b (record b { sink = to }) [] sl error.IoError (λ e. absurd (cc))
           (tie_flush g b b [] sl to took faults link (tie_start g b h));
       left = steady_leaves b.clients error.IoError sl (none_hidden b.clients) (none_late b.clients) refl;
+      cause = rose;
     }
 
 -- the sink took nothing, and nothing else was asked
@@ -94,7 +95,6 @@ short_call g b to h took faults link = record {
   finished = tt;
   flushed = tt;
   cancelled = λ yes. tt;
-  cause = tt;
   empty = λ e. nothing_done b to error.OutOfMemory took (inl refl);
   cache_later = λ s o c. c;
 }
@@ -105,11 +105,10 @@ failed_call : (g : Setup) (b : RunTold) (to : SinkTold) → failing_setting g b.
     → RunCall g b (record b { sink = to }) (Fail error.IoError ∷ []) (Err error.IoError)
 failed_call g b to h took faults link rose = record {
   settings = λ e h2. absurd (let z : None ≡ Some e = sym h ∙ h2 in cc);
-  tied = λ h2. failed_ties g b to h took faults link;
+  tied = λ h2. failed_ties g b to h took faults link rose;
   finished = tt;
   flushed = tt;
   cancelled = λ yes. tt;
-  cause = rose;
   empty = λ e. nothing_done b to error.IoError took (inr refl);
   cache_later = λ s o c. c;
 }

@@ -1,19 +1,16 @@
 -- Answers of a valid store fail no test of a run, and their pieces join to the windows of their queries.
-use Rattle.std.proofs.Common.{◌≡◌, ℕ, ◌-◌, ◌<◌, ◌≤◌, min, List, [], ◌∷◌, length, drop, Option, Some, None, refl, ap}
-use Rattle.std.proofs.Common.{sym, ◌∙◌, subst, arith, inl, inr}
-use Rattle.std.specs.Prelude.{All, IfSome, map, option_map, slice_get, sum, unwrap_or}
+use Rattle.std.proofs.Common.{◌≡◌, ℕ, ◌-◌, List, [], ◌∷◌, Option, Some, None, refl, ap}
+use Rattle.std.proofs.Common.{sym, ◌∙◌, subst, inl, inr}
+use Rattle.std.specs.Prelude.{All, IfSome, map, option_map, slice_get, unwrap_or}
 use Rattle.std.specs.List.{AllZip, concat, flat_map}
-use Rattle.std.proofs.lemmas.List.{length-drop, length-take}
 use Rattle.xet_base.specs.declared.cas_types.ChunkRange.{ChunkRange}
 use Rattle.xet_base.specs.declared.cas_types.FileRange.{FileRange}
-use Rattle.xet_base.specs.Store.{IsValid, Store, bytes_of, window}
+use Rattle.xet_base.specs.Store.{IsValid, Store, window}
 use Rattle.xet_outside.specs.declared.block.BlockBytes.{BlockBytes}
 use Rattle.xet_outside.specs.declared.plan.Plan.{Plan}
-use Rattle.xet_outside.specs.declared.plan.PlanAnswer.{PlanAnswer}
-use Rattle.xet_outside.specs.declared.plan.PlanAnswer.TheVariants.{Found, NoFile, PastEnd}
-use Rattle.xet_outside.specs.declared.plan.PlanTerm.{PlanTerm}
+use Rattle.xet_outside.specs.declared.plan.PlanAnswer.TheVariants.{Found}
 use Rattle.xet_outside.specs.Plan.{Shape, block_of, plan_of, shape}
-use Rattle.xet_outside.specs.Told.{Holds, IsHonest}
+use Rattle.xet_outside.specs.Told.{Holds}
 use Rattle.xet_error.specs.declared.error.Corruption.{Corruption}
 use Rattle.xet_blocks.specs.declared.reconstruction_terms.file_term.FileTerm.{FileTerm}
 use Rattle.xet_blocks.specs.declared.reconstruction_terms.xorb_block.XorbBlock.{XorbBlock}
@@ -22,13 +19,13 @@ use Rattle.xet_blocks.specs.BlockCalls.{failed_check}
 use Rattle.xet_blocks.specs.BlockChecks.{block_data}
 use Rattle.xet_blocks.specs.Blocks.{PlanBlock, block_ranges, blocks_of}
 use Rattle.xet_blocks.specs.Extracts.{failed_term_test, term_bytes_in}
-use Rattle.xet_blocks.specs.PlanChecks.{failed_test, sizes, sizes_from}
+use Rattle.xet_blocks.specs.PlanChecks.{failed_test}
 use Rattle.xet_blocks.specs.TermBlocks.{covered, xorb_block, xorb_blocks}
 use Rattle.xet_blocks.specs.Terms.{piece_of, term_piece, terms_of}
 use Rattle.xet_blocks.proofs.CallerLemmas.{IsHonestTerm, honest_accepted, honest_terms, pieces_join}
 use Rattle.xet_fetch.specs.Fetches.{IsHonestFor}
 use Rattle.xet_fetch.specs.Refreshes.{extent_of}
-use Rattle.xet_ties.specs.Causes.{BlockFails, BlockFailsIn, EndFails, EndsAt, PlanFails, RefreshFails, SomeFailed}
+use Rattle.xet_ties.specs.Causes.{BlockFails, BlockFailsIn, PlanFails, RefreshFails, SomeFailed}
 use Rattle.xet_ties.specs.Causes.{TermFails, TermFailsIn}
 use Rattle.xet_ties.specs.InCall.{Exchange, Look, SomeOne}
 use Rattle.xet_ties.specs.Saids.{BlockOfPlan, IsBlockAnswer, IsLookedData, IsPiece, IsPlanAccepted, IsQueryAnswer}
@@ -36,7 +33,7 @@ use Rattle.xet_ties.specs.Saids.{IsPlanSaid, IsServedData, IsTestedData, TermOfP
 use Rattle.xet_ties.proofs.CallerLemmas.{own_answer}
 use Rattle.xet_ties.specs.Setup.{IsHonestEntry, Setup}
 use Rattle.xet_reconstruct.specs.Laws.{AreHonest, AreHonestLooks, HonestAnswersPass, HonestPiecesJoin, PieceOf}
-use Rattle.xet_reconstruct.proofs.HonestPlans.{block_at, honest_block, plan_reaches, refresh_passes}
+use Rattle.xet_reconstruct.proofs.HonestPlans.{block_at, honest_block, refresh_passes}
 
 module _ (s : Store) (v : IsValid s) (g : Setup) (xs : List Exchange) (h : AreHonest s g xs) where
   -- ---- plans
@@ -64,49 +61,6 @@ module _ (s : Store) (v : IsValid s) (g : Setup) (xs : List Exchange) (h : AreHo
       f.answer (h.plans (covered (shape f.plan) f.query) f.answer f.answered).is in
       let some = f.fails in
       cc
-
-  -- ---- where the file ends
-
-  window_size : (q : FileRange)
-      → length (window s g.file q) ≡ min (q.end - q.start) (length (bytes_of s g.file) - q.start)
-  window_size q =
-      let a = length-take (q.end - q.start) (drop q.start (bytes_of s g.file)) in
-      let b = length-drop q.start (bytes_of s g.file) in
-      omega (arith, a, b)
-
-  reaches : (p : Plan) (q : FileRange) → shape p ≡ plan_of s g.file q
-      → min (q.end - q.start) (length (bytes_of s g.file) - q.start) ≤ sum (sizes (shape p))
-  reaches p q is =
-      let r = plan_reaches s v g.file q g.multirange in
-      let w = window_size q in
-      let e = ap (λ (r : Shape). sum (sizes r)) is in
-      omega (arith, r, w, e)
-
-  -- an end that was told is no earlier than the file's
-  told_end : (q : FileRange) (known : ℕ) (a : PlanAnswer) → q.start < q.end → IsHonest s g.file q a → EndsAt q known a
-      → length (bytes_of s g.file) ≤ known
-  told_end q known NoFile forward honest e = absurd e
-  told_end q known PastEnd forward honest e = let past = honest.1 in omega (arith, e, past)
-  told_end q known (Found p) forward honest (inl e) =
-      let reach = reaches p q honest.2 in
-      let none : sum (sizes (shape p)) ≡ 0 =
-      ap (λ (ts : List PlanTerm). sum (sizes_from p.offset_into_first_range ts)) e.0 in
-      let is = e.1 in
-      omega (arith, reach, none, is, forward)
-  told_end q known (Found p) forward honest (inr e) =
-      let reach = reaches p q honest.2 in
-      let early = e.0 in
-      let is = e.1 in
-      let some = honest.1 in
-      omega (arith, reach, early, is, some)
-
-  end_fails : (k : Corruption) → EndFails g xs k → ⊥
-  end_fails k f =
-      let other = h.plans f.other f.answer f.answered in
-      let told = told_end f.other f.known f.answer other.forward other.is f.ends in
-      let found = (h.plans f.query (Found f.plan) (said_to f.plan f.query f.accepted.said)).is.1 in
-      let past = f.past in
-      omega (arith, told, found, past)
 
   -- ---- blocks
 
@@ -209,8 +163,7 @@ module _ (s : Store) (v : IsValid s) (g : Setup) (xs : List Exchange) (h : AreHo
   answers_pass k (inl f) = plan_passes k f
   answers_pass k (inr (inl f)) = refresh_fails k f
   answers_pass k (inr (inr (inl f))) = block_fails k f
-  answers_pass k (inr (inr (inr (inl f)))) = term_fails k f
-  answers_pass k (inr (inr (inr (inr f)))) = end_fails k f
+  answers_pass k (inr (inr (inr f))) = term_fails k f
 
   -- ---- pieces
 

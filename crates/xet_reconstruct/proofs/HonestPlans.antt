@@ -1,34 +1,28 @@
 -- Plans of a valid store: their blocks, terms and refreshes pass their tests, and their terms reach the file's end.
-use Rattle.std.proofs.Common.{◌≡◌, ℕ, zero, suc, ◌+◌, ◌-◌, ◌^◌, ◌<◌, ◌≤◌, Bool, min, List, [], ◌∷◌, length, map, Some}
-use Rattle.std.proofs.Common.{None, refl, ap, subst, ◌∙◌, arith, length-append}
-use Rattle.std.specs.Prelude.{All, option_map, slice_get, sum}
-use Rattle.std.specs.List.{enumerate_from, flat_map}
+use Rattle.std.proofs.Common.{◌≡◌, ℕ, zero, suc, ◌+◌, ◌-◌, ◌^◌, ◌<◌, Bool, min, List, [], ◌∷◌, length, map, Some}
+use Rattle.std.proofs.Common.{None, refl, ap, subst, ◌∙◌, arith}
+use Rattle.std.specs.Prelude.{option_map, slice_get}
+use Rattle.std.specs.List.{enumerate_from}
 use Rattle.std.proofs.lemmas.List.{length-map}
-use Rattle.std.proofs.lemmas.List.Elements.{All-get_or, All-head, All-tail}
+use Rattle.std.proofs.lemmas.List.Elements.{All-get_or}
 use Rattle.std.proofs.lemmas.List.FromFn.{length-enumerate_from}
-use Rattle.std.proofs.lemmas.List.Sums.{sum_by-cons}
 use Rattle.std.proofs.lemmas.Option.{get_or_from_slice_get, slice_get_within}
 use Rattle.xet_base.specs.declared.cas_types.FileRange.{FileRange}
-use Rattle.xet_base.specs.declared.merklehash.MerkleHash.{MerkleHash}
 use Rattle.xet_base.specs.declared.unique_id.UniqueId.{UniqueId}
 use Rattle.xet_base.specs.Lists.{firsts}
-use Rattle.xet_base.specs.Store.{IsValid, Store, window}
+use Rattle.xet_base.specs.Store.{IsValid, Store}
 use Rattle.xet_outside.specs.declared.plan.Plan.{Plan}
 use Rattle.xet_outside.specs.declared.plan.PlanAnswer.{PlanAnswer}
 use Rattle.xet_outside.specs.declared.plan.PlanAnswer.TheVariants.{Found}
 use Rattle.xet_outside.specs.declared.plan.PlanTerm.{PlanTerm}
-use Rattle.xet_outside.specs.Plan.{Shape, plan_of, shape}
+use Rattle.xet_outside.specs.Plan.{Shape, shape}
 use Rattle.xet_outside.specs.Told.{IsHonest}
-use Rattle.xet_blocks.specs.declared.reconstruction_terms.file_term.FileTerm.{FileTerm}
 use Rattle.xet_blocks.specs.declared.reconstruction_terms.file_term.TermBlock.{TermBlock}
 use Rattle.xet_blocks.specs.declared.reconstruction_terms.xorb_block.XorbBlock.{XorbBlock}
 use Rattle.xet_blocks.specs.Blocks.{PlanBlock, block_ranges, blocks_of, same_block, term_block, transfer_sum}
-use Rattle.xet_blocks.specs.Extracts.{term_size}
-use Rattle.xet_blocks.specs.PlanChecks.{sizes, sizes_from}
 use Rattle.xet_blocks.specs.PlanQuery.{PlanQuery}
 use Rattle.xet_blocks.specs.TermBlocks.{IsTermBlock, covered, urls_of, xorb_block, xorb_blocks}
-use Rattle.xet_blocks.specs.Terms.{term_piece, terms_from, terms_of}
-use Rattle.xet_blocks.proofs.CallerLemmas.{pieces_join, pieces_sized}
+use Rattle.xet_blocks.specs.Terms.{terms_of}
 use Rattle.xet_fetch.specs.Fetches.{IsHonestFor}
 use Rattle.xet_fetch.specs.Refreshes.{Extent, extent_of, plan_extents, refusal_of}
 use Rattle.xet_fetch.proofs.CallerLemmas.{honest_tables}
@@ -140,46 +134,3 @@ module _ (s : Store) (v : IsValid s) (g : Setup) (p : Plan) (q : FileRange) (h :
   refresh_passes =
       subst Refreshes (numbered_extents (shape p) g.multirange 0 (blocks_of (shape p) g.multirange))
       (by_block (xorb_blocks (shape p) g.multirange) refl (some_blocks p g.multirange p.terms refl some))
-
--- ---- where a store's plan ends
-
-sum-of : (n : ℕ) (ns : List ℕ) → sum (n ∷ ns) ≡ n + sum ns
-sum-of n ns = sum_by-cons (λ x. x) n ns
-
-zero_offset : (ts : List PlanTerm) → sum (sizes_from 0 ts) ≡ sum (map (λ t. t.unpacked_length) ts)
-zero_offset [] = refl
-zero_offset (t ∷ ts) =
-    let rest = map (λ (u : PlanTerm). u.unpacked_length) ts in
-    omega (arith, sum-of (t.unpacked_length - 0) rest, sum-of t.unpacked_length rest)
-
--- the terms that are cut at the query's end are no longer than those of the plan
-cut_sizes : (p : Shape) (q : FileRange) (multi : Bool) (place o : ℕ) (ts : List PlanTerm)
-    → sum (map term_size (terms_from p q multi place o ts)) ≤ sum (sizes_from o ts)
-cut_sizes p q multi place o [] = omega arith
-cut_sizes p q multi place o (t ∷ ts) =
-    let n = t.unpacked_length - o in
-    let rest = terms_from p q multi (place + n) 0 ts in
-    let next = cut_sizes p q multi (place + n) 0 ts in
-    let a = sum-of (min (place + n) q.end - place) (map term_size rest) in
-    let b = sum-of n (map (λ (u : PlanTerm). u.unpacked_length) ts) in
-    let z = zero_offset ts in
-    omega (arith, next, a, b, z)
-
-joined_size : (piece : FileTerm → List ℕ) (ts : List FileTerm) → All (λ t. length (piece t) ≡ term_size t) ts
-    → length (flat_map piece ts) ≡ sum (map term_size ts)
-joined_size piece [] a = refl
-joined_size piece (t ∷ ts) a =
-    let here = All-head (λ t. length (piece t) ≡ term_size t) t ts a in
-    let next = joined_size piece ts (All-tail (λ t. length (piece t) ≡ term_size t) t ts a) in
-    omega (arith, here, next, length-append (piece t) (flat_map piece ts), sum-of (term_size t) (map term_size ts))
-
--- the plan's terms have all bytes of the query that the file has
-pub plan_reaches : (s : Store) → IsValid s → (f : MerkleHash) (q : FileRange) (multi : Bool)
-    → length (window s f q) ≤ sum (sizes (plan_of s f q))
-plan_reaches s v f q multi =
-    let p = plan_of s f q in
-    let ts = terms_of p q multi in
-    let joined = ap length (pieces_join s v f q multi) in
-    let sized = joined_size (term_piece s p multi) ts (pieces_sized s v f q multi) in
-    let cut = cut_sizes p q multi q.start p.offset p.terms in
-    omega (arith, joined, sized, cut)

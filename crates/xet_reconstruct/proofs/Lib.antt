@@ -1,3 +1,4 @@
+mod Complete
 mod Halts
 mod HonestAnswers
 mod HonestPlans

@@ -1,5 +1,5 @@
--- What an answer or an optional value says, said otherwise.
-use Rattle.std.specs.Prelude.{Option, Some, None, IfSome, Result, Ok, Err, IfOk, IfErr, OnOk}
+-- What an answer says, said otherwise.
+use Rattle.std.specs.Prelude.{Result, Ok, Err, IfOk, IfErr, OnOk}
 
 pub if_ok : {A E : Type 0} (r : Result A E) (P Q : A → Type 0) → ((x : A) → P x → Q x) → IfOk r P → IfOk r Q
 if_ok (Ok x) P Q f h = f x h
@@ -8,10 +8,6 @@ if_ok (Err e) P Q f h = tt
 pub if_err : {A E : Type 0} (r : Result A E) (P Q : E → Type 0) → ((e : E) → P e → Q e) → IfErr r P → IfErr r Q
 if_err (Ok x) P Q f h = tt
 if_err (Err e) P Q f h = f e h
-
-pub if_some : {A : Type 0} (o : Option A) (P Q : A → Type 0) → ((x : A) → P x → Q x) → IfSome o P → IfSome o Q
-if_some None P Q f h = tt
-if_some (Some x) P Q f h = f x h
 
 pub on_ok : {A E : Type 0} (r : Result A E) (P : A → Type 0) (Q : Type 0) → ((x : A) → P x → Q) → IfOk r P → OnOk r Q
 on_ok (Ok x) P Q f h = f x h

@@ -8,15 +8,17 @@ use Rattle.xet_outside.specs.Told.{Link, SinkTold, Took}
 use Rattle.xet_error.specs.declared.error.FileReconstructionError.{FileReconstructionError}
 use Rattle.xet_error.specs.declared.error.FileReconstructionError.TheVariants as error
 use Rattle.xet_error.specs.declared.error.Setting.{Setting}
+use Rattle.xet_run.specs.Budgets.{LimitTold}
 use Rattle.xet_ties.specs.Causes.{Cause, failing_setting}
-use Rattle.xet_ties.specs.InCall.{Exchange, Look, all_exchanges, new_in}
+use Rattle.xet_ties.specs.InCall.{Exchange, Look}
 use Rattle.xet_ties.specs.Legal.{IsExact, Legal, TookCounted, TookTested, TookWhole}
 use Rattle.xet_ties.specs.RunCalls.{DidNothing}
 use Rattle.xet_ties.specs.Setup.{RunTold, Setup}
 use Rattle.xet_reconstruct.specs.steps.Placing.{ReadyCall}
-use Rattle.xet_reconstruct.specs.ToFile.{StandAt, ToFileCall, placed_as}
+use Rattle.xet_reconstruct.specs.ToFile.{IsUnready, StandAt, ToFileCall, placed_as}
+use Rattle.xet_reconstruct.specs.Ran.{RanUnder}
 use Rattle.xet_reconstruct.proofs.Halts.{halted_legal, halted_nothing, refused_legal}
-use Rattle.xet_reconstruct.proofs.Mapping.{if_err, if_ok, if_some, on_ok}
+use Rattle.xet_reconstruct.proofs.Mapping.{if_err, if_ok, on_ok}
 
 -- ---- a sink told otherwise before a run, with the same bytes and no more faults
 
@@ -31,16 +33,17 @@ module _ (g : Setup) (b n : RunTold) (at : SinkTold) (flushed : Option ℕ) (fau
   abbrev other_start : RunTold
   other_start = record b { sink = then_sink }
 
-  other_cause : (e : FileReconstructionError) → Cause g at_start n e → Cause g other_start n e
-  other_cause error.OutOfMemory c = c
-  other_cause error.ClientError c = c
-  other_cause error.FileNotFound c = c
-  other_cause error.UrlExpired c = c
-  other_cause error.IoError c = omega (arith, up, c)
-  other_cause (error.CorruptedReconstruction k) c = c
-  other_cause (error.ConfigurationError s) c = c
-  other_cause error.Cancelled c = c
-  other_cause (error.InternalWriterError w) c = c
+  other_cause : (xs : List Exchange) (e : FileReconstructionError) → Cause g xs at_start n e
+      → Cause g xs other_start n e
+  other_cause xs error.OutOfMemory c = c
+  other_cause xs error.ClientError c = c
+  other_cause xs error.FileNotFound c = c
+  other_cause xs error.UrlExpired c = c
+  other_cause xs error.IoError c = omega (arith, up, c)
+  other_cause xs (error.CorruptedReconstruction k) c = c
+  other_cause xs (error.ConfigurationError s) c = c
+  other_cause xs error.Cancelled c = c
+  other_cause xs (error.InternalWriterError w) c = c
 
   other_tested : (xs : List Exchange) (ls : List Look) → TookTested g xs ls at n.sink
       → TookTested g xs ls then_sink n.sink
@@ -77,30 +80,32 @@ module _ (g : Setup) (b n : RunTold) (at : SinkTold) (flushed : Option ℕ) (fau
         (λ k e. record { stored = e.stored; took = e.took; total = e.total }) (l.exact s o c);
     prefix = l.prefix;
     stored = l.stored;
-    tested = if_some (all_exchanges b.clients n.clients) _ _ (λ xs.
-        if_some (new_in b.cache.looked n.cache.looked) (λ ls. TookTested g xs ls at n.sink)
-        (λ ls. TookTested g xs ls then_sink n.sink) (other_tested xs)) l.tested;
-    whole = if_some (all_exchanges b.clients n.clients) _ _ (λ xs.
-        if_some (new_in b.cache.looked n.cache.looked) _ _ (λ ls.
-        if_ok answer (TookWhole g xs ls at n.sink) (TookWhole g xs ls then_sink n.sink) (other_whole xs ls)))
-        l.whole;
+    heard = l.heard;
+    looks = l.looks;
+    tested = other_tested l.heard.list l.looks.list l.tested;
+    whole = if_ok answer (TookWhole g l.heard.list l.looks.list at n.sink)
+        (TookWhole g l.heard.list l.looks.list then_sink n.sink) (other_whole l.heard.list l.looks.list) l.whole;
     total = if_ok answer (TookCounted at n.sink) (TookCounted then_sink n.sink)
         (λ k t. record { bytes = t.bytes; took = t.took; total = t.total }) l.total;
     flushed = l.flushed;
     cancelled = l.cancelled;
-    cause = if_err answer (Cause g at_start n) (Cause g other_start n) other_cause l.cause;
+    cause = if_err answer (Cause g l.heard.list at_start n) (Cause g l.heard.list other_start n)
+        (other_cause l.heard.list) l.cause;
     settings = λ e h2. absurd (let z : None ≡ Some e = sym h ∙ h2 in cc);
     empty = λ e. other_nothing answer (l.empty e);
     asked = l.asked;
     all_asked = l.all_asked;
     refreshed = l.refreshed;
     renewed = l.renewed;
+    all_renewed = l.all_renewed;
     served = l.served;
     planned = l.planned;
     passed = l.passed;
     chunks = l.chunks;
     goes_on = l.goes_on;
     cache_later = l.cache_later;
+    signal_later = l.signal_later;
+    counts_later = l.counts_later;
     sink_later = (let x = l.sink_later in omega (arith, x, up));
     link = at_link;
     past = l.past;
@@ -119,40 +124,46 @@ ready_legal g b n at answer h took up l =
 -- ---- one call
 
 -- a setting failed
-pub refused_file : (g : Setup) (truncate : Bool) (place : ℕ) (b : RunTold) (e : Setting)
-    → failing_setting g b.clients ≡ Some e → ToFileCall g truncate place b b (Err (error.ConfigurationError e))
-refused_file g truncate place b e h = record {
-  settings = λ x h2. (
-    ap (λ (y : Setting). Err (error.ConfigurationError y))
-        (let z : Some e ≡ Some x = sym h ∙ h2 in let w : e ≡ x = cc in w),
-    refl,
-  );
-  legal = refused_legal g b e h;
-  content = inr (record {
-    nothing = record {
-      untouched = record { clients = refl; cache = refl; signal = refl; limits = refl };
-      took = refl;
-      none = tt;
-      error = tt;
-    };
-    fails = tt;
-    kept = λ h3. refl;
-  });
-  exact = λ s o c. tt;
-  link = refl;
-}
+pub refused_file : (limits : LimitTold) (g : Setup) (truncate : Bool) (place : ℕ) (b : RunTold) (e : Setting)
+    → failing_setting g b.clients ≡ Some e → ToFileCall limits g truncate place b b (Err (error.ConfigurationError e))
+refused_file limits g truncate place b e h =
+    let unready : IsUnready truncate b b (Err (error.ConfigurationError e)) = record {
+      nothing = record {
+        untouched = record { clients = refl; cache = refl; signal = refl; limits = refl };
+        took = refl;
+        none = tt;
+        error = tt;
+      };
+      fails = tt;
+      left = inl refl;
+    } in
+    record {
+      settings = λ x h2. (
+        ap (λ (y : Setting). Err (error.ConfigurationError y))
+            (let z : Some e ≡ Some x = sym h ∙ h2 in let w : e ≡ x = cc in w),
+        refl,
+      );
+      legal = refused_legal g b e h;
+      content = inr unready;
+      ran = inr unready;
+      exact = λ s o c. tt;
+      link = refl;
+    }
 
 -- the file could not be made ready
-pub unready_file : (g : Setup) (truncate : Bool) (place at : ℕ) (b : RunTold) (to : SinkTold)
+pub unready_file : (limits : LimitTold) (g : Setup) (truncate : Bool) (place at : ℕ) (b : RunTold) (to : SinkTold)
     (e : FileReconstructionError) → failing_setting g b.clients ≡ None
-    → ReadyCall truncate at b.sink to (Err e) → ToFileCall g truncate place b (record b { sink = to }) (Err e)
-unready_file g truncate place at b to e h r = record {
-  settings = λ x h2. absurd (let z : None ≡ Some x = sym h ∙ h2 in cc);
-  legal = halted_legal g (placed_as to.link b) to e h r.took r.faults refl r.cause;
-  content = inr (record { nothing = halted_nothing b to e r.took r.cause; fails = tt; kept = r.kept });
-  exact = λ s o c. tt;
-  link = r.link;
-}
+    → ReadyCall truncate at b.sink to (Err e) → ToFileCall limits g truncate place b (record b { sink = to }) (Err e)
+unready_file limits g truncate place at b to e h r =
+    let unready : IsUnready truncate b (record b { sink = to }) (Err e) = record { nothing = halted_nothing b to e r.took r.cause; fails = tt; left = r.left } in
+    record {
+      settings = λ x h2. absurd (let z : None ≡ Some x = sym h ∙ h2 in cc);
+      legal = halted_legal g (placed_as to.link b) to e h r.took r.faults refl r.cause;
+      content = inr unready;
+      ran = inr unready;
+      exact = λ s o c. tt;
+      link = r.link;
+    }
 
 exact_there : (g : Setup) (truncate : Bool) (place : ℕ) (b n : RunTold) (s : Store) (k : ℕ)
     → ((bytes : List ℕ) → Took b.sink.took n.sink.took bytes → StandAt truncate place b.sink n.sink bytes)
@@ -161,11 +172,12 @@ exact_there : (g : Setup) (truncate : Bool) (place : ℕ) (b n : RunTold) (s : S
 exact_there g truncate place b n s k stands e = stands (window s g.file g.range) e.took
 
 -- the run went into it
-pub ready_file : (g : Setup) (truncate : Bool) (place p : ℕ) (b n : RunTold) (at : SinkTold)
+pub ready_file : (limits : LimitTold) (g : Setup) (truncate : Bool) (place p : ℕ) (b n : RunTold) (at : SinkTold)
     (answer : Result ℕ FileReconstructionError) → p ≡ place → failing_setting g b.clients ≡ None
     → ReadyCall truncate p b.sink at (Ok tt) → Legal g (record b { sink = at }) n answer
-    → ToFileCall g truncate place b n answer
-ready_file g truncate place p b n at answer is h given l =
+    → RanUnder limits g (record b { sink = at }) n answer
+    → ToFileCall limits g truncate place b n answer
+ready_file limits g truncate place p b n at answer is h given l ran =
     let r = subst (λ (q : ℕ). ReadyCall truncate q b.sink at (Ok tt)) is given in
     let legal : Legal g (placed_as n.sink.link b) n answer = ready_legal g b n at answer h r.took r.faults l in
     let stands : (bytes : List ℕ) → Took b.sink.took n.sink.took bytes → StandAt truncate place b.sink n.sink bytes =
@@ -174,6 +186,11 @@ ready_file g truncate place p b n at answer is h given l =
       settings = λ x h2. absurd (let z : None ≡ Some x = sym h ∙ h2 in cc);
       legal = legal;
       content = inl stands;
+      ran = inl (record {
+        ready = at;
+        made = record { took = r.took; faults = r.faults; placed = r.placed; link = r.link };
+        ran = ran;
+      });
       exact = λ s o c. on_ok answer (IsExact s g (placed_as n.sink.link b).sink n.sink)
           (StandAt truncate place b.sink n.sink (window s g.file g.range))
           (λ k e. exact_there g truncate place b n s k stands e) (legal.exact s o c);

@@ -1,3 +1,4 @@
+pub mod Completeness
 pub mod Laws
 pub mod Ran
 pub mod Setup

@@ -8,23 +8,23 @@ use Rattle.xet_run.specs.Budgets.{LimitTold}
 use Rattle.xet_terms.specs.declared.reconstruction_config.ReconstructionConfig.{ReconstructionConfig}
 use Rattle.xet_ties.specs.RunCalls.{RunCall}
 use Rattle.xet_ties.specs.Setup.{RunTold, Setup}
+use Rattle.xet_run.specs.Books.{book_limit}
 
 -- the same told with these limits
 abbrev pub limited : LimitTold → RunTold → RunTold
 limited limits told = record told { limits = limits }
 
 -- a run gave this answer, with some allowed history that is tied to what its arguments tell, under a source of limits
--- that always answers this one, where one is given
-pub record RanUnder (fixed : Option ℕ) (g : Setup) (before after : RunTold)
+-- that tells this at first
+pub record RanUnder (limits : LimitTold) (g : Setup) (before after : RunTold)
     (answer : Result ℕ FileReconstructionError) : Type 0 where
   pub events : List Event
-  pub limits : LimitTold
   pub later : LimitTold
-  pub is_fixed : limits.fixed ≡ fixed
   pub allowed : IsAllowedHistory events
   pub call : RunCall g (limited limits before) (limited later after) events answer
 
--- without a book the limit is that of the settings
-abbrev pub limit_of : Option BookView → ReconstructionConfig → Option ℕ
-limit_of None config = Some config.download_buffer_size
-limit_of (Some view) config = None
+-- without a book the limit is that of the settings; a book's limit of all is never passed
+abbrev pub limit_of : Option BookView → ReconstructionConfig → LimitTold
+limit_of None config =
+    record { fixed = Some config.download_buffer_size; most = Some config.download_buffer_size; limits = None }
+limit_of (Some view) config = record { fixed = None; most = Some (book_limit view); limits = None }

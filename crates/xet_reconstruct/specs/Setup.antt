@@ -32,7 +32,7 @@ setup_of file range config = record {
 
 -- a source of limits that tells nothing
 abbrev pub no_limits : LimitTold
-no_limits = record { fixed = None; limits = None }
+no_limits = record { fixed = None; most = None; limits = None }
 
 -- what these arguments tell, where the source of limits isn't one of them
 abbrev pub lent_of : {C K X S : Type 0} → (C → ClientTold) → (K → CacheTold) → (X → SignalTold) → (S → SinkTold)

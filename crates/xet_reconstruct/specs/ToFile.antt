@@ -1,5 +1,5 @@
 -- What a reconstruction into a file does to it.
-use Rattle.std.specs.Prelude.{ℕ, ◌≡◌, ◌⊎◌, Bool, false, cond, List, Option, option_map, unwrap_or, Some, OnOk, Result}
+use Rattle.std.specs.Prelude.{ℕ, ◌≡◌, ◌≤◌, ◌⊎◌, Bool, true, cond, List, Option, option_map, unwrap_or, Some, OnOk, Result}
 use Rattle.std.specs.Prelude.{Err}
 use Rattle.xet_base.specs.declared.cas_types.FileRange.{FileRange}
 use Rattle.xet_base.specs.Store.{Store, window}
@@ -8,10 +8,12 @@ use Rattle.xet_outside.specs.Told.{Link, SinkTold, Took}
 use Rattle.xet_error.specs.declared.error.FileReconstructionError.{FileReconstructionError}
 use Rattle.xet_error.specs.declared.error.FileReconstructionError.TheVariants as error
 use Rattle.xet_error.specs.declared.error.Setting.{Setting}
+use Rattle.xet_run.specs.Budgets.{LimitTold}
 use Rattle.xet_ties.specs.Causes.{failing_setting}
 use Rattle.xet_ties.specs.Legal.{Legal}
 use Rattle.xet_ties.specs.RunCalls.{DidNothing}
 use Rattle.xet_ties.specs.Setup.{CacheTells, IsOver, RunTold, Setup}
+use Rattle.xet_reconstruct.specs.Ran.{RanUnder}
 
 -- where the bytes go: to the wanted offset, else to where the range starts
 abbrev pub place_for : Option ℕ → FileRange → ℕ
@@ -31,20 +33,39 @@ abbrev pub StandsAt : Bool → ℕ → SinkTold → SinkTold → Type 0
 StandsAt truncate place before after =
     (bytes : List ℕ) → Took before.took after.took bytes → StandAt truncate place before after bytes
 
--- the file could not be made ready: nothing was asked and taken, and the answer is an error that needs no connection.
--- Where it wasn't to be truncated its content and its place are as they were
+-- the file as it was made ready: it took nothing, and stands emptied where it was to be truncated, and at its place,
+-- where it tells these
+pub record IsReady (truncate : Bool) (place : ℕ) (before ready : SinkTold) : Type 0 where
+  pub took : ready.took ≡ before.took
+  pub faults : before.faults ≤ ready.faults
+  pub placed : placed_of ready ≡ option_map (ready_at truncate place) (placed_of before)
+  pub link : before_place ready.link ≡ before_place before.link
+
+-- a file that could not be made ready has the content and the place that it had, or it was to be truncated and is empty
+abbrev pub IsLeft : Bool → SinkTold → SinkTold → Type 0
+IsLeft truncate before after = (after.link ≡ before.link)
+    ⊎ ((truncate ≡ true) × (placed_of after ≡ option_map emptied (placed_of before)))
+
+-- the file could not be made ready: nothing was asked and taken, and the answer is an error that needs no connection
 pub record IsUnready (truncate : Bool) (before after : RunTold)
     (answer : Result ℕ FileReconstructionError) : Type 0 where
   pub nothing : DidNothing before after answer
   pub fails : OnOk answer ⊥
-  pub kept : truncate ≡ false → after.sink.link ≡ before.sink.link
+  pub left : IsLeft truncate before.sink after.sink
+
+-- a run gave this answer, over the file as it was made ready, as `RanUnder` says
+pub record RanInto (limits : LimitTold) (g : Setup) (truncate : Bool) (place : ℕ) (before after : RunTold)
+    (answer : Result ℕ FileReconstructionError) : Type 0 where
+  pub ready : SinkTold
+  pub made : IsReady truncate place before.sink ready
+  pub ran : RanUnder limits g (record before { sink = ready }) after answer
 
 -- the same, told of a file whose place was set in this way
 abbrev pub placed_as : Link → RunTold → RunTold
 placed_as link told = record told { sink = record told.sink { link = link } }
 
--- one call of `reconstruct_to_file`
-pub record ToFileCall (g : Setup) (truncate : Bool) (place : ℕ) (before after : RunTold)
+-- one call of `reconstruct_to_file`, under a source of limits that always answers this one, where one is given
+pub record ToFileCall (limits : LimitTold) (g : Setup) (truncate : Bool) (place : ℕ) (before after : RunTold)
     (answer : Result ℕ FileReconstructionError) : Type 0 where
   -- a failing setting is told before all else, the file included
   pub settings : (e : Setting) → failing_setting g before.clients ≡ Some e
@@ -53,6 +74,8 @@ pub record ToFileCall (g : Setup) (truncate : Bool) (place : ℕ) (before after 
   pub legal : Legal g (placed_as after.sink.link before) after answer
   -- whatever the file took stands at its place, or it could not be made ready
   pub content : StandsAt truncate place before.sink after.sink ⊎ IsUnready truncate before after answer
+  -- a run stands behind it, from the moment at which the file was made ready, or it could not be made ready
+  pub ran : RanInto limits g truncate place before after answer ⊎ IsUnready truncate before after answer
   -- so on Ok, over connections and a cache that tell one valid store, does the window
   pub exact : (s : Store) → IsOver s before.clients → CacheTells s before.cache
       → OnOk answer (StandAt truncate place before.sink after.sink (window s g.file g.range))

@@ -1,17 +1,13 @@
 //! Laws of what the contracts of a reconstruction say.
-ghost use Rattle.xet_leader.specs.Completeness.{LegalIsComplete};
+ghost use Rattle.xet_reconstruct.specs.Completeness.{LegalIsComplete};
 ghost use Rattle.xet_reconstruct.specs.Laws.{HonestAnswersPass, HonestPiecesJoin};
-
-use xet_leader::laws::legal_is_complete;
 
 /// Where nothing that a call is lent fails, a legal answer is Ok, or want of memory, whatever the cache holds: all
 /// settings can be met, the connections tell one valid store that has the file or the range is empty, no count of
 /// faults and none of a yes rose, and there came fewer expired answers than a block has tries.
 pub fn calls_are_complete()
     ensures { LegalIsComplete }
-{
-    legal_is_complete()
-}
+{}
 
 /// Where the answers to queries and to the requests for blocks are those of a valid store, none of them fails a test,
 /// and the pieces of all terms of a plan join to the window of its query. So the contract of a run tells no test that

@@ -44,7 +44,7 @@ where
     ensures legal { Legal (setup_of wanted.file_hash wanted.byte_range wanted.config)
         (lent_of C.told K.told X.told S.told clients.old cache.old cancel.old writer.old)
         (lent_of C.told K.told X.told S.told clients.new cache.new cancel.new writer.new) result }
-    ensures ran { RanUnder (B.told budget).fixed (setup_of wanted.file_hash wanted.byte_range wanted.config)
+    ensures ran { RanUnder (B.told budget) (setup_of wanted.file_hash wanted.byte_range wanted.config)
         (lent_of C.told K.told X.told S.told clients.old cache.old cancel.old writer.old)
         (lent_of C.told K.told X.told S.told clients.new cache.new cancel.new writer.new) result }
 {

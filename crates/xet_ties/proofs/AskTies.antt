@@ -43,7 +43,7 @@ use Rattle.xet_ties.specs.Saids.{FirstRenewed, InStep, IsCutAnswer, IsMadeOf, Is
 use Rattle.xet_ties.specs.Setup.{AllTell, RunTold, Setup}
 use Rattle.xet_ties.specs.steps.Moves.{QueryStep, heard_first}
 use Rattle.xet_ties.specs.steps.Parts.{blocks_of_answer, plan_event, plan_query, plan_refresh, terms_in}
-use Rattle.xet_ties.specs.Ties.{CutsRange, EachLane, FirstStarts, HeardAsked, IsLost, Slack, Ties}
+use Rattle.xet_ties.specs.Ties.{CutsRange, EachLane, FirstStarts, HeardAsked, IsLost, Slack, Ties, IsNextQuery}
 use Rattle.xet_ties.proofs.ClientMoves.{tie_planned, tie_query}
 use Rattle.xet_ties.proofs.Heard.{FirstEvent, step_query}
 use Rattle.xet_ties.proofs.NextPlaces.{asked_own}
@@ -176,7 +176,7 @@ first_event g [] q a n ts bs h m = absurd h
 first_event g (x ∷ xs) q a n ts bs h m = record { answer = a; said = h; made = m }
 
 cut_order : (g : Setup) (qs : List FileRange) (q : FileRange) → CutsRange g (qs ++ q ∷ []) → q.start ≤ q.end
-cut_order g qs q c = go qs g.range.start c
+cut_order g qs q c = go qs g.range.start c.from
   where
     go : (l : List FileRange) (place : ℕ) → CutFrom place g.range.end (g.greatest + g.least) (l ++ q ∷ []) → q.start ≤ q.end
     go [] place h = let s = h.1 in omega (arith, s)
@@ -186,10 +186,10 @@ cut_order g qs q c = go qs g.range.start c
 
 -- after a plan was asked for and recorded
 pub ask_ties : (g : Setup) (b at : RunTold) (es fs : List Event) (sl : Slack) (spare : ℕ) (c n : ClientTold) (cs : List ClientTold) (q : FileRange) (id : UniqueId) (o : Option TermBlock)
-    → at.clients ≡ c ∷ cs → (call : TermBlockCall c n (plan_query g q id) (Ok o)) → fs ≡ es ++ plan_event es q o ∷ [] → sl.lost ≡ [] → sl.spare ≡ spare + 1 → InStep sl.heard → CutsRange g (queries es ++ q ∷ []) → (planned es ≡ [] → q.start ≡ g.range.start)
+    → at.clients ≡ c ∷ cs → (call : TermBlockCall c n (plan_query g q id) (Ok o)) → fs ≡ es ++ plan_event es q o ∷ [] → sl.lost ≡ [] → sl.spare ≡ spare + 1 → InStep sl.heard → IsNextQuery g es q → (planned es ≡ [] → q.start ≡ g.range.start)
     → Ties g b at es None sl
     → (let heard = heard_first ((g.file, q) ∷ []) (said.Plan call.made.plan ∷ []) sl.heard in Ties g b (record at { clients = n ∷ cs }) fs None (record sl { heard = heard; lost = []; spare = spare }) × InStep heard)
-ask_ties g b at es fs sl spare c n cs q id o is call recorded none polls step cuts first_is t =
+ask_ties g b at es fs sl spare c n cs q id o is call recorded none polls step next first_is t =
     let from = call.made in
     let a = from.plan in
     let qs : List Query = (g.file, q) ∷ [] in
@@ -200,16 +200,16 @@ ask_ties g b at es fs sl spare c n cs q id o is call recorded none polls step cu
     let tells : (s : Store) → AllTell s b.clients → c.store ≡ Some s = (λ s h. first_tells s es b.clients c cs sl.hidden sl.late (subst (λ (l : List ClientTold). EachLane es 0 b.clients l sl.hidden sl.late) is t.served.lanes) h) in
     let first : Ties g b (record at { clients = c ∷ cs }) es None sl = subst (λ (l : List ClientTold). Ties g b (record at { clients = l }) es None sl) is t in
     let lost : sl.lost ++ qs ≡ qs = ap (λ (l : List Query). l ++ qs) none in
-    let told = tie_query g b (record at { clients = c ∷ cs }) es sl (n ∷ cs) qs all (asked, refl) (subst (λ (l : List Query). IsLost g es l) (sym lost) (refl, inl cuts)) first in (
+    let told = tie_query g b (record at { clients = c ∷ cs }) es sl (n ∷ cs) qs all (asked, refl) (subst (λ (l : List Query). IsLost g es l) (sym lost) (refl, inl next)) first in (
       subst (λ (l : List Event). Ties g b (record at { clients = n ∷ cs }) l None (record sl { heard = heard; lost = []; spare = spare })) (sym recorded)
-          (tie_planned g b (record at { clients = n ∷ cs }) es (record sl { heard = heard; lost = sl.lost ++ qs }) spare (plan_count es + 1) q (terms_in o) (blocks_of_answer o) lost polls cuts
-          (made_within g q (terms_in o) (blocks_of_answer o) a (cut_order g (queries es) q cuts) made)
+          (tie_planned g b (record at { clients = n ∷ cs }) es (record sl { heard = heard; lost = sl.lost ++ qs }) spare (plan_count es + 1) q (terms_in o) (blocks_of_answer o) lost polls next
+          (made_within g q (terms_in o) (blocks_of_answer o) a (cut_order g (queries es) q next.cuts) made)
           (made_starts g es q (plan_count es + 1) (terms_in o) (blocks_of_answer o) a first_is t.starts made)
           refl
-          (first_event g heard q a (plan_count es + 1) (terms_in o) (blocks_of_answer o) (asked_own g b at es None sl q a t none step cuts) made)
+          (first_event g heard q a (plan_count es + 1) (terms_in o) (blocks_of_answer o) (asked_own g b at es None sl q a t none step next) made)
           (λ s over. made_true s g q (plan_count es + 1) (terms_in o) (blocks_of_answer o) a (past_none s over.valid g.file q) (from.honest s (tells s over.tell)) made)
           (λ s h. made_stored s g q (terms_in o) (blocks_of_answer o) a (from.honest s (tells s h)) made)
-          (λ r. renewed_planned g es q a sl.heard t.within t.cuts cuts (subst (λ (l : List Query). HeardAsked g.file es l sl.heard) none t.heard_asked) (subst (λ (l : List Query). FirstRenewed g l heard) lost r))
+          (λ r. renewed_planned g es q a sl.heard t.within t.cuts next.cuts (subst (λ (l : List Query). HeardAsked g.file es l sl.heard) none t.heard_asked) (subst (λ (l : List Query). FirstRenewed g l heard) lost r))
           told),
       step_query qs all sl.heard refl step,
     )

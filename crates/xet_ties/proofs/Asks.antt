@@ -21,7 +21,7 @@ use Rattle.xet_ties.specs.InCall.{new_in}
 use Rattle.xet_ties.specs.Cuts.{AskedCut, LiesInSome}
 use Rattle.xet_ties.specs.Legal.{AsksCut, FirstAsks, IsShort}
 use Rattle.xet_ties.specs.Setup.{Setup}
-use Rattle.xet_ties.specs.Ties.{CutsRange, FirstAsked, IsLost}
+use Rattle.xet_ties.specs.Ties.{CutsRange, FirstAsked, IsLost, IsNextQuery}
 use Rattle.xet_ties.proofs.Told.{if_some, told_new}
 
 -- ---- the actual range of a plan lies in its query
@@ -179,7 +179,7 @@ asks_of : (g : Setup) (es : List Event) (tail : List Query) (cut : List FileRang
 asks_of g es tail cut within cuts for_tail rest =
     let asked = asked_cut g.file [] es [] tail cut (none_in g.file) within rest in
     record {
-      short = both g (asked_by g.file es ++ tail) (All-append (λ (q : Query). q.0 ≡ g.file) (asked_by g.file es) tail (for_file g.file [] es) for_tail) (all_short (g.greatest + g.least) [] (asked_by g.file es ++ tail) (queries es ++ cut) (All-nil (Short (g.greatest + g.least))) (cut_short g.range.start g.range.end (g.greatest + g.least) (queries es ++ cut) cuts) asked);
+      short = both g (asked_by g.file es ++ tail) (All-append (λ (q : Query). q.0 ≡ g.file) (asked_by g.file es) tail (for_file g.file [] es) for_tail) (all_short (g.greatest + g.least) [] (asked_by g.file es ++ tail) (queries es ++ cut) (All-nil (Short (g.greatest + g.least))) (cut_short g.range.start g.range.end (g.greatest + g.least) (queries es ++ cut) cuts.from) asked);
       cut = queries es ++ cut;
       cuts = cuts;
       asked = asked;
@@ -190,7 +190,7 @@ asks_cut g es [] within cuts l = asks_of g es [] [] within (subst (λ (qs : List
 asks_cut g es (q ∷ []) within cuts l =
     let for_q : All (λ (x : Query). x.0 ≡ g.file) (q ∷ []) = All-cons (λ (x : Query). x.0 ≡ g.file) q [] l.0 (All-nil (λ (x : Query). x.0 ≡ g.file)) in
     ⊎_elim
-    (λ (c : CutsRange g (queries es ++ q.1 ∷ [])). asks_of g es (q ∷ []) (q.1 ∷ []) within c for_q (λ now h. inl (refl, refl)))
+    (λ (c : IsNextQuery g es q.1). asks_of g es (q ∷ []) (q.1 ∷ []) within c.cuts for_q (λ now h. inl (refl, refl)))
     (λ (r : (p : ℕ) × (range_at es p ≡ q.1 ∷ []) × (is_stale es p ≡ true)). asks_of g es (q ∷ []) [] within (subst (λ (qs : List FileRange). CutsRange g qs) (sym (append-nil (queries es))) cuts) for_q (λ now h. (h r.0 q.1 r.1, refl)))
     l.1
 asks_cut g es (q ∷ r ∷ qs) within cuts l = absurd l

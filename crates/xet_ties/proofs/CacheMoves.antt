@@ -31,6 +31,8 @@ use Rattle.xet_ties.proofs.Telling.{each-push, telling-push, telling-same}
 use Rattle.std.proofs.lemmas.List.{append-nil}
 use Rattle.std.proofs.lemmas.List.Elements.{All-push, All-weaker, Contains-append_left}
 use Rattle.xet_ties.proofs.Heard.{grew_none, said_push, tested_grew}
+use Rattle.xet_ties.proofs.EarlyEnds.{ends_same}
+use Rattle.xet_ties.proofs.HeardServed.{heard_served_same}
 
 range_eq-true : (a b : ChunkRange) → range_eq a b ≡ true → a ≡ b
 range_eq-true a b h =
@@ -116,10 +118,12 @@ tie_missed g b n es sl to x r given l miss t = record {
   cuts = t.cuts;
   within = t.within;
   starts = t.starts;
+  ends = t.ends;
   numbers = t.numbers;
   stored = t.stored;
   served = t.served;
   expired = t.expired;
+  heard_served = t.heard_served;
   asked = t.asked;
   heard_asked = t.heard_asked;
   lost = t.lost;
@@ -150,7 +154,7 @@ tie_missed g b n es sl to x r given l miss t = record {
         };
   };
   looked_entries = entries_more n.cache to sl.looks (x.xorb, r, given) l.entries l.among t.looked_entries;
-  offered = record { puts = t.offered.puts; offers = subst (λ (o : Option ℕ). Reaches b.cache.offers o t.offered.puts) (sym l.offers) t.offered.offers; cover = t.offered.cover };
+  offered = record { puts = t.offered.puts; offers = subst (λ (o : Option ℕ). Reaches b.cache.offers o t.offered.puts) (sym l.offers) t.offered.offers; cover = t.offered.cover; faults = let f = t.offered.faults in let h = l.faults in omega (arith, f, h) };
   polled = t.polled;
   limited = t.limited;
   taken = taken_grew g es sl.heard sl.heard sl.looks ((x.xorb, r, given) ∷ []) sl.ahead b.clients b.cache b.sink n.sink (grew_none sl.heard) t.taken;
@@ -168,10 +172,12 @@ tie_cached g b n es sl to p k x r entry l at t =
       cuts = cuts_same g es e refl t.cuts;
       within = All-push IsWithin es e t.within tt;
       starts = starts_same g.range.start es e refl t.starts;
+      ends = ends_same es e refl t.ends;
       numbers = each-push IsNumberedNext es e t.numbers tt;
       stored = stored_same g.file es e b.clients refl t.stored;
       served = served_same es e sl.hidden sl.late b.clients n.clients (λ l. refl) (λ l. refl) (λ p k. refl) (λ m. tt) t.served;
       expired = expired_same es e 0 sl.heard sl.late (λ l w. refl) t.expired;
+      heard_served = heard_served_same es e 0 sl.heard sl.hidden (λ l w. refl) t.heard_served;
       asked = first_push g.file es e sl.lost sl.lost b.clients n.clients refl t.asked;
       heard_asked = heard_push g.file es e sl.lost sl.lost sl.heard refl t.heard_asked;
       lost = lost_push g es e sl.lost [] sl.lost refl refl refl t.lost;
@@ -202,7 +208,7 @@ tie_cached g b n es sl to p k x r entry l at t =
             };
       };
       looked_entries = entries_more n.cache to sl.looks (x.xorb, r, Some entry) l.entries l.among t.looked_entries;
-      offered = offered_push es e sl.due sl.due b.cache to (omega arith) (record { puts = t.offered.puts; offers = subst (λ (o : Option ℕ). Reaches b.cache.offers o t.offered.puts) (sym l.offers) t.offered.offers; cover = t.offered.cover });
+      offered = offered_push es e sl.due sl.due b.cache to (omega arith) (record { puts = t.offered.puts; offers = subst (λ (o : Option ℕ). Reaches b.cache.offers o t.offered.puts) (sym l.offers) t.offered.offers; cover = t.offered.cover; faults = let f = t.offered.faults in let h = l.faults in omega (arith, f, h) });
       polled = polled_push es e sl.spare sl.spare b.signal n.signal (omega arith) t.polled;
       limited = limited_same es e b.limits n.limits refl t.limited;
       taken = taken_push g es e sl.heard (sl.looks ++ (x.xorb, r, Some entry) ∷ []) sl.ahead sl.ahead b.clients b.cache b.sink n.sink (omega arith) (taken_grew g es sl.heard sl.heard sl.looks ((x.xorb, r, Some entry) ∷ []) sl.ahead b.clients b.cache b.sink n.sink (grew_none sl.heard) t.taken);
@@ -221,10 +227,12 @@ tie_put g b n es sl to due p d t = record {
   cuts = t.cuts;
   within = t.within;
   starts = t.starts;
+  ends = t.ends;
   numbers = t.numbers;
   stored = t.stored;
   served = t.served;
   expired = t.expired;
+  heard_served = t.heard_served;
   asked = t.asked;
   heard_asked = t.heard_asked;
   lost = t.lost;
@@ -240,6 +248,7 @@ tie_put g b n es sl to due p d t = record {
     puts = t.offered.puts + 1;
     offers = reaches_more b.cache.offers n.cache.offers to.offers t.offered.puts p.offers t.offered.offers;
     cover = let c = t.offered.cover in omega (arith, c, d);
+    faults = let f = t.offered.faults in let h = p.faults in omega (arith, f, h);
   };
   polled = t.polled;
   limited = t.limited;

@@ -21,6 +21,7 @@ pub use Rattle.xet_ties.proofs.AskTies.{answer_makes, made_true, made_stored, ma
 pub use Rattle.xet_ties.proofs.AskTies.{ask_ties, refresh_ties}
 pub use Rattle.xet_ties.proofs.FailedQueries.{ask_short, ask_said, refresh_short, refresh_said}
 pub use Rattle.xet_ties.proofs.PastEnds.{past_none}
+pub use Rattle.xet_ties.proofs.EarlyEnds.{early_back, goes_same}
 pub use Rattle.xet_ties.proofs.WindowTies.{tie_written}
 -- the terms from the first unfinished one on, and a window of them
 pub use Rattle.xet_ties.proofs.Windows.{unfinished_is, wanted_is, wrote_allowed}
@@ -46,7 +47,7 @@ pub use Rattle.xet_ties.proofs.Records.{SoFar, so_none, so_next, so_more, so_all
 pub use Rattle.xet_ties.proofs.Heard.{Match, join_match, grew_none, grew_first, grew_join, step_start, step_query, step_join}
 pub use Rattle.xet_ties.proofs.Heard.{FirstEvent, query_answer_more, accepted_more, tested_data_more, tested_grew, zip_weaker}
 pub use Rattle.xet_ties.proofs.SaidTies.{fetch_entry, step_data, SaidBlock, block_said}
-pub use Rattle.xet_ties.proofs.SaidCauses.{accepted_said, step_fails, block_fails, term_fails, end_fails, plan_fails}
+pub use Rattle.xet_ties.proofs.SaidCauses.{accepted_said, step_fails, block_fails, term_fails, plan_fails}
 pub use Rattle.xet_ties.proofs.SaidCauses.{file_missing, refresh_fails}
 pub use Rattle.xet_ties.proofs.Plannings.{starts_at}
 pub use Rattle.xet_ties.proofs.NextPlaces.{asked_own}

@@ -10,13 +10,13 @@ use Rattle.xet_run.specs.declared.event.Event.TheVariants.{Planned}
 use Rattle.xet_run.specs.declared.event.PlannedBlock.{PlannedBlock}
 use Rattle.xet_run.specs.declared.event.PlannedTerm.{PlannedTerm}
 use Rattle.xet_run.specs.Events.{plan_count, planned}
-use Rattle.xet_history.specs.TrueHistory.{IsTrueEvent, queries}
+use Rattle.xet_history.specs.TrueHistory.{IsTrueEvent}
 use Rattle.xet_base.specs.declared.cas_types.FileRange.{FileRange}
 use Rattle.xet_base.specs.declared.merklehash.MerkleHash.{MerkleHash}
 use Rattle.xet_ties.specs.History.{IsNumberedNext, IsOneCached, IsRenewed, asked_by, served_by, fetches, IsWithin}
 use Rattle.xet_ties.specs.steps.Moves.{EachJoined, FirstQuery, JoinStep, QueryStep, no_hidden, no_late, heard_first, heard_join}
 use Rattle.xet_ties.specs.Setup.{AllTell, ClientGoesOn, IsOver, RunTold, Setup, download_of, most_lanes}
-use Rattle.xet_ties.specs.Ties.{AllAre, EachUnasked, all_of, is_pair, EachLane, FirstAsked, FirstStarts, IsLane, Slack, Ties, CutsRange, IsLost, IsPlannedEntry}
+use Rattle.xet_ties.specs.Ties.{AllAre, EachUnasked, all_of, is_pair, EachLane, FirstAsked, FirstStarts, IsLane, Slack, Ties, IsLost, IsPlannedEntry, IsNextQuery, EachServed}
 use Rattle.xet_ties.proofs.Lanes.{served_same}
 use Rattle.xet_ties.specs.InCall.{expired_said}
 use Rattle.xet_ties.proofs.Lates.{expired_join, expired_query, expired_same, joined_late, none_late}
@@ -29,6 +29,8 @@ use Rattle.xet_ties.specs.Saids.{EventPassed, FirstRenewed}
 use Rattle.xet_ties.proofs.CacheMoves.{taken_heard}
 use Rattle.xet_ties.proofs.Renewed.{renewed_join, renewed_query}
 use Rattle.xet_ties.proofs.Heard.{FirstEvent, exchange_join, exchange_query, grew_first, grew_join, join_match, passed_more, said_join, said_planned, said_query}
+use Rattle.xet_ties.proofs.EarlyEnds.{ends_push}
+use Rattle.xet_ties.proofs.HeardServed.{heard_served_same, heard_served_join, heard_served_query}
 
 -- ---- queries of the first connection
 
@@ -93,10 +95,12 @@ tie_query g b n es sl to qs all s l t = record {
   cuts = t.cuts;
   within = t.within;
   starts = t.starts;
+  ends = t.ends;
   numbers = t.numbers;
   stored = t.stored;
   served = record { lanes = lanes_query es qs all b.clients n.clients to sl.hidden sl.late s t.served.lanes; once = t.served.once; planned = t.served.planned; on_lanes = t.served.on_lanes; past = past_query b.clients n.clients to qs all s t.served.past };
   expired = expired_query es qs all sl.heard sl.late (first_late n.clients to qs all s) t.expired;
+  heard_served = heard_served_query es qs all sl.heard sl.hidden t.heard_served;
   asked = asked_query g.file es qs all sl.lost b.clients n.clients to s t.asked;
   heard_asked = heard_query g.file es qs all sl.lost sl.heard t.heard_asked;
   lost = l;
@@ -117,22 +121,24 @@ tie_query g b n es sl to qs all s l t = record {
 
 -- the plan of a query is recorded
 pub tie_planned : (g : Setup) (b n : RunTold) (es : List Event) (sl : Slack) (spare plan : ℕ) (query : FileRange) (terms : List PlannedTerm) (blocks : List PlannedBlock)
-    → sl.lost ≡ (g.file, query) ∷ [] → sl.spare ≡ spare + 1 → CutsRange g (queries es ++ query ∷ []) → IsWithin (Planned plan query terms blocks) → FirstStarts g.range.start (planned (es ++ Planned plan query terms blocks ∷ [])) → plan ≡ plan_count es + 1 → FirstEvent g sl.heard (Planned plan query terms blocks)
+    → sl.lost ≡ (g.file, query) ∷ [] → sl.spare ≡ spare + 1 → IsNextQuery g es query → IsWithin (Planned plan query terms blocks) → FirstStarts g.range.start (planned (es ++ Planned plan query terms blocks ∷ [])) → plan ≡ plan_count es + 1 → FirstEvent g sl.heard (Planned plan query terms blocks)
     → ((s : Store) → IsOver s b.clients → IsTrueEvent s g.file g.multirange (Planned plan query terms blocks))
     → ((s : Store) → AllTell s b.clients → IsSome (file_of s g.file)) → (FirstRenewed g sl.lost sl.heard → FirstRenewed g [] sl.heard)
     → Ties g b n es None sl → Ties g b n (es ++ Planned plan query terms blocks ∷ []) None (record sl { lost = []; spare = spare })
-tie_planned g b n es sl spare plan query terms blocks lost polls cuts within starts next said honest stored renewed t =
+tie_planned g b n es sl spare plan query terms blocks lost polls next within starts number said honest stored renewed t =
     let e : Event = Planned plan query terms blocks in
     record {
       heard = t.heard;
-      true_of = λ s o. true_push s (download_of g) es e cuts (honest s o) (t.true_of s o);
-      cuts = cuts_push g es e query refl cuts;
+      true_of = λ s o. true_push s (download_of g) es e next.cuts.from (honest s o) (t.true_of s o);
+      cuts = cuts_push g es e query refl next.cuts;
       within = All-push IsWithin es e t.within within;
       starts = starts;
-      numbers = each-push IsNumberedNext es e t.numbers next;
+      ends = ends_push es e next.goes_on;
+      numbers = each-push IsNumberedNext es e t.numbers number;
       stored = λ s tell k. stored s tell;
       served = served_same es e sl.hidden sl.late b.clients n.clients (λ l. refl) (λ l. refl) (λ p k. refl) (λ m. tt) t.served;
       expired = expired_same es e 0 sl.heard sl.late (λ l w. refl) t.expired;
+      heard_served = heard_served_same es e 0 sl.heard sl.hidden (λ l w. refl) t.heard_served;
       asked = first_push g.file es e sl.lost [] b.clients n.clients lost t.asked;
       heard_asked = heard_push g.file es e sl.lost [] sl.heard lost t.heard_asked;
       lost = tt;
@@ -210,6 +216,7 @@ tie_join g b n es sl to hs alls ks j once planned past no_h no_k t =
       cuts = t.cuts;
       within = t.within;
       starts = t.starts;
+      ends = t.ends;
       numbers = t.numbers;
       stored = t.stored;
       served = record {
@@ -220,6 +227,7 @@ tie_join g b n es sl to hs alls ks j once planned past no_h no_k t =
         past = past ∙ t.served.past;
       };
       expired = expired_join es 0 hs alls ks sl.late sl.heard match (joined_late n.clients to hs alls ks j) (subst (λ (l : List ℕ). AllAre 0 l) (sym no_k) (none_late b.clients)) t.expired;
+      heard_served = heard_served_join es 0 hs alls b.clients sl.heard match (subst (λ (l : List (List Served)). EachServed es 0 sl.heard l) no_h t.heard_served);
       asked = asked_join g.file es sl.lost b.clients n.clients to hs alls ks j t.asked;
       heard_asked = heard_joined g.file es sl.lost hs alls sl.heard match t.heard_asked;
       lost = t.lost;

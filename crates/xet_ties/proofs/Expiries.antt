@@ -1,5 +1,5 @@
 -- The Expired events of a block are expired answers of the connections together.
-use Rattle.std.proofs.Common.{◌≡◌, ℕ, ◌+◌, ◌<◌, ◌≤◌, ◌==◌, ◌&&◌, Bool, true, false, cond, List, [], ◌∷◌, length, refl, sym, subst, ap, arith, ◌⊎◌, inl, inr}
+use Rattle.std.proofs.Common.{◌≡◌, ℕ, ◌+◌, ◌<◌, ◌≤◌, ◌==◌, ◌&&◌, Bool, true, false, cond, List, [], ◌∷◌, length, refl, subst, ap, arith, ◌⊎◌, inl, inr}
 use Rattle.std.specs.Prelude.{All, count_by}
 use Rattle.std.proofs.lemmas.Bool.{eq-eqb, eqb-true}
 use Rattle.std.proofs.lemmas.List.Elements.{All-head, All-tail}
@@ -12,9 +12,8 @@ use Rattle.xet_run.specs.Events.{expires}
 use Rattle.xet_ties.specs.Causes.{HaveExpired, NoneAtEnd, expired_answers, total_expiries}
 use Rattle.xet_ties.specs.History.{IsOnLane, expired_by, expires_on, is_expiry}
 use Rattle.xet_ties.specs.Setup.{RunTold, Setup}
-use Rattle.xet_ties.specs.InCall.{EachExchange, Exchange, all_exchanges}
+use Rattle.xet_ties.specs.InCall.{EachExchange, Exchange}
 use Rattle.xet_ties.specs.Ties.{EachExpired, EachLane, Slack, Stop, Ties}
-use Rattle.xet_ties.proofs.Told.{all_told, if_some}
 
 -- the Expired events of the lanes from a number on, as many as connections
 abbrev on_lanes : ℕ → List Event → List ClientTold → ℕ
@@ -133,14 +132,12 @@ all_expired g b n es stop sl t =
     omega (arith, m, heard)
 
 -- where one block has as many as tries, the connections gave so many expired answers together
-pub have_expired : (g : Setup) (b n : RunTold) (es : List Event) (stop : Stop) (sl : Slack) (p k : ℕ) → count_by (expires p k) es ≡ g.tries → Ties g b n es stop sl → HaveExpired g.tries b.clients n.clients
+pub have_expired : (g : Setup) (b n : RunTold) (es : List Event) (stop : Stop) (sl : Slack) (p k : ℕ) → count_by (expires p k) es ≡ g.tries → Ties g b n es stop sl → HaveExpired g.tries sl.heard b.clients n.clients
 have_expired g b n es stop sl p k spent t =
     let m = expires_most p k es b.clients t.served.on_lanes in
     let heard = said_total es 0 b.clients n.clients sl.heard sl.late t.heard t.expired in
     let few : g.tries ≤ expired_answers sl.heard = omega (arith, m, heard, spent) in
     record {
       counted = λ none. let s = lanes_total es 0 b.clients n.clients sl.hidden sl.late t.served.lanes none in omega (arith, m, s, spent);
-      said =
-          if_some (all_exchanges b.clients n.clients) (λ xs. xs ≡ sl.heard) (λ xs. g.tries ≤ expired_answers xs)
-          (λ xs e. subst (λ (l : List Exchange). g.tries ≤ expired_answers l) (sym e) few) (all_told b.clients n.clients sl.heard t.heard);
+      said = few;
     }

@@ -11,14 +11,13 @@ use Rattle.xet_blocks.specs.TermBlockCalls.{Answer, AskedAtMostOnce, FromSaid, Q
 use Rattle.xet_fetch.specs.Refreshes.{Answered, MayAsk, Refresh}
 use Rattle.xet_run.specs.declared.event.Event.{Event}
 use Rattle.xet_run.specs.Events.{is_stale}
-use Rattle.xet_history.specs.TrueHistory.{queries}
 use Rattle.xet_ties.specs.History.{range_at}
 use Rattle.xet_ties.specs.InCall.{Exchange}
 use Rattle.xet_ties.specs.Saids.{InStep, IsQueryAnswer}
 use Rattle.xet_ties.specs.Setup.{ClientGoesOn, RunTold, Setup}
 use Rattle.xet_ties.specs.steps.Moves.{QueryStep, heard_first}
 use Rattle.xet_ties.specs.steps.Parts.{AskedSaid, AskedShort, plan_query}
-use Rattle.xet_ties.specs.Ties.{CutsRange, IsLost, MayBeAsked, Slack, Ties}
+use Rattle.xet_ties.specs.Ties.{IsLost, IsNextQuery, MayBeAsked, Slack, Ties}
 use Rattle.xet_ties.proofs.AskTies.{query_now}
 use Rattle.xet_ties.proofs.ClientMoves.{tie_query}
 use Rattle.xet_ties.proofs.Starts.{same_list}
@@ -69,16 +68,16 @@ asked_said g b at es sl c n cs q a is none step goes served asked answer may t =
 
 -- a plan was asked for, and that failed or isn't recorded
 pub ask_short : (g : Setup) (b at : RunTold) (es : List Event) (sl : Slack) (c n : ClientTold) (cs : List ClientTold) (q : FileRange) (id : UniqueId) (answer : Answer)
-    → at.clients ≡ c ∷ cs → sl.lost ≡ [] → TermBlockCall c n (plan_query g q id) answer → CutsRange g (queries es ++ q ∷ []) → Ties g b at es None sl
+    → at.clients ≡ c ∷ cs → sl.lost ≡ [] → TermBlockCall c n (plan_query g q id) answer → IsNextQuery g es q → Ties g b at es None sl
     → AskedShort g b at es sl (n ∷ cs)
-ask_short g b at es sl c n cs q id answer is none call cuts t =
-    asked_short g b at es sl c n cs q is none (record { store = call.store; link = call.link; faults = call.faults; expiries = call.expiries }) call.served call.asks (inl cuts) t
+ask_short g b at es sl c n cs q id answer is none call next t =
+    asked_short g b at es sl c n cs q is none (record { store = call.store; link = call.link; faults = call.faults; expiries = call.expiries }) call.served call.asks (inl next) t
 
 pub ask_said : (g : Setup) (b at : RunTold) (es : List Event) (sl : Slack) (c n : ClientTold) (cs : List ClientTold) (q : FileRange) (id : UniqueId) (answer made : Answer)
-    → at.clients ≡ c ∷ cs → sl.lost ≡ [] → InStep sl.heard → TermBlockCall c n (plan_query g q id) answer → (from : FromSaid c n (plan_query g q id) made) → CutsRange g (queries es ++ q ∷ []) → Ties g b at es None sl
+    → at.clients ≡ c ∷ cs → sl.lost ≡ [] → InStep sl.heard → TermBlockCall c n (plan_query g q id) answer → (from : FromSaid c n (plan_query g q id) made) → IsNextQuery g es q → Ties g b at es None sl
     → AskedSaid g b at es sl (n ∷ cs) q from.plan
-ask_said g b at es sl c n cs q id answer made is none step call from cuts t =
-    asked_said g b at es sl c n cs q from.plan is none step (record { store = call.store; link = call.link; faults = call.faults; expiries = call.expiries }) call.served from.asked from.said (inl cuts) t
+ask_said g b at es sl c n cs q id answer made is none step call from next t =
+    asked_said g b at es sl c n cs q from.plan is none step (record { store = call.store; link = call.link; faults = call.faults; expiries = call.expiries }) call.served from.asked from.said (inl next) t
 
 -- the URLs of a plan were asked for again, and that failed or isn't recorded
 pub refresh_short : (g : Setup) (b at : RunTold) (es : List Event) (sl : Slack) (p : ℕ) (r : Refresh) (c n : ClientTold) (cs : List ClientTold)

@@ -1,11 +1,11 @@
 -- The first connection's queries: those that cut the range, and no more others than expired answers.
-use Rattle.std.proofs.Common.{◌≡◌, ℕ, ◌+◌, ◌≤◌, true, cond, List, [], ◌∷◌, ◌++◌, length, drop, refl, sym, subst, ◌∙◌, ap, arith, inl, length-append, ⊎_elim, Some, None, Option}
-use Rattle.std.specs.Prelude.{All, IfSome, count_by, map, option_map, option_to_list}
+use Rattle.std.proofs.Common.{◌≡◌, ℕ, ◌+◌, ◌≤◌, true, cond, List, [], ◌∷◌, ◌++◌, length, refl, sym, subst, arith, inl, length-append, ⊎_elim, Some, None, Option}
+use Rattle.std.specs.Prelude.{All, count_by, map, option_to_list}
 use Rattle.std.proofs.lemmas.List.{append-nil, length-map}
 use Rattle.xet_base.specs.Lists.{first_some}
 use Rattle.xet_base.specs.declared.cas_types.FileRange.{FileRange}
 use Rattle.xet_base.specs.declared.merklehash.MerkleHash.{MerkleHash}
-use Rattle.xet_outside.specs.Told.{Added, ClientTold, Query}
+use Rattle.xet_outside.specs.Told.{ClientTold, Query}
 use Rattle.xet_outside.proofs.CallerLemmas.{count_by-cons}
 use Rattle.xet_run.specs.declared.event.Event.{Event}
 use Rattle.xet_run.specs.declared.event.Event.TheVariants.{Planned, Admit, Fetched, Cached, Expired, Refreshed, Wrote, Fail, Cancel}
@@ -14,18 +14,16 @@ use Rattle.xet_run.specs.Events.{is_stale}
 use Rattle.xet_history.specs.TrueHistory.{queries, queries_in}
 use Rattle.xet_ties.specs.Causes.{expired_answers}
 use Rattle.xet_ties.specs.History.{IsWithin, asked_by, asked_in, is_expiry, is_refresh, range_at, range_in, telling}
-use Rattle.xet_ties.specs.InCall.{EachExchange, Exchange, all_exchanges, exchange, new_in, with_exchange}
+use Rattle.xet_ties.specs.InCall.{Exchange}
 use Rattle.xet_ties.specs.Cuts.{AskedCut}
 use Rattle.xet_ties.specs.Legal.{AsksFew, FirstAsksFew}
 use Rattle.xet_ties.specs.Setup.{RunTold, Setup}
-use Rattle.xet_ties.specs.Ties.{CutsRange, FirstAsked, IsLost, Slack, Stop, Ties}
+use Rattle.xet_ties.specs.Ties.{CutsRange, IsLost, Slack, Stop, Ties, IsNextQuery, HeardAsked}
 use Rattle.xet_ties.specs.steps.Moves.{no_exchange}
 use Rattle.xet_ties.proofs.Asks.{AreIn, asked_cut, none_in}
 use Rattle.xet_ties.proofs.Expiries.{all_expired}
-use Rattle.xet_ties.proofs.Heard.{exchange_start}
 use Rattle.xet_ties.proofs.Renewals.{refreshes_few, stale_few}
-use Rattle.xet_ties.proofs.Starts.{first_start}
-use Rattle.xet_ties.proofs.Told.{all_told, drop_front, if_some}
+use Rattle.xet_ties.proofs.EarlyEnds.{cuts_none}
 
 -- ---- how many queries the events say
 
@@ -80,39 +78,23 @@ asks_few g es [] xs a within cuts l few =
     few_of g es [] [] 0 xs within (subst (λ (qs : List FileRange). CutsRange g qs) (sym (append-nil (queries es))) cuts) (λ now h. refl) (omega (arith, r, few)) (omega arith)
 asks_few g es (q ∷ []) xs a within cuts l few =
     ⊎_elim
-    (λ (c : CutsRange g (queries es ++ q.1 ∷ [])). let r = refreshes_few es a in few_of g es (q ∷ []) (q.1 ∷ []) 0 xs within c (λ now h. inl (refl, refl)) (omega (arith, r, few)) (omega arith))
+    (λ (c : IsNextQuery g es q.1). let r = refreshes_few es a in few_of g es (q ∷ []) (q.1 ∷ []) 0 xs within c.cuts (λ now h. inl (refl, refl)) (omega (arith, r, few)) (omega arith))
     (λ (s : (p : ℕ) × (range_at es p ≡ q.1 ∷ []) × (is_stale es p ≡ true)).
     let r = stale_few es s.0 a s.2 in
     few_of g es (q ∷ []) [] 1 xs within (subst (λ (qs : List FileRange). CutsRange g qs) (sym (append-nil (queries es))) cuts) (λ now h. (h s.0 q.1 s.1, refl)) (omega (arith, r, few)) (omega arith))
     l.1
 asks_few g es (q ∷ r ∷ qs) xs a within cuts l few = absurd l
 
--- ---- by what is told
+-- ---- by what was heard
 
-same_added : {A : Type 0} (b n : Option (List A)) (l xs ys : List A) → b ≡ Some l → Added b n xs → Added b n ys → xs ≡ ys
-same_added b n l xs ys e h k =
-    let u : Some (l ++ xs) ≡ Some (l ++ ys) = sym (ap (λ o. option_map (λ z. z ++ xs) o) e) ∙ sym h ∙ k ∙ ap (λ o. option_map (λ z. z ++ ys) o) e in
-    let v : l ++ xs ≡ l ++ ys = cc in
-    sym (drop_front l xs) ∙ ap (λ z. drop (length l) z) v ∙ drop_front l ys
+first_few : (g : Setup) (es : List Event) (lost : List Query) (xs : List Exchange) → HeardAsked g.file es lost xs → AsksFew g xs (asked_by g.file es ++ lost) → FirstAsksFew g xs
+first_few g es lost [] h few = tt
+first_few g es lost (x ∷ xs) h few = subst (λ (q : List Query). AsksFew g (x ∷ xs) q) (sym h) few
 
-first_few : (g : Setup) (es : List Event) (lost : List Query) (bs ns : List ClientTold) (xs : List Exchange) → EachExchange bs ns xs → FirstAsked g.file es lost bs ns → AsksFew g xs (asked_by g.file es ++ lost)
-    → IfSome (all_exchanges bs ns) (FirstAsksFew g)
-first_few g es lost [] ns xs h t few = absurd t
-first_few g es lost (b ∷ bs) [] xs h t few = absurd t
-first_few g es lost (b ∷ bs) (n ∷ ns) [] h t few = absurd h
-first_few g es lost (b ∷ bs) (n ∷ ns) (x ∷ xs) h t few = go b.asked refl
-  where
-    go : (o : Option (List Query)) → b.asked ≡ o → IfSome (all_exchanges (b ∷ bs) (n ∷ ns)) (FirstAsksFew g)
-    go None e = subst (λ (o : Option (List Query)). IfSome (with_exchange (exchange (new_in o n.asked) (new_in b.served n.served) (new_in b.said n.said)) (all_exchanges bs ns)) (FirstAsksFew g)) (sym e) tt
-    go (Some l) e =
-        let same : x.asked ≡ asked_by g.file es ++ lost = same_added b.asked n.asked l x.asked (asked_by g.file es ++ lost) e h.0.asks t.0.asked in
-        if_some (all_exchanges (b ∷ bs) (n ∷ ns)) (λ ys. ys ≡ x ∷ xs) (FirstAsksFew g)
-        (λ ys w. subst (λ (v : List Exchange). FirstAsksFew g v) (sym w) (subst (λ (q : List Query). AsksFew g (x ∷ xs) q) (sym same) few)) (all_told (b ∷ bs) (n ∷ ns) (x ∷ xs) h)
-
-pub run_few : (g : Setup) (b n : RunTold) (es : List Event) (stop : Stop) (sl : Slack) → IsAllowedHistory es → Ties g b n es stop sl → IfSome (all_exchanges b.clients n.clients) (FirstAsksFew g)
-run_few g b n es stop sl a t = first_few g es sl.lost b.clients n.clients sl.heard t.heard t.asked (asks_few g es sl.lost sl.heard a t.within t.cuts t.lost (all_expired g b n es stop sl t))
+pub run_few : (g : Setup) (b n : RunTold) (es : List Event) (stop : Stop) (sl : Slack) → IsAllowedHistory es → Ties g b n es stop sl → FirstAsksFew g sl.heard
+run_few g b n es stop sl a t = first_few g es sl.lost sl.heard t.heard_asked (asks_few g es sl.lost sl.heard a t.within t.cuts t.lost (all_expired g b n es stop sl t))
 
 -- nothing was asked
-pub none_few : (g : Setup) (bs : List ClientTold) → IfSome (all_exchanges bs bs) (FirstAsksFew g)
+pub none_few : (g : Setup) (bs : List ClientTold) → FirstAsksFew g (no_exchange bs)
 none_few g [] = tt
-none_few g (b ∷ bs) = first_few g [] [] (b ∷ bs) (b ∷ bs) (no_exchange (b ∷ bs)) (exchange_start (b ∷ bs)) (first_start g.file b bs) (record { cut = []; cuts = tt; asked = refl; few = omega arith })
+none_few g (b ∷ bs) = record { cut = []; cuts = cuts_none g; asked = refl; few = omega arith }

@@ -1,5 +1,5 @@
 -- A missing file by what the first connection said.
-use Rattle.std.proofs.Common.{◌≡◌, ℕ, ◌<◌, List, [], ◌∷◌, sym, subst, ◌∙◌, ap, Some}
+use Rattle.std.proofs.Common.{◌≡◌, ℕ, ◌<◌, List, [], ◌∷◌, ◌∙◌, ap, Some}
 use Rattle.std.specs.Prelude.{IsNone, slice_get}
 use Rattle.xet_base.specs.Store.{Store, file_of}
 use Rattle.xet_base.specs.declared.cas_types.FileRange.{FileRange}
@@ -10,11 +10,11 @@ use Rattle.xet_outside.specs.declared.plan.PlanAnswer.TheVariants.{NoFile}
 use Rattle.xet_outside.specs.declared.said.Said.{Said}
 use Rattle.xet_run.specs.declared.event.Event.{Event}
 use Rattle.xet_ties.specs.Causes.{FirstSaysNone, IsMissingFile}
-use Rattle.xet_ties.specs.InCall.{EachExchange, Exchange, all_exchanges, new_in}
+use Rattle.xet_ties.specs.InCall.{EachExchange, Exchange, new_in}
 use Rattle.xet_ties.specs.Saids.{IsQueryAnswer}
 use Rattle.xet_ties.specs.Setup.{AllTell, RunTold, Setup}
 use Rattle.xet_ties.specs.Ties.{Slack, Stop, Ties}
-use Rattle.xet_ties.proofs.Told.{all_told, if_some, told_new}
+use Rattle.xet_ties.proofs.Told.{if_some, told_new}
 
 first_none : (f : MerkleHash) (q : FileRange) (bs ns : List ClientTold) (xs : List Exchange) → EachExchange bs ns xs → IsQueryAnswer f xs q NoFile → FirstSaysNone bs ns
 first_none f q bs ns [] h a = absurd a
@@ -28,12 +28,10 @@ first_none f q (b ∷ bs) (n ∷ ns) (x ∷ xs) h a =
 
 -- a query was answered that there is no such file
 pub missing_file : (g : Setup) (b n : RunTold) (es : List Event) (stop : Stop) (sl : Slack) (q : FileRange) → Ties g b n es stop sl → g.range.start < g.range.end → IsQueryAnswer g.file sl.heard q NoFile
-    → ((s : Store) → AllTell s b.clients → IsNone (file_of s g.file)) → IsMissingFile g b.clients n.clients
+    → ((s : Store) → AllTell s b.clients → IsNone (file_of s g.file)) → IsMissingFile g sl.heard b.clients n.clients
 missing_file g b n es stop sl q t some answer none = record {
   some = some;
-  said =
-      if_some (all_exchanges b.clients n.clients) (λ xs. xs ≡ sl.heard) (λ xs. (r : FileRange) × IsQueryAnswer g.file xs r NoFile)
-      (λ xs e. (q, subst (λ (l : List Exchange). IsQueryAnswer g.file l q NoFile) (sym e) answer)) (all_told b.clients n.clients sl.heard t.heard);
+  said = (q, answer);
   first = first_none g.file q b.clients n.clients sl.heard t.heard answer;
   unstored = none;
 }

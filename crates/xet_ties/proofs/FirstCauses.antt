@@ -19,12 +19,12 @@ use Rattle.xet_blocks.specs.BlockCalls.{failed_check}
 use Rattle.xet_blocks.specs.BlockChecks.{chunk_total, count_test, length_test, misplaced_after, order_test}
 use Rattle.xet_blocks.specs.Extracts.{begin_at, failed_term_test, term_size, test_at}
 use Rattle.xet_run.specs.declared.event.Event.{Event}
-use Rattle.xet_ties.specs.Causes.{BlockFails, BlockFailsIn, EndFails, FirstFailed, IsBlockTest, IsCorrupted, PlanFails, QueryFailed, RefreshFails, SomeFailed, TermFails, TermFailsIn}
-use Rattle.xet_ties.specs.InCall.{EachExchange, Exchange, SomeOne, all_exchanges, answers_of}
+use Rattle.xet_ties.specs.Causes.{BlockFails, BlockFailsIn, FirstFailed, IsBlockTest, IsCorrupted, PlanFails, QueryFailed, RefreshFails, SomeFailed, TermFails, TermFailsIn}
+use Rattle.xet_ties.specs.InCall.{EachExchange, Exchange, SomeOne, answers_of}
 use Rattle.xet_ties.specs.Saids.{AnswerOf, FirstSaid, IsPlanAccepted, IsPlanSaid}
 use Rattle.xet_ties.specs.Setup.{IsOver, RunTold, Setup}
 use Rattle.xet_ties.specs.Ties.{Slack, Stop, Ties}
-use Rattle.xet_ties.proofs.Told.{all_told, answers_told, bare, if_some}
+use Rattle.xet_ties.proofs.Told.{answers_told, bare, if_some}
 
 -- ---- the tests of a block
 
@@ -88,37 +88,19 @@ first_accepted : (g : Setup) (x : Exchange) (xs : List Exchange) (p : Plan) (q :
 first_accepted g x xs p q h = record { said = first_said g x xs p q h.said; passes = h.passes }
 
 first_fails : (g : Setup) (x : Exchange) (xs : List Exchange) (k : Corruption) → SomeFailed g (x ∷ xs) k → QueryFailed g (bare x ∷ []) k ⊎ IsBlockTest k
-first_fails g x xs k h = ⊎_elim plan (⊎_elim refresh (⊎_elim block (⊎_elim term last))) h
+first_fails g x xs k h = ⊎_elim plan (⊎_elim refresh (⊎_elim block term)) h
   where
     plan : PlanFails g (x ∷ xs) k → QueryFailed g (bare x ∷ []) k ⊎ IsBlockTest k
     plan f = inl (inl (record { plan = f.plan; query = f.query; said = first_said g x xs f.plan f.query f.said; fails = f.fails }))
 
     refresh : RefreshFails g (x ∷ xs) k → QueryFailed g (bare x ∷ []) k ⊎ IsBlockTest k
-    refresh f = inl (inr (inl (record { plan = f.plan; query = f.query; accepted = first_accepted g x xs f.plan f.query f.accepted; answer = f.answer; answered = f.answered; fails = f.fails })))
+    refresh f = inl (inr (record { plan = f.plan; query = f.query; accepted = first_accepted g x xs f.plan f.query f.accepted; answer = f.answer; answered = f.answered; fails = f.fails }))
 
     block : BlockFails g (x ∷ xs) k → QueryFailed g (bare x ∷ []) k ⊎ IsBlockTest k
     block f = inr (some_of_all (BlockFailsIn g (x ∷ xs) f.place f.number k) (IsBlockTest k) (x ∷ xs) (λ y b. is_check k f.place.block b.given b.fails) f.bytes)
 
     term : TermFails g (x ∷ xs) k → QueryFailed g (bare x ∷ []) k ⊎ IsBlockTest k
     term f = inr (some_of_all (TermFailsIn g (x ∷ xs) f.place f.number k) (IsBlockTest k) (x ∷ xs) (λ y b. is_term k f.place.term _ b.fails) f.bytes)
-
-    last : EndFails g (x ∷ xs) k → QueryFailed g (bare x ∷ []) k ⊎ IsBlockTest k
-    last f =
-        inl
-        (inr
-        (inr
-        (record {
-          plan = f.plan;
-          query = f.query;
-          accepted = first_accepted g x xs f.plan f.query f.accepted;
-          known = f.known;
-          past = f.past;
-          other = f.other;
-          answer = f.answer;
-          answered = f.answered;
-          ends = f.ends;
-          is = f.is;
-        })))
 
 first_failed : (g : Setup) (es : List Event) (k : Corruption) (bs ns : List ClientTold) (xs : List Exchange) → EachExchange bs ns xs → FirstSaid g es xs → SomeFailed g xs k → FirstFailed g bs ns k
 first_failed g es k bs ns [] h s f = absurd s
@@ -131,9 +113,9 @@ first_failed g es k (b ∷ bs) (n ∷ ns) (x ∷ xs) h s f =
     (answers_told b n x h.0)
 
 -- where the connections don't tell one valid store, an answer that fails a test is the cause
-pub corrupted : (g : Setup) (b n : RunTold) (es : List Event) (stop : Stop) (sl : Slack) (k : Corruption) → Ties g b n es stop sl → ((s : Store) → IsOver s b.clients → ⊥) → SomeFailed g sl.heard k → IsCorrupted g b.clients n.clients k
+pub corrupted : (g : Setup) (b n : RunTold) (es : List Event) (stop : Stop) (sl : Slack) (k : Corruption) → Ties g b n es stop sl → ((s : Store) → IsOver s b.clients → ⊥) → SomeFailed g sl.heard k → IsCorrupted g sl.heard b.clients n.clients k
 corrupted g b n es stop sl k t untrue failed = record {
   untrue = untrue;
-  failed = if_some (all_exchanges b.clients n.clients) (λ xs. xs ≡ sl.heard) (λ xs. SomeFailed g xs k) (λ xs e. subst (λ (v : List Exchange). SomeFailed g v k) (sym e) failed) (all_told b.clients n.clients sl.heard t.heard);
+  failed = failed;
   first = first_failed g es k b.clients n.clients sl.heard t.heard t.said failed;
 }

@@ -1,6 +1,6 @@
 -- A run that is tied gives a legal answer.
 use Rattle.std.proofs.Common.{◌≡◌, ℕ, ◌+◌, List, [], ◌∷◌, length, take, refl, sym, subst, ◌∙◌, ap, arith, length-append, Some, None, Option}
-use Rattle.std.specs.Prelude.{All, IfSome, Ok, Err, Result}
+use Rattle.std.specs.Prelude.{All, Ok, Err, Result}
 use Rattle.std.specs.List.{concat}
 use Rattle.std.proofs.lemmas.List.{append-nil, take_all, take-append-le}
 use Rattle.std.proofs.lemmas.List.Elements.{All-cons, All-nil, All-weaker}
@@ -14,27 +14,29 @@ use Rattle.xet_run.specs.declared.event.Event.{Event}
 use Rattle.xet_run.specs.Allowed.{IsAllowedHistory}
 use Rattle.xet_ties.specs.Causes.{failing_setting}
 use Rattle.xet_ties.specs.History.{entry_of, IsWithin}
-use Rattle.xet_ties.specs.InCall.{Exchange, Look, all_exchanges, new_in}
+use Rattle.xet_ties.specs.InCall.{Exchange, Look}
 use Rattle.xet_ties.specs.Cuts.{FirstCut, Planning}
-use Rattle.xet_ties.specs.Legal.{AllPassed, AllPlanned, EntryPassed, FirstAsks, IsPlannedServed, Legal, TookTested, TookWhole}
+use Rattle.xet_ties.specs.Legal.{AllPassed, AllPlanned, CacheGoesOn, EntryPassed, FirstAsks, IsPlannedServed, Legal, SignalGoesOn, TookTested, TookWhole}
 use Rattle.xet_ties.specs.RunCalls.{IsFinished, RunCall, TookAll}
 use Rattle.xet_ties.specs.Saids.{FirstSaid, IsTested}
 use Rattle.xet_ties.specs.Setup.{EachGoesOn, RunTold, Setup}
-use Rattle.xet_ties.specs.Ties.{EachLane, HeardAsked, IsPlannedEntry, Slack, Stop, Ties, all_of}
+use Rattle.xet_ties.specs.Ties.{EachLane, HeardAsked, IsEntryOf, IsPlannedEntry, Slack, Stop, Ties, all_of}
 use Rattle.xet_ties.proofs.Asks.{first_asks}
 use Rattle.xet_ties.proofs.FewAsks.{none_few, run_few}
 use Rattle.xet_ties.proofs.Headline as headline
 use Rattle.xet_ties.proofs.Pairs.{served_once, served_passed, served_planned}
 use Rattle.xet_ties.proofs.Plannings.{PlanningOf, first_pieces, first_plans_all, numbered_at, planning_heard, plans_end, some_pieces}
-use Rattle.xet_ties.proofs.Renewed.{first_renews}
+use Rattle.xet_ties.proofs.Renewed.{renews_all, renews_but_last, renews_none}
 use Rattle.xet_ties.proofs.SaidTies.{block_said}
-use Rattle.xet_ties.proofs.ServedChunks.{chunks_told}
-use Rattle.xet_ties.proofs.Told.{all_told, if_some, served_told, told_new}
+use Rattle.xet_ties.proofs.ServedChunks.{chunks_heard}
 use Rattle.xet_ties.proofs.Wholes.{took_all}
 use Rattle.xet_outside.proofs.CallerLemmas.{added_none}
 use Rattle.xet_ties.specs.steps.Moves.{no_exchange, no_hidden, no_late}
 use Rattle.xet_ties.proofs.Heard.{exchange_start}
+use Rattle.xet_ties.proofs.HeardServed.{each_heard, heard_served_start}
+use Rattle.xet_ties.proofs.Pushes.{reaches_any, reaches_start}
 use Rattle.xet_ties.proofs.Starts.{first_start, served_start}
+use Rattle.xet_ties.proofs.EarlyEnds.{cuts_none}
 
 -- ---- connections go on
 
@@ -50,6 +52,12 @@ stays : (bs : List ClientTold) → EachGoesOn bs bs
 stays [] = tt
 stays (b ∷ bs) = (record { store = refl; link = refl; faults = omega arith; expiries = omega arith }, stays bs)
 
+signal_goes_on : (g : Setup) (b n : RunTold) (es : List Event) (stop : Stop) (sl : Slack) → Ties g b n es stop sl → SignalGoesOn b.signal n.signal
+signal_goes_on g b n es stop sl t = record { asks = reaches_any b.signal.asks n.signal.asks t.polled.polls t.polled.asks; yes = t.polled.later }
+
+cache_goes_on : (g : Setup) (b n : RunTold) (es : List Event) (stop : Stop) (sl : Slack) → Ties g b n es stop sl → CacheGoesOn b.cache n.cache
+cache_goes_on g b n es stop sl t = record { offers = reaches_any b.cache.offers n.cache.offers t.offered.puts t.offered.offers; faults = t.offered.faults }
+
 -- ---- tested bytes
 
 took_tested : (g : Setup) (xs : List Exchange) (looks : List Look) (es : List Event) (lost : List Query) (p : PlanningOf g xs es lost) (taken : List ℕ) (b n : SinkTold) → Took b.took n.took taken → IsTested g xs looks es taken → TookTested g xs looks b n
@@ -64,22 +72,10 @@ took_tested g xs looks es lost p taken b n took t =
       took = record { count = length taken; within = omega (arith, size); took = subst (λ (l : List ℕ). Took b.took n.took l) (sym cut) took };
     }
 
--- what holds of what was heard and looked for holds of what is told
-lists_told : (g : Setup) (b n : RunTold) (es : List Event) (stop : Stop) (sl : Slack) (P : List Exchange → List Look → Type 0) → Ties g b n es stop sl → P sl.heard sl.looks
-    → IfSome (all_exchanges b.clients n.clients) (λ xs. IfSome (new_in b.cache.looked n.cache.looked) (λ ls. P xs ls))
-lists_told g b n es stop sl P t h =
-    if_some (all_exchanges b.clients n.clients) (λ xs. xs ≡ sl.heard) (λ xs. IfSome (new_in b.cache.looked n.cache.looked) (λ ls. P xs ls))
-    (λ xs e.
-    if_some (new_in b.cache.looked n.cache.looked) (λ ls. ls ≡ sl.looks) (λ ls. P xs ls)
-    (λ ls k. subst (λ (l : List Look). P xs l) (sym k) (subst (λ (l : List Exchange). P l sl.looks) (sym e) h))
-    (told_new b.cache.looked n.cache.looked sl.looks t.looked.looked))
-    (all_told b.clients n.clients sl.heard t.heard)
-
-pub tested_told : (g : Setup) (b n : RunTold) (es : List Event) (stop : Stop) (sl : Slack) → IsAllowedHistory es → Ties g b n es stop sl
-    → IfSome (all_exchanges b.clients n.clients) (λ xs. IfSome (new_in b.cache.looked n.cache.looked) (λ ls. TookTested g xs ls b.sink n.sink))
-tested_told g b n es stop sl a t =
+pub tested_heard : (g : Setup) (b n : RunTold) (es : List Event) (stop : Stop) (sl : Slack) → IsAllowedHistory es → Ties g b n es stop sl → TookTested g sl.heard sl.looks b.sink n.sink
+tested_heard g b n es stop sl a t =
     let p = planning_heard g b n es stop sl a t in
-    lists_told g b n es stop sl (λ xs ls. TookTested g xs ls b.sink n.sink) t (took_tested g sl.heard sl.looks es sl.lost p t.taken.taken b.sink n.sink t.taken.took t.taken.tested)
+    took_tested g sl.heard sl.looks es sl.lost p t.taken.taken b.sink n.sink t.taken.took t.taken.tested
 
 -- on Ok the pieces of all terms
 took_whole : (g : Setup) (b n : RunTold) (es : List Event) (k : ℕ) (sl : Slack) → IsAllowedHistory es → Ties g b n es None sl → sl.lost ≡ [] → IsFinished g es k → TookAll g es sl b.sink n.sink k → TookWhole g sl.heard sl.looks b.sink n.sink k
@@ -93,21 +89,8 @@ took_whole g b n es k sl a t lost f w =
       total = w.total;
     }
 
-whole_told : (g : Setup) (b n : RunTold) (es : List Event) (k : ℕ) (sl : Slack) → IsAllowedHistory es → Ties g b n es None sl → sl.lost ≡ [] → sl.ahead ≡ 0 → IsFinished g es k
-    → IfSome (all_exchanges b.clients n.clients) (λ xs. IfSome (new_in b.cache.looked n.cache.looked) (λ ls. TookWhole g xs ls b.sink n.sink k))
-whole_told g b n es k sl a t lost none f = lists_told g b n es None sl (λ xs ls. TookWhole g xs ls b.sink n.sink k) t (took_whole g b n es k sl a t lost f (took_all g b n es k sl t none f))
-
--- nothing is said of an error
-no_whole : (g : Setup) (b n : RunTold) → IfSome (all_exchanges b.clients n.clients) (λ xs. IfSome (new_in b.cache.looked n.cache.looked) (λ ls. Unit {0}))
-no_whole g b n = outer (all_exchanges b.clients n.clients)
-  where
-    inner : (o : Option (List Look)) → IfSome o (λ ls. Unit {0})
-    inner None = tt
-    inner (Some ls) = tt
-
-    outer : (o : Option (List Exchange)) → IfSome o (λ xs. IfSome (new_in b.cache.looked n.cache.looked) (λ ls. Unit {0}))
-    outer None = tt
-    outer (Some xs) = inner (new_in b.cache.looked n.cache.looked)
+whole_heard : (g : Setup) (b n : RunTold) (es : List Event) (k : ℕ) (sl : Slack) → IsAllowedHistory es → Ties g b n es None sl → sl.lost ≡ [] → sl.ahead ≡ 0 → IsFinished g es k → TookWhole g sl.heard sl.looks b.sink n.sink k
+whole_heard g b n es k sl a t lost none f = took_whole g b n es k sl a t lost f (took_all g b n es k sl t none f)
 
 -- ---- served blocks
 
@@ -124,33 +107,25 @@ entry_served g es xs x rest is b n stop sl heard t e h =
       is = h.2 ∙ ap (λ (k : ℕ). entry_of e.plan k h.0) (sym s.number) ∙ ap (λ (y : _). entry_of e.plan s.place.number y) (sym s.is);
     })
 
-by_told : (g : Setup) (zs hs : List Exchange) (o : Option (List Exchange)) → IfSome o (λ ys. All (λ y. All (IsPlannedServed g zs) y.served) ys) → IfSome o (λ ys. ys ≡ hs) → hs ≡ zs → IfSome o (AllPlanned g)
-by_told g zs hs None a c e = tt
-by_told g zs hs (Some ys) a c e = subst (λ (l : List Exchange). All (λ y. All (IsPlannedServed g l) y.served) ys) (sym (c ∙ e)) a
-
-pub planned_told : (g : Setup) (b n : RunTold) (es : List Event) (stop : Stop) (sl : Slack) → Ties g b n es stop sl → IfSome (all_exchanges b.clients n.clients) (AllPlanned g)
-planned_told g b n es stop sl t = by sl.heard refl
+pub planned_heard : (g : Setup) (b n : RunTold) (es : List Event) (stop : Stop) (sl : Slack) → Ties g b n es stop sl → AllPlanned g sl.heard
+planned_heard g b n es stop sl t = by sl.heard refl
   where
-    by : (xs : List Exchange) → sl.heard ≡ xs → IfSome (all_exchanges b.clients n.clients) (AllPlanned g)
+    by : (xs : List Exchange) → sl.heard ≡ xs → AllPlanned g sl.heard
     by [] e = absurd (subst (λ (l : List Exchange). FirstSaid g es l) e t.said)
     by (x ∷ rest) e =
         let one : (y : Served) → IsPlannedEntry es y → IsPlannedServed g (x ∷ rest) y = entry_served g es (x ∷ rest) x rest refl b n stop sl e t in
-        let told = served_told (IsPlannedServed g (x ∷ rest)) es 0 b.clients n.clients sl.hidden sl.late
+        let all : All (λ y. All (IsPlannedServed g (x ∷ rest)) y.served) sl.heard =
+        each_heard (IsPlannedServed g (x ∷ rest)) es 0 sl.heard sl.hidden
         (λ lane. All-weaker (IsPlannedEntry es) (IsPlannedServed g (x ∷ rest)) one _ (served_planned lane es))
         (All-weaker (IsPlannedEntry es) (IsPlannedServed g (x ∷ rest)) one (all_of sl.hidden) t.served.planned)
-        t.served.lanes in
-        by_told g (x ∷ rest) sl.heard (all_exchanges b.clients n.clients) told (all_told b.clients n.clients sl.heard t.heard) e
+        t.heard_served in
+        subst (λ (l : List Exchange). All (λ y. All (IsPlannedServed g l) y.served) sl.heard) (sym e) all
 
 -- on Ok each served block has passed
-passed_told : (g : Setup) (b n : RunTold) (es : List Event) (sl : Slack) → Ties g b n es None sl → all_of sl.hidden ≡ [] → IfSome (all_exchanges b.clients n.clients) (AllPassed g)
-passed_told g b n es sl t none =
+passed_heard : (g : Setup) (b n : RunTold) (es : List Event) (sl : Slack) → Ties g b n es None sl → all_of sl.hidden ≡ [] → AllPassed g sl.heard
+passed_heard g b n es sl t none =
     let P : Served → Type 0 = EntryPassed g sl.heard in
-    let told = served_told P es 0 b.clients n.clients sl.hidden sl.late (λ lane. served_passed g sl.heard lane [] es t.passed) (subst (λ (l : List Served). All P l) (sym none) (All-nil P)) t.served.lanes in
-    by (all_exchanges b.clients n.clients) told (all_told b.clients n.clients sl.heard t.heard)
-  where
-    by : (o : Option (List Exchange)) → IfSome o (λ ys. All (λ y. All (EntryPassed g sl.heard) y.served) ys) → IfSome o (λ ys. ys ≡ sl.heard) → IfSome o (AllPassed g)
-    by None a c = tt
-    by (Some ys) a c = subst (λ (l : List Exchange). All (λ y. All (EntryPassed g l) y.served) ys) (sym c) a
+    each_heard P es 0 sl.heard sl.hidden (λ lane. served_passed g sl.heard lane [] es t.passed) (subst (λ (l : List Served). All P l) (sym none) (All-nil P)) t.heard_served
 
 -- ---- the legal answer
 
@@ -170,11 +145,11 @@ told_nothing g bs = each bs
 
 asks_start : (g : Setup) (bs : List ClientTold) → FirstAsks g bs bs
 asks_start g [] = tt
-asks_start g (b ∷ bs) = first_asks g [] [] (b ∷ bs) (b ∷ bs) (All-nil IsWithin) tt tt (first_start g.file b bs)
+asks_start g (b ∷ bs) = first_asks g [] [] (b ∷ bs) (b ∷ bs) (All-nil IsWithin) (cuts_none g) tt (first_start g.file b bs)
 
 -- nothing was planned
 plans_nothing : (g : Setup) (bs : List ClientTold) → Planning g (no_exchange bs)
-plans_nothing g bs = record { parts = []; more = []; few = omega arith; is_cut = record { cuts = tt; asked = by bs }; said = tt; adjoin = tt }
+plans_nothing g bs = record { parts = []; more = []; few = omega arith; is_cut = record { cuts = cuts_none g; asked = by bs }; said = tt; reach = tt; adjoin = tt }
   where
     by : (l : List ClientTold) → FirstCut (no_exchange l) []
     by [] = refl
@@ -186,14 +161,10 @@ legal_refused g b x h = record {
   exact = λ s o c. tt;
   prefix = λ s o c. none_took b.sink.took (window s g.file g.range);
   stored = λ s o. tt;
-  tested =
-      if_some (all_exchanges b.clients b.clients) (λ xs. xs ≡ no_exchange b.clients) (λ xs. IfSome (new_in b.cache.looked b.cache.looked) (λ ls. TookTested g xs ls b.sink b.sink))
-      (λ xs e.
-      if_some (new_in b.cache.looked b.cache.looked) (λ ls. ls ≡ []) (λ ls. TookTested g xs ls b.sink b.sink)
-      (λ ls k. subst (λ (l : List Exchange). TookTested g l ls b.sink b.sink) (sym e) (record { planning = plans_nothing g b.clients; pieces = []; each = tt; took = none_took b.sink.took [] }))
-      (told_new b.cache.looked b.cache.looked [] (added_none b.cache.looked b.cache.looked refl)))
-      (all_told b.clients b.clients (no_exchange b.clients) (exchange_start b.clients));
-  whole = no_whole g b b;
+  heard = record { list = no_exchange b.clients; told = exchange_start b.clients };
+  looks = record { list = []; told = added_none b.cache.looked b.cache.looked refl; given = All-nil (IsEntryOf b.cache.entries) };
+  tested = record { planning = plans_nothing g b.clients; pieces = []; each = tt; took = none_took b.sink.took [] };
+  whole = tt;
   total = tt;
   flushed = tt;
   cancelled = λ i. tt;
@@ -203,18 +174,18 @@ legal_refused g b x h = record {
   asked = asks_start g b.clients;
   all_asked = tt;
   refreshed = none_few g b.clients;
-  renewed = tt;
-  served = served_once [] b.clients b.clients (no_hidden b.clients) (no_late b.clients) (served_start b.clients);
-  planned =
-      if_some (all_exchanges b.clients b.clients) (λ xs. xs ≡ no_exchange b.clients) (AllPlanned g)
-      (λ xs e. subst (λ (l : List Exchange). AllPlanned g l) (sym e) (told_nothing g b.clients))
-      (all_told b.clients b.clients (no_exchange b.clients) (exchange_start b.clients));
+  renewed = renews_none g b.clients;
+  all_renewed = tt;
+  served = served_once [] b.clients b.clients (no_exchange b.clients) (no_hidden b.clients) (no_late b.clients) (exchange_start b.clients) (heard_served_start 0 b.clients) (served_start b.clients);
+  planned = told_nothing g b.clients;
   passed = tt;
   chunks = λ s o e. tt;
   past = refl;
   goes_on = stays b.clients;
   cache_later = λ s o c. c;
   sink_later = omega arith;
+  signal_later = record { asks = reaches_start b.signal.asks; yes = omega arith };
+  counts_later = record { offers = reaches_start b.cache.offers; faults = omega arith };
   link = refl;
 }
 
@@ -226,8 +197,10 @@ legal_ran g b n es (Ok k) h a r =
       exact = λ s o c. headline.exact g b n es k t.slack a t.ties none r.finished s o c;
       prefix = λ s o c. headline.prefix g b n es None t.slack t.ties s o c;
       stored = λ s o. headline.is_stored g b n es k t.slack a t.ties none r.finished s o;
-      tested = tested_told g b n es None t.slack a t.ties;
-      whole = whole_told g b n es k t.slack a t.ties (t.left.none refl).lost none r.finished;
+      heard = record { list = t.slack.heard; told = t.ties.heard };
+      looks = record { list = t.slack.looks; told = t.ties.looked.looked; given = t.ties.looked_entries };
+      tested = tested_heard g b n es None t.slack a t.ties;
+      whole = whole_heard g b n es k t.slack a t.ties (t.left.none refl).lost none r.finished;
       total = record { bytes = t.ties.taken.taken; took = t.ties.taken.took; total = let c = t.ties.taken.counted in let f = r.finished.count in omega (arith, c, f, none) };
       flushed = r.flushed;
       cancelled = r.cancelled;
@@ -237,15 +210,18 @@ legal_ran g b n es (Ok k) h a r =
       asked = first_asks g es t.slack.lost b.clients n.clients t.ties.within t.ties.cuts t.ties.lost t.ties.asked;
       all_asked = first_plans_all g b n es k t.slack a t.ties (t.left.none refl).lost r.finished;
       refreshed = run_few g b n es None t.slack a t.ties;
-      renewed = first_renews g b n es t.slack t.ties (t.left.none refl).lost;
-      served = served_once es b.clients n.clients t.slack.hidden t.slack.late t.ties.served;
-      planned = planned_told g b n es None t.slack t.ties;
-      passed = passed_told g b n es t.slack t.ties (t.left.none refl).hidden;
-      chunks = λ s o e. chunks_told g b n es k t.slack a t.ties none r.finished s o e;
+      renewed = renews_but_last g b n es None t.slack t.ties;
+      all_renewed = renews_all g b n es None t.slack t.ties (t.left.none refl).lost;
+      served = served_once es b.clients n.clients t.slack.heard t.slack.hidden t.slack.late t.ties.heard t.ties.heard_served t.ties.served;
+      planned = planned_heard g b n es None t.slack t.ties;
+      passed = passed_heard g b n es t.slack t.ties (t.left.none refl).hidden;
+      chunks = λ s o e. chunks_heard g b n es k t.slack a t.ties none r.finished s o e;
       past = t.ties.served.past;
       goes_on = goes_on es 0 b.clients n.clients t.slack.hidden t.slack.late t.ties.served.lanes;
       cache_later = r.cache_later;
       sink_later = t.ties.taken.faults;
+      signal_later = signal_goes_on g b n es None t.slack t.ties;
+      counts_later = cache_goes_on g b n es None t.slack t.ties;
       link = t.ties.taken.link;
     }
 legal_ran g b n es (Err e) h a r =
@@ -254,26 +230,31 @@ legal_ran g b n es (Err e) h a r =
       exact = λ s o c. tt;
       prefix = λ s o c. headline.prefix g b n es (Some e) t.slack t.ties s o c;
       stored = λ s o. tt;
-      tested = tested_told g b n es (Some e) t.slack a t.ties;
-      whole = no_whole g b n;
+      heard = record { list = t.slack.heard; told = t.ties.heard };
+      looks = record { list = t.slack.looks; told = t.ties.looked.looked; given = t.ties.looked_entries };
+      tested = tested_heard g b n es (Some e) t.slack a t.ties;
+      whole = tt;
       total = tt;
       flushed = tt;
       cancelled = λ i. tt;
-      cause = r.cause;
+      cause = t.cause;
       settings = λ x i. absurd (cc);
       empty = r.empty;
       asked = first_asks g es t.slack.lost b.clients n.clients t.ties.within t.ties.cuts t.ties.lost t.ties.asked;
       all_asked = tt;
       refreshed = run_few g b n es (Some e) t.slack a t.ties;
-      renewed = tt;
-      served = served_once es b.clients n.clients t.slack.hidden t.slack.late t.ties.served;
-      planned = planned_told g b n es (Some e) t.slack t.ties;
+      renewed = renews_but_last g b n es (Some e) t.slack t.ties;
+      all_renewed = tt;
+      served = served_once es b.clients n.clients t.slack.heard t.slack.hidden t.slack.late t.ties.heard t.ties.heard_served t.ties.served;
+      planned = planned_heard g b n es (Some e) t.slack t.ties;
       passed = tt;
       chunks = λ s o i. tt;
       past = t.ties.served.past;
       goes_on = goes_on es 0 b.clients n.clients t.slack.hidden t.slack.late t.ties.served.lanes;
       cache_later = r.cache_later;
       sink_later = t.ties.taken.faults;
+      signal_later = signal_goes_on g b n es (Some e) t.slack t.ties;
+      counts_later = cache_goes_on g b n es (Some e) t.slack t.ties;
       link = t.ties.taken.link;
     }
 

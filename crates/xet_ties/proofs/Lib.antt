@@ -4,6 +4,7 @@ mod CacheMoves
 pub mod CallerLemmas
 mod ClientMoves
 mod CutPlaces
+mod EarlyEnds
 mod Expiries
 mod FewAsks
 mod FileCauses
@@ -11,6 +12,7 @@ mod FirstCauses
 mod FailedQueries
 mod Headline
 mod Heard
+mod HeardServed
 mod HonestSizes
 mod LaneJoins
 mod LaneMore
@@ -34,6 +36,8 @@ mod Records
 mod Renewals
 mod Renewed
 mod RoundAllowed
+mod RoundAsks
+mod RoundCounts
 mod RoundData
 mod RoundShorts
 mod RoundTies

@@ -13,19 +13,21 @@ use Rattle.xet_run.specs.Events.{expires, first_error, is_plan}
 use Rattle.xet_history.specs.Laws.{IsPrefix}
 use Rattle.xet_history.specs.TrueHistory.{pieces}
 use Rattle.xet_run.proofs.CallerLemmas.{error-push, flat-push}
-use Rattle.xet_ties.specs.History.{IsNumberedNext, IsOneCached, IsRenewed, IsWithin, asked_in, limit_in, limits_of}
+use Rattle.xet_ties.specs.History.{IsNumberedNext, IsOneCached, IsRenewed, IsWithin, asked_in, limit_in, limits_of, round_in}
 use Rattle.xet_ties.specs.InCall.{EachExchange, Exchange, Look}
 use Rattle.xet_ties.specs.Saids.{EventPassed, FirstRenewed, FirstSaid, IsTested}
 use Rattle.xet_ties.proofs.Heard.{said_push}
 use Rattle.xet_ties.specs.steps.Moves.{Fits}
 use Rattle.xet_ties.specs.Setup.{CacheTells, IsOver, RunTold, Setup, download_of}
-use Rattle.xet_ties.specs.Ties.{AllAre, EachExpired, HeardAsked, IsAmong, IsEntryOf, IsLooked, IsTaken, Slack, Ties}
+use Rattle.xet_ties.specs.Ties.{AllAre, EachExpired, HeardAsked, IsAmong, IsEntryOf, IsLooked, IsTaken, Slack, Ties, AllWithin, EachServed}
 use Rattle.xet_ties.proofs.Lanes.{served_same}
 use Rattle.xet_ties.proofs.Lates.{expired_same}
 use Rattle.xet_ties.proofs.Pushes.{cuts_same, first_push, lost_push, limited_same, looked_push, offered_push, polled_push, reaches_more, recorded_same, starts_same, stored_same, taken_push, tried_push, true_same}
 use Rattle.xet_ties.proofs.Numbers.{heard_push, next_same}
 use Rattle.xet_ties.proofs.Telling.{count-same, each-push}
 use Rattle.xet_error.specs.declared.error.FileReconstructionError.TheVariants as error
+use Rattle.xet_ties.proofs.EarlyEnds.{ends_same}
+use Rattle.xet_ties.proofs.HeardServed.{heard_served_same}
 
 -- ---- events alone
 
@@ -36,10 +38,12 @@ tie_event g b n es e sl to f t = record {
   cuts = cuts_same g es e f.query t.cuts;
   within = All-push IsWithin es e t.within f.within;
   starts = starts_same g.range.start es e f.tasks t.starts;
+  ends = ends_same es e f.plan t.ends;
   numbers = each-push IsNumberedNext es e t.numbers (next_same es e f.plan);
   stored = stored_same g.file es e b.clients f.plan t.stored;
   served = f.served b.clients n.clients t.served;
   expired = f.expired to.heard (subst (λ (l : List Exchange). EachExpired es 0 l sl.late) (sym f.heard) t.expired);
+  heard_served = f.heard_served to.heard (subst (λ (l : List Exchange). EachServed es 0 l sl.hidden) (sym f.heard) t.heard_served);
   asked = first_push g.file es e sl.lost to.lost b.clients n.clients f.asked t.asked;
   heard_asked = subst (λ (l : List Exchange). HeardAsked g.file (es ++ e ∷ []) to.lost l) (sym f.heard) (heard_push g.file es e sl.lost to.lost sl.heard f.asked t.heard_asked);
   lost = lost_push g es e sl.lost (asked_in g.file es e) to.lost f.query refl f.asked t.lost;
@@ -52,13 +56,13 @@ tie_event g b n es e sl to f t = record {
   looked = subst (λ (l : List Look). IsLooked (es ++ e ∷ []) to.pending l b.clients b.cache n.cache) (sym f.looks) (looked_push es e sl.pending to.pending sl.looks b.clients b.cache n.cache f.cached f.pending t.looked);
   looked_entries = subst (λ (l : List Look). All (IsEntryOf n.cache.entries) l) (sym f.looks) t.looked_entries;
   offered = offered_push es e sl.due to.due b.cache n.cache f.due t.offered;
-  polled = polled_push es e sl.spare to.spare b.signal n.signal (as_is (cond (is_plan e) 1 0 + to.spare) (ap (λ (c : Bool). cond c 1 0 + to.spare) f.plan)) t.polled;
+  polled = polled_push es e sl.spare to.spare b.signal n.signal (as_is (cond (is_plan e) 1 0 + length (round_in es e) + to.spare) (ap (λ (c : Bool). cond c 1 0 + length (round_in es e) + to.spare) f.plan)) t.polled;
   limited = limited_same es e b.limits n.limits f.limit t.limited;
   taken = subst (λ (l : List Exchange). IsTaken g (es ++ e ∷ []) l to.looks to.ahead b.clients b.cache b.sink n.sink) (sym f.heard) (subst (λ (l : List Look). IsTaken g (es ++ e ∷ []) sl.heard l to.ahead b.clients b.cache b.sink n.sink) (sym f.looks) (taken_push g es e sl.heard sl.looks sl.ahead to.ahead b.clients b.cache b.sink n.sink f.ahead t.taken));
   recorded = recorded_same es e f.error t.recorded;
 }
   where
-    as_is : (x : ℕ) → x ≡ 0 + to.spare → x ≤ sl.spare
+    as_is : (x : ℕ) → x ≡ 0 + length (round_in es e) + to.spare → x ≤ sl.spare
     as_is x e = let h = f.spare in omega (arith, e, h)
 
 -- ---- the signal
@@ -71,10 +75,12 @@ tie_poll g b n es sl to a t = record {
   cuts = t.cuts;
   within = t.within;
   starts = t.starts;
+  ends = t.ends;
   numbers = t.numbers;
   stored = t.stored;
   served = t.served;
   expired = t.expired;
+  heard_served = t.heard_served;
   asked = t.asked;
   heard_asked = t.heard_asked;
   lost = t.lost;
@@ -115,6 +121,10 @@ are_push : (k : ℕ) (xs : List ℕ) (l : ℕ) → AllAre k xs → l ≡ k → A
 are_push k [] l a e = (e, tt)
 are_push k (x ∷ xs) l a e = (a.0, are_push k xs l a.1 e)
 
+lie_push : (k : ℕ) (xs : List ℕ) (l : ℕ) → AllWithin k xs → l ≤ k → AllWithin k (xs ++ l ∷ [])
+lie_push k [] l a e = (e, tt)
+lie_push k (x ∷ xs) l a e = (a.0, lie_push k xs l a.1 e)
+
 listed : (b m n : LimitTold) (xs : List ℕ) (l : ℕ) → Added b.limits m.limits xs → n.limits ≡ option_map (λ ls. ls ++ l ∷ []) m.limits → Added b.limits n.limits (xs ++ l ∷ [])
 listed b m n xs l a h = h ∙ ap (λ (o : Option (List ℕ)). option_map (λ ls. ls ++ l ∷ []) o) a ∙ twice b.limits
   where
@@ -130,10 +140,12 @@ tie_limit g b n es sl to l c t = record {
   cuts = t.cuts;
   within = t.within;
   starts = t.starts;
+  ends = t.ends;
   numbers = t.numbers;
   stored = t.stored;
   served = t.served;
   expired = t.expired;
+  heard_served = t.heard_served;
   asked = t.asked;
   heard_asked = t.heard_asked;
   lost = t.lost;
@@ -153,6 +165,8 @@ tie_limit g b n es sl to l c t = record {
     among = among_more (limits_of es) t.limited.answers l t.limited.among;
     fixed = t.limited.fixed;
     same = c.fixed ∙ t.limited.same;
+    within = t.limited.within;
+    same_most = c.most ∙ t.limited.same_most;
   };
   taken = t.taken;
   recorded = t.recorded;
@@ -169,10 +183,12 @@ tie_admit g b n es sl to l c t =
       cuts = cuts_same g es e refl t.cuts;
       within = All-push IsWithin es e t.within tt;
       starts = starts_same g.range.start es e refl t.starts;
+      ends = ends_same es e refl t.ends;
       numbers = each-push IsNumberedNext es e t.numbers tt;
       stored = stored_same g.file es e b.clients refl t.stored;
       served = served_same es e sl.hidden sl.late b.clients n.clients (λ l. refl) (λ l. refl) (λ p k. refl) (λ m. tt) t.served;
       expired = expired_same es e 0 sl.heard sl.late (λ l w. refl) t.expired;
+      heard_served = heard_served_same es e 0 sl.heard sl.hidden (λ l w. refl) t.heard_served;
       asked = first_push g.file es e sl.lost sl.lost b.clients n.clients refl t.asked;
       heard_asked = heard_push g.file es e sl.lost sl.lost sl.heard refl t.heard_asked;
       lost = lost_push g es e sl.lost [] sl.lost refl refl refl t.lost;
@@ -192,6 +208,8 @@ tie_admit g b n es sl to l c t =
         among = subst (λ (ls : List ℕ). IsAmong ls (t.limited.answers ++ l ∷ [])) (sym more) (among_push (limits_of es) t.limited.answers l t.limited.among);
         fixed = subst (λ (ls : List ℕ). IfSome b.limits.fixed (λ k. AllAre k ls)) (sym more) (fixed_push b.limits.fixed t.limited.fixed (subst (λ (o : Option ℕ). IfSome o (λ k. l ≡ k)) t.limited.same c.is_fixed));
         same = c.fixed ∙ t.limited.same;
+        within = subst (λ (ls : List ℕ). IfSome b.limits.most (λ k. AllWithin k ls)) (sym more) (within_push b.limits.most t.limited.within (subst (λ (o : Option ℕ). IfSome o (λ k. l ≤ k)) t.limited.same_most c.within));
+        same_most = c.most ∙ t.limited.same_most;
       };
       taken = taken_push g es e sl.heard sl.looks sl.ahead sl.ahead b.clients b.cache b.sink n.sink (omega arith) t.taken;
       recorded = recorded_same es e refl t.recorded;
@@ -200,6 +218,10 @@ tie_admit g b n es sl to l c t =
     fixed_push : (o : Option ℕ) → IfSome o (λ k. AllAre k (limits_of es)) → IfSome o (λ k. l ≡ k) → IfSome o (λ k. AllAre k (limits_of es ++ l ∷ []))
     fixed_push None a h = tt
     fixed_push (Some k) a h = are_push k (limits_of es) l a h
+
+    within_push : (o : Option ℕ) → IfSome o (λ k. AllWithin k (limits_of es)) → IfSome o (λ k. l ≤ k) → IfSome o (λ k. AllWithin k (limits_of es ++ l ∷ []))
+    within_push None a h = tt
+    within_push (Some k) a h = lie_push k (limits_of es) l a h
 
 -- ---- the writer
 
@@ -213,10 +235,12 @@ tie_window g b n es sl to bytes took faults link t p q = record {
   cuts = t.cuts;
   within = t.within;
   starts = t.starts;
+  ends = t.ends;
   numbers = t.numbers;
   stored = t.stored;
   served = t.served;
   expired = t.expired;
+  heard_served = t.heard_served;
   asked = t.asked;
   heard_asked = t.heard_asked;
   lost = t.lost;
@@ -262,10 +286,12 @@ tie_fail g b n es sl x spent t =
       cuts = cuts_same g es e refl t.cuts;
       within = All-push IsWithin es e t.within tt;
       starts = starts_same g.range.start es e refl t.starts;
+      ends = ends_same es e refl t.ends;
       numbers = each-push IsNumberedNext es e t.numbers tt;
       stored = stored_same g.file es e b.clients refl t.stored;
       served = served_same es e sl.hidden sl.late b.clients n.clients (λ l. refl) (λ l. refl) (λ p k. refl) (λ m. tt) t.served;
       expired = expired_same es e 0 sl.heard sl.late (λ l w. refl) t.expired;
+      heard_served = heard_served_same es e 0 sl.heard sl.hidden (λ l w. refl) t.heard_served;
       asked = first_push g.file es e sl.lost sl.lost b.clients n.clients refl t.asked;
       heard_asked = heard_push g.file es e sl.lost sl.lost sl.heard refl t.heard_asked;
       lost = lost_push g es e sl.lost [] sl.lost refl refl refl t.lost;
@@ -299,10 +325,12 @@ tie_short g b n es sl t = record {
   cuts = t.cuts;
   within = t.within;
   starts = t.starts;
+  ends = t.ends;
   numbers = t.numbers;
   stored = t.stored;
   served = t.served;
   expired = t.expired;
+  heard_served = t.heard_served;
   asked = t.asked;
   heard_asked = t.heard_asked;
   lost = t.lost;

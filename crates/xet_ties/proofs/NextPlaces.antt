@@ -21,7 +21,7 @@ use Rattle.xet_ties.specs.InCall.{Exchange}
 use Rattle.xet_ties.specs.Saids.{AnswerOf, InStep, IsCutAnswer, cut_places}
 use Rattle.xet_ties.specs.Setup.{RunTold, Setup}
 use Rattle.xet_ties.specs.steps.Moves.{heard_first}
-use Rattle.xet_ties.specs.Ties.{CutsRange, HeardAsked, Slack, Stop, Ties}
+use Rattle.xet_ties.specs.Ties.{CutsRange, HeardAsked, Slack, Stop, Ties, IsNextQuery}
 use Rattle.xet_ties.proofs.Asks.{asked_cut, none_in}
 use Rattle.xet_ties.proofs.CutPlaces.{cut_end, next_at, places_append}
 
@@ -38,7 +38,7 @@ one_query (Wrote taken) = refl
 one_query (Fail error) = refl
 one_query Cancel = refl
 
-query_count : (es : List Event) → plan_count es ≡ length (queries es)
+pub query_count : (es : List Event) → plan_count es ≡ length (queries es)
 query_count [] = refl
 query_count (e ∷ es) =
     let next = query_count es in
@@ -142,8 +142,8 @@ next_number g es q asked within cuts next is =
     (subst (λ (l : List Query). AskedCut [] l (queries es ++ [])) (append-nil (asked_by f es) ∙ sym is) all) in
     let bound = g.greatest + g.least in
     let below = All-nil (Below 0) in
-    let r = places_of 0 g.range.start g.range.end bound [] asked (queries es) below (omega arith) cuts cut in
-    let start = cut_next g.range.start g.range.end (g.greatest + g.least) (queries es) q next in
+    let r = places_of 0 g.range.start g.range.end bound [] asked (queries es) below (omega arith) cuts.from cut in
+    let start = cut_next g.range.start g.range.end (g.greatest + g.least) (queries es) q next.from in
     let ends = r.ends in
     let on : nat_le (cut_end 0 asked) q.start ≡ true = le-leb (cut_end 0 asked) q.start (omega (arith, ends, start)) in
     let z : 0 + length asked ≡ length asked = omega arith in
@@ -178,7 +178,7 @@ next_answer g es x q a within cuts next is same = record {
 -- so where all that was asked is recorded
 pub asked_own : (g : Setup) (b n : RunTold) (es : List Event) (stop : Stop) (sl : Slack) (q : FileRange)
     (a : PlanAnswer)
-    → Ties g b n es stop sl → sl.lost ≡ [] → InStep sl.heard → CutsRange g (queries es ++ q ∷ [])
+    → Ties g b n es stop sl → sl.lost ≡ [] → InStep sl.heard → IsNextQuery g es q
     → IsCutAnswer g.file (heard_first ((g.file, q) ∷ []) (said.Plan a ∷ []) sl.heard) (plan_count es + 1) q a
 asked_own g b n es stop sl q a t none step next = by sl.heard step t.heard_asked
   where
@@ -187,4 +187,4 @@ asked_own g b n es stop sl q a t none step next = by sl.heard step t.heard_asked
     by [] s h = absurd s
     by (x ∷ xs) s h =
         let all = h ∙ ap (λ (l : List Query). asked_by g.file es ++ l) none ∙ append-nil (asked_by g.file es) in
-        next_answer g es x q a t.within t.cuts next all s
+        next_answer g es x q a t.within t.cuts next.cuts all s

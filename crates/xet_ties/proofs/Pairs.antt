@@ -1,6 +1,6 @@
--- No block of a plan is served twice, in all lists together.
+-- No block of a plan is served twice, by all connections together.
 use Rattle.std.proofs.Common.{◌≡◌, ℕ, ◌+◌, ◌≤◌, ◌==◌, ◌&&◌, Bool, true, false, cond, List, [], ◌∷◌, ◌++◌, length, refl, sym, subst, ◌∙◌, ap, arith, append_assoc, Some, None, Option}
-use Rattle.std.specs.Prelude.{All, IfSome, count_by, map, option_to_list, slice_get}
+use Rattle.std.specs.Prelude.{All, count_by, map, option_to_list, slice_get}
 use Rattle.std.specs.List.{flat_map}
 use Rattle.std.proofs.lemmas.Bool.{eqb-true}
 use Rattle.std.proofs.lemmas.List.{append-nil}
@@ -13,13 +13,12 @@ use Rattle.xet_run.specs.declared.event.Event.{Event}
 use Rattle.xet_run.specs.declared.event.Event.TheVariants.{Planned, Admit, Fetched, Cached, Expired, Refreshed, Wrote, Fail, Cancel}
 use Rattle.xet_run.specs.declared.event.PlannedBlock.{PlannedBlock}
 use Rattle.xet_ties.specs.History.{block_at, blocks_in, entry_of, fetches, served_by, served_in, telling}
-use Rattle.xet_ties.specs.InCall.{Exchange, all_served, joined, new_in}
-use Rattle.xet_ties.specs.Legal.{EntryPassed}
+use Rattle.xet_ties.specs.InCall.{EachExchange, Exchange, served_of_all}
+use Rattle.xet_ties.specs.Legal.{EntryPassed, ServedOnce}
 use Rattle.xet_ties.specs.Saids.{EventPassed, HasPassed}
 use Rattle.xet_ties.specs.Setup.{Setup}
-use Rattle.xet_ties.specs.Ties.{EachLane, IsPlannedEntry, IsServed, all_of, is_pair}
+use Rattle.xet_ties.specs.Ties.{EachServed, IsPlannedEntry, IsServed, all_of, is_pair}
 use Rattle.xet_ties.proofs.Telling.{block_at-push, count-append}
-use Rattle.xet_ties.proofs.Told.{told_new}
 
 -- ---- one event
 
@@ -111,36 +110,32 @@ lanes_most p k before (e ∷ es) l bs =
     let c = count_by-cons (fetches p k) e es in
     omega (arith, s, one, r, c)
 
--- ---- all lists
+-- ---- all that was served
 
-joined_count : (q : Served → Bool) (o p : Option (List Served)) (xs : List Served) (n : ℕ) → IfSome o (λ l. l ≡ xs) → IfSome p (λ l. count_by q l ≡ n) → IfSome (joined o p) (λ l. count_by q l ≡ count_by q xs + n)
-joined_count q None p xs n a b = tt
-joined_count q (Some x) None xs n a b = tt
-joined_count q (Some x) (Some y) xs n a b = let c = count-append q x y in let d = ap (λ (l : List Served). count_by q l) a in omega (arith, b, c, d)
-
-told_count : (p k : ℕ) (es : List Event) (l : ℕ) (bs ns : List ClientTold) (hs : List (List Served)) (ks : List ℕ) → EachLane es l bs ns hs ks
-    → IfSome (all_served bs ns) (λ ys. count_by (is_pair p k) ys ≡ in_events p k [] es l bs + count_by (is_pair p k) (all_of hs))
-told_count p k es l [] [] [] [] t = refl
-told_count p k es l [] [] [] (j ∷ ks) t = absurd t
-told_count p k es l [] [] (h ∷ hs) ks t = absurd t
-told_count p k es l [] (n ∷ ns) hs ks t = absurd t
-told_count p k es l (b ∷ bs) [] hs ks t = absurd t
-told_count p k es l (b ∷ bs) (n ∷ ns) [] ks t = absurd t
-told_count p k es l (b ∷ bs) (n ∷ ns) (h ∷ hs) [] t = absurd t
-told_count p k es l (b ∷ bs) (n ∷ ns) (h ∷ hs) (j ∷ ks) t =
-    let r = joined_count (is_pair p k) (new_in b.served n.served) (all_served bs ns) (served_by l es ++ h) (in_events p k [] es (l + 1) bs + count_by (is_pair p k) (all_of hs)) (told_new b.served n.served (served_by l es ++ h) t.0.served) (told_count p k es (l + 1) bs ns hs ks t.1) in
+heard_count : (p k : ℕ) (es : List Event) (l : ℕ) (bs ns : List ClientTold) (xs : List Exchange) (hs : List (List Served)) → EachExchange bs ns xs → EachServed es l xs hs
+    → count_by (is_pair p k) (served_of_all xs) ≡ in_events p k [] es l bs + count_by (is_pair p k) (all_of hs)
+heard_count p k es l [] [] [] [] e t = refl
+heard_count p k es l [] [] [] (h ∷ hs) e t = absurd t
+heard_count p k es l [] [] (x ∷ xs) hs e t = absurd e
+heard_count p k es l [] (n ∷ ns) xs hs e t = absurd e
+heard_count p k es l (b ∷ bs) [] xs hs e t = absurd e
+heard_count p k es l (b ∷ bs) (n ∷ ns) [] hs e t = absurd e
+heard_count p k es l (b ∷ bs) (n ∷ ns) (x ∷ xs) [] e t = absurd t
+heard_count p k es l (b ∷ bs) (n ∷ ns) (x ∷ xs) (h ∷ hs) e t =
+    let r = heard_count p k es (l + 1) bs ns xs hs e.1 t.1 in
+    let a = count-append (is_pair p k) x.served (served_of_all xs) in
+    let s = ap (λ (z : List Served). count_by (is_pair p k) z) t.0 in
     let c = count-append (is_pair p k) (served_by l es) h in
     let d = count-append (is_pair p k) h (all_of hs) in
-    let same : count_by (is_pair p k) (served_by l es ++ h) + (in_events p k [] es (l + 1) bs + count_by (is_pair p k) (all_of hs)) ≡ in_events p k [] es l (b ∷ bs) + count_by (is_pair p k) (all_of (h ∷ hs)) = omega (arith, c, d) in
-    subst (λ (m : ℕ). IfSome (joined (new_in b.served n.served) (all_served bs ns)) (λ ys. count_by (is_pair p k) ys ≡ m)) same r
+    omega (arith, r, a, s, c, d)
 
 -- so none is served twice
-pub served_once : (es : List Event) (bs ns : List ClientTold) (hs : List (List Served)) (ks : List ℕ) → IsServed es hs ks bs ns → IfSome (all_served bs ns) (λ ys. (p k : ℕ) → count_by (is_pair p k) ys ≤ 1)
-served_once es bs ns hs ks s = by (all_served bs ns) (λ p k. told_count p k es 0 bs ns hs ks s.lanes)
-  where
-    by : (o : Option (List Served)) → ((p k : ℕ) → IfSome o (λ ys. count_by (is_pair p k) ys ≡ in_events p k [] es 0 bs + count_by (is_pair p k) (all_of hs))) → IfSome o (λ ys. (p k : ℕ) → count_by (is_pair p k) ys ≤ 1)
-    by None f = tt
-    by (Some ys) f = λ p k. let a = f p k in let m = lanes_most p k [] es 0 bs in let o = s.once p k in omega (arith, a, m, o)
+pub served_once : (es : List Event) (bs ns : List ClientTold) (xs : List Exchange) (hs : List (List Served)) (ks : List ℕ) → EachExchange bs ns xs → EachServed es 0 xs hs → IsServed es hs ks bs ns → ServedOnce (served_of_all xs)
+served_once es bs ns xs hs ks e t s p k =
+    let a = heard_count p k es 0 bs ns xs hs e t in
+    let m = lanes_most p k [] es 0 bs in
+    let o = s.once p k in
+    omega (arith, a, m, o)
 
 -- ---- entries of planned blocks
 

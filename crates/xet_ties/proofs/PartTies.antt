@@ -47,10 +47,12 @@ stop_ties g b at es sl m n is c t =
         cuts = t.cuts;
         within = t.within;
         starts = t.starts;
+        ends = t.ends;
         numbers = t.numbers;
         stored = t.stored;
         served = t.served;
         expired = t.expired;
+        heard_served = t.heard_served;
         asked = t.asked;
         heard_asked = t.heard_asked;
         lost = t.lost;
@@ -122,10 +124,12 @@ tie_looked g b n es sl to x r given l t = record {
   cuts = t.cuts;
   within = t.within;
   starts = t.starts;
+  ends = t.ends;
   numbers = t.numbers;
   stored = t.stored;
   served = t.served;
   expired = t.expired;
+  heard_served = t.heard_served;
   asked = t.asked;
   heard_asked = t.heard_asked;
   lost = t.lost;
@@ -150,7 +154,7 @@ tie_looked g b n es sl to x r given l t = record {
         };
   };
   looked_entries = entries_more n.cache to sl.looks (x.xorb, r, given) l.entries l.among t.looked_entries;
-  offered = record { puts = t.offered.puts; offers = subst (λ (o : Option ℕ). Reaches b.cache.offers o t.offered.puts) (sym l.offers) t.offered.offers; cover = t.offered.cover };
+  offered = record { puts = t.offered.puts; offers = subst (λ (o : Option ℕ). Reaches b.cache.offers o t.offered.puts) (sym l.offers) t.offered.offers; cover = t.offered.cover; faults = let f = t.offered.faults in let h = l.faults in omega (arith, f, h) };
   polled = t.polled;
   limited = t.limited;
   taken = taken_grew g es sl.heard sl.heard sl.looks ((x.xorb, r, given) ∷ []) sl.ahead b.clients b.cache b.sink n.sink (grew_none sl.heard) t.taken;
@@ -158,17 +162,19 @@ tie_looked g b n es sl to x r given l t = record {
 }
 
 -- the same cache, by what it tells of looks and offers
-tie_cache_same : (g : Setup) (b n : RunTold) (es : List Event) (sl : Slack) (to : CacheTold) → to.looked ≡ n.cache.looked → to.offers ≡ n.cache.offers → to.entries ≡ n.cache.entries → Ties g b n es None sl → Ties g b (record n { cache = to }) es None sl
-tie_cache_same g b n es sl to looked offers entries t = record {
+tie_cache_same : (g : Setup) (b n : RunTold) (es : List Event) (sl : Slack) (to : CacheTold) → to.looked ≡ n.cache.looked → to.offers ≡ n.cache.offers → to.entries ≡ n.cache.entries → n.cache.faults ≤ to.faults → Ties g b n es None sl → Ties g b (record n { cache = to }) es None sl
+tie_cache_same g b n es sl to looked offers entries faults t = record {
   heard = t.heard;
   true_of = t.true_of;
   cuts = t.cuts;
   within = t.within;
   starts = t.starts;
+  ends = t.ends;
   numbers = t.numbers;
   stored = t.stored;
   served = t.served;
   expired = t.expired;
+  heard_served = t.heard_served;
   asked = t.asked;
   heard_asked = t.heard_asked;
   lost = t.lost;
@@ -180,7 +186,7 @@ tie_cache_same g b n es sl to looked offers entries t = record {
   one_cached = t.one_cached;
   looked = record { looked = looked ∙ t.looked.looked; cover = t.looked.cover };
   looked_entries = entries_same n.cache to sl.looks entries t.looked_entries;
-  offered = record { puts = t.offered.puts; offers = subst (λ (o : Option ℕ). Reaches b.cache.offers o t.offered.puts) (sym offers) t.offered.offers; cover = t.offered.cover };
+  offered = record { puts = t.offered.puts; offers = subst (λ (o : Option ℕ). Reaches b.cache.offers o t.offered.puts) (sym offers) t.offered.offers; cover = t.offered.cover; faults = let f = t.offered.faults in omega (arith, f, faults) };
   polled = t.polled;
   limited = t.limited;
   taken = t.taken;
@@ -200,6 +206,7 @@ look_up_ties g b at es fs sl m n x y p is l planned honest t = by_ranges x.chunk
       offers = k.1 ∙ ap (λ (c : CacheTold). c.offers) (sym is);
       entries = k.2 ∙ ap (λ (c : CacheTold). c.entries) (sym is);
       among = subst (λ (c : CacheTold). IsEntryOf c.entries (x.xorb_hash, r, given)) (sym is) k.4;
+      faults = subst (λ (c : CacheTold). c.faults ≤ n.faults) (sym is) k.3;
     }
 
     unlooked : (found : Option XorbBlockData) → n ≡ m → ((r : ChunkRange) → is_range r x.chunk_ranges ≡ false) → found ≡ None → FoundBlock x y p es fs found → Ties g b (record at { cache = n }) fs None (record sl { pending = pending_after found (planned_of x) sl.pending })
@@ -207,7 +214,7 @@ look_up_ties g b at es fs sl m n x y p is l planned honest t = by_ranges x.chunk
     unlooked None e many none i =
         subst (λ (h : List Event). Ties g b (record at { cache = n }) h None (record sl { pending = planned_of x ∷ sl.pending })) (sym i.1)
         (tie_rest g b (record at { cache = n }) es sl (planned_of x ∷ sl.pending) sl.spare (λ X r. many_count X r (planned_of x) sl.pending (many r)) (omega arith)
-        (tie_cache_same g b at es sl n (ap (λ (c : CacheTold). c.looked) (e ∙ sym is)) (ap (λ (c : CacheTold). c.offers) (e ∙ sym is)) (ap (λ (c : CacheTold). c.entries) (e ∙ sym is)) t))
+        (tie_cache_same g b at es sl n (ap (λ (c : CacheTold). c.looked) (e ∙ sym is)) (ap (λ (c : CacheTold). c.offers) (e ∙ sym is)) (ap (λ (c : CacheTold). c.entries) (e ∙ sym is)) (let same = ap (λ (c : CacheTold). c.faults) (e ∙ sym is) in omega (arith, same)) t))
 
     one : (r : ChunkRange) (given : Option BlockBytes) (found : Option XorbBlockData) → x.chunk_ranges ≡ r ∷ [] → LookedFor x (r ∷ []) m n given → FoundIn x given found → FoundBlock x y p es fs found
         → Ties g b (record at { cache = n }) fs None (record sl { looks = sl.looks ++ (x.xorb_hash, r, given) ∷ []; pending = pending_after found (planned_of x) sl.pending })
@@ -250,8 +257,11 @@ look_short_ties g b at es fs sl m n x is l t = by_ranges x.chunk_ranges refl l.l
     entries : n.entries ≡ at.cache.entries
     entries = l.keeps.entries ∙ ap (λ (c : CacheTold). c.entries) (sym is)
 
+    faults : at.cache.faults ≤ n.faults
+    faults = subst (λ (c : CacheTold). c.faults ≤ n.faults) (sym is) l.keeps.faults
+
     still : n.looked ≡ m.looked → (more : List Look) × Ties g b (record at { cache = n }) fs None (record sl { looks = sl.looks ++ more })
-    still e = ([], at_events [] (subst (λ (ls : List Look). Ties g b (record at { cache = n }) es None (record sl { looks = ls })) (sym (append-nil sl.looks)) (tie_cache_same g b at es sl n (e ∙ ap (λ (c : CacheTold). c.looked) (sym is)) offers entries t)))
+    still e = ([], at_events [] (subst (λ (ls : List Look). Ties g b (record at { cache = n }) es None (record sl { looks = ls })) (sym (append-nil sl.looks)) (tie_cache_same g b at es sl n (e ∙ ap (λ (c : CacheTold). c.looked) (sym is)) offers entries faults t)))
 
     by_ranges : (rs : List ChunkRange) → x.chunk_ranges ≡ rs → MaybeLooked x x.chunk_ranges m n → (more : List Look) × Ties g b (record at { cache = n }) fs None (record sl { looks = sl.looks ++ more })
     by_ranges [] e k = still (subst (λ (rs : List ChunkRange). MaybeLooked x rs m n) e k)
@@ -265,6 +275,7 @@ look_short_ties g b at es fs sl m n x is l t = by_ranges x.chunk_ranges refl l.l
             offers = offers;
             entries = entries;
             among = subst (λ (c : CacheTold). IsEntryOf c.entries (x.xorb_hash, r, h.0)) (sym is) h.1.4;
+            faults = faults;
           }) t),
         ))
         (subst (λ (rs : List ChunkRange). MaybeLooked x rs m n) e k)
@@ -282,10 +293,12 @@ offers_none m = record { ties = λ g b at es sl due is d t. let h : sl.due ≤ d
       cuts = t.cuts;
       within = t.within;
       starts = t.starts;
+      ends = t.ends;
       numbers = t.numbers;
       stored = t.stored;
       served = t.served;
       expired = t.expired;
+      heard_served = t.heard_served;
       asked = t.asked;
       heard_asked = t.heard_asked;
       lost = t.lost;
@@ -297,7 +310,7 @@ offers_none m = record { ties = λ g b at es sl due is d t. let h : sl.due ≤ d
       one_cached = t.one_cached;
       looked = t.looked;
       looked_entries = t.looked_entries;
-      offered = record { puts = t.offered.puts; offers = t.offered.offers; cover = let c = t.offered.cover in omega (arith, c, d) };
+      offered = record { puts = t.offered.puts; offers = t.offered.offers; cover = let c = t.offered.cover in omega (arith, c, d); faults = t.offered.faults };
       polled = t.polled;
       limited = t.limited;
       taken = t.taken;
@@ -331,6 +344,7 @@ offers_one x m n e o = by_ranges x.chunk_ranges refl
                 (λ (v : n.entries ≡ m.entries). inl (v ∙ ap (λ (c : CacheTold). c.entries) (sym is)))
                 (λ (v : Grew m.entries n.entries (x.xorb_hash, r, e)). inr ((x.xorb_hash, r, e), subst (λ (c : CacheTold). Grew c.entries n.entries (x.xorb_hash, r, e)) (sym is) v))
                 q.0;
+            faults = subst (λ (c : CacheTold). c.faults ≤ n.faults) (sym is) q.3;
           }) d t;
         })
     by_ranges (r ∷ s ∷ rs) h =

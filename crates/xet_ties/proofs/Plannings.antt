@@ -19,20 +19,22 @@ use Rattle.xet_run.specs.Allowed.{Adjoin, IsAllowed, IsAllowedHistory}
 use Rattle.xet_run.specs.Events.{Task, is_plan, last_of, plan_count, planned, tasks_in, tasks_of}
 use Rattle.xet_run.proofs.CallerLemmas.{ends, kept_along, planned-push}
 use Rattle.xet_history.specs.TrueHistory.{EndsEarly, SomeEndsEarly, planned_term, queries}
-use Rattle.xet_ties.specs.Cuts.{AdjoinFrom, AreParts, AskedCut, IsCut, IsNumbered, IsSaidPiece, Part, PassesTests, Planning, PlansAll, SaidTerm, SomeTellsEnd, StartsAt, answer_terms, has_some, part_end, queries_of, some_said, terms_said, under}
+use Rattle.xet_ties.specs.Cuts.{AdjoinFrom, AreParts, AskedCut, IsCut, IsNumbered, IsSaidPiece, Part, PassesTests, Planning, PlansAll, SaidTerm, SomeTellsEnd, StartsAt, answer_terms, has_some, part_end, queries_of, some_said, terms_said, under, ReachOn}
 use Rattle.xet_ties.specs.History.{EachAfter, IsNumberedNext, IsWithin, actual_range, asked_by, range_at, range_in}
 use Rattle.xet_ties.specs.InCall.{EachExchange, Exchange, Look, answers_of, new_in}
 use Rattle.xet_ties.specs.Legal.{AsksSome, FirstPlansAll}
 use Rattle.xet_ties.specs.RunCalls.{IsFinished}
 use Rattle.xet_ties.specs.Saids.{AnswerOf, FirstSaid, IsEventSaid, IsMadeOf, IsMadeOfPlan, IsPiece, IsTaskPiece, has_bytes, some_of}
 use Rattle.xet_ties.specs.Setup.{RunTold, Setup}
-use Rattle.xet_ties.specs.Ties.{CutsRange, FirstAsked, FirstStarts, HeardAsked, IsLost, Slack, Stop, Ties}
+use Rattle.xet_ties.specs.Ties.{CutsRange, FirstAsked, FirstStarts, HeardAsked, IsLost, Slack, Stop, Ties, EndsLast, IsNextQuery}
 use Rattle.xet_run.specs.Events.{is_stale}
 use Rattle.xet_ties.proofs.AskTies.{none_terms}
 use Rattle.xet_ties.proofs.Asks.{AreIn, asked_cut, none_in}
 use Rattle.xet_ties.proofs.Numbers.{plan_at, reads_range, slice_first}
 use Rattle.xet_ties.proofs.Telling.{count-more, count-same}
 use Rattle.xet_ties.proofs.Told.{answers_told, bare, if_some, told_new}
+use Rattle.std.proofs.lemmas.Bool.{cases_lt}
+use Rattle.xet_ties.proofs.NextPlaces.{query_count}
 
 -- ---- the cut
 
@@ -48,6 +50,7 @@ record CutOf (g : Setup) (xs : List Exchange) (es : List Event) (lost : List Que
   pub more : List FileRange
   pub few : length more ≤ 1
   pub none : lost ≡ [] → more ≡ []
+  pub late : SomeEndsEarly es → more ≡ []
   pub is_cut : IsCut g xs (queries es ++ more)
 
 cut_of : (g : Setup) (es : List Event) (lost : List Query) (x : Exchange) (rest : List Exchange) → All IsWithin es → CutsRange g (queries es) → IsLost g es lost → x.asked ≡ asked_by g.file es ++ lost
@@ -56,22 +59,25 @@ cut_of g es [] x rest within cuts l is = record {
   more = [];
   few = omega arith;
   none = λ _. refl;
+  late = λ _. refl;
   is_cut = first_cut g es x rest [] [] within (subst (λ (qs : List FileRange). CutsRange g qs) (sym (append-nil (queries es))) cuts) is (λ now h. refl);
 }
 cut_of g es (q ∷ []) x rest within cuts l is =
     ⊎_elim
-    (λ (c : CutsRange g (queries es ++ q.1 ∷ [])).
+    (λ (c : IsNextQuery g es q.1).
     let r : CutOf g (x ∷ rest) es (q ∷ []) = record {
       more = q.1 ∷ [];
       few = omega arith;
       none = λ e. absurd (cc);
-      is_cut = first_cut g es x rest (q ∷ []) (q.1 ∷ []) within c is (λ now h. inl (refl, refl));
+      late = λ e. absurd (c.goes_on e);
+      is_cut = first_cut g es x rest (q ∷ []) (q.1 ∷ []) within c.cuts is (λ now h. inl (refl, refl));
     } in r)
     (λ (s : (p : ℕ) × (range_at es p ≡ q.1 ∷ []) × (is_stale es p ≡ true)).
     let r : CutOf g (x ∷ rest) es (q ∷ []) = record {
       more = [];
       few = omega arith;
       none = λ _. refl;
+      late = λ _. refl;
       is_cut = first_cut g es x rest (q ∷ []) [] within (subst (λ (qs : List FileRange). CutsRange g qs) (sym (append-nil (queries es))) cuts) is (λ now h. (h s.0 q.1 s.1, refl));
     } in r)
     l.1
@@ -192,6 +198,22 @@ record PartsOf (g : Setup) (xs : List Exchange) (n : ℕ) (es : List Event) : Ty
   pub said : AreParts g xs (n + 1) parts
   pub tasks : AreTasks (planned es) (terms_said g.multirange (n + 1) parts)
   pub ends : SomeEndsEarly es → SomeTellsEnd g.multirange parts
+  -- where no query comes after a plan that ended early
+  pub reach : (more : List FileRange) → All IsWithin es → EndsLast es → (SomeEndsEarly es → more ≡ [])
+      → ReachOn g.multirange parts more
+
+-- an answer ends where its query does, or before it, and then it is the last
+ends_or_last : (end to : ℕ) (rest : List FileRange) → end ≤ to → (end < to → rest ≡ [])
+    → (rest ≡ []) ⊎ (end ≡ to)
+ends_or_last end to rest le last = ⊎_elim (λ (h : end < to). inl (last h)) (λ (h : to ≤ end). inr (omega (arith, h, le))) (cases_lt end to)
+
+-- no plan, no query
+no_queries : (es : List Event) → plan_count es ≡ 0 → queries es ≡ []
+no_queries es e = go (queries es) (let n = query_count es in omega (arith, n, e))
+  where
+    go : (qs : List FileRange) → length qs ≡ 0 → qs ≡ []
+    go [] h = refl
+    go (q ∷ qs) h = absurd (omega (arith, h))
 
 -- past an event that plans nothing
 past : (g : Setup) (xs : List Exchange) (before es : List Event) (e : Event) → is_plan e ≡ false → queries (e ∷ es) ≡ queries es → planned (e ∷ es) ≡ planned es → (EndsEarly e → ⊥) → PartsOf g xs (plan_count (before ++ e ∷ [])) es → PartsOf g xs (plan_count before) (e ∷ es)
@@ -203,6 +225,7 @@ past g xs before es e off qs ts late r = record {
       subst (λ (l : List Task). AreTasks l (terms_said g.multirange (plan_count before + 1) r.parts)) (sym ts)
       (subst (λ (i : ℕ). AreTasks (planned es) (terms_said g.multirange (i + 1) r.parts)) (count-same is_plan before e off) r.tasks);
   ends = λ h. ⊎_elim (λ (k : EndsEarly e). absurd (late k)) (λ (k : SomeEndsEarly es). r.ends k) h;
+  reach = λ more w l n. r.reach more (All-tail IsWithin e es w) l.1 (λ k. n (inr k));
 }
 
 part_step : (g : Setup) (x : Exchange) (rest : List Exchange) (before es : List Event) (e : Event) → IsNumberedNext before e → IsEventSaid g x e → PartsOf g (x ∷ rest) (plan_count (before ++ e ∷ [])) es → PartsOf g (x ∷ rest) (plan_count before) (e ∷ es)
@@ -226,6 +249,14 @@ part_step g x rest before es (Planned plan q ts bs) next s r =
           (λ (k : EndsEarly (Planned plan q ts bs)). inl (subst (λ (i : ℕ). i < q.end) end_same k))
           (λ (k : SomeEndsEarly es). inr (r.ends k))
           h;
+      reach = λ more w l n. (
+        ends_or_last (part_end g.multirange part) q.end (queries_of r.parts ++ more)
+            (subst (λ (i : ℕ). i ≤ q.end) end_same (All-head IsWithin (Planned plan q ts bs) es w))
+            (λ k.
+            let early : EndsEarly (Planned plan q ts bs) = subst (λ (i : ℕ). i < q.end) (sym end_same) k in
+            ap (λ (qs : List FileRange). qs ++ more) (r.queries_are ∙ no_queries es (l.0 early)) ∙ n (inl early)),
+        r.reach more (All-tail IsWithin (Planned plan q ts bs) es w) l.1 (λ k. n (inr k)),
+      );
     }
 part_step g x rest before es (Admit limit) next s r = past g (x ∷ rest) before es (Admit limit) refl refl refl (λ h. h) r
 part_step g x rest before es (Fetched lane plan block) next s r = past g (x ∷ rest) before es (Fetched lane plan block) refl refl refl (λ h. h) r
@@ -237,7 +268,7 @@ part_step g x rest before es (Fail error) next s r = past g (x ∷ rest) before 
 part_step g x rest before es Cancel next s r = past g (x ∷ rest) before es Cancel refl refl refl (λ h. h) r
 
 parts_of : (g : Setup) (x : Exchange) (rest : List Exchange) (before es : List Event) → EachAfter IsNumberedNext before es → All (IsEventSaid g x) es → PartsOf g (x ∷ rest) (plan_count before) es
-parts_of g x rest before [] c a = record { parts = []; queries_are = refl; said = tt; tasks = tt; ends = λ h. absurd h }
+parts_of g x rest before [] c a = record { parts = []; queries_are = refl; said = tt; tasks = tt; ends = λ h. absurd h; reach = λ more w l n. tt }
 parts_of g x rest before (e ∷ es) c a = part_step g x rest before es e c.0 (All-head (IsEventSaid g x) e es a) (parts_of g x rest (before ++ e ∷ []) es c.1 (All-tail (IsEventSaid g x) e es a))
 
 -- ---- the terms adjoin
@@ -304,9 +335,9 @@ pub record PlanningOf (g : Setup) (xs : List Exchange) (es : List Event) (lost :
   pub tasks : AreTasks (planned es) (terms_said g.multirange 1 planning.parts)
   pub ends : SomeEndsEarly es → SomeTellsEnd g.multirange planning.parts
 
-pub planning_of : (g : Setup) (es : List Event) (lost : List Query) (x : Exchange) (rest : List Exchange) → IsAllowedHistory es → All IsWithin es → FirstStarts g.range.start (planned es) → CutsRange g (queries es) → EachAfter IsNumberedNext [] es → IsLost g es lost → x.asked ≡ asked_by g.file es ++ lost → All (IsEventSaid g x) es
+pub planning_of : (g : Setup) (es : List Event) (lost : List Query) (x : Exchange) (rest : List Exchange) → IsAllowedHistory es → All IsWithin es → EndsLast es → FirstStarts g.range.start (planned es) → CutsRange g (queries es) → EachAfter IsNumberedNext [] es → IsLost g es lost → x.asked ≡ asked_by g.file es ++ lost → All (IsEventSaid g x) es
     → PlanningOf g (x ∷ rest) es lost
-planning_of g es lost x rest allowed within starts cuts numbers l is said =
+planning_of g es lost x rest allowed within ends starts cuts numbers l is said =
     let r = parts_of g x rest [] es numbers said in
     let c = cut_of g es lost x rest within cuts l is in
     record {
@@ -316,6 +347,7 @@ planning_of g es lost x rest allowed within starts cuts numbers l is said =
         few = c.few;
         is_cut = subst (λ (qs : List FileRange). IsCut g (x ∷ rest) (qs ++ c.more)) (sym r.queries_are) c.is_cut;
         said = r.said;
+        reach = r.reach c.more within ends c.late;
         adjoin = all_adjoin g.range.start (planned es) (terms_said g.multirange 1 r.parts) r.tasks (all_joined es allowed) starts;
       };
       none = c.none;
@@ -330,7 +362,7 @@ planning_heard g b n es stop sl a t = by sl.heard t.said t.heard_asked
   where
     by : (xs : List Exchange) → FirstSaid g es xs → HeardAsked g.file es sl.lost xs → PlanningOf g xs es sl.lost
     by [] s h = absurd s
-    by (x ∷ rest) s h = planning_of g es sl.lost x rest a t.within t.starts t.cuts t.numbers t.lost h s.0
+    by (x ∷ rest) s h = planning_of g es sl.lost x rest a t.within t.ends t.starts t.cuts t.numbers t.lost h s.0
 
 -- its pieces
 pub some_pieces : (g : Setup) (xs : List Exchange) (looks : List Look) (es : List Event) (lost : List Query) (p : PlanningOf g xs es lost) (pieces : List (List ℕ)) → AllZip (IsTaskPiece g xs looks) (some_of es) pieces → AllZip (IsSaidPiece g xs looks) (some_said g p.planning.parts) pieces
@@ -386,7 +418,7 @@ first_plans_all g b n es k sl a t none f = by b.clients n.clients sl.heard t.hea
     by [] ns (x ∷ xs) e q s h = absurd q
     by (b ∷ bs) [] (x ∷ xs) e q s h = absurd q
     by (b ∷ bs) (n ∷ ns) (x ∷ xs) e q s h =
-        let all : PlansAll g (bare x ∷ []) = plans_all g (bare x ∷ []) es sl.lost k (planning_of g es sl.lost (bare x) [] a t.within t.starts t.cuts t.numbers t.lost h (All-weaker (IsEventSaid g x) (IsEventSaid g (bare x)) (λ v w. bare_event g x v w) es s.0)) none f in (
+        let all : PlansAll g (bare x ∷ []) = plans_all g (bare x ∷ []) es sl.lost k (planning_of g es sl.lost (bare x) [] a t.within t.ends t.starts t.cuts t.numbers t.lost h (All-weaker (IsEventSaid g x) (IsEventSaid g (bare x)) (λ v w. bare_event g x v w) es s.0)) none f in (
           if_some (new_in b.asked n.asked) (λ qs. qs ≡ x.asked) (AsksSome g) (λ qs w. subst (AsksSome g) (sym w) (some_asked g (bare x) all)) (told_new b.asked n.asked x.asked e.0.asks),
           if_some (answers_of b n) (λ y. y ≡ bare x) (λ y. PlansAll g (y ∷ [])) (λ y w. subst (λ (v : Exchange). PlansAll g (v ∷ [])) (sym w) all) (answers_told b n x e.0),
         )

@@ -6,7 +6,7 @@ use Rattle.std.specs.Option.{option_or}
 use Rattle.std.specs.List.{flat_map}
 use Rattle.std.specs.List.{AllZip}
 use Rattle.std.proofs.lemmas.Slice.Zip.{AllZip-long}
-use Rattle.std.proofs.lemmas.List.{append-nil, length-take, take-append-le}
+use Rattle.std.proofs.lemmas.List.{append-nil, length-take, take-append-le, length-append}
 use Rattle.std.proofs.lemmas.Grind.{flat_map-append}
 use Rattle.std.proofs.lemmas.List.Elements.{All-append, All-cons, All-nil, filter-append}
 use Rattle.xet_base.specs.declared.cas_types.ChunkRange.{ChunkRange}
@@ -22,12 +22,13 @@ use Rattle.xet_run.specs.Budgets.{LimitTold}
 use Rattle.xet_run.specs.Events.{error_in, expires, first_error, Task, is_plan, is_stale, last_of, plan_count, planned, taken_in, tasks_in}
 use Rattle.xet_history.specs.TrueHistory.{Download, IsTrueEvent, IsTrueHistory, pieces, queries, queries_in, task_piece}
 use Rattle.xet_run.proofs.CallerLemmas.{count_by-push, error-push, flat-push, planned-push, stale-push, written-push}
-use Rattle.xet_ties.specs.History.{asked_by, asked_in, cached_in, fetched_in, kept_in, limit_in, limits_of, range_at, telling}
+use Rattle.xet_ties.specs.History.{asked_by, asked_in, cached_in, fetched_in, kept_in, limit_in, limits_of, range_at, telling, round_count, round_in}
 use Rattle.xet_ties.specs.InCall.{Exchange, Look}
 use Rattle.xet_ties.specs.Saids.{IsTaskPiece, IsTested, has_bytes, some_of}
 use Rattle.xet_ties.specs.Setup.{AllTell, Setup}
-use Rattle.xet_ties.specs.Ties.{AllAre, CutsRange, FirstAsked, FirstStarts, IsLost, IsAmong, IsAsked, IsLimited, IsLooked, IsOffered, IsPolled, IsRecorded, IsTaken, IsTried, Reaches, has_one, is_one}
+use Rattle.xet_ties.specs.Ties.{AllAre, CutsRange, FirstAsked, FirstStarts, IsLost, IsAmong, IsAsked, IsLimited, IsLooked, IsOffered, IsPolled, IsRecorded, IsTaken, IsTried, Reaches, has_one, is_one, IsNextQuery, AllWithin}
 use Rattle.xet_ties.proofs.Telling.{count-append, count-same, range_at-push, telling-push}
+use Rattle.xet_ties.proofs.EarlyEnds.{goes_same}
 
 all-push : {A : Type 0} (P : A → Type 0) (xs : List A) (x : A) → All P xs → P x → All P (xs ++ x ∷ [])
 all-push P xs x a h = All-append P xs (x ∷ []) a (All-cons P x [] h (All-nil P))
@@ -94,7 +95,7 @@ lost_same g es e [] none quiet h = tt
 lost_same g es e (q ∷ []) none quiet h = (
   h.0,
   ⊎_elim
-      (λ (c : CutsRange g (queries es ++ q.1 ∷ [])). inl (subst (λ (qs : List FileRange). CutsRange g (qs ++ q.1 ∷ [])) (sym (queries-same es e none)) c))
+      (λ (c : IsNextQuery g es q.1). inl (record { cuts = subst (λ (qs : List FileRange). CutsRange g (qs ++ q.1 ∷ [])) (sym (queries-same es e none)) c.cuts; goes_on = goes_same es e none c.goes_on }))
       (λ (r : (p : ℕ) × (range_at es p ≡ q.1 ∷ []) × (is_stale es p ≡ true)). inr (r.0, range_at-push es e r.0 q.1 r.1, stale_stays g.file es e r.0 q.1 quiet r.1 r.2))
       h.1,
 )
@@ -154,12 +155,13 @@ looked_push es e pending rest looks bs b n none h t = record {
 pub offered_push : (es : List Event) (e : Event) (due more : ℕ) (b n : CacheTold) → due + count_by has_one (fetched_in es e) ≤ more → IsOffered es due b n → IsOffered (es ++ e ∷ []) more b n
 offered_push es e due more b n h t =
     let f = ap (λ (l : List PlannedBlock). count_by has_one l) (telling-push fetched_in es e) ∙ count-append has_one (telling fetched_in [] es) (fetched_in es e) in
-    record { puts = t.puts; offers = t.offers; cover = let c = t.cover in omega (arith, c, f, h) }
+    record { puts = t.puts; offers = t.offers; cover = let c = t.cover in omega (arith, c, f, h); faults = t.faults }
 
-pub polled_push : (es : List Event) (e : Event) (spare rest : ℕ) (b n : SignalTold) → cond (is_plan e) 1 0 + rest ≤ spare → IsPolled es spare b n → IsPolled (es ++ e ∷ []) rest b n
+pub polled_push : (es : List Event) (e : Event) (spare rest : ℕ) (b n : SignalTold) → cond (is_plan e) 1 0 + length (round_in es e) + rest ≤ spare → IsPolled es spare b n → IsPolled (es ++ e ∷ []) rest b n
 polled_push es e spare rest b n h t =
     let c = count_by-push is_plan es e in
-    record { polls = t.polls; asks = t.asks; cover = let a = t.cover in omega (arith, a, c, h); later = t.later }
+    let r : round_count (es ++ e ∷ []) ≡ round_count es + length (round_in es e) = ap (λ (l : List Event). length l) (telling-push round_in es e) ∙ length-append (telling round_in [] es) (round_in es e) in
+    record { polls = t.polls; asks = t.asks; cover = let a = t.cover in omega (arith, a, c, r, h); later = t.later }
 
 pub limited_same : (es : List Event) (e : Event) (b n : LimitTold) → limit_in e ≡ [] → IsLimited es b n → IsLimited (es ++ e ∷ []) b n
 limited_same es e b n none t =
@@ -170,6 +172,8 @@ limited_same es e b n none t =
       among = subst (λ (l : List ℕ). IsAmong l t.answers) (sym same) t.among;
       fixed = subst (λ (l : List ℕ). IfSome b.fixed (λ k. AllAre k l)) (sym same) t.fixed;
       same = t.same;
+      within = subst (λ (l : List ℕ). IfSome b.most (λ k. AllWithin k l)) (sym same) t.within;
+      same_most = t.same_most;
     }
 
 -- tested bytes stay so
@@ -221,6 +225,15 @@ reaches_more (Some k) (Some j) n p c h = subst (λ (o : Option ℕ). Reaches (So
   where
     raised : min (k + p) (2 ^ 64 - 1) ≤ j → min (k + (p + 1)) (2 ^ 64 - 1) ≤ min (j + 1) (2 ^ 64 - 1)
     raised h = omega arith
+
+least_min : (most k p j : ℕ) → min (k + p) most ≤ j → min (k + 0) most ≤ j
+least_min most k p j h = omega (arith, h)
+
+-- a count that has grown doesn't fall
+pub reaches_any : (b n : Option ℕ) (p : ℕ) → Reaches b n p → Reaches b n 0
+reaches_any None n p h = tt
+reaches_any (Some k) None p h = absurd h
+reaches_any (Some k) (Some j) p h = least_min (2 ^ 64 - 1) k p j h
 
 pub reaches_start : (b : Option ℕ) → Reaches b b 0
 reaches_start None = tt

@@ -9,23 +9,24 @@ use Rattle.xet_run.specs.declared.event.Event.{Event}
 use Rattle.xet_run.specs.declared.event.Event.TheVariants.{Fetched, Expired, Refreshed, Wrote}
 use Rattle.xet_run.specs.declared.event.PlannedBlock.{PlannedBlock}
 use Rattle.xet_run.specs.Events.{expires}
-use Rattle.xet_ties.specs.History.{block_at, entry_of, is_expired, range_at}
+use Rattle.xet_ties.specs.History.{block_at, entry_of, is_expired, range_at, round_in}
 use Rattle.xet_ties.specs.Saids.{FirstRenewed, HasPassed}
 use Rattle.xet_ties.specs.Setup.{RunTold, Setup}
-use Rattle.xet_ties.specs.Ties.{EachExpired, IsServed, Slack, Ties, has_one, is_one}
+use Rattle.xet_ties.specs.Ties.{EachExpired, IsServed, Slack, Ties, has_one, is_one, EachServed}
 use Rattle.xet_ties.proofs.Lanes.{served_expired, served_fetched, served_same}
 use Rattle.xet_ties.proofs.Lates.{expired_next, expired_same}
 use Rattle.xet_ties.proofs.Moves.{tie_event}
 use Rattle.xet_run.proofs.CallerLemmas.{same_numbers}
 use Rattle.xet_base.specs.declared.cas_types.FileRange.{FileRange}
+use Rattle.xet_ties.proofs.HeardServed.{heard_served_same, heard_served_next}
 
 -- a lane's next served entry is recorded
 pub tie_fetched : (g : Setup) (b n : RunTold) (es : List Event) (sl : Slack) (m p k : ℕ) (x : PlannedBlock) (h : List Served) (before after : List (List Served)) (rest : List PlannedBlock)
-    → block_at es p k ≡ x ∷ [] → is_expired es p k ≡ false → m ≡ length before → sl.hidden ≡ before ++ (entry_of p k x ∷ h) ∷ after → sl.pending ≡ x ∷ rest → HasPassed g sl.heard p k
-    → Ties g b n es None sl → Ties g b n (es ++ Fetched m p k ∷ []) None (record sl { hidden = before ++ h ∷ after; pending = rest; due = sl.due + cond (has_one x) 1 0 })
-tie_fetched g b n es sl m p k x h before after rest at fresh is hidden pending passed t =
+    → block_at es p k ≡ x ∷ [] → is_expired es p k ≡ false → m ≡ length before → sl.hidden ≡ before ++ (entry_of p k x ∷ h) ∷ after → sl.pending ≡ x ∷ rest → HasPassed g sl.heard p k → (spare : ℕ) → length (round_in es (Fetched m p k)) + spare ≤ sl.spare
+    → Ties g b n es None sl → Ties g b n (es ++ Fetched m p k ∷ []) None (record sl { hidden = before ++ h ∷ after; pending = rest; due = sl.due + cond (has_one x) 1 0; spare = spare })
+tie_fetched g b n es sl m p k x h before after rest at fresh is hidden pending passed spare fits t =
     let e : Event = Fetched m p k in
-    let to : Slack = record sl { hidden = before ++ h ∷ after; pending = rest; due = sl.due + cond (has_one x) 1 0 } in
+    let to : Slack = record sl { hidden = before ++ h ∷ after; pending = rest; due = sl.due + cond (has_one x) 1 0; spare = spare } in
     tie_event g b n es e sl to
     (record {
       heard = refl;
@@ -38,6 +39,7 @@ tie_fetched g b n es sl m p k x h before after rest at fresh is hidden pending p
       tasks = refl;
       served = λ bs ns v. served_fetched es m p k x h before after sl.late bs ns at is (subst (λ (l : List (List Served)). IsServed es l sl.late bs ns) hidden v);
       expired = λ xs v. expired_same es e 0 xs sl.late (λ l w. refl) v;
+      heard_served = λ xs v. heard_served_next es m p k 0 x h xs before after at (omega (arith, is)) (subst (λ (l : List (List Served)). EachServed es 0 xs l) hidden v);
       asked = refl;
       tried = λ q j. let a = t.tried.at_most q j in omega (arith, a);
       renewed = fresh;
@@ -52,7 +54,7 @@ tie_fetched g b n es sl m p k x h before after rest at fresh is hidden pending p
           let v = count_by-cons (is_one y r) x rest in
           omega (arith, c, d, u, v);
       due = let c = ap (λ (l : List PlannedBlock). count_by has_one l) at in let u = count_by-cons has_one x [] in omega (arith, c, u);
-      spare = omega arith;
+      spare = fits;
       limit = refl;
       ahead = omega arith;
       error = refl;
@@ -60,11 +62,11 @@ tie_fetched g b n es sl m p k x h before after rest at fresh is hidden pending p
 
 -- a lane's next expired answer is recorded
 pub tie_expired : (g : Setup) (b n : RunTold) (es : List Event) (sl : Slack) (m p k j : ℕ) (before after : List ℕ)
-    → is_expired es p k ≡ false → count_by (expires p k) es < g.tries → m ≡ length before → sl.late ≡ before ++ suc j ∷ after
-    → Ties g b n es None sl → Ties g b n (es ++ Expired m p k ∷ []) None (record sl { late = before ++ j ∷ after })
-tie_expired g b n es sl m p k j before after fresh left is late t =
+    → is_expired es p k ≡ false → count_by (expires p k) es < g.tries → m ≡ length before → sl.late ≡ before ++ suc j ∷ after → (spare : ℕ) → length (round_in es (Expired m p k)) + spare ≤ sl.spare
+    → Ties g b n es None sl → Ties g b n (es ++ Expired m p k ∷ []) None (record sl { late = before ++ j ∷ after; spare = spare })
+tie_expired g b n es sl m p k j before after fresh left is late spare fits t =
     let e : Event = Expired m p k in
-    tie_event g b n es e sl (record sl { late = before ++ j ∷ after })
+    tie_event g b n es e sl (record sl { late = before ++ j ∷ after; spare = spare })
     (record {
       heard = refl;
       looks = refl;
@@ -76,6 +78,7 @@ tie_expired g b n es sl m p k j before after fresh left is late t =
       tasks = refl;
       served = λ bs ns v. served_expired es m p k j sl.hidden before after bs ns is (subst (λ (l : List ℕ). IsServed es sl.hidden l bs ns) late v);
       expired = λ xs v. expired_next es m p k j 0 xs before after (omega (arith, is)) (subst (λ (l : List ℕ). EachExpired es 0 xs l) late v);
+      heard_served = λ xs v. heard_served_same es e 0 xs sl.hidden (λ l w. refl) v;
       asked = refl;
       tried = λ q i. tried q i (expires q i e) refl;
       renewed = fresh;
@@ -85,7 +88,7 @@ tie_expired g b n es sl m p k j before after fresh left is late t =
       cached = refl;
       pending = λ y r. omega arith;
       due = omega arith;
-      spare = omega arith;
+      spare = fits;
       limit = refl;
       ahead = omega arith;
       error = refl;
@@ -115,6 +118,7 @@ tie_refreshed g b n es sl p r at lost renewed t =
       tasks = refl;
       served = λ bs ns v. served_same es e sl.hidden sl.late bs ns (λ l. refl) (λ l. refl) (λ q k. refl) (λ m. tt) v;
       expired = λ xs v. expired_same es e 0 xs sl.late (λ l w. refl) v;
+      heard_served = λ xs v. heard_served_same es e 0 xs sl.hidden (λ l w. refl) v;
       asked = lost ∙ ap (λ (l : List FileRange). map (λ v. (g.file, v)) l ++ []) (sym at);
       tried = λ q j. let a = t.tried.at_most q j in omega (arith, a);
       renewed = tt;
@@ -146,6 +150,7 @@ tie_wrote g b n es sl taken rest is t =
       tasks = refl;
       served = λ bs ns v. served_same es e sl.hidden sl.late bs ns (λ l. refl) (λ l. refl) (λ q k. refl) (λ m. tt) v;
       expired = λ xs v. expired_same es e 0 xs sl.late (λ l w. refl) v;
+      heard_served = λ xs v. heard_served_same es e 0 xs sl.hidden (λ l w. refl) v;
       asked = refl;
       tried = λ q j. let a = t.tried.at_most q j in omega (arith, a);
       renewed = tt;
@@ -170,10 +175,12 @@ tie_rest g b n es sl rest spare fewer less t = record {
   cuts = t.cuts;
   within = t.within;
   starts = t.starts;
+  ends = t.ends;
   numbers = t.numbers;
   stored = t.stored;
   served = t.served;
   expired = t.expired;
+  heard_served = t.heard_served;
   asked = t.asked;
   heard_asked = t.heard_asked;
   lost = t.lost;

@@ -23,16 +23,15 @@ use Rattle.xet_run.specs.Events.{plan_count}
 use Rattle.xet_history.specs.TrueHistory.{queries}
 use Rattle.xet_ties.specs.Causes.{failing_setting}
 use Rattle.xet_ties.specs.History.{IsWithin}
-use Rattle.xet_ties.specs.InCall.{EachExchange, Exchange, ExchangeGrew, answers_of}
-use Rattle.xet_ties.specs.Legal.{FirstRenews}
-use Rattle.xet_ties.specs.Saids.{AllRenewed, AnswerOf, FirstRenewed, InStep, IsPlanAccepted, IsRenewal, cut_places}
+use Rattle.xet_ties.specs.InCall.{Exchange, ExchangeGrew}
+use Rattle.xet_ties.specs.Legal.{FirstRenewsBut}
+use Rattle.xet_ties.specs.Saids.{AllRenewed, FirstRenewed, InStep, IsPlanAccepted, IsRenewal, cut_places}
 use Rattle.xet_ties.specs.Setup.{RunTold, Setup}
 use Rattle.xet_ties.specs.steps.Moves.{heard_first, heard_join, no_exchange}
-use Rattle.xet_ties.specs.Ties.{CutsRange, FirstAsked, HeardAsked, Slack, Ties}
+use Rattle.xet_ties.specs.Ties.{CutsRange, HeardAsked, Slack, Ties, IsLost, Stop}
 use Rattle.xet_ties.proofs.CutPlaces.{answer_of_more, cut_end, first_at, next_at, places_append}
 use Rattle.xet_ties.proofs.Heard.{Match}
 use Rattle.xet_ties.proofs.NextPlaces.{next_number}
-use Rattle.xet_ties.proofs.Told.{answers_told, bare, if_some}
 
 -- ---- one connection
 
@@ -181,44 +180,33 @@ renewed_refreshed g p q a (x ∷ xs) accepted step passes t =
     } in
     one_more g x v (said.Plan a ∷ []) (inr r) t
 
--- ---- what is told of it
+-- ---- at an exit
 
-bare_renewed : (g : Setup) (x : Exchange) (count : ℕ) → AllRenewed g x count → AllRenewed g (bare x) count
-bare_renewed g x count a i h =
-    ⊎_elim
-    (λ (c : Contains (cut_places 0 0 x.asked) i). inl c)
-    (λ (r : IsRenewal g x i). inr (there r))
-    (a i h)
+-- the answer of one query at most isn't recorded
+lost_few : (g : Setup) (es : List Event) (lost : List Query) → IsLost g es lost → length lost ≤ 1
+lost_few g es [] l = omega arith
+lost_few g es (q ∷ []) l = omega arith
+lost_few g es (q ∷ r ∷ qs) l = absurd l
+
+-- so all that was asked is renewed but for the last query
+pub renews_but_last : (g : Setup) (b n : RunTold) (es : List Event) (stop : Stop) (sl : Slack) → Ties g b n es stop sl
+    → FirstRenewsBut g 1 sl.heard
+renews_but_last g b n es stop sl t = by sl.heard t.refreshes
   where
-    own : (n : ℕ) (q : Query) (b : PlanAnswer) → AnswerOf x n q b → AnswerOf (bare x) n q b
-    own n q b k = record { place = k.place; some = k.some; at = k.at; query = k.query; answer = k.answer }
+    by : (xs : List Exchange) → FirstRenewed g sl.lost xs → FirstRenewsBut g 1 xs
+    by [] r = tt
+    by (x ∷ xs) r = λ i h. let l = lost_few g es sl.lost t.lost in r i (omega (arith, h, l))
 
-    there : IsRenewal g x i → IsRenewal g (bare x) i
-    there r = record {
-      number = r.number;
-      plan = r.plan;
-      query = r.query;
-      own = own r.number (g.file, r.query) (Found r.plan) r.own;
-      asked = r.asked;
-      answer = r.answer;
-      said = r.said;
-      passes = r.passes;
-    }
-
--- where all that was asked is recorded, all of it
-pub first_renews : (g : Setup) (b n : RunTold) (es : List Event) (sl : Slack) → Ties g b n es None sl
-    → sl.lost ≡ [] → FirstRenews g b.clients n.clients
-first_renews g b n es sl t none = by b.clients n.clients sl.heard t.heard t.asked t.refreshes
+-- and where all of it is recorded, the last one too
+pub renews_all : (g : Setup) (b n : RunTold) (es : List Event) (stop : Stop) (sl : Slack) → Ties g b n es stop sl
+    → sl.lost ≡ [] → FirstRenewsBut g 0 sl.heard
+renews_all g b n es stop sl t none = by sl.heard t.refreshes
   where
-    by : (bs ns : List ClientTold) (xs : List Exchange) → EachExchange bs ns xs
-        → FirstAsked g.file es sl.lost bs ns → FirstRenewed g sl.lost xs → FirstRenews g bs ns
-    by bs ns [] e q r = absurd r
-    by [] ns (x ∷ xs) e q r = absurd q
-    by (c ∷ bs) [] (x ∷ xs) e q r = absurd q
-    by (c ∷ bs) (d ∷ ns) (x ∷ xs) e q r =
-        let l = ap (λ (l : List Query). length l) none in
-        let whole : length x.asked - length sl.lost ≡ length x.asked = omega (arith, l) in
-        let all : AllRenewed g (bare x) (length x.asked) =
-        bare_renewed g x (length x.asked) (subst (λ (k : ℕ). AllRenewed g x k) whole r) in
-        if_some (answers_of c d) (λ y. y ≡ bare x) (λ y. AllRenewed g y (length y.asked))
-        (λ y w. subst (λ (v : Exchange). AllRenewed g v (length v.asked)) (sym w) all) (answers_told c d x e.0)
+    by : (xs : List Exchange) → FirstRenewed g sl.lost xs → FirstRenewsBut g 0 xs
+    by [] r = tt
+    by (x ∷ xs) r = λ i h. let l = ap (λ (l : List Query). length l) none in r i (omega (arith, h, l))
+
+-- nothing was asked
+pub renews_none : (g : Setup) (bs : List ClientTold) → FirstRenewsBut g 1 (no_exchange bs)
+renews_none g [] = tt
+renews_none g (b ∷ bs) = λ i h. absurd (omega (arith, h))

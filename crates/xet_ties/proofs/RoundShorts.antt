@@ -26,6 +26,7 @@ use Rattle.xet_ties.proofs.LaneJoins.{are_joined}
 use Rattle.xet_ties.proofs.LaneTies.{ArePassed, EachPassed, tie_lanes_expired, tie_lanes_fetched}
 use Rattle.xet_ties.proofs.Recording.{tie_wrote}
 use Rattle.xet_ties.proofs.RoundTies.{fetched_slack, joined_slack, late_places, round_fetched, round_joined, round_passed}
+use Rattle.xet_ties.proofs.RoundAsks.{asked_may, some_same, some_taken}
 
 -- ---- the first Fetched events
 
@@ -143,10 +144,10 @@ pub round_short : (g : Setup) (b at : RunTold) (es : List Event) (sl : Slack) (f
     → ((p i : ℕ) → count_by (fetches p i) es + count_by (is_pair p i) (map asks_for fs) ≤ 1) → All (IsFreshAsk es) fs
     → ((x : MerkleHash) (r : ChunkRange) → count_by (is_one x r) (blocks_all (map key_of fs)) ≤ count_by (is_one x r) sl.pending)
     → sl.hidden ≡ no_hidden b.clients → sl.late ≡ no_late b.clients → All (IsPlanAsk g sl.heard) fs
-    → EachMayExpire g.tries 0 (es ++ lane_events fetched_on 0 ls) (map places_of ls)
+    → EachMayExpire g.tries 0 (es ++ lane_events fetched_on 0 ls) (map places_of ls) → (0 < length fs → 1 ≤ sl.spare)
     → Ties g b at es None sl
     → (to : Slack) × Ties g b (record at { clients = ns }) (es ++ take k (lane_events fetched_on 0 ls ++ lane_events expired_on 0 ls)) None to
-round_short g b at es sl fs ns ls k d new fresh waits none_h none_l asks may t =
+round_short g b at es sl fs ns ls k d new fresh waits none_h none_l asks may asked t =
     let now : RunTold = record at { clients = ns } in
     let j = are_joined fs at.clients ns d.drawn ls d.each in
     let got = lane_events fetched_on 0 ls in
@@ -155,22 +156,24 @@ round_short g b at es sl fs ns ls k d new fresh waits none_h none_l asks may t =
     ⊎_elim
     (λ (over : length got < k).
     let c = cut_places g.tries 0 (es ++ got) (k - length got) (map places_of ls) (no_late at.clients) may (late_places at.clients ls j.ends) in
-    let from = round_fetched g b at es sl fs ns ls d new fresh waits none_h none_l asks t in
-    let all = tie_lanes_expired g b now (es ++ got) (fetched_slack fs at.clients ns d.drawn ls j sl) 0 c.places c.late [] c.may c.lanes refl c.counts from in
+    let from = round_fetched g b at es sl fs ns ls d new fresh waits none_h none_l asks asked t in
+    let mid : Slack = record (fetched_slack fs at.clients ns d.drawn ls j sl) { spare = from.left } in
+    let all = tie_lanes_expired g b now (es ++ got) mid 0 c.places c.late [] c.may c.lanes refl c.counts
+    (λ h. from.goes (asked_may expired_on (λ m. refl) es sl.spare fs at.clients ns d.drawn ls d.each asked (some_same (lanes_expired 0 (map places_of ls)) late (j.expired 0) (some_taken (k - length got) (lanes_expired 0 (map places_of ls)) (lanes_expired 0 c.places) c.events h)))) from.ties in
     let names : take k (got ++ late) ≡ got ++ lanes_expired 0 c.places =
     ap (λ (n : ℕ). take n (got ++ late)) (as_sum k got over) ∙ take-append-add got late (k - length got) ∙ ap (λ (l : List Event). got ++ take (k - length got) l) (sym (j.expired 0)) ∙ ap (λ (l : List Event). got ++ l) c.events in
     let events : (es ++ got) ++ lanes_expired 0 c.places ≡ es ++ take k (got ++ late) = append_assoc es got (lanes_expired 0 c.places) ∙ ap (λ (l : List Event). es ++ l) (sym names) in
-    let mid = fetched_slack fs at.clients ns d.drawn ls j sl in
-    let to : Slack = record mid { late = c.late } in
-    (to, subst (λ (l : List Event). Ties g b now l None to) events all))
+    let to : Slack = record mid { late = c.late; spare = all.left } in
+    (to, subst (λ (l : List Event). Ties g b now l None to) events all.ties))
     (λ (within : k ≤ length got).
     let heard = heard_join (lanes_entries j.keys j.hidden) j.said sl.heard in
     let c = cut_keys g heard es k 0 j.keys j.hidden (j.fresh es fresh) (round_passed g b at es sl fs ns ls d asks t) j.lanes in
-    let all = tie_lanes_fetched g b now es (joined_slack fs at.clients ns d.drawn ls j sl) 0 c.keys c.hidden [] c.rest c.fresh c.lanes refl c.entries c.blocks c.passed first in
+    let all = tie_lanes_fetched g b now es (joined_slack fs at.clients ns d.drawn ls j sl) 0 c.keys c.hidden [] c.rest c.fresh c.lanes refl c.entries c.blocks c.passed
+    (λ h. asked_may fetched_on (λ m. refl) es sl.spare fs at.clients ns d.drawn ls d.each asked (some_same (lanes_fetched 0 j.keys) got (j.fetched 0) (some_taken k (lanes_fetched 0 j.keys) (lanes_fetched 0 c.keys) c.events h))) first in
     let names : take k (got ++ late) ≡ lanes_fetched 0 c.keys = take-append-le k got late within ∙ ap (λ (l : List Event). take k l) (sym (j.fetched 0)) ∙ c.events in
     let from = joined_slack fs at.clients ns d.drawn ls j sl in
-    let to : Slack = record from { hidden = c.hidden; pending = c.rest; due = from.due + count_by has_one (flat_map blocks_all c.keys) } in
-    (to, subst (λ (l : List Event). Ties g b now (es ++ l) None to) (sym names) all))
+    let to : Slack = record from { hidden = c.hidden; pending = c.rest; due = from.due + count_by has_one (flat_map blocks_all c.keys); spare = all.left } in
+    (to, subst (λ (l : List Event). Ties g b now (es ++ l) None to) (sym names) all.ties))
     (cases_lt (length got) k)
   where
     as_sum : (n : ℕ) (xs : List Event) → length xs < n → n ≡ length xs + (n - length xs)

@@ -1,5 +1,5 @@
 -- The ties after a whole round: the lanes came back, and all that they did is recorded.
-use Rattle.std.proofs.Common.{◌≡◌, ℕ, zero, suc, ◌+◌, ◌≤◌, List, [], ◌∷◌, ◌++◌, length, map, refl, sym, subst, ◌∙◌, ap, arith, inl, inr, ⊎_elim, None, Some}
+use Rattle.std.proofs.Common.{◌≡◌, ℕ, zero, suc, ◌+◌, ◌<◌, ◌≤◌, List, [], ◌∷◌, ◌++◌, length, map, refl, sym, subst, ◌∙◌, ap, arith, inl, inr, ⊎_elim, None, Some}
 use Rattle.std.specs.Prelude.{count_by, drop, All, slice_get}
 use Rattle.std.specs.List.{flat_map}
 use Rattle.std.proofs.lemmas.List.{append-nil}
@@ -15,22 +15,23 @@ use Rattle.xet_ties.specs.declared.lane_step.LaneStep.TheVariants as step
 use Rattle.xet_ties.specs.InCall.{EachGrew, Exchange, SomeOne}
 use Rattle.xet_ties.specs.Lanes.{Ask, DrewApart, EachDrew, IsFor}
 use Rattle.xet_ties.specs.Saids.{HasPassed, IsServedData, PassedIn}
-use Rattle.xet_ties.specs.steps.Records.{AreFresh, asks_for, Key, Place, places, places_of, EachFresh, EachMayExpire, blocks_all, expired_on, fetched_on, lanes_entries, lane_events, lanes_late, IsFreshAsk, key_of}
+use Rattle.xet_ties.specs.steps.Records.{AreFresh, asks_for, Key, Place, places, places_of, EachFresh, EachMayExpire, blocks_all, expired_on, fetched_on, lanes_entries, lane_events, lanes_late, IsFreshAsk, key_of, lanes_expired, lanes_fetched}
 use Rattle.xet_ties.specs.steps.Moves.{no_hidden, no_late, heard_join}
 use Rattle.xet_ties.specs.Setup.{RunTold, Setup, most_lanes}
 use Rattle.xet_ties.specs.Ties.{EachLane, Slack, Ties, has_one, is_one, is_pair, IsPlannedEntry}
 use Rattle.xet_ties.specs.History.{block_at, fetches}
 use Rattle.xet_ties.specs.steps.Rounds.{AfterRound, IsHeardData, IsHeardStep, IsPlanAsk, blocks_at, got_of}
-use Rattle.xet_ties.proofs.Heard.{block_more, grew_join, join_match, step_join}
+use Rattle.xet_ties.proofs.Heard.{asked_join, block_more, grew_join, join_match, step_join}
 use Rattle.xet_ties.proofs.ClientMoves.{tie_join}
 use Rattle.xet_ties.proofs.LaneJoins.{AreJoined, are_joined, fetched_among, joined_among, served_apart}
-use Rattle.xet_ties.proofs.LaneTies.{ArePassed, EachPassed, tie_lanes_expired, tie_lanes_fetched}
+use Rattle.xet_ties.proofs.LaneTies.{ArePassed, EachPassed, tie_lanes_expired, tie_lanes_fetched, InRound}
 use Rattle.xet_ties.proofs.Recording.{tie_rest}
 use Rattle.xet_ties.proofs.RoundData.{are_paired}
 use Rattle.std.proofs.lemmas.List.Elements.{All-append, All-cons, All-head, All-map, All-nil, All-tail, All-weaker}
 use Rattle.xet_blocks.specs.declared.reconstruction_terms.xorb_block.XorbBlock.{XorbBlock}
 use Rattle.xet_blocks.specs.declared.reconstruction_terms.xorb_block.XorbBlockData.{XorbBlockData}
 use Rattle.xet_ties.proofs.Telling.{all_left, all_right}
+use Rattle.xet_ties.proofs.RoundAsks.{asked_may, some_same}
 
 -- as many connections as at the start
 same_late : (es : List Event) (l : ℕ) (bs ns : List ClientTold) (hs : List (List Served)) (ks : List ℕ) → EachLane es l bs ns hs ks → no_late ns ≡ no_late bs
@@ -186,38 +187,42 @@ round_passed g b at es sl fs ns ls d all t =
 pub round_fetched : (g : Setup) (b at : RunTold) (es : List Event) (sl : Slack) (fs : List Ask) (ns : List ClientTold) (ls : List (List LaneStep)) → (d : DrewApart fs at.clients ns ls)
     → ((p k : ℕ) → count_by (fetches p k) es + count_by (is_pair p k) (map asks_for fs) ≤ 1) → All (IsFreshAsk es) fs
     → ((x : MerkleHash) (r : ChunkRange) → count_by (is_one x r) (blocks_all (map key_of fs)) ≤ count_by (is_one x r) sl.pending)
-    → sl.hidden ≡ no_hidden b.clients → sl.late ≡ no_late b.clients → All (IsPlanAsk g sl.heard) fs → Ties g b at es None sl
-    → Ties g b (record at { clients = ns }) (es ++ lane_events fetched_on 0 ls) None (fetched_slack fs at.clients ns d.drawn ls (are_joined fs at.clients ns d.drawn ls d.each) sl)
-round_fetched g b at es sl fs ns ls d new fresh waits none_h none_l all t =
+    → sl.hidden ≡ no_hidden b.clients → sl.late ≡ no_late b.clients → All (IsPlanAsk g sl.heard) fs → (0 < length fs → 1 ≤ sl.spare) → Ties g b at es None sl
+    → InRound g b (record at { clients = ns }) es (lane_events fetched_on 0 ls) sl.spare (λ i. record (fetched_slack fs at.clients ns d.drawn ls (are_joined fs at.clients ns d.drawn ls d.each) sl) { spare = i })
+round_fetched g b at es sl fs ns ls d new fresh waits none_h none_l all asked t =
     let j = are_joined fs at.clients ns d.drawn ls d.each in
     let now : RunTold = record at { clients = ns } in
     let took = flat_map blocks_all j.keys in
     let first = round_joined g b at es sl fs ns ls d new fresh waits none_h none_l t in
-    let fetched = tie_lanes_fetched g b now es (joined_slack fs at.clients ns d.drawn ls j sl) 0 j.keys j.hidden [] [] (j.fresh es fresh) j.lanes refl refl (sym (append-nil took)) (round_passed g b at es sl fs ns ls d all t) first in
-    subst (λ (l : List Event). Ties g b now (es ++ l) None (fetched_slack fs at.clients ns d.drawn ls j sl)) (j.fetched 0) fetched
+    let fetched = tie_lanes_fetched g b now es (joined_slack fs at.clients ns d.drawn ls j sl) 0 j.keys j.hidden [] [] (j.fresh es fresh) j.lanes refl refl (sym (append-nil took)) (round_passed g b at es sl fs ns ls d all t)
+    (λ h. asked_may fetched_on (λ m. refl) es sl.spare fs at.clients ns d.drawn ls d.each asked (some_same (lanes_fetched 0 j.keys) (lane_events fetched_on 0 ls) (j.fetched 0) h)) first in
+    subst (λ (l : List Event). InRound g b now es l sl.spare (λ i. record (fetched_slack fs at.clients ns d.drawn ls j sl) { spare = i })) (j.fetched 0) fetched
 
 -- all that the lanes did is recorded
 pub round_tied : (g : Setup) (b at : RunTold) (es : List Event) (sl : Slack) (fs : List Ask) (ns : List ClientTold) (ls : List (List LaneStep)) → DrewApart fs at.clients ns ls
     → ((p k : ℕ) → count_by (fetches p k) es + count_by (is_pair p k) (map asks_for fs) ≤ 1) → All (IsFreshAsk es) fs
     → ((x : MerkleHash) (r : ChunkRange) → count_by (is_one x r) (blocks_all (map key_of fs)) ≤ count_by (is_one x r) sl.pending)
     → sl.hidden ≡ no_hidden b.clients → sl.late ≡ no_late b.clients → All (IsPlanAsk g sl.heard) fs
-    → EachMayExpire g.tries 0 (es ++ lane_events fetched_on 0 ls) (map places_of ls)
+    → EachMayExpire g.tries 0 (es ++ lane_events fetched_on 0 ls) (map places_of ls) → (0 < length fs → 1 ≤ sl.spare)
     → Ties g b at es None sl
     → (to : Slack) × Ties g b (record at { clients = ns }) ((es ++ lane_events fetched_on 0 ls) ++ lane_events expired_on 0 ls) None to × AfterRound b.clients at.clients es fs ls sl to
-round_tied g b at es sl fs ns ls d new fresh waits none_h none_l asks may t =
+round_tied g b at es sl fs ns ls d new fresh waits none_h none_l asks may asked t =
     let j = are_joined fs at.clients ns d.drawn ls d.each in
     let now : RunTold = record at { clients = ns } in
     let got = es ++ lane_events fetched_on 0 ls in
-    let from = round_fetched g b at es sl fs ns ls d new fresh waits none_h none_l asks t in
-    let all = tie_lanes_expired g b now got (fetched_slack fs at.clients ns d.drawn ls j sl) 0 (map places_of ls) (no_late at.clients) [] may (late_places at.clients ls j.ends) refl refl from in
-    let to : Slack = record sl { heard = heard_join (lanes_entries j.keys j.hidden) j.said sl.heard; hidden = j.hidden; late = no_late b.clients; pending = []; due = sl.due + count_by has_one (flat_map blocks_all j.keys) } in
-    let named = subst (λ (l : List Event). Ties g b now (got ++ l) None (record to { late = no_late at.clients })) (j.expired 0) all in
+    let from = round_fetched g b at es sl fs ns ls d new fresh waits none_h none_l asks asked t in
+    let all = tie_lanes_expired g b now got (record (fetched_slack fs at.clients ns d.drawn ls j sl) { spare = from.left }) 0 (map places_of ls) (no_late at.clients) [] may (late_places at.clients ls j.ends) refl refl
+    (λ h. from.goes (asked_may expired_on (λ m. refl) es sl.spare fs at.clients ns d.drawn ls d.each asked (some_same (lanes_expired 0 (map places_of ls)) (lane_events expired_on 0 ls) (j.expired 0) h))) from.ties in
+    let to : Slack = record sl { heard = heard_join (lanes_entries j.keys j.hidden) j.said sl.heard; hidden = j.hidden; late = no_late b.clients; pending = []; due = sl.due + count_by has_one (flat_map blocks_all j.keys); spare = 0 } in
+    let after_all = subst (λ (l : List Event). Ties g b now (got ++ l) None (record to { late = no_late at.clients; spare = all.left })) (j.expired 0) all.ties in
+    let named = tie_rest g b now (got ++ lane_events expired_on 0 ls) (record to { late = no_late at.clients; spare = all.left }) [] 0 (λ x r. omega arith) (omega arith) after_all in
     let tied = subst (λ (l : List ℕ). Ties g b now (got ++ lane_events expired_on 0 ls) None (record to { late = l })) (same_late es 0 b.clients at.clients sl.hidden sl.late t.served.lanes) named in
     let keys = j.fresh es fresh in
     let match = join_match b.clients at.clients ns (lanes_entries j.keys j.hidden) j.said (lanes_late (map places_of ls) (no_late at.clients)) sl.heard j.joined t.heard in
     let after : AfterRound b.clients at.clients es fs ls sl to = record {
       grew = grew_join (lanes_entries j.keys j.hidden) j.said sl.heard match;
       step = step_join (lanes_entries j.keys j.hidden) j.said sl.heard match;
+      asked = asked_join (lanes_entries j.keys j.hidden) j.said sl.heard match;
       found = j.found sl.heard (are_paired b.clients at.clients sl.heard t.heard);
       looks = refl;
       none = λ h. j.none h ∙ same_hidden es 0 b.clients at.clients sl.hidden sl.late t.served.lanes;

@@ -25,7 +25,7 @@ use Rattle.xet_blocks.specs.TermBlocks.{covered}
 use Rattle.xet_fetch.specs.Refreshes.{plan_extents, refusal_of}
 use Rattle.xet_run.specs.declared.event.PlannedBlock.{PlannedBlock}
 use Rattle.xet_run.specs.declared.event.PlannedTerm.{PlannedTerm}
-use Rattle.xet_ties.specs.Causes.{BlockFailsIn, EndFails, SomeFailed, TermFailsIn}
+use Rattle.xet_ties.specs.Causes.{BlockFailsIn, SomeFailed, TermFailsIn}
 use Rattle.xet_ties.specs.Cuts.{StartsAt}
 use Rattle.xet_ties.specs.History.{entry_of}
 use Rattle.xet_ties.specs.InCall.{Exchange, SomeOne}
@@ -66,10 +66,7 @@ pub block_fails : (g : Setup) (xs : List Exchange) (k : Corruption) (place : Blo
 block_fails g xs k place p own s h = inr (inr (inl (record { place = place; number = p; own = own; numbered = s; bytes = h })))
 
 pub term_fails : (g : Setup) (xs : List Exchange) (k : Corruption) (place : TermOfPlan g xs) (p : ℕ) → p ≡ place.place.accepted.said.number → StartsAt g xs p place.place.query.start → SomeOne (TermFailsIn g xs place p k) xs → SomeFailed g xs k
-term_fails g xs k place p own s h = inr (inr (inr (inl (record { place = place; number = p; own = own; numbered = s; bytes = h }))))
-
-pub end_fails : (g : Setup) (xs : List Exchange) (k : Corruption) → EndFails g xs k → SomeFailed g xs k
-end_fails g xs k h = inr (inr (inr (inr h)))
+term_fails g xs k place p own s h = inr (inr (inr (record { place = place; number = p; own = own; numbered = s; bytes = h })))
 
 plan_tested : (g : Setup) (xs : List Exchange) (n : ℕ) (p : Plan) (q : FileRange) (id : UniqueId) (k : Corruption) (o : Option Corruption) → g.range.start ≤ q.start → q.end ≤ g.range.end → IsCutAnswer g.file xs n q (Found p) → 0 < length p.terms → failed_test (shape p) q g.multirange ≡ o
     → FromTested p (plan_query g q id) o (Err (error.CorruptedReconstruction k)) → SomeFailed g xs k

@@ -117,7 +117,7 @@ block_said g es x xs p k pb cuts numbers a h = by (first_some (map (blocks_in p)
     by None e = absurd (none (sym (ap of e) ∙ h))
     by (Some bs) e =
         let v = plan_at bs_of (IsEventSaid g x) p (blocks_in p) (reads_blocks p) es bs numbers a e in
-        let lies = cut_within g.range.start g.range.end (g.greatest + g.least) (queries es) v.place v.query cuts v.at in
+        let lies = cut_within g.range.start g.range.end (g.greatest + g.least) (queries es) v.place v.query cuts.from v.at in
         let same : v.blocks ≡ bs = v.is in
         let said : IsPlannedBy g x p v.query v.terms bs = subst (λ (l : List PlannedBlock). IsPlannedBy g x p v.query v.terms l) same v.holds in
         made bs (at_block bs k pb (sym (ap of e) ∙ h)) v lies said.answer said.said said.made

@@ -1,9 +1,9 @@
 -- Where a finished run's cache has no entries, each chunk with a byte in the window lies in a served block.
 use Rattle.std.proofs.Common.{◌≡◌, ⊎_elim, ℕ, ◌+◌, ◌-◌, ◌<◌, ◌≤◌, ◌==◌, min, max, Bool, true, false, cond, List, [], ◌∷◌, ◌++◌, length, map, filter, get_or, refl, sym, ◌∙◌, ap, subst, arith, append_assoc, None, Some, Option}
-use Rattle.std.specs.Prelude.{All, Contains, IfSome, MatchOption, option_to_list, slice_get}
+use Rattle.std.specs.Prelude.{All, Contains, MatchOption, option_to_list, slice_get}
 use Rattle.std.specs.List.{AllZip, flat_map}
 use Rattle.std.proofs.lemmas.Bool.{cases_lt, eq-eqb, lt-ltb, ltb-true, ne_eqb}
-use Rattle.std.proofs.lemmas.List.Elements.{All-append, All-cons, All-contains, All-head, All-nil, All-tail, All-weaker, Contains-append_left, Contains-append_right}
+use Rattle.std.proofs.lemmas.List.Elements.{All-cons, All-contains, All-head, All-nil, All-tail, All-weaker, Contains-append_left, Contains-append_right}
 use Rattle.std.proofs.lemmas.Option.{get_or_from_slice_get, slice_get_within}
 use Rattle.xet_base.specs.declared.cas_types.FileRange.{FileRange}
 use Rattle.xet_base.specs.declared.merklehash.MerkleHash.{MerkleHash}
@@ -11,7 +11,7 @@ use Rattle.xet_base.specs.Lists.{first_some}
 use Rattle.xet_base.specs.Store.{IsValid, Store, bytes_of}
 use Rattle.xet_base.proofs.CallerLemmas.{length-slice_range}
 use Rattle.xet_outside.specs.Plan.{plan_of}
-use Rattle.xet_outside.specs.Told.{CacheEntry, ClientTold}
+use Rattle.xet_outside.specs.Told.{CacheEntry}
 use Rattle.xet_outside.specs.declared.served.Served.{Served}
 use Rattle.xet_blocks.specs.Blocks.{PlanBlock, block_ranges, blocks_of}
 use Rattle.xet_blocks.specs.Laws.{IsServedBlock, IsServedTerm}
@@ -30,52 +30,19 @@ use Rattle.xet_run.specs.Events.{Task, is_plan, last_of, plan_count, planned, ta
 use Rattle.xet_history.specs.Queries.{CutFrom}
 use Rattle.xet_history.specs.TrueHistory.{IsTrueEvent, planned_block, planned_term, queries, queries_end}
 use Rattle.xet_history.proofs.CallerLemmas.{pieces_cover, pieces_reach}
-use Rattle.xet_ties.specs.History.{EachAfter, IsNumberedNext, block_at, blocks_in, entry_of, served_by}
-use Rattle.xet_ties.specs.InCall.{EachExchange, Exchange, Look, SomeOne, all_served, joined, new_in}
+use Rattle.xet_ties.specs.History.{EachAfter, IsNumberedNext, block_at, blocks_in, entry_of}
+use Rattle.xet_ties.specs.InCall.{Exchange, Look, SomeOne, served_of_all}
 use Rattle.xet_ties.specs.RunCalls.{IsFinished}
 use Rattle.xet_ties.specs.Saids.{IsLookedData, IsServedData, IsTaskPiece, has_bytes, planned_of, some_of}
 use Rattle.xet_ties.specs.Setup.{IsOver, RunTold, Setup, download_of}
-use Rattle.xet_ties.specs.Ties.{EachLane, IsEntryOf, IsPlannedEntry, Slack, Ties, all_of}
+use Rattle.xet_ties.specs.Ties.{IsEntryOf, IsPlannedEntry, Slack, Ties}
 use Rattle.xet_ties.proofs.HonestSizes.{HasLength, terms_have_length}
 use Rattle.xet_ties.proofs.Numbers.{reads_blocks}
 use Rattle.xet_ties.proofs.Pairs.{served_planned}
 use Rattle.xet_ties.proofs.SaidTies.{at_block, map_at}
 use Rattle.xet_ties.proofs.Telling.{all_left, all_right, count-more, count-same}
-use Rattle.xet_ties.proofs.Told.{if_some, told_new}
 use Rattle.xet_ties.proofs.Wholes.{took_all}
-
--- ---- what was served, where it is told
-
-joined_is : {A : Type 0} (o p : Option (List A)) (xs ys : List A) → IfSome o (λ l. l ≡ xs) → IfSome p (λ l. l ≡ ys) → IfSome (joined o p) (λ l. l ≡ xs ++ ys)
-joined_is None p xs ys a b = tt
-joined_is (Some l) None xs ys a b = tt
-joined_is (Some l) (Some m) xs ys a b = ap (λ z. z ++ m) a ∙ ap (λ z. xs ++ z) b
-
-served_heard : (bs ns : List ClientTold) (xs : List Exchange) → EachExchange bs ns xs → IfSome (all_served bs ns) (λ l. l ≡ flat_map (λ x. x.served) xs)
-served_heard [] [] [] h = refl
-served_heard [] [] (x ∷ xs) h = absurd h
-served_heard [] (n ∷ ns) xs h = absurd h
-served_heard (b ∷ bs) [] xs h = absurd h
-served_heard (b ∷ bs) (n ∷ ns) [] h = absurd h
-served_heard (b ∷ bs) (n ∷ ns) (x ∷ xs) h = joined_is (new_in b.served n.served) (all_served bs ns) x.served (flat_map (λ x. x.served) xs) (told_new b.served n.served x.served h.0.serves) (served_heard bs ns xs h.1)
-
-joined_all : (Q : Served → Type 0) (o p : Option (List Served)) → IfSome o (All Q) → IfSome p (All Q) → IfSome (joined o p) (All Q)
-joined_all Q None p a b = tt
-joined_all Q (Some l) None a b = tt
-joined_all Q (Some l) (Some m) a b = All-append Q l m a b
-
--- each entry is that of a planned block
-entries_told : (es : List Event) (l : ℕ) (bs ns : List ClientTold) (hs : List (List Served)) (ks : List ℕ) → All (IsPlannedEntry es) (all_of hs) → EachLane es l bs ns hs ks → IfSome (all_served bs ns) (All (IsPlannedEntry es))
-entries_told es l [] [] hs ks a t = All-nil (IsPlannedEntry es)
-entries_told es l [] (n ∷ ns) hs ks a t = absurd t
-entries_told es l (b ∷ bs) [] hs ks a t = absurd t
-entries_told es l (b ∷ bs) (n ∷ ns) [] ks a t = absurd t
-entries_told es l (b ∷ bs) (n ∷ ns) (h ∷ hs) [] a t = absurd t
-entries_told es l (b ∷ bs) (n ∷ ns) (h ∷ hs) (k ∷ ks) a t =
-    let here : All (IsPlannedEntry es) (served_by l es ++ h) = All-append (IsPlannedEntry es) (served_by l es) h (served_planned l es) (all_left (IsPlannedEntry es) h (all_of hs) a) in
-    joined_all (IsPlannedEntry es) (new_in b.served n.served) (all_served bs ns)
-    (if_some (new_in b.served n.served) (λ y. y ≡ served_by l es ++ h) (All (IsPlannedEntry es)) (λ y e. subst (λ (z : List Served). All (IsPlannedEntry es) z) (sym e) here) (told_new b.served n.served (served_by l es ++ h) t.0.served))
-    (entries_told es (l + 1) bs ns hs ks (all_right (IsPlannedEntry es) h (all_of hs) a) t.1)
+use Rattle.xet_ties.proofs.HeardServed.{all_heard}
 
 -- ---- a term's entry
 
@@ -259,9 +226,16 @@ cut_served s f l r bound qs c same h k d w =
 
 -- ---- a finished run
 
-pub chunks_told : (g : Setup) (b n : RunTold) (es : List Event) (k : ℕ) (sl : Slack) → IsAllowedHistory es → Ties g b n es None sl → sl.ahead ≡ 0 → IsFinished g es k → (s : Store) → IsOver s b.clients → n.cache.entries ≡ Some []
-    → IfSome (all_served b.clients n.clients) (AllServed s g.file g.range)
-chunks_told g b n es k sl a t none f s over empty = by (all_served b.clients n.clients) (entries_told es 0 b.clients n.clients sl.hidden sl.late t.served.planned t.served.lanes) (served_heard b.clients n.clients sl.heard t.heard)
+pub chunks_heard : (g : Setup) (b n : RunTold) (es : List Event) (k : ℕ) (sl : Slack) → IsAllowedHistory es → Ties g b n es None sl → sl.ahead ≡ 0 → IsFinished g es k → (s : Store) → IsOver s b.clients → n.cache.entries ≡ Some []
+    → AllServed s g.file g.range (served_of_all sl.heard)
+chunks_heard g b n es k sl a t none f s over empty =
+    let l = served_of_all sl.heard in
+    let entries = all_heard (IsPlannedEntry es) es 0 sl.heard sl.hidden (λ m. served_planned m es) t.served.planned t.heard_served in
+    let z = took_all g b n es k sl t none f in
+    let looks = subst (λ (o : Option (List CacheEntry)). All (IsEntryOf o) sl.looks) empty t.looked_entries in
+    let own = tasks_served g sl.heard sl.looks (some_of es) z.pieces looks z.each in
+    cut_served s g.file l g.range (g.greatest + g.least) (queries es) t.cuts.from reach
+    (queries_served s over.valid g es l entries [] es refl (λ i k. refl) t.numbers (t.true_of s over).plans (some_served l (planned es) own))
   where
     size : ℕ
     size = length (bytes_of s g.file)
@@ -276,13 +250,3 @@ chunks_told g b n es k sl a t none f s over empty = by (all_served b.clients n.c
         let m = length-slice_range (bytes_of s g.file) g.range.start (queries_end es g.range.start) in
         let w = length-slice_range (bytes_of s g.file) g.range.start g.range.end in
         omega (arith, h, same, m, w)
-
-    by : (o : Option (List Served)) → IfSome o (All (IsPlannedEntry es)) → IfSome o (λ l. l ≡ flat_map (λ x. x.served) sl.heard) → IfSome o (AllServed s g.file g.range)
-    by None e h = tt
-    by (Some l) e h =
-        let z = took_all g b n es k sl t none f in
-        let looks = subst (λ (o : Option (List CacheEntry)). All (IsEntryOf o) sl.looks) empty t.looked_entries in
-        let tasks = tasks_served g sl.heard sl.looks (some_of es) z.pieces looks z.each in
-        let own = subst (λ (v : List Served). All (TaskServed v) (some_of es)) (sym h) tasks in
-        cut_served s g.file l g.range (g.greatest + g.least) (queries es) t.cuts reach
-        (queries_served s over.valid g es l e [] es refl (λ i k. refl) t.numbers (t.true_of s over).plans (some_served l (planned es) own))

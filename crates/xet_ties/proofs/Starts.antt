@@ -34,6 +34,8 @@ use Rattle.xet_ties.specs.Saids.{EventPassed, FirstSaid, IsEventSaid, IsUnasked}
 use Rattle.xet_ties.specs.steps.Parts.{AdmitsCall, stop_event}
 use Rattle.xet_ties.proofs.Heard.{exchange_start, said_push}
 use Rattle.xet_ties.proofs.Renewed.{renewed_start}
+use Rattle.xet_ties.proofs.EarlyEnds.{ends_same, cuts_none}
+use Rattle.xet_ties.proofs.HeardServed.{heard_served_same, heard_served_start}
 
 -- ---- the start
 
@@ -87,13 +89,15 @@ pub tie_start : (g : Setup) (b : RunTold) → failing_setting g b.clients ≡ No
 tie_start g b h = record {
   heard = exchange_start b.clients;
   true_of = λ s o. record { cuts = tt; plans = All-nil (IsTrueEvent s g.file g.multirange) };
-  cuts = tt;
+  cuts = cuts_none g;
   within = All-nil IsWithin;
   starts = tt;
+  ends = tt;
   numbers = tt;
   stored = λ s tell k. absurd (omega arith);
   served = served_start b.clients;
   expired = expired_start 0 b.clients;
+  heard_served = heard_served_start 0 b.clients;
   asked = asked_start g b.clients h;
   heard_asked = heard_start g b.clients h;
   lost = tt;
@@ -105,9 +109,9 @@ tie_start g b h = record {
   one_cached = tt;
   looked = record { looked = same_list b.cache.looked; cover = λ x r. record { kept = omega arith; cached = omega arith; honest = λ s o. omega arith } };
   looked_entries = All-nil (IsEntryOf b.cache.entries);
-  offered = record { puts = 0; offers = reaches_start b.cache.offers; cover = omega arith };
+  offered = record { puts = 0; offers = reaches_start b.cache.offers; cover = omega arith; faults = omega arith };
   polled = record { polls = 0; asks = reaches_start b.signal.asks; cover = omega arith; later = omega arith };
-  limited = record { answers = []; listed = same_list b.limits.limits; among = tt; fixed = none_are b.limits.fixed; same = refl };
+  limited = record { answers = []; listed = same_list b.limits.limits; among = tt; fixed = none_are b.limits.fixed; same = refl; within = none_are b.limits.most; same_most = refl };
   taken = record { taken = []; took = same_list b.sink.took; counted = refl; pieces = λ s o c. record { rest = []; joined = refl }; tested = record { pieces = []; each = tt; from = record { rest = []; joined = refl } }; faults = omega arith; link = refl };
   recorded = record { answered = λ e x. absurd (cc); recorded = λ e x. absurd (cc) };
 }
@@ -130,10 +134,12 @@ tie_cancel g b n es sl t =
       cuts = cuts_same g es e refl t.cuts;
       within = All-push IsWithin es e t.within tt;
       starts = starts_same g.range.start es e refl t.starts;
+      ends = ends_same es e refl t.ends;
       numbers = each-push IsNumberedNext es e t.numbers tt;
       stored = stored_same g.file es e b.clients refl t.stored;
       served = served_same es e sl.hidden sl.late b.clients n.clients (λ l. refl) (λ l. refl) (λ p k. refl) (λ m. tt) t.served;
       expired = expired_same es e 0 sl.heard sl.late (λ l w. refl) t.expired;
+      heard_served = heard_served_same es e 0 sl.heard sl.hidden (λ l w. refl) t.heard_served;
       asked = first_push g.file es e sl.lost sl.lost b.clients n.clients refl t.asked;
       heard_asked = heard_push g.file es e sl.lost sl.lost sl.heard refl t.heard_asked;
       lost = lost_push g es e sl.lost [] sl.lost refl refl refl t.lost;
@@ -185,10 +191,12 @@ tie_flush g b n es sl to took faults link t = record {
   cuts = t.cuts;
   within = t.within;
   starts = t.starts;
+  ends = t.ends;
   numbers = t.numbers;
   stored = t.stored;
   served = t.served;
   expired = t.expired;
+  heard_served = t.heard_served;
   asked = t.asked;
   heard_asked = t.heard_asked;
   lost = t.lost;

@@ -1,15 +1,10 @@
 -- What connections that tell their lists tell of a call.
-use Rattle.std.proofs.Common.{◌≡◌, ℕ, ◌+◌, List, [], ◌∷◌, ◌++◌, length, drop, refl, sym, subst, ◌∙◌, ap, Some, None, Option}
-use Rattle.std.specs.Prelude.{All, IfSome}
-use Rattle.std.proofs.lemmas.List.Elements.{All-append, All-cons, All-nil}
+use Rattle.std.proofs.Common.{◌≡◌, List, [], ◌∷◌, ◌++◌, length, drop, refl, sym, subst, ◌∙◌, ap, Some, None, Option}
+use Rattle.std.specs.Prelude.{IfSome}
 use Rattle.xet_outside.specs.declared.said.Said.{Said}
 use Rattle.xet_outside.specs.declared.served.Served.{Served}
 use Rattle.xet_outside.specs.Told.{Added, ClientTold, Query}
-use Rattle.xet_run.specs.declared.event.Event.{Event}
-use Rattle.xet_ties.specs.History.{served_by}
 use Rattle.xet_ties.specs.InCall.{EachExchange, Exchange, IsExchange, all_exchanges, answers_of, exchange, exchange_of, new_in, with_exchange}
-use Rattle.xet_ties.specs.Ties.{EachLane, all_of}
-use Rattle.xet_ties.proofs.Telling.{all_left, all_right}
 
 -- ---- one list
 
@@ -62,32 +57,3 @@ all_told [] (n ∷ ns) xs h = absurd h
 all_told (b ∷ bs) [] xs h = absurd h
 all_told (b ∷ bs) (n ∷ ns) [] h = absurd h
 all_told (b ∷ bs) (n ∷ ns) (x ∷ xs) h = with_is (exchange_of b n) (all_exchanges bs ns) x xs (one_told b n x h.0) (all_told bs ns xs h.1)
-
--- ---- served blocks
-
--- the served list of one connection, where its lists are told
-exchange_served : (o : Option (List Query)) (p : Option (List Served)) (q : Option (List Said)) (l : List Served) → IfSome p (λ s. s ≡ l) → IfSome (exchange o p q) (λ y. y.served ≡ l)
-exchange_served None p q l h = tt
-exchange_served (Some qs) None q l h = tt
-exchange_served (Some qs) (Some es) None l h = tt
-exchange_served (Some qs) (Some es) (Some all) l h = h
-
-with_all : (Q : Served → Type 0) (o : Option Exchange) (p : Option (List Exchange)) → IfSome o (λ y. All Q y.served) → IfSome p (λ ys. All (λ x. All Q x.served) ys) → IfSome (with_exchange o p) (λ ys. All (λ x. All Q x.served) ys)
-with_all Q None p a b = tt
-with_all Q (Some y) None a b = tt
-with_all Q (Some y) (Some ys) a b = All-cons (λ x. All Q x.served) y ys a b
-
--- what holds of the entries of all Fetched events and of the hidden ones holds of all that was served
-pub served_told : (Q : Served → Type 0) (es : List Event) (l : ℕ) (bs ns : List ClientTold) (hs : List (List Served)) (ks : List ℕ) → ((lane : ℕ) → All Q (served_by lane es)) → All Q (all_of hs) → EachLane es l bs ns hs ks
-    → IfSome (all_exchanges bs ns) (λ ys. All (λ x. All Q x.served) ys)
-served_told Q es l [] [] hs ks f a t = All-nil (λ x. All Q x.served)
-served_told Q es l [] (n ∷ ns) hs ks f a t = absurd t
-served_told Q es l (b ∷ bs) [] hs ks f a t = absurd t
-served_told Q es l (b ∷ bs) (n ∷ ns) [] ks f a t = absurd t
-served_told Q es l (b ∷ bs) (n ∷ ns) (h ∷ hs) [] f a t = absurd t
-served_told Q es l (b ∷ bs) (n ∷ ns) (h ∷ hs) (k ∷ ks) f a t =
-    let here : All Q (served_by l es ++ h) = All-append Q (served_by l es) h (f l) (all_left Q h (all_of hs) a) in
-    let one = exchange_served (new_in b.asked n.asked) (new_in b.served n.served) (new_in b.said n.said) (served_by l es ++ h) (told_new b.served n.served (served_by l es ++ h) t.0.served) in
-    with_all Q (exchange_of b n) (all_exchanges bs ns)
-    (if_some (exchange_of b n) (λ y. y.served ≡ served_by l es ++ h) (λ y. All Q y.served) (λ y e. subst (λ (s : List Served). All Q s) (sym e) here) one)
-    (served_told Q es (l + 1) bs ns hs ks f (all_right Q h (all_of hs) a) t.1)

@@ -8,9 +8,9 @@ use Rattle.xet_outside.specs.Told.{ClientTold, Rose}
 use Rattle.xet_outside.specs.declared.block.BlockBytes.{BlockBytes}
 use Rattle.xet_outside.specs.declared.plan.Plan.{Plan}
 use Rattle.xet_outside.specs.declared.plan.PlanAnswer.{PlanAnswer}
-use Rattle.xet_outside.specs.declared.plan.PlanAnswer.TheVariants.{Found, NoFile, PastEnd}
+use Rattle.xet_outside.specs.declared.plan.PlanAnswer.TheVariants.{NoFile}
 use Rattle.xet_error.specs.declared.error.Corruption.{Corruption}
-use Rattle.xet_error.specs.declared.error.Corruption.TheVariants.{BlockLength, OffsetCount, OffsetOrder, PastKnownEnd, TermPastBlock}
+use Rattle.xet_error.specs.declared.error.Corruption.TheVariants.{BlockLength, OffsetCount, OffsetOrder, TermPastBlock}
 use Rattle.xet_error.specs.declared.error.FileReconstructionError.{FileReconstructionError}
 use Rattle.xet_error.specs.declared.error.FileReconstructionError.TheVariants as error
 use Rattle.xet_error.specs.declared.error.Setting.{Setting}
@@ -22,7 +22,7 @@ use Rattle.xet_blocks.specs.PlanChecks.{failed_test}
 use Rattle.xet_blocks.specs.TermBlocks.{covered}
 use Rattle.xet_fetch.specs.Refreshes.{plan_extents, refusal_of}
 use Rattle.xet_ties.specs.Cuts.{StartsAt}
-use Rattle.xet_ties.specs.InCall.{Exchange, SomeOne, all_exchanges, answers_of, expired_said, new_in}
+use Rattle.xet_ties.specs.InCall.{Exchange, SomeOne, answers_of, expired_said, new_in}
 use Rattle.xet_ties.specs.Saids.{BlockOfPlan, IsBlockAnswer, IsPlanAccepted, IsPlanSaid, IsQueryAnswer, TermOfPlan}
 use Rattle.xet_ties.specs.Setup.{AllTell, IsOver, RunTold, Setup}
 
@@ -63,11 +63,10 @@ abbrev pub expired_answers : List Exchange → ℕ
 expired_answers [] = 0
 expired_answers (x ∷ xs) = count_by expired_said x.said + expired_answers xs
 
--- so many expired answers came at least: by the counts, where none stands at its last value, and by the lists, where
--- each connection tells its own
-pub record HaveExpired (tries : ℕ) (before after : List ClientTold) : Type 0 where
+-- so many expired answers came at least: by the counts, where none stands at its last value, and by what was said
+pub record HaveExpired (tries : ℕ) (xs : List Exchange) (before after : List ClientTold) : Type 0 where
   pub counted : NoneAtEnd after → total_expiries before + tries ≤ total_expiries after
-  pub said : IfSome (all_exchanges before after) (λ xs. tries ≤ expired_answers xs)
+  pub said : tries ≤ expired_answers xs
 
 -- ---- failed tests
 
@@ -119,30 +118,9 @@ pub record TermFails (g : Setup) (xs : List Exchange) (k : Corruption) : Type 0 
   pub numbered : StartsAt g xs number place.place.query.start
   pub bytes : SomeOne (TermFailsIn g xs place number k) xs
 
--- by this answer to a query the file ends here: it was past the end or without terms, or its terms end before the query
-abbrev pub EndsAt : FileRange → ℕ → PlanAnswer → Type 0
-EndsAt q known NoFile = ⊥
-EndsAt q known PastEnd = known ≡ q.start
-EndsAt q known (Found p) = ((p.terms ≡ []) × (known ≡ q.start))
-    ⊎ (((covered (shape p) q).end < q.end) × (known ≡ (covered (shape p) q).end))
-
--- terms came for a query at or past the end that another answer had told
-pub record EndFails (g : Setup) (xs : List Exchange) (k : Corruption) : Type 0 where
-  pub plan : Plan
-  pub query : FileRange
-  pub accepted : IsPlanAccepted g xs plan query
-  pub known : ℕ
-  pub past : known ≤ query.start
-  pub other : FileRange
-  pub answer : PlanAnswer
-  pub answered : IsQueryAnswer g.file xs other answer
-  pub ends : EndsAt other known answer
-  pub is : k ≡ PastKnownEnd known query.start
-
 -- one of the answers failed this test, the first that it fails
 abbrev pub SomeFailed : Setup → List Exchange → Corruption → Type 0
-SomeFailed g xs k =
-    PlanFails g xs k ⊎ RefreshFails g xs k ⊎ BlockFails g xs k ⊎ TermFails g xs k ⊎ EndFails g xs k
+SomeFailed g xs k = PlanFails g xs k ⊎ RefreshFails g xs k ⊎ BlockFails g xs k ⊎ TermFails g xs k
 
 -- ---- what the first connection alone tells of it
 
@@ -154,9 +132,9 @@ IsBlockTest (BlockLength expected actual) = Unit {0}
 IsBlockTest (TermPastBlock end length) = Unit {0}
 IsBlockTest k = ⊥
 
--- an answer to a query failed this test: a plan's or a refresh's, or terms came past an end that was told
+-- an answer to a query failed this test: a plan's or a refresh's
 abbrev pub QueryFailed : Setup → List Exchange → Corruption → Type 0
-QueryFailed g xs k = PlanFails g xs k ⊎ RefreshFails g xs k ⊎ EndFails g xs k
+QueryFailed g xs k = PlanFails g xs k ⊎ RefreshFails g xs k
 
 -- so it is by what the first connection was asked and said, where it tells that, unless the test is of a block
 abbrev pub FirstFailed : Setup → List ClientTold → List ClientTold → Corruption → Type 0
@@ -174,28 +152,30 @@ FirstSaysNone (b ∷ bs) (n ∷ ns) =
     IfSome (new_in b.said n.said) (λ all. (i : ℕ) × (slice_get (plans_in all) i ≡ Some NoFile))
 
 -- the range has bytes, the answer to a query was that the file isn't stored, and no told store has it
-pub record IsMissingFile (g : Setup) (before after : List ClientTold) : Type 0 where
+pub record IsMissingFile (g : Setup) (xs : List Exchange) (before after : List ClientTold) : Type 0 where
   pub some : g.range.start < g.range.end
-  pub said : IfSome (all_exchanges before after) (λ xs. (q : FileRange) × IsQueryAnswer g.file xs q NoFile)
+  pub said : (q : FileRange) × IsQueryAnswer g.file xs q NoFile
   -- whatever the other connections tell
   pub first : FirstSaysNone before after
   pub unstored : (s : Store) → AllTell s before → IsNone (file_of s g.file)
 
 -- an answer failed this test, and the connections don't tell one valid store
-pub record IsCorrupted (g : Setup) (before after : List ClientTold) (k : Corruption) : Type 0 where
+pub record IsCorrupted (g : Setup) (xs : List Exchange) (before after : List ClientTold) (k : Corruption)
+    : Type 0 where
   pub untrue : (s : Store) → IsOver s before → ⊥
-  pub failed : IfSome (all_exchanges before after) (λ xs. SomeFailed g xs k)
+  pub failed : SomeFailed g xs k
   -- whatever the other connections tell
   pub first : FirstFailed g before after k
 
--- the cause of each error; want of memory is free, and a run is never at fault itself
-abbrev pub Cause : Setup → RunTold → RunTold → FileReconstructionError → Type 0
-Cause g before after error.OutOfMemory = Unit {0}
-Cause g before after error.ClientError = SomeRose before.clients after.clients
-Cause g before after error.FileNotFound = IsMissingFile g before.clients after.clients
-Cause g before after error.UrlExpired = HaveExpired g.tries before.clients after.clients
-Cause g before after error.IoError = Rose before.sink.faults after.sink.faults
-Cause g before after (error.CorruptedReconstruction k) = IsCorrupted g before.clients after.clients k
-Cause g before after (error.ConfigurationError e) = failing_setting g before.clients ≡ Some e
-Cause g before after error.Cancelled = Rose before.signal.yes after.signal.yes
-Cause g before after (error.InternalWriterError w) = ⊥
+-- the cause of each error, by what the connections were asked, served and said; want of memory is free, and a run is
+-- never at fault itself
+abbrev pub Cause : Setup → List Exchange → RunTold → RunTold → FileReconstructionError → Type 0
+Cause g xs before after error.OutOfMemory = Unit {0}
+Cause g xs before after error.ClientError = SomeRose before.clients after.clients
+Cause g xs before after error.FileNotFound = IsMissingFile g xs before.clients after.clients
+Cause g xs before after error.UrlExpired = HaveExpired g.tries xs before.clients after.clients
+Cause g xs before after error.IoError = Rose before.sink.faults after.sink.faults
+Cause g xs before after (error.CorruptedReconstruction k) = IsCorrupted g xs before.clients after.clients k
+Cause g xs before after (error.ConfigurationError e) = failing_setting g before.clients ≡ Some e
+Cause g xs before after error.Cancelled = Rose before.signal.yes after.signal.yes
+Cause g xs before after (error.InternalWriterError w) = ⊥

@@ -95,6 +95,12 @@ abbrev pub SomeTellsEnd : Bool → List Part → Type 0
 SomeTellsEnd multi [] = ⊥
 SomeTellsEnd multi (p ∷ ps) = (part_end multi p < p.query.end) ⊎ SomeTellsEnd multi ps
 
+-- each is the answer to the last query, or its terms end where its query does
+abbrev pub ReachOn : Bool → List Part → List FileRange → Type 0
+ReachOn multi [] more = Unit {0}
+ReachOn multi (p ∷ ps) more =
+    ((queries_of ps ++ more ≡ []) ⊎ (part_end multi p ≡ p.query.end)) × ReachOn multi ps more
+
 -- ---- their terms
 
 -- a term under its plan's number
@@ -133,13 +139,15 @@ pub record IsSaidPiece (g : Setup) (xs : List Exchange) (looks : List Look) (t :
 
 -- ---- what was planned
 
--- answers to the queries of the cut, but perhaps to the last, all tested, whose terms adjoin from the range's start on
+-- answers to the queries of the cut, but perhaps to the last, all tested, whose terms adjoin from the range's start on.
+-- No query was asked after an answer that told an end before its query's
 pub record Planning (g : Setup) (xs : List Exchange) : Type 0 where
   pub parts : List Part
   pub more : List FileRange
   pub few : length more ≤ 1
   pub is_cut : IsCut g xs (queries_of parts ++ more)
   pub said : AreParts g xs 1 parts
+  pub reach : ReachOn g.multirange parts more
   pub adjoin : AdjoinFrom g.range.start (terms_said g.multirange 1 parts)
 
 -- answers to all, whose queries reach the range's end, or one of which tells that the file ends before

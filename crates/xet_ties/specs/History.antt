@@ -1,5 +1,5 @@
 -- What a history says, each event read after those before it.
-use Rattle.std.specs.Prelude.{ℕ, ◌≡◌, ◌+◌, ◌<◌, ◌≤◌, ◌==◌, ◌&&◌, Bool, true, false, cond, List, [], ◌∷◌, ◌++◌, map, length, count_by, Option, Some, None, option_to_list, slice_get}
+use Rattle.std.specs.Prelude.{ℕ, ◌≡◌, ◌+◌, ◌<◌, ◌≤◌, ◌==◌, ◌&&◌, Bool, true, false, not, cond, List, [], ◌∷◌, ◌++◌, map, length, count_by, Option, Some, None, option_to_list, slice_get}
 use Rattle.std.specs.List.{flat_map}
 use Rattle.xet_base.specs.declared.cas_types.FileRange.{FileRange}
 use Rattle.xet_base.specs.declared.merklehash.MerkleHash.{MerkleHash}
@@ -81,6 +81,26 @@ kept_in before e = fetched_in before e ++ cached_in before e
 -- the block is one range of a xorb
 abbrev pub HasOne : PlannedBlock → Type 0
 HasOne b = length b.ranges ≡ 1
+
+-- ---- rounds
+
+-- the event says what became of a fetch
+abbrev pub is_fetch : Event → Bool
+is_fetch (Fetched lane p k) = true
+is_fetch (Expired lane p k) = true
+is_fetch _ = false
+
+-- so does the last of these events
+abbrev pub ends_in_round : List Event → Bool
+ends_in_round es = last_of false (map is_fetch es)
+
+-- the event is the first of a round: it says what became of a fetch, and the one before it doesn't
+abbrev pub round_in : List Event → Event → List Event
+round_in before e = cond (is_fetch e && not (ends_in_round before)) (e ∷ []) []
+
+-- so many rounds show in the events
+abbrev pub round_count : List Event → ℕ
+round_count es = length (telling round_in [] es)
 
 -- ---- expired answers
 

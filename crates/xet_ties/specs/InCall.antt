@@ -1,5 +1,6 @@
 -- What connections were asked, served and said in a call, by the lists that they tell before and after.
 use Rattle.std.specs.Prelude.{◌≡◌, ◌⊎◌, Bool, false, true, List, [], ◌∷◌, ◌++◌, drop, length, Option, Some, None}
+use Rattle.std.specs.List.{flat_map}
 use Rattle.xet_base.specs.declared.cas_types.ChunkRange.{ChunkRange}
 use Rattle.xet_base.specs.declared.merklehash.MerkleHash.{MerkleHash}
 use Rattle.xet_outside.specs.declared.block.BlockAnswer.TheVariants as block_answer
@@ -57,6 +58,17 @@ EachGrew [] (y ∷ ys) = ⊥
 EachGrew (x ∷ xs) [] = ⊥
 EachGrew (x ∷ xs) (y ∷ ys) = ExchangeGrew x y × EachGrew xs ys
 
+-- what all connections together served
+abbrev pub served_of_all : List Exchange → List Served
+served_of_all xs = flat_map (λ x. x.served) xs
+
+-- no connection was asked anything more
+abbrev pub EachAskedAs : List Exchange → List Exchange → Type 0
+EachAskedAs [] [] = Unit {0}
+EachAskedAs [] (y ∷ ys) = ⊥
+EachAskedAs (x ∷ xs) [] = ⊥
+EachAskedAs (x ∷ xs) (y ∷ ys) = (y.asked ≡ x.asked) × EachAskedAs xs ys
+
 -- ---- of connections that tell
 
 -- what was added to a list, where it is told before and after
@@ -70,18 +82,6 @@ abbrev pub joined : {A : Type 0} → Option (List A) → Option (List A) → Opt
 joined (Some xs) (Some ys) = Some (xs ++ ys)
 joined (Some xs) None = None
 joined None ys = None
-
--- what was added to the lists of all connections, where each tells its own
-abbrev pub all_new : {A : Type 0} → (ClientTold → Option (List A)) → List ClientTold → List ClientTold
-    → Option (List A)
-all_new told (b ∷ bs) (n ∷ ns) = joined (new_in (told b) (told n)) (all_new told bs ns)
-all_new told [] [] = Some []
-all_new told [] (n ∷ ns) = None
-all_new told (b ∷ bs) [] = None
-
--- what all connections together served
-abbrev pub all_served : List ClientTold → List ClientTold → Option (List Served)
-all_served before after = all_new (λ c. c.served) before after
 
 -- these three lists, where each is told
 abbrev pub exchange : Option (List Query) → Option (List Served) → Option (List Said) → Option Exchange

@@ -1,5 +1,5 @@
 -- Laws of ties and of runs.
-use Rattle.std.specs.Prelude.{ℕ, ◌≡◌, IfSome, IsNone, ◌+◌, ◌<◌, ◌≤◌, false, true, List, [], ◌∷◌, ◌++◌, length, map, take, count_by, All, Some, None, Option, Result, Ok, Err, slice_get, drop, filter}
+use Rattle.std.specs.Prelude.{ℕ, ◌≡◌, IsNone, ◌+◌, ◌<◌, ◌≤◌, false, true, List, [], ◌∷◌, ◌++◌, length, map, take, count_by, All, Some, None, Option, Result, Ok, Err, slice_get, drop, filter}
 use Rattle.std.specs.List.{AllZip, concat, list_any, sum_by}
 use Rattle.xet_base.specs.declared.cas_types.ChunkRange.{ChunkRange}
 use Rattle.xet_base.specs.declared.cas_types.FileRange.{FileRange}
@@ -33,10 +33,10 @@ use Rattle.xet_run.specs.Allowed.{AllowedAfter, IsAllowedHistory, IsRunning}
 use Rattle.xet_run.specs.Budgets.{LimitCall, LimitTold}
 use Rattle.xet_run.specs.Events.{Task, expires, is_admit, is_kept, is_stale, needs, planned, size, unfinished}
 use Rattle.xet_history.specs.Laws.{IsPrefix}
-use Rattle.xet_history.specs.TrueHistory.{pieces, queries}
+use Rattle.xet_history.specs.TrueHistory.{pieces}
 use Rattle.xet_ties.specs.Causes.{BlockFailsIn, HaveExpired, IsCorrupted, IsMissingFile, SomeFailed, failing_setting}
 use Rattle.xet_ties.specs.History.{block_at, fetches, is_expiry, is_refresh, range_at}
-use Rattle.xet_ties.specs.InCall.{EachGrew, Exchange, Look, all_exchanges, all_served, new_in}
+use Rattle.xet_ties.specs.InCall.{EachGrew, Exchange, Look, served_of_all}
 use Rattle.xet_ties.specs.Lanes.{AnswerStep, Ask, BytesFail, DrewApart, IsFor, IsOf, LaneDid, StepDid}
 use Rattle.xet_ties.specs.Legal.{AllPlanned, FirstAsks, IsExact, Legal, ServedOnce, TookTested}
 use Rattle.xet_ties.specs.RunCalls.{IsFinished, RunCall, TookAll}
@@ -50,7 +50,7 @@ use Rattle.xet_ties.specs.steps.Parts.{AdmitsCall, LookedShort, LookedUp, OfferO
 use Rattle.xet_ties.specs.steps.Rounds.{AfterRound, IsMissingAsk, IsPlanAsk}
 use Rattle.xet_ties.specs.steps.Records.{Apart, AreMissing, AreUnkept, EachMayExpire, HasTry, IsFreshAsk, HaveTries, Place, Spot, asks_for, blocks_all, expired_at, expired_on, fetched_at, fetched_on, key_of, lane_events, lane_spots, places_of, wrote_of}
 use Rattle.xet_ties.specs.steps.Windows.{AreKept, IsAt, is_wanted, open_terms}
-use Rattle.xet_ties.specs.Ties.{CutsRange, Slack, Stop, Ties, is_one, is_pair}
+use Rattle.xet_ties.specs.Ties.{IsNextQuery, Slack, Stop, Ties, is_one, is_pair}
 
 -- ---- runs
 
@@ -68,12 +68,12 @@ RunsAreLegal = (g : Setup) (before after : RunTold) (es : List Event) (answer : 
 -- together
 abbrev pub TiesServeOnce : Type 0
 TiesServeOnce = (g : Setup) (before after : RunTold) (es : List Event) (stop : Stop) (slack : Slack)
-    → Ties g before after es stop slack → IfSome (all_served before.clients after.clients) ServedOnce
+    → Ties g before after es stop slack → ServedOnce (served_of_all slack.heard)
 
 -- each served block is one of a plan that was said and passes its tests
 abbrev pub TiesServePlanned : Type 0
 TiesServePlanned = (g : Setup) (before after : RunTold) (es : List Event) (stop : Stop) (slack : Slack)
-    → Ties g before after es stop slack → IfSome (all_exchanges before.clients after.clients) (AllPlanned g)
+    → Ties g before after es stop slack → AllPlanned g slack.heard
 
 -- the queries of the first connection are short, and but for refreshes they cut the range; the others were asked none
 abbrev pub TiesAskCut : Type 0
@@ -84,8 +84,7 @@ TiesAskCut = (g : Setup) (before after : RunTold) (es : List Event) (stop : Stop
 abbrev pub TiesTakeTested : Type 0
 TiesTakeTested = (g : Setup) (before after : RunTold) (es : List Event) (stop : Stop) (slack : Slack)
     → IsAllowedHistory es → Ties g before after es stop slack
-    → IfSome (all_exchanges before.clients after.clients) (λ xs.
-    IfSome (new_in before.cache.looked after.cache.looked) (λ ls. TookTested g xs ls before.sink after.sink))
+    → TookTested g slack.heard slack.looks before.sink after.sink
 
 -- over one valid store and a cache that tells it, a tied run that is finished took exactly the window
 abbrev pub FinishedIsExact : Type 0
@@ -105,13 +104,13 @@ abbrev pub FinishedServesChunks : Type 0
 FinishedServesChunks = (g : Setup) (before after : RunTold) (es : List Event) (k : ℕ) (slack : Slack)
     → IsAllowedHistory es → Ties g before after es None slack → slack.ahead ≡ 0 → IsFinished g es k
     → (s : Store) → IsOver s before.clients → after.cache.entries ≡ Some []
-    → IfSome (all_served before.clients after.clients) (AllServed s g.file g.range)
+    → AllServed s g.file g.range (served_of_all slack.heard)
 
 -- where a block has as many Expired events as tries, the expired answers of all connections grew by so many
 abbrev pub ExpiriesCounted : Type 0
 ExpiriesCounted = (g : Setup) (before after : RunTold) (es : List Event) (stop : Stop) (slack : Slack) (p k : ℕ)
     → count_by (expires p k) es ≡ g.tries → Ties g before after es stop slack
-    → HaveExpired g.tries before.clients after.clients
+    → HaveExpired g.tries slack.heard before.clients after.clients
 
 -- an allowed history has no more Refreshed events than Expired ones
 abbrev pub RefreshesFew : Type 0
@@ -175,7 +174,8 @@ RoundsTied = (g : Setup) (b at : RunTold) (es : List Event) (sl : Slack) (fs : L
     → ((x : MerkleHash) (r : ChunkRange)
     → count_by (is_one x r) (blocks_all (map key_of fs)) ≤ count_by (is_one x r) sl.pending)
     → sl.hidden ≡ no_hidden b.clients → sl.late ≡ no_late b.clients → All (IsPlanAsk g sl.heard) fs
-    → EachMayExpire g.tries 0 (es ++ lane_events fetched_on 0 ls) (map places_of ls) → Ties g b at es None sl
+    → EachMayExpire g.tries 0 (es ++ lane_events fetched_on 0 ls) (map places_of ls)
+    → (0 < length fs → 1 ≤ sl.spare) → Ties g b at es None sl
     → (to : Slack) × Ties g b (record at { clients = ns })
     ((es ++ lane_events fetched_on 0 ls) ++ lane_events expired_on 0 ls) None to
     × AfterRound b.clients at.clients es fs ls sl to
@@ -189,7 +189,8 @@ ShortRoundsTied = (g : Setup) (b at : RunTold) (es : List Event) (sl : Slack) (f
     → ((x : MerkleHash) (r : ChunkRange)
     → count_by (is_one x r) (blocks_all (map key_of fs)) ≤ count_by (is_one x r) sl.pending)
     → sl.hidden ≡ no_hidden b.clients → sl.late ≡ no_late b.clients → All (IsPlanAsk g sl.heard) fs
-    → EachMayExpire g.tries 0 (es ++ lane_events fetched_on 0 ls) (map places_of ls) → Ties g b at es None sl
+    → EachMayExpire g.tries 0 (es ++ lane_events fetched_on 0 ls) (map places_of ls)
+    → (0 < length fs → 1 ≤ sl.spare) → Ties g b at es None sl
     → (to : Slack) × Ties g b (record at { clients = ns })
     (es ++ take k (lane_events fetched_on 0 ls ++ lane_events expired_on 0 ls)) None to
 
@@ -245,7 +246,7 @@ abbrev pub AsksTied : Type 0
 AsksTied = (g : Setup) (b at : RunTold) (es : List Event) (sl : Slack) (spare : ℕ) (c n : ClientTold)
     (cs : List ClientTold) (q : FileRange) (id : UniqueId) (o : Option TermBlock)
     → at.clients ≡ c ∷ cs → TermBlockCall c n (plan_query g q id) (Ok o) → sl.lost ≡ [] → sl.spare ≡ spare + 1
-    → InStep sl.heard → CutsRange g (queries es ++ q ∷ []) → (planned es ≡ [] → q.start ≡ g.range.start)
+    → InStep sl.heard → IsNextQuery g es q → (planned es ≡ [] → q.start ≡ g.range.start)
     → Ties g b at es None sl
     → (heard : List Exchange) × Ties g b (record at { clients = n ∷ cs }) (es ++ plan_event es q o ∷ []) None
     (record sl { heard = heard; lost = []; spare = spare }) × InStep heard × EachGrew sl.heard heard
@@ -265,7 +266,7 @@ abbrev pub AsksLeft : Type 0
 AsksLeft = (g : Setup) (b at : RunTold) (es : List Event) (sl : Slack) (c n : ClientTold) (cs : List ClientTold)
     (q : FileRange) (id : UniqueId) (answer : Result (Option TermBlock) FileReconstructionError)
     → at.clients ≡ c ∷ cs → sl.lost ≡ [] → TermBlockCall c n (plan_query g q id) answer
-    → CutsRange g (queries es ++ q ∷ []) → Ties g b at es None sl → AskedShort g b at es sl (n ∷ cs)
+    → IsNextQuery g es q → Ties g b at es None sl → AskedShort g b at es sl (n ∷ cs)
 
 -- so it is where the URLs of a plan were asked for again
 abbrev pub RefreshesLeft : Type 0
@@ -278,7 +279,7 @@ abbrev pub AsksSaid : Type 0
 AsksSaid = (g : Setup) (b at : RunTold) (es : List Event) (sl : Slack) (c n : ClientTold) (cs : List ClientTold)
     (q : FileRange) (id : UniqueId) (answer made : Result (Option TermBlock) FileReconstructionError)
     → at.clients ≡ c ∷ cs → sl.lost ≡ [] → InStep sl.heard → TermBlockCall c n (plan_query g q id) answer
-    → (from : FromSaid c n (plan_query g q id) made) → CutsRange g (queries es ++ q ∷ [])
+    → (from : FromSaid c n (plan_query g q id) made) → IsNextQuery g es q
     → Ties g b at es None sl → AskedSaid g b at es sl (n ∷ cs) q from.plan
 
 abbrev pub RefreshesSaid : Type 0
@@ -375,13 +376,13 @@ FilesMissing = (g : Setup) (q : FileRange) (id : UniqueId) (b n : ClientTold)
 abbrev pub FilesAreMissing : Type 0
 FilesAreMissing = (g : Setup) (b n : RunTold) (es : List Event) (stop : Stop) (sl : Slack) (q : FileRange)
     → Ties g b n es stop sl → g.range.start < g.range.end → IsQueryAnswer g.file sl.heard q NoFile
-    → ((s : Store) → AllTell s b.clients → IsNone (file_of s g.file)) → IsMissingFile g b.clients n.clients
+    → ((s : Store) → AllTell s b.clients → IsNone (file_of s g.file)) → IsMissingFile g sl.heard b.clients n.clients
 
 -- an answer that fails a test is the cause, where the connections don't tell one valid store
 abbrev pub FailuresAreCauses : Type 0
 FailuresAreCauses = (g : Setup) (b n : RunTold) (es : List Event) (stop : Stop) (sl : Slack) (k : Corruption)
     → Ties g b n es stop sl → ((s : Store) → IsOver s b.clients → ⊥) → SomeFailed g sl.heard k
-    → IsCorrupted g b.clients n.clients k
+    → IsCorrupted g sl.heard b.clients n.clients k
 
 -- a failed step's bytes fail as those of a block of an accepted plan, by the answer to the block's own request
 abbrev pub StepsFail : Type 0

@@ -4,7 +4,7 @@ use Rattle.std.specs.List.{AllZip, concat}
 use Rattle.xet_base.specs.declared.cas_types.FileRange.{FileRange}
 use Rattle.xet_base.specs.Store.{Store, file_of, window}
 use Rattle.xet_outside.specs.declared.served.Served.{Served}
-use Rattle.xet_outside.specs.Told.{ClientTold, Query, SinkTold, Took, TookPrefix}
+use Rattle.xet_outside.specs.Told.{Added, CacheTold, ClientTold, Query, SignalTold, SinkTold, Took, TookPrefix}
 use Rattle.xet_error.specs.declared.error.FileReconstructionError.{FileReconstructionError}
 use Rattle.xet_error.specs.declared.error.FileReconstructionError.TheVariants as error
 use Rattle.xet_error.specs.declared.error.Setting.{Setting}
@@ -12,11 +12,26 @@ use Rattle.xet_blocks.specs.ServedChunks.{AllServed}
 use Rattle.xet_ties.specs.Causes.{Cause, expired_answers, failing_setting}
 use Rattle.xet_ties.specs.Cuts.{AskedCut, IsNumbered, IsSaidPiece, Planning, PlansAll, some_said}
 use Rattle.xet_ties.specs.History.{entry_of}
-use Rattle.xet_ties.specs.InCall.{Exchange, Look, all_exchanges, all_served, answers_of, new_in}
+use Rattle.xet_ties.specs.InCall.{EachExchange, Exchange, Look, answers_of, new_in, served_of_all}
 use Rattle.xet_ties.specs.RunCalls.{DidNothing}
 use Rattle.xet_ties.specs.Saids.{AllRenewed, BlockOfPlan, HasPassed, planned_of}
 use Rattle.xet_ties.specs.Setup.{AllTell, CacheTells, EachGoesOn, IsEmptyRange, IsOver, RunTold, Setup, most_lanes}
-use Rattle.xet_ties.specs.Ties.{CutsRange, EachUnasked, is_pair}
+use Rattle.xet_ties.specs.Ties.{CutsRange, EachUnasked, IsEntryOf, Reaches, is_pair}
+
+-- ---- what was heard
+
+-- what connections were asked, served and said in a call, whether or not they tell it. A list that one told before it
+-- tells afterwards, with what was heard added
+pub record HeardOf (before after : List ClientTold) : Type 0 where
+  pub list : List Exchange
+  pub told : EachExchange before after list
+
+-- the looks into a cache in a call, whether or not it tells them. Each that gave an entry gave one that the cache has
+-- afterwards, where it tells these: so over a cache that has none no look gave one
+pub record LooksOf (before after : CacheTold) : Type 0 where
+  pub list : List Look
+  pub told : Added before.looked after.looked list
+  pub given : All (IsEntryOf after.entries) list
 
 -- ---- bytes
 
@@ -92,12 +107,11 @@ FirstPlansAll g (b ∷ bs) [] = ⊥
 FirstPlansAll g (b ∷ bs) (n ∷ ns) = IfSome (new_in b.asked n.asked) (AsksSome g)
     × IfSome (answers_of b n) (λ x. PlansAll g (x ∷ []))
 
--- of the first connection: each query that doesn't cut the range has an answer that renews the plan which it asks
--- again
-abbrev pub FirstRenews : Setup → List ClientTold → List ClientTold → Type 0
-FirstRenews g [] ns = ⊥
-FirstRenews g (b ∷ bs) [] = ⊥
-FirstRenews g (b ∷ bs) (n ∷ ns) = IfSome (answers_of b n) (λ x. AllRenewed g x (length x.asked))
+-- of the first connection: each query that doesn't cut the range, but for so many last ones, has an answer that renews
+-- the plan which it asks again
+abbrev pub FirstRenewsBut : Setup → ℕ → List Exchange → Type 0
+FirstRenewsBut g unanswered [] = Unit {0}
+FirstRenewsBut g unanswered (x ∷ xs) = AllRenewed g x (length x.asked - unanswered)
 
 -- ---- served blocks
 
@@ -124,6 +138,18 @@ EntryPassed g xs e = HasPassed g xs e.plan e.index
 abbrev pub AllPassed : Setup → List Exchange → Type 0
 AllPassed g xs = All (λ x. All (EntryPassed g xs) x.served) xs
 
+-- ---- counts
+
+-- the counts of a signal don't fall
+pub record SignalGoesOn (before after : SignalTold) : Type 0 where
+  pub asks : Reaches before.asks after.asks 0
+  pub yes : before.yes ≤ after.yes
+
+-- nor those of a cache
+pub record CacheGoesOn (before after : CacheTold) : Type 0 where
+  pub offers : Reaches before.offers after.offers 0
+  pub faults : before.faults ≤ after.faults
+
 -- ---- a legal answer
 
 pub record Legal (g : Setup) (before after : RunTold) (answer : Result ℕ FileReconstructionError) : Type 0 where
@@ -136,21 +162,21 @@ pub record Legal (g : Setup) (before after : RunTold) (answer : Result ℕ FileR
   -- over connections that tell one store, valid or not, Ok means that the file is stored or the range empty
   pub stored : (s : Store) → AllTell s before.clients
       → IfOk answer (λ _. IsSome (file_of s g.file) ⊎ IsEmptyRange g.range)
-  -- over connections and a cache that tell their lists, the writer took tested bytes and no others, whatever the answer
-  pub tested : IfSome (all_exchanges before.clients after.clients) (λ xs.
-      IfSome (new_in before.cache.looked after.cache.looked) (λ ls. TookTested g xs ls before.sink after.sink))
+  -- what the connections were asked, served and said, and the looks into the cache
+  pub heard : HeardOf before.clients after.clients
+  pub looks : LooksOf before.cache after.cache
+  -- whatever is told, the writer took tested bytes of these and no others, whatever the answer
+  pub tested : TookTested g heard.list looks.list before.sink after.sink
   -- and on Ok those of all terms of plans that cut the range, up to its end or one that an answer told
-  pub whole : IfSome (all_exchanges before.clients after.clients) (λ xs.
-      IfSome (new_in before.cache.looked after.cache.looked) (λ ls.
-      IfOk answer (TookWhole g xs ls before.sink after.sink)))
+  pub whole : IfOk answer (TookWhole g heard.list looks.list before.sink after.sink)
   -- whatever is told, Ok counts what the writer took
   pub total : IfOk answer (TookCounted before.sink after.sink)
   -- on Ok all that the writer took is flushed
   pub flushed : OnOk answer (after.sink.flushed ≡ option_map length after.sink.took)
   -- where the signal said yes the answer isn't Ok
   pub cancelled : before.signal.yes < after.signal.yes → OnOk answer ⊥
-  -- each error has its cause
-  pub cause : IfErr answer (Cause g before after)
+  -- each error has its cause, by the same
+  pub cause : IfErr answer (Cause g heard.list before after)
   -- a failing setting is always told, before all else
   pub settings : (e : Setting) → failing_setting g before.clients ≡ Some e
       → (answer ≡ Err (error.ConfigurationError e)) × (after ≡ before)
@@ -162,24 +188,29 @@ pub record Legal (g : Setup) (before after : RunTold) (answer : Result ℕ FileR
   pub asked : FirstAsks g before.clients after.clients
   -- on Ok it was planned to the range's end or the file's, by what the first connection alone tells
   pub all_asked : OnOk answer (FirstPlansAll g before.clients after.clients)
-  -- over connections that tell their lists, no plan's URLs were asked for again without an expired answer
-  pub refreshed : IfSome (all_exchanges before.clients after.clients) (FirstAsksFew g)
-  -- on Ok each such refresh was answered, and its answer isn't refused, by what the first connection alone tells
-  pub renewed : OnOk answer (FirstRenews g before.clients after.clients)
+  -- no plan's URLs were asked for again without an expired answer
+  pub refreshed : FirstAsksFew g heard.list
+  -- each such refresh but perhaps the last query was answered, and its answer isn't refused, whatever the answer
+  pub renewed : FirstRenewsBut g 1 heard.list
+  -- and on Ok the last one too
+  pub all_renewed : OnOk answer (FirstRenewsBut g 0 heard.list)
   -- no block of a plan was served twice
-  pub served : IfSome (all_served before.clients after.clients) ServedOnce
+  pub served : ServedOnce (served_of_all heard.list)
   -- and each is a block of a plan that was said and passes its tests
-  pub planned : IfSome (all_exchanges before.clients after.clients) (AllPlanned g)
+  pub planned : AllPlanned g heard.list
   -- and on Ok the answer to it passes the block's tests, whether or not its data came of that
-  pub passed : OnOk answer (IfSome (all_exchanges before.clients after.clients) (AllPassed g))
+  pub passed : OnOk answer (AllPassed g heard.list)
   -- on Ok over connections that tell one valid store and a cache that has no entries afterwards, each chunk of the file
   -- with a byte in the window lies in a served block
   pub chunks : (s : Store) → IsOver s before.clients → after.cache.entries ≡ Some []
-      → OnOk answer (IfSome (all_served before.clients after.clients) (AllServed s g.file g.range))
+      → OnOk answer (AllServed s g.file g.range (served_of_all heard.list))
   -- connections past the first 65,536 are as before
   pub past : drop most_lanes after.clients ≡ drop most_lanes before.clients
   -- connections go on telling what they told, as does a cache that told the store, and the writer what it works through
   pub goes_on : EachGoesOn before.clients after.clients
   pub cache_later : (s : Store) → IsOver s before.clients → CacheTells s before.cache → CacheTells s after.cache
   pub sink_later : before.sink.faults ≤ after.sink.faults
+  -- no count of the signal and of the cache falls
+  pub signal_later : SignalGoesOn before.signal after.signal
+  pub counts_later : CacheGoesOn before.cache after.cache
   pub link : after.sink.link ≡ before.sink.link

@@ -1,5 +1,5 @@
 -- What a run says: its answer, and how its history is tied to what its arguments tell.
-use Rattle.std.specs.Prelude.{ℕ, ◌≡◌, ◌<◌, List, [], length, count_by, Some, None, OnOk, option_map, Result, Ok, Err, IfOk, IfErr}
+use Rattle.std.specs.Prelude.{ℕ, ◌≡◌, ◌<◌, List, [], length, count_by, Some, None, OnOk, option_map, Result, Ok, Err, IfOk, IfErr, IfSome}
 use Rattle.std.specs.List.{AllZip, concat}
 use Rattle.xet_base.specs.Store.{Store}
 use Rattle.xet_outside.specs.Told.{SinkTold, Took}
@@ -57,11 +57,12 @@ pub record DidNothing (before after : RunTold) (answer : Result ℕ FileReconstr
   pub none : IfOk answer (λ k. k ≡ 0)
   pub error : IfErr answer IsLocal
 
--- the ties at the end of a run, with what it left that no event says
+-- the ties at the end of a run, with what it left that no event says, and its error's cause by what was heard
 pub record RunTies (g : Setup) (before after : RunTold) (es : List Event) (stop : Stop) : Type 0 where
   pub slack : Slack
   pub ties : Ties g before after es stop slack
   pub left : MayLeave stop before.clients slack
+  pub cause : IfSome stop (Cause g slack.heard before after)
 
 -- a failing setting is told before all else
 pub record IsRefused (before after : RunTold) (es : List Event) (answer : Result ℕ FileReconstructionError)
@@ -78,6 +79,5 @@ pub record RunCall (g : Setup) (before after : RunTold) (es : List Event)
   pub finished : IfOk answer (IsFinished g es)
   pub flushed : OnOk answer (after.sink.flushed ≡ option_map length after.sink.took)
   pub cancelled : before.signal.yes < after.signal.yes → OnOk answer ⊥
-  pub cause : IfErr answer (Cause g before after)
   pub empty : IsEmptyRange g.range → DidNothing before after answer
   pub cache_later : (s : Store) → IsOver s before.clients → CacheTells s before.cache → CacheTells s after.cache

@@ -20,8 +20,8 @@ use Rattle.xet_run.specs.Budgets.{LimitTold}
 use Rattle.xet_run.specs.Events.{Task, expires, first_error, is_stale, plan_count, planned, written}
 use Rattle.xet_history.specs.Laws.{IsPrefix}
 use Rattle.xet_history.specs.Queries.{CutFrom}
-use Rattle.xet_history.specs.TrueHistory.{IsTrueHistory, pieces, queries}
-use Rattle.xet_ties.specs.History.{EachAfter, IsNumberedNext, IsOnLane, IsOneCached, IsRenewed, IsWithin, asked_by, block_at, cached_in, entry_of, expired_by, fetched_in, fetches, kept_in, limits_of, range_at, served_by, telling}
+use Rattle.xet_history.specs.TrueHistory.{EndsEarly, IsTrueHistory, SomeEndsEarly, pieces, queries}
+use Rattle.xet_ties.specs.History.{EachAfter, IsNumberedNext, IsOnLane, IsOneCached, IsRenewed, IsWithin, asked_by, block_at, cached_in, entry_of, expired_by, fetched_in, fetches, kept_in, limits_of, range_at, served_by, telling, round_count}
 use Rattle.xet_ties.specs.InCall.{EachExchange, Exchange, Look, expired_said}
 use Rattle.xet_ties.specs.Saids.{EventPassed, FirstRenewed, FirstSaid, IsTested}
 use Rattle.xet_ties.specs.Setup.{AllTell, CacheTells, ClientGoesOn, IsOver, RunTold, Setup, download_of, most_lanes}
@@ -42,7 +42,7 @@ pub record Slack : Type 0 where
   pub pending : List PlannedBlock
   -- how many fetched blocks of one range are to be offered to the cache
   pub due : ℕ
-  -- how often the signal was asked for a plan that isn't planned yet
+  -- how often the signal was asked for a plan that isn't planned yet, or a round that no event says yet
   pub spare : ℕ
   -- the query whose answer isn't recorded
   pub lost : List Query
@@ -97,6 +97,13 @@ EachExpired es lane (x ∷ xs) (l ∷ ls) =
     (count_by expired_said x.said ≡ expired_by lane es + l) × EachExpired es (lane + 1) xs ls
 EachExpired es lane xs ls = ⊥
 
+-- of each lane from a number on, whether or not its connection tells its list: it served the entries of its Fetched
+-- events, then those that no event says yet
+abbrev pub EachServed : List Event → ℕ → List Exchange → List (List Served) → Type 0
+EachServed es lane [] [] = Unit {0}
+EachServed es lane (x ∷ xs) (h ∷ hs) = (x.served ≡ served_by lane es ++ h) × EachServed es (lane + 1) xs hs
+EachServed es lane xs hs = ⊥
+
 -- what the first connection was asked: the queries of the Planned events and the actual ranges of the refreshed plans,
 -- then those whose answer isn't recorded
 pub record IsAsked (f : MerkleHash) (es : List Event) (lost : List Query) (before after : ClientTold) : Type 0 where
@@ -120,20 +127,35 @@ FirstAsked f es lost (b ∷ bs) (n ∷ ns) = IsAsked f es lost b n × EachUnaske
 FirstAsked f es lost [] ns = ⊥
 FirstAsked f es lost (b ∷ bs) [] = ⊥
 
--- the queries cut the range from its start on, each shorter than the greatest and the least size together
-abbrev pub CutsRange : Setup → List FileRange → Type 0
-CutsRange g qs = CutFrom g.range.start g.range.end (g.greatest + g.least) qs
+-- a query that ends where the range does, or has the least size at least
+abbrev pub IsLong : Setup → FileRange → Type 0
+IsLong g q = (q.end ≡ g.range.end) ⊎ (g.least ≤ q.end - q.start)
+
+-- the queries cut the range from its start on, each shorter than the greatest and the least size together, and none but
+-- one up to the range's end shorter than the least
+pub record CutsRange (g : Setup) (qs : List FileRange) : Type 0 where
+  pub from : CutFrom g.range.start g.range.end (g.greatest + g.least) qs
+  pub long : All (IsLong g) qs
+
+-- no plan comes after one that ended before its query does
+abbrev pub EndsLast : List Event → Type 0
+EndsLast [] = Unit {0}
+EndsLast (e ∷ es) = (EndsEarly e → plan_count es ≡ 0) × EndsLast es
 
 -- the first of these terms starts at this place
 abbrev pub FirstStarts : ℕ → List Task → Type 0
 FirstStarts place [] = Unit {0}
 FirstStarts place (t ∷ ts) = t.term.byte_range.start ≡ place
 
+-- the next query of the cut: the queries go on cutting the range, and no plan ended before its query does
+pub record IsNextQuery (g : Setup) (es : List Event) (q : FileRange) : Type 0 where
+  pub cuts : CutsRange g (queries es ++ q ∷ [])
+  pub goes_on : SomeEndsEarly es → ⊥
+
 -- a query that may be asked: the next one of the cut, or the actual range of a plan with an expired answer since it was
 -- asked for last
 abbrev pub MayBeAsked : Setup → List Event → FileRange → Type 0
-MayBeAsked g es q =
-    CutsRange g (queries es ++ q ∷ []) ⊎ ((p : ℕ) × (range_at es p ≡ q ∷ []) × (is_stale es p ≡ true))
+MayBeAsked g es q = IsNextQuery g es q ⊎ ((p : ℕ) × (range_at es p ≡ q ∷ []) × (is_stale es p ≡ true))
 
 -- at most one query's answer isn't recorded, and that query may be asked
 abbrev pub IsLost : Setup → List Event → List Query → Type 0
@@ -212,14 +234,15 @@ pub record IsOffered (es : List Event) (due : ℕ) (before after : CacheTold) : 
   pub puts : ℕ
   pub offers : Reaches before.offers after.offers puts
   pub cover : count_by has_one (telling fetched_in [] es) ≤ puts + due
+  pub faults : before.faults ≤ after.faults
 
 -- ---- signal and limits
 
--- the signal was asked so often, once at least for each plan
+-- the signal was asked so often, once at least for each plan and for each round of fetches
 pub record IsPolled (es : List Event) (spare : ℕ) (before after : SignalTold) : Type 0 where
   pub polls : ℕ
   pub asks : Reaches before.asks after.asks polls
-  pub cover : plan_count es + spare ≤ polls
+  pub cover : plan_count es + round_count es + spare ≤ polls
   pub later : before.yes ≤ after.yes
 
 -- the first ones stand, in order, among the others
@@ -232,13 +255,20 @@ abbrev pub AllAre : ℕ → List ℕ → Type 0
 AllAre n [] = Unit {0}
 AllAre n (x ∷ xs) = (x ≡ n) × AllAre n xs
 
--- the limits of the Admit events are, in order, among the answers of the source, and its one answer where that is told
+abbrev pub AllWithin : ℕ → List ℕ → Type 0
+AllWithin n [] = Unit {0}
+AllWithin n (x ∷ xs) = (x ≤ n) × AllWithin n xs
+
+-- the limits of the Admit events are, in order, among the answers of the source, are its one answer where that is told,
+-- and don't pass its greatest one where that is
 pub record IsLimited (es : List Event) (before after : LimitTold) : Type 0 where
   pub answers : List ℕ
   pub listed : Added before.limits after.limits answers
   pub among : IsAmong (limits_of es) answers
   pub fixed : IfSome before.fixed (λ k. AllAre k (limits_of es))
   pub same : after.fixed ≡ before.fixed
+  pub within : IfSome before.most (λ k. AllWithin k (limits_of es))
+  pub same_most : after.most ≡ before.most
 
 -- ---- the writer
 
@@ -277,6 +307,8 @@ pub record Ties (g : Setup) (before after : RunTold) (es : List Event) (stop : S
   -- whatever they tell, the queries cut the range, and a plan's terms end within its query
   pub cuts : CutsRange g (queries es)
   pub within : All IsWithin es
+  -- and by none before the last one the file ends before its query does
+  pub ends : EndsLast es
   -- the first planned term starts where the range does
   pub starts : FirstStarts g.range.start (planned es)
   -- and the plans are numbered in their order, from 1
@@ -285,6 +317,7 @@ pub record Ties (g : Setup) (before after : RunTold) (es : List Event) (stop : S
   pub stored : (s : Store) → AllTell s before.clients → 0 < plan_count es → IsSome (file_of s g.file)
   pub served : IsServed es slack.hidden slack.late before.clients after.clients
   pub expired : EachExpired es 0 slack.heard slack.late
+  pub heard_served : EachServed es 0 slack.heard slack.hidden
   pub asked : FirstAsked g.file es slack.lost before.clients after.clients
   pub heard_asked : HeardAsked g.file es slack.lost slack.heard
   pub lost : IsLost g es slack.lost

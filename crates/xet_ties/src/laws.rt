@@ -8,16 +8,16 @@ pub fn starts_and_stops()
 {}
 
 /// A run whose history is allowed and that is tied gives a legal answer: over one valid store and a cache that tells
-/// it the window exactly, and over connections that tell their lists, whatever store they tell, no block of a plan
-/// served twice, each served block one of a plan that was said and passes its tests, under its plan's number, short
-/// queries that, but for refreshes, cut the range, and on Ok the tested bytes of all terms up to an end.
+/// it the window exactly, and over any connections and any cache no block of a plan served twice, each served block
+/// one of a plan that was said and passes its tests, under its plan's number, short queries that, but for refreshes,
+/// cut the range, and on Ok the tested bytes of all terms up to an end.
 pub fn runs_are_legal()
     ensures { RunsAreLegal }
 {}
 
-/// However a tied run ended, and whatever store its connections tell or don't: no block of a plan was served twice in
-/// all lists together, each is one of a plan that was said and passes its tests, the queries are short and but for
-/// refreshes cut the range, and the writer took tested bytes alone.
+/// However a tied run ended, and whatever its connections tell or don't: no block of a plan was served twice, each is
+/// one of a plan that was said and passes its tests, the queries are short and but for refreshes cut the range, and
+/// the writer took tested bytes alone.
 pub fn ties_are_told()
     ensures once { TiesServeOnce }
     ensures planned { TiesServePlanned }

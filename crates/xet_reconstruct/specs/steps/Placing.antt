@@ -1,11 +1,11 @@
 -- What making a file ready does to it.
-use Rattle.std.specs.Prelude.{ℕ, ◌≡◌, ◌≤◌, Bool, false, cond, List, OnOk, OnErr, Result, IfErr}
+use Rattle.std.specs.Prelude.{ℕ, ◌≡◌, ◌≤◌, Bool, false, cond, List, OnOk, OnErr, Result, IfErr, option_map}
 use Rattle.xet_outside.specs.declared.sink.SinkError.{SinkError}
-use Rattle.xet_outside.specs.Places.{IsWritten, PlaceCall, Placed, before_place, emptied}
+use Rattle.xet_outside.specs.Places.{IsWritten, PlaceCall, Placed, before_place, emptied, placed_of}
 use Rattle.xet_outside.specs.Told.{SinkTold, Took}
 use Rattle.xet_error.specs.declared.error.FileReconstructionError.{FileReconstructionError}
 use Rattle.xet_writers.specs.Calls.{SinkCause}
-use Rattle.xet_reconstruct.specs.ToFile.{StandAt}
+use Rattle.xet_reconstruct.specs.ToFile.{IsLeft, StandAt, ready_at}
 
 -- emptied where that is wanted, else as it is
 abbrev pub cleared : Bool → Placed → Placed
@@ -30,4 +30,5 @@ pub record ReadyCall (truncate : Bool) (place : ℕ) (before after : SinkTold)
   pub ready : OnOk answer ((later : SinkTold) (bytes : List ℕ) → Took after.took later.took bytes
       → later.link ≡ after.link → StandAt truncate place before later bytes)
   pub cause : IfErr answer (SinkCause before.faults after.faults)
-  pub kept : OnErr answer (truncate ≡ false → after.link ≡ before.link)
+  pub placed : OnOk answer (placed_of after ≡ option_map (ready_at truncate place) (placed_of before))
+  pub left : OnErr answer (IsLeft truncate before after)

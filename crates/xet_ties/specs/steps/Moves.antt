@@ -1,5 +1,5 @@
 -- What one step of a run's leader may do to what its arguments tell.
-use Rattle.std.specs.Prelude.{ℕ, ◌≡◌, ◌⊎◌, ◌+◌, ◌≤◌, ◌^◌, ◌-◌, min, map, false, cond, List, [], ◌∷◌, ◌++◌, count_by, Option, None}
+use Rattle.std.specs.Prelude.{ℕ, ◌≡◌, ◌⊎◌, ◌+◌, ◌≤◌, ◌^◌, ◌-◌, min, map, false, cond, List, [], ◌∷◌, ◌++◌, count_by, length, Option, None}
 use Rattle.xet_base.specs.declared.cas_types.ChunkRange.{ChunkRange}
 use Rattle.xet_base.specs.declared.merklehash.MerkleHash.{MerkleHash}
 use Rattle.xet_base.specs.Store.{Store}
@@ -12,11 +12,11 @@ use Rattle.xet_run.specs.declared.event.Event.{Event}
 use Rattle.xet_run.specs.declared.event.PlannedBlock.{PlannedBlock}
 use Rattle.xet_run.specs.Events.{error_in, expires, is_plan, taken_in, tasks_in}
 use Rattle.xet_history.specs.TrueHistory.{IsTrueEvent, queries_in}
-use Rattle.xet_ties.specs.History.{IsOneCached, IsRenewed, IsWithin, asked_in, cached_in, fetched_in, limit_in}
+use Rattle.xet_ties.specs.History.{IsOneCached, IsRenewed, IsWithin, asked_in, cached_in, fetched_in, limit_in, round_in}
 use Rattle.xet_ties.specs.InCall.{Exchange, expired_said}
 use Rattle.xet_ties.specs.Saids.{EventPassed, FirstRenewed, IsEventSaid}
 use Rattle.xet_ties.specs.Setup.{ClientGoesOn, Setup}
-use Rattle.xet_ties.specs.Ties.{EachExpired, IsEntryOf, IsServed, Slack, has_one, is_one}
+use Rattle.xet_ties.specs.Ties.{EachExpired, EachServed, IsEntryOf, IsServed, Slack, has_one, is_one}
 
 -- ---- queries
 
@@ -50,12 +50,14 @@ pub record LookStep (before after : CacheTold) (x : PlannedBlock) (r : ChunkRang
   pub offers : after.offers ≡ before.offers
   pub entries : after.entries ≡ before.entries
   pub among : IsEntryOf before.entries (x.xorb, r, given)
+  pub faults : before.faults ≤ after.faults
 
 -- a put
 pub record PutStep (before after : CacheTold) : Type 0 where
   pub looked : after.looked ≡ before.looked
   pub offers : Counted before.offers after.offers
   pub entries : (after.entries ≡ before.entries) ⊎ ((e : CacheEntry) × Grew before.entries after.entries e)
+  pub faults : before.faults ≤ after.faults
 
 -- ---- events
 
@@ -72,6 +74,7 @@ pub record Fits (g : Setup) (es : List Event) (e : Event) (sl to : Slack) : Type
   pub served : (bs ns : List ClientTold) → IsServed es sl.hidden sl.late bs ns
       → IsServed (es ++ e ∷ []) to.hidden to.late bs ns
   pub expired : (xs : List Exchange) → EachExpired es 0 xs sl.late → EachExpired (es ++ e ∷ []) 0 xs to.late
+  pub heard_served : (xs : List Exchange) → EachServed es 0 xs sl.hidden → EachServed (es ++ e ∷ []) 0 xs to.hidden
   pub asked : sl.lost ≡ asked_in g.file es e ++ to.lost
   pub tried : (p k : ℕ) → count_by (expires p k) es + cond (expires p k e) 1 0 ≤ g.tries
   pub renewed : IsRenewed es e
@@ -82,7 +85,7 @@ pub record Fits (g : Setup) (es : List Event) (e : Event) (sl to : Slack) : Type
   pub pending : (x : MerkleHash) (r : ChunkRange) → count_by (is_one x r) (fetched_in es e)
       + count_by (is_one x r) to.pending ≤ count_by (is_one x r) sl.pending
   pub due : sl.due + count_by has_one (fetched_in es e) ≤ to.due
-  pub spare : to.spare ≤ sl.spare
+  pub spare : length (round_in es e) + to.spare ≤ sl.spare
   pub limit : limit_in e ≡ []
   pub ahead : sl.ahead ≡ taken_in e + to.ahead
   pub error : error_in e ≡ None

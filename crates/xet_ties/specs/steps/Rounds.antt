@@ -1,15 +1,21 @@
 -- What a whole round leaves.
-use Rattle.std.specs.Prelude.{ℕ, ◌≡◌, ◌+◌, List, [], ◌∷◌, count_by, All, Some, slice_get}
+use Rattle.std.specs.Prelude.{ℕ, ◌≡◌, ◌+◌, List, [], ◌∷◌, count_by, All, None, Some, slice_get}
 use Rattle.std.specs.List.{flat_map}
 use Rattle.xet_base.specs.Store.{Store}
-use Rattle.xet_outside.specs.Told.{ClientTold}
+use Rattle.xet_outside.specs.Answers.{AnswerTo}
+use Rattle.xet_outside.specs.declared.block.BlockBytes.{BlockBytes}
+use Rattle.xet_outside.specs.Told.{ClientTold, served_of}
+use Rattle.xet_error.specs.declared.error.Corruption.{Corruption}
+use Rattle.xet_error.specs.declared.error.FileReconstructionError.{FileReconstructionError}
+use Rattle.xet_error.specs.declared.error.FileReconstructionError.TheVariants as error
+use Rattle.xet_blocks.specs.BlockCalls.{failed_check}
 use Rattle.xet_blocks.specs.BlockChecks.{block_data}
 use Rattle.xet_blocks.specs.declared.reconstruction_terms.xorb_block.XorbBlockData.{XorbBlockData}
 use Rattle.xet_run.specs.declared.event.Event.{Event}
 use Rattle.xet_run.specs.declared.event.PlannedBlock.{PlannedBlock}
 use Rattle.xet_run.specs.Allowed.{IsMissing}
 use Rattle.xet_ties.specs.History.{block_at}
-use Rattle.xet_ties.specs.InCall.{EachGrew, Exchange, SomeOne}
+use Rattle.xet_ties.specs.InCall.{EachAskedAs, EachGrew, Exchange, SomeOne}
 use Rattle.xet_ties.specs.Lanes.{Ask, HidesNone, HoldsAsk, IsFor, bytes_of_ask}
 use Rattle.xet_ties.specs.Saids.{BlockOfPlan, InStep, IsServedData}
 use Rattle.xet_ties.specs.Setup.{AllTell, Setup}
@@ -58,10 +64,29 @@ pub record IsHeardData (fs : List Ask) (bs : List ClientTold) (xs : List Exchang
   pub honest : (s : Store) → AllTell s bs → HoldsAsk s ask
       → d ≡ block_data ask.block.chunk_ranges (bytes_of_ask s ask)
 
+-- bytes that a connection said in answer to a fetch's own request fail this test
+pub record FailsAsk (a : Ask) (k : Corruption) (x : Exchange) : Type 0 where
+  pub given : BlockBytes
+  pub answer : AnswerTo x.served x.said (served_of a.request) given
+  pub fails : failed_check a.block given ≡ Some k
+
+-- a failed test is of one of these fetches, by such bytes of some connection; no connection tells a store whose block
+-- passes
+pub record IsHeardFailure (fs : List Ask) (bs : List ClientTold) (xs : List Exchange) (k : Corruption) : Type 0 where
+  pub number : ℕ
+  pub ask : Ask
+  pub at : slice_get fs number ≡ Some ask
+  pub bytes : SomeOne (FailsAsk ask k) xs
+  pub dishonest : (s : Store) → AllTell s bs → HoldsAsk s ask → failed_check ask.block (bytes_of_ask s ask) ≡ None → ⊥
+
+abbrev pub IsHeardError : List Ask → List ClientTold → List Exchange → FileReconstructionError → Type 0
+IsHeardError fs bs xs (error.CorruptedReconstruction k) = IsHeardFailure fs bs xs k
+IsHeardError fs bs xs e = Unit {0}
+
 abbrev pub IsHeardStep : List Ask → List ClientTold → List Exchange → LaneStep → Type 0
 IsHeardStep fs bs xs (step.Served p k d) = IsHeardData fs bs xs p k d
 IsHeardStep fs bs xs (step.Expired p k) = Unit {0}
-IsHeardStep fs bs xs (step.Failed e) = Unit {0}
+IsHeardStep fs bs xs (step.Failed e) = IsHeardError fs bs xs e
 
 -- what was told and isn't recorded after a round, all of whose steps were recorded
 pub record AfterRound (bs ms : List ClientTold) (es : List Event) (fs : List Ask) (ls : List (List LaneStep))
@@ -69,7 +94,8 @@ pub record AfterRound (bs ms : List ClientTold) (es : List Event) (fs : List Ask
   -- the lanes' answers were heard, each query still has its answer
   pub grew : EachGrew sl.heard to.heard
   pub step : InStep sl.heard → InStep to.heard
-  -- where each fetch asks for its own block, the data of Served steps was heard
+  pub asked : EachAskedAs sl.heard to.heard
+  -- where each fetch asks for its own block, the data of Served steps was heard, and the bytes that failed a test
   pub found : All IsFor fs → All (λ ss. All (IsHeardStep fs ms to.heard) ss) ls
   pub looks : to.looks ≡ sl.looks
   -- no entry is hidden where no step may hide one
@@ -78,6 +104,6 @@ pub record AfterRound (bs ms : List ClientTold) (es : List Event) (fs : List Ask
   pub pending : to.pending ≡ []
   -- each served block of one range is to be offered
   pub due : to.due ≡ sl.due + count_by has_one (blocks_at es (flat_map got_of ls))
-  pub spare : to.spare ≡ sl.spare
+  pub spare : to.spare ≡ 0
   pub lost : to.lost ≡ sl.lost
   pub ahead : to.ahead ≡ sl.ahead

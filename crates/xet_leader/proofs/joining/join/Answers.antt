@@ -1,6 +1,7 @@
-use Rattle.std.proofs.Common.{◌≡◌, rules}
-use Rattle.xet_leader.specs.JoinCalls.{Touching}
+use Rattle.std.proofs.Common.{◌≡◌, inl, refl, rules}
+use Rattle.xet_leader.specs.JoinCalls.{Joining, Touching}
 use Rattle.xet_leader.proofs.JoinRuns.{can_round, join_done, join_refused, led_by}
+use Rattle.xet_leader.proofs.JoinTurns.{join_ran}
 use Rattle.xet_leader.proofs.joining.join.Goals as goal
 
 pub prepare-requires : goal.prepare-requires
@@ -68,3 +69,17 @@ returns-clause-leads g c =
     let same : c.as_slice.result.now ≡ c.in-Ok.prepared.places = search rules in
     join_done _ _ _ _ a z _ _ _ c.in-Ok.prepared c.as_slice.result.now c.run_round.result same c.in-Ok.ensures.leads
     c.run_round.ensures.leads
+
+pub returns-in-Err-clause-turn : goal.returns-in-Err-clause-turn
+returns-in-Err-clause-turn g c = inl (record { fails = tt; clients = refl })
+
+pub returns-clause-turn : goal.returns-clause-turn
+returns-clause-turn g c =
+    let same : c.as_slice.result.now ≡ c.in-Ok.prepared.places = search rules in
+    join_ran _ _ _ _ (record {
+      cache = g.K.ChunkCache.told c.prepare.new.cache;
+      signal = g.X.CancelSignal.told c.prepare.new.cancel;
+      events = c.prepare.new.core;
+      led = c.prepare.new.leader;
+      writer = c.prepare.new.writer;
+    }) c.in-Ok.prepared c.as_slice.result.now c.run_round.result same c.in-Ok.ensures.turn c.run_round.ensures.turn

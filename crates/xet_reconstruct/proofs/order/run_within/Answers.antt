@@ -24,9 +24,7 @@ returns-clause-ran g c =
     let n = c.run-answer.new in
     record {
       events = n.core;
-      limits = g.B.BudgetSource.told a.budget;
       later = g.B.BudgetSource.told n.budget;
-      is_fixed = refl;
       allowed = c.check_history.ensures;
       call = c.run-answer.ensures;
     }

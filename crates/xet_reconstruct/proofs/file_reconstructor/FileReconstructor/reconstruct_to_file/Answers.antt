@@ -1,3 +1,4 @@
+use Rattle.xet_reconstruct.specs.Ran.{limit_of}
 use Rattle.xet_reconstruct.specs.Setup.{lent_of, setup_of}
 use Rattle.xet_reconstruct.specs.ToFile.{place_for}
 use Rattle.xet_reconstruct.proofs.Settings.{setting_fails, settings_met}
@@ -12,7 +13,7 @@ returns-in-Some g c =
     a.cancel.now a.file.now in
     let e = c.in-Some.setting in
     let fails = setting_fails g.C.Client.told s.file_hash s.byte_range s.config a.clients.now e c.in-Some.ensures in
-    refused_file (setup_of s.file_hash s.byte_range s.config) a.truncate_file
+    refused_file (limit_of s.book s.config) (setup_of s.file_hash s.byte_range s.config) a.truncate_file
     (place_for a.write_offset s.byte_range) b e fails
 
 pub returns-in-Ok : goal.returns-in-Ok
@@ -25,9 +26,10 @@ returns-in-Ok g c =
     let after = lent_of g.C.Client.told g.K.ChunkCache.told g.X.CancelSignal.told g.F.Sink.told n.clients n.cache
     n.cancel n.writer in
     let met = settings_met g.C.Client.told s.file_hash s.byte_range s.config a.clients.now c.in-None.ensures in
-    ready_file (setup_of s.file_hash s.byte_range s.config) a.truncate_file
+    ready_file (limit_of s.book s.config) (setup_of s.file_hash s.byte_range s.config) a.truncate_file
     (place_for a.write_offset s.byte_range) c.unwrap_or-place.result b after (g.F.Sink.told c.make_ready.new.file)
     c.reconstruct_to_writer.result c.unwrap_or-place.ensures met c.in-Ok.ensures c.reconstruct_to_writer.ensures.legal
+    c.reconstruct_to_writer.ensures.ran
 
 pub returns-in-Err : goal.returns-in-Err
 returns-in-Err g c =
@@ -36,6 +38,6 @@ returns-in-Err g c =
     let b = lent_of g.C.Client.told g.K.ChunkCache.told g.X.CancelSignal.told g.F.Sink.told a.clients.now a.cache.now
     a.cancel.now a.file.now in
     let met = settings_met g.C.Client.told s.file_hash s.byte_range s.config a.clients.now c.in-None.ensures in
-    unready_file (setup_of s.file_hash s.byte_range s.config) a.truncate_file
+    unready_file (limit_of s.book s.config) (setup_of s.file_hash s.byte_range s.config) a.truncate_file
     (place_for a.write_offset s.byte_range) c.unwrap_or-place.result b (g.F.Sink.told c.make_ready.new.file)
     c.in-Err.error met c.in-Err.ensures

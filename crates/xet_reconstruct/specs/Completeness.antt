@@ -1,12 +1,12 @@
 -- When a run answers Ok, but for want of memory.
-use Rattle.std.specs.Prelude.{◌≡◌, ◌⊎◌, ◌+◌, ◌<◌, List, None, IsSome, IfErr}
+use Rattle.std.specs.Prelude.{ℕ, ◌≡◌, ◌⊎◌, ◌+◌, ◌<◌, List, None, IsSome, IfErr, Result}
 use Rattle.xet_base.specs.Store.{Store, file_of}
 use Rattle.xet_outside.specs.Told.{ClientTold, Rose}
+use Rattle.xet_error.specs.declared.error.FileReconstructionError.{FileReconstructionError}
 use Rattle.xet_error.specs.declared.error.FileReconstructionError.TheVariants as error
 use Rattle.xet_ties.specs.Causes.{NoneAtEnd, SomeRose, failing_setting, total_expiries}
 use Rattle.xet_ties.specs.Legal.{Legal}
 use Rattle.xet_ties.specs.Setup.{IsEmptyRange, IsOver, RunTold, Setup}
-use Rattle.xet_leader.specs.Ending.{RunAnswer}
 
 -- the connections tell one valid store, which has the file
 pub record HaveFile (g : Setup) (clients : List ClientTold) : Type 0 where
@@ -28,5 +28,5 @@ pub record NothingFails (g : Setup) (before after : RunTold) : Type 0 where
 
 -- then a legal answer is Ok, or want of memory
 abbrev pub LegalIsComplete : Type 0
-LegalIsComplete = (g : Setup) (before after : RunTold) (answer : RunAnswer) → Legal g before after answer
-    → NothingFails g before after → IfErr answer (λ e. e ≡ error.OutOfMemory)
+LegalIsComplete = (g : Setup) (before after : RunTold) (answer : Result ℕ FileReconstructionError)
+    → Legal g before after answer → NothingFails g before after → IfErr answer (λ e. e ≡ error.OutOfMemory)
