@@ -28,7 +28,7 @@ use Rattle.xet_session.specs.Trackings.{IsRefusal}
 use Rattle.xet_session.specs.Sessions.{HasListed, IsListed, SessionTold, log_of, waiting_names}
 use Rattle.xet_session.specs.steps.SessionSteps.{AddedRecord, PutFinished, PutGiven, PutRaw, TookWaiting, with_sent}
 use Rattle.xet_session.proofs.Keeping.{keeps-added, keeps-both, keeps-put, keeps-refl, keeps-still, keeps-unput, put-why}
-use Rattle.xet_session.proofs.Recording.{described-is, recorded-is}
+use Rattle.xet_session.proofs.Recording.{described-is, record-unnoted, recorded-is}
 use Rattle.xet_session.proofs.Sounding.{put-contained}
 use Rattle.xet_session.proofs.Listing.{AreFine, fine-empty, fine-known, listed-after, listed-more, names-listed}
 
@@ -159,6 +159,36 @@ module _ (b n1 n2 n : SessionTold) (x : Xorb) (h : MDBXorbInfo) (fs : List MDBFi
         so : (z : Result (Unit {0}) DataError) → n2.shards ≡ b.shards → IfErr z (StoresFail n2.shards n.shards) → IfErr z (PutsFail b n)
         so (Ok t) e q = tt
         so (Err d) e q = inl (subst (λ (i : InterfaceTold). StoresFail i n.shards d) e q)
+
+-- a xorb is put, and its files are finished
+pub registered-put : (b n1 n2 : SessionTold) (x : Xorb) (fs : List MDBFileInfo) (u : Unit {0}) → PutRaw b n1 x (Ok u) → n2 ≡ record n1 { finished = n1.finished ++ fs } → n2.registered ≡ b.registered ++ x.hash ∷ []
+registered-put b n1 n2 x fs u r finishes =
+    let is : n1 ≡ record b { uploader = n1.uploader; listed = b.listed ++ x.hash ∷ []; registered = b.registered ++ x.hash ∷ []; metrics = with_sent b.metrics r.sent } = r.ok in
+    ap (λ (z : SessionTold). z.registered) finishes ∙ ap (λ (z : SessionTold). z.registered) is
+
+-- nothing came behind the session's records
+pub unadded : (n : SessionTold) (h : MDBXorbInfo) (now : ℕ) → AddedRecord n n h now (Err data_error.OutOfMemory)
+unadded n h now = record { same = refl; recorded = record { ok = tt; err = inl (record { same = refl; added = tt; kept = refl; faults = omega arith; why = inl refl }) } }
+
+-- a put that failed leaves the list of those that were put
+pub registered-unput : (b n : SessionTold) (x : Xorb) (e : DataError) → PutRaw b n x (Err e) → (n.registered ≡ b.registered) × (is_some n.failed ≡ true)
+registered-unput b n x e r =
+    let is : n ≡ record b { uploader = n.uploader; failed = n.failed } = r.err in
+    let p : PutFailed b.uploader n.uploader n.failed e = r.failed in
+    (ap (λ (z : SessionTold). z.registered) is, kept-some n.failed p.error p.kept)
+
+-- a xorb was put, and then the tracker had no memory for it
+pub put-unnoted : (b n : SessionTold) (x : Xorb) (fs : List MDBFileInfo) (now : ℕ) (u : Unit {0}) → PutFinished b n x fs now (Ok u) → PutFinished b n x fs now (Err data_error.OutOfMemory)
+put-unnoted b n x fs now u k =
+    let put : WasPut b n x fs now (Ok u) = k.ok in
+    record {
+      keeps = k.keeps;
+      ok = tt;
+      err = inr (record { same = put.same; log = put.log; recorded = record-unnoted b.shards n.shards (record_of_xorb x) now u put.recorded });
+      said = λ e q. absurd (let was = k.said e q in cc);
+      counts = k.counts;
+      why = inl (inl (inl refl));
+    }
 
 -- ---- what a put leaves of lists and files
 
@@ -345,9 +375,6 @@ module _ (b t n : SessionTold) (now : ℕ) (r : RawXorbData × List PendingFile)
           }
 
 -- ---- a xorb that is given
-
-pub given-refused : (b : SessionTold) (x : Xorb) (now : ℕ) → PutGiven b b x now (Err data_error.OutOfMemory)
-given-refused b x now = record { keeps = keeps-refl b b refl; listed = λ l q. l; ok = tt; err = inl refl; said = λ none. says-none b (Err data_error.OutOfMemory) none; counts = refl; why = inl (inl (inl refl)) }
 
 pub given-put : (b n : SessionTold) (x : Xorb) (now : ℕ) (a : Result (Unit {0}) DataError) → PutFinished b n x [] now a → PutGiven b n x now a
 given-put b n x now a p = go a p

@@ -164,7 +164,7 @@ module _ (b m n : SessionTold) (hs : List MerkleHash) (h : MerkleHash) (found : 
     pub learn-yes : y ≡ true → Learns b n (hs ++ h ∷ []) (Ok true)
     learn-yes e =
         let k : Learned m.uploader n.uploader m.shards n.shards h = q.asks.yes e in
-        later true (l.answers ++ Some k.0 ∷ []) (inl (Some k.0, k.1)) (added-push b.uploader.answered m.uploader.answered n.uploader.answered l.answers (Some k.0) l.answered k.1.answered) (grown k.0 k.2) (sym (any-push (Some k.0) ∙ or-true found))
+        later true (l.answers ++ Some k.0 ∷ []) (q.asks.faults, inl (Some k.0, k.1)) (added-push b.uploader.answered m.uploader.answered n.uploader.answered l.answers (Some k.0) l.answered k.1.answered) (grown k.0 k.2) (sym (any-push (Some k.0) ∙ or-true found))
 
     pub learn-no : y ≡ false → Learns b n (hs ++ h ∷ []) (Ok found)
     learn-no e = go k.1
@@ -174,9 +174,9 @@ module _ (b m n : SessionTold) (hs : List MerkleHash) (h : MerkleHash) (found : 
 
         go : LearnedNothing m.uploader n.uploader h → Learns b n (hs ++ h ∷ []) (Ok found)
         go (inl a) =
-            later found (l.answers ++ None ∷ []) (inl (None, a)) (added-push b.uploader.answered m.uploader.answered n.uploader.answered l.answers None l.answered a.answered) (still (ap (λ (i : InterfaceTold). i.cache.records) k.0)) (sym (any-push None ∙ or-false found))
+            later found (l.answers ++ None ∷ []) (q.asks.faults, inl (None, a)) (added-push b.uploader.answered m.uploader.answered n.uploader.answered l.answers None l.answered a.answered) (still (ap (λ (i : InterfaceTold). i.cache.records) k.0)) (sym (any-push None ∙ or-false found))
         go (inr a) =
-            later found l.answers (inr a) (subst (λ (o : Option (List (Option ShardRecord))). Added b.uploader.answered o l.answers) (sym a.0.0) l.answered) (ap (λ (i : InterfaceTold). i.cache.records) k.0 ∙ all) l.yes
+            later found l.answers (q.asks.faults, inr a) (subst (λ (o : Option (List (Option ShardRecord))). Added b.uploader.answered o l.answers) (sym a.0.0) l.answered) (ap (λ (i : InterfaceTold). i.cache.records) k.0 ∙ all) l.yes
 
   -- a query failed, and the rest was not made
   pub learn-stopped : (e : DataError) (rest : List MerkleHash) → AsksFor m n h (Err e) → Learns b n ((hs ++ h ∷ []) ++ rest) (Err e)

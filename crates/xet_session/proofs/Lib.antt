@@ -1,5 +1,6 @@
 pub mod CallerLemmas
 pub mod Completions
+pub mod CutTracking
 pub mod Cuts
 pub mod Ends
 pub mod Hashes

@@ -130,10 +130,10 @@ module _ (b n : SessionTold) (extra : List MerkleHash) (looks : Looks b.shards n
   same-looked = is ∙ ap (λ (hs : List MerkleHash). record b { shards = n.shards; listed = hs }) (sym listed)
 
 -- the xorb came onto the list
-pub on-list-pushed : (b n : SessionTold) (x : MerkleHash) → n ≡ record b { listed = b.listed ++ x ∷ [] } → OnList b n x
-on-list-pushed b n x e =
+pub on-list-pushed : (b n : SessionTold) (x : MerkleHash) → (Contains b.listed x → ⊥) → n ≡ record b { listed = b.listed ++ x ∷ [] } → OnList b n x
+on-list-pushed b n x new e =
     let P : List MerkleHash → Type 0 = λ l. Contains l x in
-    record { is_there = subst P (sym (ap (λ (z : SessionTold). z.listed) e)) (Contains-push b.listed x); same = inr e }
+    record { is_there = subst P (sym (ap (λ (z : SessionTold). z.listed) e)) (Contains-push b.listed x); same = inr e; once = λ c. absurd (new c) }
 
 -- stores that tell tell what is searched
 search-tells : (i : InterfaceTold) → StoresTell i → SearchTells i
@@ -151,6 +151,7 @@ module _ (b : SessionTold) (hs : List MerkleHash) where
     run = tt;
     faults = later-same b.shards b.shards refl;
     why = inr (inl (inl refl));
+    order = λ t. inl refl;
   }
 
   -- room for the list was refused
@@ -199,6 +200,12 @@ module _ (b : SessionTold) (hs : List MerkleHash) where
       one : Tells b → Stands b → All (IsThere (log_of b) (known_of b)) (f.1.xorb ∷ [])
       one t s = All-cons (IsThere (log_of b) (known_of b)) f.1.xorb [] (found-there b s hs f (sym (q.found (search-tells b.shards t.shards)))) (All-nil (IsThere (log_of b) (known_of b)))
 
+      listed-same : m.listed ≡ b.listed
+      listed-same = ap (λ (z : SessionTold). z.listed) same
+
+      again : Contains b.listed f.1.xorb → n.listed ≡ b.listed
+      again c = let P : List MerkleHash → Type 0 = λ l. Contains l f.1.xorb in ap (λ (z : SessionTold). z.listed) (o.once (subst P (sym listed-same) c)) ∙ listed-same
+
       go : (extra : List MerkleHash) → (n.listed ≡ b.listed) ⊎ (n.listed ≡ b.listed ++ f.1.xorb ∷ []) → n.shards ≡ m.shards → n ≡ record b { shards = n.shards; listed = b.listed ++ extra } → (Tells b → Stands b → All (IsThere (log_of b) (known_of b)) extra) → Queries b n hs (Ok (Some f))
       go extra list e is there =
           let looks = subst (λ (i : InterfaceTold). Looks b.shards i) (sym e) q.looks in
@@ -209,7 +216,7 @@ module _ (b : SessionTold) (hs : List MerkleHash) where
             searches = subst (λ (i : InterfaceTold). Searches b.shards i hs (Ok (Some f))) (sym e) q;
             found = q.found;
             run = q.run;
-            on_list = record { is_there = o.is_there; listed = list };
+            on_list = record { is_there = o.is_there; listed = list; once = again };
             none = λ e. absurd (none-some f (sym e));
             err = tt;
             listed = listed-looked b n extra looks later is there;

@@ -10,6 +10,7 @@ use Rattle.xet_base.specs.Records.{Describes}
 use Rattle.xet_shards.specs.Shards.{with_records}
 use Rattle.xet_shard_interface.specs.Interfaces.{AddsRecords, InterfaceTold, LaterFaults, StagesXorb, StoreFails, StoresTell, known_told}
 use Rattle.xet_upload.specs.declared.data_error.DataError.{DataError}
+use Rattle.xet_upload.specs.declared.data_error.DataError.TheVariants as data_error
 use Rattle.xet_session.specs.Calls.{Recorded, Records, StoresFail, one_xorb, record_of_xorb, xorb_bytes}
 
 -- a record that describes a xorb is its record
@@ -17,6 +18,9 @@ pub described-is : (r : MDBXorbInfo) (x : Xorb) → Describes r x → r ≡ reco
 described-is r x d =
     ap (λ (h : MerkleHash). record r { hash = h }) d.hash ∙ ap (λ (k : ℕ). record r { hash = x.hash; num_bytes = k }) d.num_bytes
     ∙ ap (λ cs. record r { hash = x.hash; num_bytes = xorb_bytes x; chunks = cs }) d.chunks
+
+abbrev refusal : DataError → Result (Unit {0}) DataError
+refusal e = Err e
 
 -- what is left of the stores, whatever the answer
 pub record IsRecorded (b n : InterfaceTold) (x : MDBXorbInfo) (answer : Result (Unit {0}) DataError) : Type 0 where
@@ -75,9 +79,14 @@ module _ (b n : InterfaceTold) (x : MDBXorbInfo) where
   recorded-is now (Ok u) k = recorded-so now (Ok u) k.ok
   recorded-is now (Err e) k = go k.err
     where
-      go : AddsRecords b n (one_xorb x) (Err e) ⊎ Records b n x now (Err e) → IsRecorded b n x (Err e)
+      go : AddsRecords b n (one_xorb x) (Err e) ⊎ Records b n x now (Err e) ⊎ ((refusal e ≡ refusal data_error.OutOfMemory) × Records b n x now (Ok tt)) → IsRecorded b n x (Err e)
       go (inl a) = recorded-not e a
-      go (inr r) = recorded-so now (Err e) r
+      go (inr (inl r)) = recorded-so now (Err e) r
+      go (inr (inr r)) =
+          let all = recorded-so now (Ok tt) r.1 in
+          let was = r.0 in
+          let one : e ≡ data_error.OutOfMemory = cc in
+          record { tells = all.tells; known = all.known; rules = all.rules; added = all.added; stores = all.stores; why = inl (inl one) }
 
   -- ---- how a record is recorded
 
@@ -98,4 +107,8 @@ module _ (b n : InterfaceTold) (x : MDBXorbInfo) where
 
       go : (r : Result (Unit {0}) DataError) → Records b n x now r → Recorded b n x now r
       go (Ok v) k = record { ok = k; err = tt }
-      go (Err e) k = record { ok = tt; err = inr k }
+      go (Err e) k = record { ok = tt; err = inr (inl k) }
+
+  -- and then the tracker had no memory
+  pub record-unnoted : (now : ℕ) (u : Unit {0}) → Recorded b n x now (Ok u) → Recorded b n x now (Err data_error.OutOfMemory)
+  record-unnoted now u k = record { ok = tt; err = inr (inr (refl, k.ok)) }

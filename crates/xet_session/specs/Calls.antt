@@ -19,7 +19,7 @@ use Rattle.xet_uploader.specs.declared.uploader.Put.TheVariants as put
 use Rattle.xet_uploader.specs.Uploads.{UploaderTold}
 use Rattle.xet_shards.specs.Runs.{IsRun}
 use Rattle.xet_shards.specs.Shards.{ShardsTold, with_records}
-use Rattle.xet_shard_interface.specs.Interfaces.{AddsRecords, InterfaceTold, LaterFaults, SearchFails, SearchTells, Searches, StagesXorb, StoreFails, found_in, known_told, records_of, resumed_faults, resumed_records}
+use Rattle.xet_shard_interface.specs.Interfaces.{AddsRecords, FailsInOrder, InterfaceTold, LaterFaults, SearchFails, SearchTells, Searches, StagesXorb, StoreFails, found_in, known_told, records_of, resumed_faults, resumed_records}
 use Rattle.xet_shard_interface.specs.Puts.{all_with_shards, forgotten, shards_of, sizes}
 use Rattle.xet_upload.specs.DataErrors.{of_client_error}
 use Rattle.xet_upload.specs.Metrics.{no_counts}
@@ -134,11 +134,13 @@ pub record Records (b n : InterfaceTold) (x : MDBXorbInfo) (now : ℕ)
   pub adds : AddsRecords b (record b { session = session }) (one_xorb x) (Ok tt)
   pub stages : StagesXorb (record b { session = session }) n x now answer
 
--- the record of a xorb was recorded; an error leaves the session's records, or comes with the staging
+-- the record of a xorb was recorded; an error leaves the session's records, or comes with the staging, or is want of
+-- memory of the tracker
 pub record Recorded (b n : InterfaceTold) (x : MDBXorbInfo) (now : ℕ)
     (answer : Result (Unit {0}) DataError) : Type 0 where
   pub ok : OnOk answer (Records b n x now answer)
-  pub err : OnErr answer (AddsRecords b n (one_xorb x) answer ⊎ Records b n x now answer)
+  pub err : OnErr answer (AddsRecords b n (one_xorb x) answer ⊎ Records b n x now answer
+      ⊎ ((answer ≡ Err data_error.OutOfMemory) × Records b n x now (Ok tt)))
 
 -- a xorb was put: its hash came onto both lists, its files are finished, and its record was recorded or refused
 pub record WasPut (b n : SessionTold) (x : Xorb) (fs : List MDBFileInfo) (now : ℕ)
@@ -249,10 +251,11 @@ pub record Registers (b n : SessionTold) (x : Xorb) (now : ℕ) (answer : Result
 
 -- ---- searches
 
--- the xorb is on the list, which is as before or has it more at its end
+-- the xorb is on the list, which is as before or has it more at its end; it stays where the xorb was on it
 pub record IsOnList (b n : SessionTold) (x : MerkleHash) : Type 0 where
   pub is_there : Contains n.listed x
   pub listed : (n.listed ≡ b.listed) ⊎ (n.listed ≡ b.listed ++ x ∷ [])
+  pub once : Contains b.listed x → n.listed ≡ b.listed
 
 -- a search of the stores; the xorb that it found is on the list afterwards
 pub record Queries (b n : SessionTold) (hashes : List MerkleHash)
@@ -267,6 +270,11 @@ pub record Queries (b n : SessionTold) (hashes : List MerkleHash)
   pub err : OnErr answer (n.listed ≡ b.listed)
   pub listed : IsListed b → n.failed ≡ None → IsListed n
   pub why : IfErr answer (SearchFails b.shards n.shards)
+
+-- a store makes a search fail only where those that are asked before it have nothing
+abbrev pub SearchesInOrder : SessionTold → SessionTold → List MerkleHash
+    → Result (Option (ℕ × FileDataSequenceEntry × Bool)) DataError → Type 0
+SearchesInOrder b n hashes answer = SearchTells b.shards → IfErr answer (FailsInOrder b.shards n.shards hashes)
 
 -- ---- the end of a session
 

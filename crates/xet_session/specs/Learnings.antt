@@ -18,9 +18,10 @@ abbrev pub AskedSome : Option (List MerkleHash) → Option (List MerkleHash) →
 AskedSome u v [] = v ≡ u
 AskedSome u v (h ∷ hs) = (w : Option (List MerkleHash)) × ((w ≡ u) ⊎ Grew u w h) × AskedSome w v hs
 
--- a query for the chunk was answered, or the uploader failed
+-- a query for the chunk was answered, or the uploader failed; its faults did not fall
 abbrev pub Queried : UploaderTold → UploaderTold → MerkleHash → Type 0
-Queried u v h = ((a : Option ShardRecord) × Answered u v h a) ⊎ (Unanswered u v h × Rose u.faults v.faults)
+Queried u v h = (u.faults ≤ v.faults)
+    × (((a : Option ShardRecord) × Answered u v h a) ⊎ (Unanswered u v h × Rose u.faults v.faults))
 
 -- one query for each of these chunks, in order
 abbrev pub QueriedAll : UploaderTold → UploaderTold → List MerkleHash → Type 0

@@ -1,5 +1,5 @@
 -- What a session tells, by what its uploader and its stores tell.
-use Rattle.std.specs.Prelude.{map}
+use Rattle.std.specs.Prelude.{◌≡◌, map}
 use Rattle.xet_uploader.specs.declared.uploader.Uploader as uploader
 use Rattle.xet_uploader.specs.Uploads.{UploaderTold}
 use Rattle.xet_shards.specs.declared.shard_store.ShardStore as shard_store
@@ -23,3 +23,8 @@ told_by u r s = record {
   queries = s.queries_enabled;
   thresholds = s.thresholds;
 }
+
+-- the source of ids and the group are as before
+abbrev pub KeepsGroup : {U R : Type 0} {G : uploader.Ghosts U} {H : shard_store.Ghosts R}
+    → FileUploadSession U R G H → FileUploadSession U R G H → Type 0
+KeepsGroup b n = (n.ids ≡ b.ids) × (n.progress ≡ b.progress)

@@ -1,5 +1,6 @@
 -- What the tracker of a session is told, and when it refuses it.
-use Rattle.std.specs.Prelude.{ℕ, ◌≡◌, ◌+◌, ◌-◌, ◌^◌, ◌⊎◌, Bool, true, false, cond, List, [], ◌∷◌, ◌++◌, length, take, Option, Some, None, Result, Ok, Err, IfOk, IfErr, OnOk}
+use Rattle.std.specs.Prelude.{ℕ, ◌≡◌, ◌+◌, ◌-◌, ◌^◌, ◌⊎◌, ◌<◌, ◌≤◌, min, Bool, true, false, cond, ltb, List, [], ◌∷◌, ◌++◌, length, map, take, Contains, Option, Some, None, is_some, Result, Err, IfOk, IfErr, OnOk, OnErr}
+use Rattle.std.specs.List.{filter, sum_by}
 use Rattle.xet_base.specs.declared.invalid.Invalid.{Invalid}
 use Rattle.xet_base.specs.declared.invalid.Invalid.TheVariants as invalid
 use Rattle.xet_base.specs.declared.item_id.UniqueID.{UniqueID}
@@ -10,9 +11,13 @@ use Rattle.xet_progress.specs.Counts.{sizes}
 use Rattle.xet_progress.specs.declared.step.FileXorbDependency.{FileXorbDependency}
 use Rattle.xet_progress.specs.declared.step.TrackerStep.{TrackerStep}
 use Rattle.xet_progress.specs.declared.step.TrackerStep.TheVariants.{RegisterDependencies, RegisterNewFile, RegisterNewXorb, RegisterXorbUploadCompletion}
+use Rattle.xet_upload.specs.Waitings.{Waiting, own_bytes}
 use Rattle.xet_upload.specs.declared.data_error.DataError.{DataError}
 use Rattle.xet_upload.specs.declared.data_error.DataError.TheVariants as data_error
-use Rattle.xet_session.specs.Calls.{finalized_error, xorb_bytes}
+use Rattle.xet_upload.specs.declared.waiting.WaitingFile.{WaitingFile}
+use Rattle.xet_session.specs.Calls.{finalized_error, waiting_hash, xorb_bytes}
+use Rattle.xet_session.specs.Completions.{FitTogether, waiting_bytes, with_waiting}
+use Rattle.xet_session.specs.Sessions.{SessionTold}
 use Rattle.xet_session.specs.steps.HashLists.{has}
 
 -- the refusal of the first call that is refused, where the calls are made one after another
@@ -25,16 +30,28 @@ abbrev pub IsRefusal : Option Invalid → DataError → Type 0
 IsRefusal refusal e = (e ≡ data_error.OutOfMemory)
     ⊎ ((why : Invalid) × (refusal ≡ Some why) × (e ≡ data_error.InvalidOperation why))
 
--- the tracker accepted the first few of these calls: all of them on Ok, and else the call says which refusal came
+-- the tracker accepted the first few of these calls: all of them on Ok, else not all, and the call says which refusal
+-- came
 pub record Tracks {A : Type 0} (before after calls : List TrackerStep) (answer : Result A DataError) : Type 0 where
   pub count : ℕ
   pub accepted : after ≡ before ++ take count calls
   pub ok : OnOk answer ((first_refusal before calls ≡ None) × (after ≡ before ++ calls))
+  pub fewer : OnErr answer (count < length calls)
   pub err : IfErr answer (IsRefusal (first_refusal before calls))
 
--- a xorb was counted as put, or the tracker is as before
-abbrev pub MaybeCompleted : List TrackerStep → List TrackerStep → MerkleHash → Type 0
-MaybeCompleted before after h = (after ≡ before) ⊎ (after ≡ before ++ RegisterXorbUploadCompletion h ∷ [])
+-- the tracker after one call more: a call that it refuses changes nothing
+abbrev pub with_call : List TrackerStep → TrackerStep → List TrackerStep
+with_call before c = cond (is_some (refusal_of before c)) before (before ++ c ∷ [])
+
+-- the tracker after these calls, one after another
+abbrev pub with_calls : List TrackerStep → List TrackerStep → List TrackerStep
+with_calls before [] = before
+with_calls before (c ∷ cs) = with_calls (with_call before c) cs
+
+-- the tracker accepted some of these calls, in order, each at most once
+abbrev pub CalledSome : List TrackerStep → List TrackerStep → List TrackerStep → Type 0
+CalledSome before after [] = after ≡ before
+CalledSome before after (c ∷ cs) = CalledSome before after cs ⊎ CalledSome (before ++ c ∷ []) after cs
 
 -- ---- a given xorb
 
@@ -43,16 +60,76 @@ abbrev pub xorb_calls : List MerkleHash → Xorb → List FileXorbDependency →
 xorb_calls registered x ds = cond (has x.hash registered) (RegisterDependencies ds ∷ [])
     (RegisterNewXorb x.hash (xorb_bytes x) ∷ RegisterDependencies ds ∷ [])
 
--- a refusal is the tracker's or comes since the session is finalized; on Ok the tracker accepted the calls
-pub record TracksXorb {A : Type 0} (before after calls : List TrackerStep) (x : Xorb)
-    (answer : Result A DataError) : Type 0 where
+-- and that it is complete, where none of its hash was put before
+abbrev pub all_xorb_calls : List MerkleHash → Xorb → List FileXorbDependency → List TrackerStep
+all_xorb_calls registered x ds = xorb_calls registered x ds
+    ++ cond (has x.hash registered) [] (RegisterXorbUploadCompletion x.hash ∷ [])
+
+-- a xorb that was put is counted as complete, but where memory for that was refused
+abbrev pub CountsPut : {A : Type 0} → List TrackerStep → List TrackerStep → MerkleHash → Result A DataError → Type 0
+CountsPut told after h answer = (after ≡ with_call told (RegisterXorbUploadCompletion h))
+    ⊎ ((answer ≡ Err data_error.OutOfMemory) × (after ≡ told))
+
+-- what the tracker is told of a given xorb: all of it on Ok, and on an error that it is complete only where it was put
+pub record TracksXorb {A : Type 0} (b n : SessionTold) (before after : List TrackerStep) (x : Xorb)
+    (ds : List FileXorbDependency) (answer : Result A DataError) : Type 0 where
   pub told : List TrackerStep
   pub count : ℕ
-  pub accepted : told ≡ before ++ take count calls
-  pub completed : MaybeCompleted told after x.hash
-  pub ok : OnOk answer ((first_refusal before calls ≡ None) × (told ≡ before ++ calls))
+  pub accepted : told ≡ before ++ take count (xorb_calls b.registered x ds)
+  pub ok : OnOk answer ((first_refusal before (xorb_calls b.registered x ds) ≡ None)
+      × (after ≡ before ++ all_xorb_calls b.registered x ds))
+  pub unput : OnErr answer (n.registered ≡ b.registered → after ≡ told)
+  pub put : n.registered ≡ b.registered ++ x.hash ∷ []
+      → (told ≡ before ++ xorb_calls b.registered x ds) × CountsPut told after x.hash answer
+  pub refused : b.failed ≡ None → is_some n.failed ≡ true → told ≡ before ++ xorb_calls b.registered x ds
+  pub again : OnErr answer (0 < length x.chunks → n.registered ≡ b.registered → n.failed ≡ None
+      → (after ≡ before) ⊎ (after ≡ before ++ RegisterNewXorb x.hash (xorb_bytes x) ∷ []))
+  pub kept : is_some b.failed ≡ true → 0 < length x.chunks → (Contains b.registered x.hash → ⊥) → after ≡ before
+  pub ended : b.finalized ≡ true → after ≡ before
   pub err : IfErr answer (λ e. (why : Invalid) → e ≡ data_error.InvalidOperation why
-      → (e ≡ finalized_error) ⊎ (first_refusal before calls ≡ Some why))
+      → ((e ≡ finalized_error) × (b.finalized ≡ true))
+      ⊎ ((b.finalized ≡ false) × (first_refusal before (xorb_calls b.registered x ds) ≡ Some why)))
+
+-- ---- a cut
+
+-- what a waiting file has in the xorb that the waiting chunks become
+abbrev pub own_part : MerkleHash → WaitingFile → FileXorbDependency
+own_part h f = record {
+  file_id = f.file_id;
+  xorb_hash = h;
+  n_bytes = min (sum_by (λ t. own_bytes t.xorb t.bytes) f.terms) (2 ^ 64 - 1);
+  is_external = false;
+}
+
+-- the same of each file that has something in it
+abbrev pub own_parts : MerkleHash → List WaitingFile → List FileXorbDependency
+own_parts h fs = filter (λ d. ltb 0 d.n_bytes) (map (own_part h) fs)
+
+-- the tracker is told of the xorb that is cut, and then of what its files have in it
+abbrev pub cut_calls : SessionTold → List TrackerStep
+cut_calls b = RegisterNewXorb (waiting_hash b) (waiting_bytes b.waiting)
+    ∷ RegisterDependencies (own_parts (waiting_hash b) b.waiting.files) ∷ []
+
+-- what the tracker is told of a cut, in which a refusal changes nothing: all on Ok where the xorb was put, and that it
+-- is complete only then
+pub record TracksCut {A : Type 0} (b n : SessionTold) (before after : List TrackerStep)
+    (answer : Result A DataError) : Type 0 where
+  pub told : List TrackerStep
+  pub some : CalledSome before told (cut_calls b)
+  pub all : OnOk answer (n.registered ≡ b.registered ++ waiting_hash b ∷ [] → told ≡ with_calls before (cut_calls b))
+  pub unput : n.registered ≡ b.registered → after ≡ told
+  pub put : n.registered ≡ b.registered ++ waiting_hash b ∷ [] → CountsPut told after (waiting_hash b) answer
+  pub kept : is_some b.failed ≡ true → after ≡ before
+  pub empty : b.waiting.chunks ≡ [] → after ≡ before
+
+-- what the tracker is told at the end of a file: nothing where its data joins what waits, else what is told of the cut
+pub record TracksFile (b n : SessionTold) (w : Waiting) (before after : List TrackerStep)
+    (answer : Result (Unit {0}) DataError) : Type 0 where
+  pub joins : FitTogether b.thresholds b.waiting w → after ≡ before
+  pub cuts_file : (FitTogether b.thresholds b.waiting w → ⊥) → waiting_bytes b.waiting ≤ waiting_bytes w
+      → TracksCut (with_waiting b w) n before after answer
+  pub cuts_waiting : (FitTogether b.thresholds b.waiting w → ⊥) → waiting_bytes w < waiting_bytes b.waiting
+      → TracksCut b n before after answer
 
 -- ---- files
 

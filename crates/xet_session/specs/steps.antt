@@ -1,3 +1,4 @@
+pub mod CutNotes
 pub mod HashLists
 pub mod Listings
 pub mod SessionSteps

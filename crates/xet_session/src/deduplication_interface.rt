@@ -4,11 +4,11 @@ ghost use Rattle.xet_base.specs.declared.merklehash.MerkleHash.{MerkleHash};
 ghost use Rattle.xet_base.specs.Records.{Describes};
 ghost use Rattle.xet_progress.specs.declared.step.TrackerStep.{TrackerStep};
 ghost use Rattle.xet_progress.specs.declared.step.TrackerStep.TheVariants.{RegisterDependencies};
-ghost use Rattle.xet_session.specs.Calls.{Backs, Queries};
+ghost use Rattle.xet_session.specs.Calls.{Backs, Queries, SearchesInOrder};
 ghost use Rattle.xet_session.specs.Learnings.{Completes, Learns, RegistersSo};
 ghost use Rattle.xet_session.specs.Sessions.{SessionTold};
-ghost use Rattle.xet_session.specs.Telling.{told_by};
-ghost use Rattle.xet_session.specs.Trackings.{Tracks, TracksXorb, xorb_calls};
+ghost use Rattle.xet_session.specs.Telling.{KeepsGroup, told_by};
+ghost use Rattle.xet_session.specs.Trackings.{Tracks, TracksXorb};
 
 use crate::session::FileUploadSession;
 use std::alloc::Global;
@@ -40,6 +40,7 @@ pub trait DeduplicationDataInterface {
         query_hashes: &[MerkleHash],
     ) -> Result<Option<(usize, FileDataSequenceEntry, bool)>, DataError>
         ensures call { Queries (told self.old) (told self.new) query_hashes.now result }
+        ensures order { SearchesInOrder (told self.old) (told self.new) query_hashes.now result }
         ensures backs { Backs (told self.old) (told self.new) }
         ensures waits { pending self.new ≡ pending self.old }
         ensures untold { tracked self.new ≡ tracked self.old };
@@ -66,7 +67,8 @@ pub trait DeduplicationDataInterface {
         ensures untold { tracked self.new ≡ tracked self.old };
 
     /// Puts a xorb with its record, unless one with the hash was put before, and tells the tracker of it. `now` is a
-    /// moment in seconds. Each `InvalidOperation` but `Finalized` is the tracker's refusal.
+    /// moment in seconds. `Finalized` exactly where the session is finalized; each other `InvalidOperation` is the
+    /// tracker's refusal.
     ///
     /// In the Rust crates: `DeduplicationDataInterface::register_new_xorb`.
     fn register_new_xorb<W: Wait>(
@@ -78,8 +80,8 @@ pub trait DeduplicationDataInterface {
     ) -> Result<(), DataError>
         requires { Describes xorb.xorb_info xorb.xorb }
         ensures call { RegistersSo (told self.old) (told self.new) xorb.xorb now result }
-        ensures tracks { TracksXorb (tracked self.old) (tracked self.new)
-            (xorb_calls (told self.old).registered xorb.xorb []) xorb.xorb result }
+        ensures tracks { TracksXorb (told self.old) (told self.new) (tracked self.old) (tracked self.new)
+            xorb.xorb [] result }
         ensures backs { Backs (told self.old) (told self.new) }
         ensures waits { pending self.new ≡ pending self.old };
 
@@ -115,6 +117,7 @@ impl<'a, U: Uploader, R: ShardStore> UploadSessionDataManager<'a, U, R> {
         session: &'a mut FileUploadSession<U, R>,
     ) -> UploadSessionDataManager<'a, U, R>
         ensures session { told_by U.told R.told result.session.now ≡ told_by U.told R.told session.old }
+        ensures same { result.session.now ≡ session.old }
         ensures pending { result.pending.items ≡ [] }
         ensures same_session { result.session.ghost_name ≡ session.entry.ghost_name }
     {
@@ -140,11 +143,14 @@ impl<'a, U: Uploader, R: ShardStore> DeduplicationDataInterface
     ) -> Result<Option<(usize, FileDataSequenceEntry, bool)>, DataError>
         ensures call { Queries (told_by U.told R.told self.old.session.now)
             (told_by U.told R.told self.new.session.now) query_hashes.now result }
+        ensures order { SearchesInOrder (told_by U.told R.told self.old.session.now)
+            (told_by U.told R.told self.new.session.now) query_hashes.now result }
         ensures backs { Backs (told_by U.told R.told self.old.session.now)
             (told_by U.told R.told self.new.session.now) }
         ensures waits { self.new.pending.items ≡ self.old.pending.items }
         ensures untold { self.new.session.now.files.tracker ≡ self.old.session.now.files.tracker }
         ensures same_session { self.new.session.ghost_name ≡ self.old.session.ghost_name }
+        ensures group { KeepsGroup self.old.session.now self.new.session.now }
     {
         self.session.chunk_hash_dedup_query(alloc, query_hashes)
     }
@@ -156,6 +162,7 @@ impl<'a, U: Uploader, R: ShardStore> DeduplicationDataInterface
         ensures memory { OnErr result (result ≡ Err DataError.OutOfMemory) }
         ensures untold { self.new.session.now.files.tracker ≡ self.old.session.now.files.tracker }
         ensures same_session { self.new.session.ghost_name ≡ self.old.session.ghost_name }
+        ensures group { KeepsGroup self.old.session.now self.new.session.now }
     {
         if self.pending.push(chunk_hash).is_err() {
             return Err(DataError::OutOfMemory);
@@ -168,6 +175,7 @@ impl<'a, U: Uploader, R: ShardStore> DeduplicationDataInterface
             (told_by U.told R.told self.new.session.now) self.old.pending.items self.new.pending.items result }
         ensures untold { self.new.session.now.files.tracker ≡ self.old.session.now.files.tracker }
         ensures same_session { self.new.session.ghost_name ≡ self.old.session.ghost_name }
+        ensures group { KeepsGroup self.old.session.now self.new.session.now }
     {
         if !self.session.asks_queries() {
             return Ok(false);
@@ -186,12 +194,14 @@ impl<'a, U: Uploader, R: ShardStore> DeduplicationDataInterface
         requires { Describes xorb.xorb_info xorb.xorb }
         ensures call { RegistersSo (told_by U.told R.told self.old.session.now)
             (told_by U.told R.told self.new.session.now) xorb.xorb now result }
-        ensures tracks { TracksXorb self.old.session.now.files.tracker self.new.session.now.files.tracker
-            (xorb_calls self.old.session.now.registered.hashes.items xorb.xorb []) xorb.xorb result }
+        ensures tracks { TracksXorb (told_by U.told R.told self.old.session.now)
+            (told_by U.told R.told self.new.session.now) self.old.session.now.files.tracker
+            self.new.session.now.files.tracker xorb.xorb [] result }
         ensures backs { Backs (told_by U.told R.told self.old.session.now)
             (told_by U.told R.told self.new.session.now) }
         ensures waits { self.new.pending.items ≡ self.old.pending.items }
         ensures same_session { self.new.session.ghost_name ≡ self.old.session.ghost_name }
+        ensures group { KeepsGroup self.old.session.now self.new.session.now }
     {
         match self.session.register_new_xorb(rt, alloc, xorb, &[], now) {
             Ok(_new) => Ok(()),
@@ -210,6 +220,7 @@ impl<'a, U: Uploader, R: ShardStore> DeduplicationDataInterface
             (RegisterDependencies dependencies.now ∷ []) result }
         ensures waits { self.new.pending.items ≡ self.old.pending.items }
         ensures same_session { self.new.session.ghost_name ≡ self.old.session.ghost_name }
+        ensures group { KeepsGroup self.old.session.now self.new.session.now }
     {
         self.session
             .register_xorb_dependencies(rt, alloc, dependencies)
@@ -225,6 +236,7 @@ fn ask_each<U: Uploader, R: ShardStore>(
     ensures learns { Learns (told_by U.told R.told session.old) (told_by U.told R.told session.new) chunks.now result }
     ensures backs { Backs (told_by U.told R.told session.old) (told_by U.told R.told session.new) }
     ensures untold { session.new.files.tracker ≡ session.old.files.tracker }
+    ensures group { KeepsGroup session.old session.new }
 {
     let mut found = false;
     for chunk in chunks {

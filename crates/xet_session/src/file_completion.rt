@@ -3,6 +3,7 @@ ghost use Rattle.std.specs.Prelude.{◌≡◌, ◌<◌, ◌≤◌, ℕ, All, Con
 ghost use Rattle.xet_session.specs.Calls.{Backs};
 ghost use Rattle.xet_session.specs.Completions.{CutsFile, CutsWaiting, FitTogether, Joins, TakesFile, waiting_bytes};
 ghost use Rattle.xet_session.specs.Sessions.{waiting_names};
+ghost use Rattle.xet_session.specs.Trackings.{TracksFile};
 
 use crate::session::FileUploadSession;
 use std::alloc::Global;
@@ -12,7 +13,7 @@ use xet_upload::{DataAggregator, DataError};
 use xet_uploader::Uploader;
 
 impl<U: Uploader, R: ShardStore> FileUploadSession<U, R> {
-    ghost use Rattle.xet_session.specs.Telling.{told_by};
+    ghost use Rattle.xet_session.specs.Telling.{KeepsGroup, told_by};
 
     // Cuts the data of a file, while what waits is kept aside.
     fn cut_file<W: Wait>(
@@ -26,7 +27,11 @@ impl<U: Uploader, R: ShardStore> FileUploadSession<U, R> {
             → All (Contains self.old.listed.hashes.items) (waiting_names file_data.files) }
         requires passes { FitTogether self.old.thresholds self.old.waiting file_data → ⊥ }
         requires larger { waiting_bytes self.old.waiting ≤ waiting_bytes file_data }
-        ensures { TakesFile (told_by U.told R.told self.old) (told_by U.told R.told self.new) file_data now result }
+        ensures call { TakesFile (told_by U.told R.told self.old) (told_by U.told R.told self.new)
+            file_data now result }
+        ensures tracks { TracksFile (told_by U.told R.told self.old) (told_by U.told R.told self.new) file_data
+            self.old.files.tracker self.new.files.tracker result }
+        ensures group { KeepsGroup self.old self.new }
     {
         let waiting = self.replace_waiting(file_data);
         let answer = self.cut(rt, alloc, now);
@@ -46,7 +51,11 @@ impl<U: Uploader, R: ShardStore> FileUploadSession<U, R> {
             → All (Contains self.old.listed.hashes.items) (waiting_names file_data.files) }
         requires passes { FitTogether self.old.thresholds self.old.waiting file_data → ⊥ }
         requires larger { waiting_bytes file_data < waiting_bytes self.old.waiting }
-        ensures { TakesFile (told_by U.told R.told self.old) (told_by U.told R.told self.new) file_data now result }
+        ensures call { TakesFile (told_by U.told R.told self.old) (told_by U.told R.told self.new)
+            file_data now result }
+        ensures tracks { TracksFile (told_by U.told R.told self.old) (told_by U.told R.told self.new) file_data
+            self.old.files.tracker self.new.files.tracker result }
+        ensures group { KeepsGroup self.old self.new }
     {
         self.cut(rt, alloc, now)?;
         let _ = self.replace_waiting(file_data);
@@ -58,8 +67,11 @@ impl<U: Uploader, R: ShardStore> FileUploadSession<U, R> {
         requires named { self.old.failed ≡ None → self.old.finalized ≡ false
             → All (Contains self.old.listed.hashes.items) (waiting_names file_data.files) }
         requires fits { FitTogether self.old.thresholds self.old.waiting file_data }
-        ensures { (now : ℕ) → TakesFile (told_by U.told R.told self.old) (told_by U.told R.told self.new)
+        ensures call { (now : ℕ) → TakesFile (told_by U.told R.told self.old) (told_by U.told R.told self.new)
             file_data now result }
+        ensures tracks { TracksFile (told_by U.told R.told self.old) (told_by U.told R.told self.new) file_data
+            self.old.files.tracker self.new.files.tracker result }
+        ensures group { KeepsGroup self.old self.new }
     {
         Ok(self.merge_waiting(alloc, file_data)?)
     }
@@ -74,7 +86,11 @@ impl<U: Uploader, R: ShardStore> FileUploadSession<U, R> {
     ) -> Result<(), DataError>
         requires named { self.old.failed ≡ None → self.old.finalized ≡ false
             → All (Contains self.old.listed.hashes.items) (waiting_names file_data.files) }
-        ensures { TakesFile (told_by U.told R.told self.old) (told_by U.told R.told self.new) file_data now result }
+        ensures call { TakesFile (told_by U.told R.told self.old) (told_by U.told R.told self.new)
+            file_data now result }
+        ensures tracks { TracksFile (told_by U.told R.told self.old) (told_by U.told R.told self.new) file_data
+            self.old.files.tracker self.new.files.tracker result }
+        ensures group { KeepsGroup self.old self.new }
     {
         if self.thresholds().fit(self.waiting(), &file_data) {
             return self.join_waiting(alloc, file_data);
@@ -102,7 +118,11 @@ impl<U: Uploader, R: ShardStore> FileUploadSession<U, R> {
     ) -> Result<(), DataError>
         requires named { self.old.failed ≡ None → self.old.finalized ≡ false
             → All (Contains self.old.listed.hashes.items) (waiting_names file_data.files) }
-        ensures call { TakesFile (told_by U.told R.told self.old) (told_by U.told R.told self.new) file_data now result }
+        ensures call { TakesFile (told_by U.told R.told self.old) (told_by U.told R.told self.new)
+            file_data now result }
+        ensures tracks { TracksFile (told_by U.told R.told self.old) (told_by U.told R.told self.new) file_data
+            self.old.files.tracker self.new.files.tracker result }
+        ensures group { KeepsGroup self.old self.new }
         ensures backs { Backs (told_by U.told R.told self.old) (told_by U.told R.told self.new) }
     {
         self.take_file(rt, alloc, file_data, now)

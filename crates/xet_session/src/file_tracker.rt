@@ -1,9 +1,10 @@
 //! The tracker of a session's files and xorbs.
-ghost use Rattle.std.specs.Prelude.{◌≡◌, ◌⊎◌, [], ◌∷◌, ◌++◌, is_some, length, not};
+ghost use Rattle.std.specs.Prelude.{◌≡◌, ◌++◌, ◌∷◌, [], IfOk, OnErr, OnOk, is_some, length, not};
 ghost use Rattle.xet_progress.specs.Accepted.{CallOf};
 ghost use Rattle.xet_progress.specs.Counts.{size_of, sizes};
-ghost use Rattle.xet_progress.specs.declared.step.TrackerStep.TheVariants.{IncrementFileSize, RegisterDependencies, RegisterNewFile, RegisterNewXorb};
-ghost use Rattle.xet_session.specs.Trackings.{MaybeCompleted};
+ghost use Rattle.xet_progress.specs.declared.step.TrackerStep.TheVariants.{IncrementFileSize, RegisterDependencies, RegisterNewFile, RegisterNewXorb, RegisterXorbUploadCompletion};
+ghost use Rattle.xet_session.specs.Trackings.{with_call};
+ghost use Rattle.xet_session.specs.steps.CutNotes.{NotesCut, parts_of};
 
 use crate::file_items::FileItems;
 use crate::hash_list::HashList;
@@ -101,15 +102,53 @@ impl FileTracker {
         Ok(())
     }
 
-    /// Counts a xorb as put. A refusal changes nothing.
-    pub(crate) fn complete<W: Wait>(&mut self, rt: &W, hash: &MerkleHash)
-        ensures { MaybeCompleted self.old.tracker self.new.tracker hash.now }
+    /// Counts a xorb as put. A refusal changes nothing. `OutOfMemory` where an allocation was refused.
+    pub(crate) fn complete<W: Wait>(&mut self, rt: &W, hash: &MerkleHash) -> Result<(), OutOfMemory>
+        ensures ok { OnOk result (self.new.tracker
+            ≡ with_call self.old.tracker (RegisterXorbUploadCompletion hash.now)) }
+        ensures err { OnErr result (self.new.tracker ≡ self.old.tracker) }
     {
-        let _ = self.tracker.register_xorb_upload_completion(*hash);
+        if let Err(ProgressError::OutOfMemory) = self
+            .tracker
+            .register_xorb_upload_completion(*hash)
+        {
+            return Err(OutOfMemory);
+        }
         self.items.complete(rt, hash);
+        Ok(())
+    }
+
+    /// Registers a xorb of so many bytes. A refusal changes nothing. `OutOfMemory` where an allocation was refused.
+    fn note_xorb(&mut self, alloc: Global, hash: MerkleHash, size: u64) -> Result<(), OutOfMemory>
+        ensures ok { OnOk result (self.new.tracker ≡ with_call self.old.tracker (RegisterNewXorb hash size)) }
+        ensures err { OnErr result (self.new.tracker ≡ self.old.tracker) }
+    {
+        match self.register_xorb(alloc, hash, size) {
+            Err(ProgressError::OutOfMemory) => Err(OutOfMemory),
+            _ => Ok(()),
+        }
+    }
+
+    /// Registers what files have in xorbs. A refusal changes nothing. `OutOfMemory` where an allocation was refused.
+    fn note_parts<W: Wait>(
+        &mut self,
+        rt: &W,
+        alloc: Global,
+        dependencies: &[FileXorbDependency],
+        put: &HashList,
+    ) -> Result<(), OutOfMemory>
+        ensures ok { OnOk result (self.new.tracker
+            ≡ with_call self.old.tracker (RegisterDependencies dependencies.now)) }
+        ensures err { OnErr result (self.new.tracker ≡ self.old.tracker) }
+    {
+        match self.depend(rt, alloc, dependencies, put) {
+            Err(ProgressError::OutOfMemory) => Err(OutOfMemory),
+            _ => Ok(()),
+        }
     }
 
     /// Registers a xorb that is cut, and what files have in it; a xorb without chunks isn't. A refusal changes nothing.
+    /// `OutOfMemory` where an allocation was refused.
     pub(crate) fn register_cut<W: Wait>(
         &mut self,
         rt: &W,
@@ -117,33 +156,51 @@ impl FileTracker {
         raw: &RawXorbData,
         files: &[PendingFile],
         put: &HashList,
-    ) {
+    ) -> Result<(), OutOfMemory>
+        ensures { NotesCut self.old.tracker self.new.tracker raw.now files.now result }
+    {
+        if raw.xorb.chunks.len() == 0 {
+            return Ok(());
+        }
         let hash = raw.xorb.hash;
-        if raw.xorb.chunks.len() == 0 || self.register_xorb(alloc, hash, raw.num_bytes()).is_err() {
-            return;
-        }
-        if let Ok(dependencies) = dependencies_on(alloc, hash, files) {
-            let _ = self.depend(rt, alloc, dependencies.as_slice(), put);
-        }
+        let dependencies = parts_in(alloc, hash, files)?;
+        self.note_xorb(alloc, hash, raw.num_bytes())?;
+        self.note_parts(rt, alloc, dependencies.as_slice(), put)
     }
 }
 
 /// What files have in the xorb that their waiting chunks became.
-fn dependencies_on(
+#[tactic(auto, using(crate::proofs::CutTracking::parts_more))]
+fn parts_in(
     alloc: Global,
     xorb_hash: MerkleHash,
     files: &[PendingFile],
-) -> Result<List<FileXorbDependency>, OutOfMemory> {
-    let mut dependencies = List::new(alloc);
+) -> Result<List<FileXorbDependency>, OutOfMemory>
+    ensures { IfOk result (λ parts. parts ≡ parts_of xorb_hash files.now) }
+{
+    let mut parts = List::new(alloc);
     for file in files {
-        if file.bytes_in_xorb > 0 {
-            dependencies.push(FileXorbDependency {
-                file_id: file.file_id,
-                xorb_hash,
-                n_bytes: file.bytes_in_xorb,
-                is_external: false,
-            })?;
-        }
+        add_part(&mut parts, xorb_hash, file)?;
     }
-    Ok(dependencies)
+    Ok(parts)
+}
+
+/// Adds what a file has in the xorb, where it has something in it.
+fn add_part(
+    parts: &mut List<FileXorbDependency>,
+    xorb_hash: MerkleHash,
+    file: &PendingFile,
+) -> Result<(), OutOfMemory>
+    ensures { OnOk result (parts.new ≡ parts.old ++ parts_of xorb_hash (file.now ∷ [])) }
+{
+    if file.bytes_in_xorb == 0 {
+        return Ok(());
+    }
+    parts.push(FileXorbDependency {
+        file_id: file.file_id,
+        xorb_hash,
+        n_bytes: file.bytes_in_xorb,
+        is_external: false,
+    })?;
+    Ok(())
 }

@@ -10,12 +10,12 @@ ghost use Rattle.xet_shard_interface.specs.Interfaces.{ListsFiles, Searches, new
 ghost use Rattle.xet_upload.specs.Orders.{names_of};
 ghost use Rattle.xet_upload.specs.Waitings.{IsWithin, merged};
 ghost use Rattle.xet_shards.specs.Shards.{no_records};
-ghost use Rattle.xet_session.specs.Calls.{Backs, Counted, Cut, Finalizes, HasFiles, Keeps, PutsFail, Queries, Registers, end_counts, new_session};
+ghost use Rattle.xet_session.specs.Calls.{Backs, Counted, Cut, Finalizes, HasFiles, Keeps, PutsFail, Queries, Registers, SearchesInOrder, end_counts, new_session};
 ghost use Rattle.xet_session.specs.Completions.{thresholds_of, with_file_counts};
 ghost use Rattle.xet_session.specs.Sessions.{HasListed, IsBackedSession, waiting_names};
-ghost use Rattle.xet_session.specs.Trackings.{MaybeCompleted, StartsFile, Tracks, TracksXorb, xorb_calls};
+ghost use Rattle.xet_session.specs.Trackings.{StartsFile, Tracks, TracksCut, TracksXorb, xorb_calls};
 ghost use Rattle.xet_session.specs.steps.Listings.{AreListed};
-ghost use Rattle.xet_session.specs.steps.SessionSteps.{AddedFinished, AddedRecord, AsksFor, OnList, PutFinished, PutGiven, PutRaw, PutRecords, TookWaiting};
+ghost use Rattle.xet_session.specs.steps.SessionSteps.{AddedFinished, AddedRecord, AsksFor, GivenCounted, OnList, PutCounted, PutFinished, PutGiven, PutRaw, PutRecords, TookWaiting};
 
 use crate::cut_thresholds::CutThresholds;
 use crate::file_tracker::FileTracker;
@@ -74,7 +74,7 @@ pub struct FileUploadSession<U: Uploader, R: ShardStore> {
 }
 
 impl<U: Uploader, R: ShardStore> FileUploadSession<U, R> {
-    ghost use Rattle.xet_session.specs.Telling.{told_by};
+    ghost use Rattle.xet_session.specs.Telling.{KeepsGroup, told_by};
 
     /// A session in which nothing waits. It asks nothing of uploader and stores. `now` is a moment in seconds. The
     /// caller sees to it that the session's store and the staging store have no records.
@@ -98,6 +98,8 @@ impl<U: Uploader, R: ShardStore> FileUploadSession<U, R> {
             config.now.global_dedup_query_enabled (thresholds_of config.now)) }
         ensures backed { IfOk result (λ session. records_of (R.told stores.session) ≡ no_records
             → IsBackedSession (told_by U.told R.told session)) }
+        ensures tracked { IfOk result (λ session. session.files.tracker ≡ []) }
+        ensures ids { IfOk result (λ session. session.ids ≡ ids) }
     {
         let shards = SessionShardInterface::new(alloc, config, stores, false, now);
         let thresholds = CutThresholds::of(config);
@@ -124,6 +126,8 @@ impl<U: Uploader, R: ShardStore> FileUploadSession<U, R> {
             config.now.global_dedup_query_enabled (thresholds_of config.now)) }
         ensures backed { IfOk result (λ session. records_of (R.told stores.session) ≡ no_records
             → IsBackedSession (told_by U.told R.told session)) }
+        ensures tracked { IfOk result (λ session. session.files.tracker ≡ []) }
+        ensures ids { IfOk result (λ session. session.ids ≡ ids) }
     {
         let shards = SessionShardInterface::new(alloc, config, stores, true, now);
         let thresholds = CutThresholds::of(config);
@@ -143,8 +147,10 @@ impl<U: Uploader, R: ShardStore> FileUploadSession<U, R> {
     where
         U: Drop,
         R: Drop,
-        ensures { IfOk result (λ session. told_by U.told R.told session
+        ensures told { IfOk result (λ session. told_by U.told R.told session
             ≡ new_session (U.told uploader) (shards_told R.told shards) queries_enabled thresholds) }
+        ensures tracked { IfOk result (λ session. session.files.tracker ≡ []) }
+        ensures ids { IfOk result (λ session. session.ids ≡ ids) }
     {
         let progress = GroupProgress::new(alloc)?;
         Ok(FileUploadSession {
@@ -183,8 +189,7 @@ impl<U: Uploader, R: ShardStore> FileUploadSession<U, R> {
     }
 
     // Puts a xorb. Its hash comes onto the lists and its bytes are counted, or the failure is kept. Its size is
-    // reported before, and as completed after, and the tracker is told that it was put; a refused report changes
-    // nothing.
+    // reported before, and as completed after; a refused report changes nothing.
     fn put_raw<W: Wait>(
         &mut self,
         rt: &W,
@@ -196,14 +201,14 @@ impl<U: Uploader, R: ShardStore> FileUploadSession<U, R> {
         requires unfailed { self.old.failed ≡ None }
         ensures call { PutRaw (told_by U.told R.told self.old) (told_by U.told R.told self.new) raw.now.xorb result }
         ensures files { self.new.finished ≡ self.old.finished }
-        ensures tracked { MaybeCompleted self.old.files.tracker self.new.files.tracker raw.now.xorb.hash }
+        ensures untold { self.new.files.tracker ≡ self.old.files.tracker }
+        ensures group { KeepsGroup self.old self.new }
     {
         let size = raw.num_bytes();
         let _ = self.progress.add_transfer(rt, size, 0);
         match self.uploader.put_xorb(alloc, &raw.xorb) {
             Ok(sent) => {
                 let _ = self.progress.add_transfer(rt, 0, size);
-                self.files.complete(rt, &raw.xorb.hash);
                 self.listed.push_reserved(raw.xorb.hash);
                 self.registered.push_reserved(raw.xorb.hash);
                 let bytes = self.metrics.xorb_bytes_uploaded.saturating_add(sent);
@@ -224,6 +229,8 @@ impl<U: Uploader, R: ShardStore> FileUploadSession<U, R> {
         ensures noted { OnOk result (vec_len self.new.registered.hashes < vec_capacity self.new.registered.hashes) }
         ensures space { IfOk result (λ r.
             vec_len self.new.finished + length r.1 ≤ vec_capacity self.new.finished) }
+        ensures untold { self.new.files.tracker ≡ self.old.files.tracker }
+        ensures group { KeepsGroup self.old self.new }
     {
         self.listed.reserve(1)?;
         self.registered.reserve(1)?;
@@ -240,6 +247,7 @@ impl<U: Uploader, R: ShardStore> FileUploadSession<U, R> {
           finished = map (λ p. p.info) self.old.finished.items ++ map (λ p. p.info) files;
         } }
         ensures untold { self.new.files.tracker ≡ self.old.files.tracker }
+        ensures group { KeepsGroup self.old self.new }
     {
         let mut files = files.into_inner();
         append_reserved(&mut self.finished, &mut files);
@@ -250,12 +258,14 @@ impl<U: Uploader, R: ShardStore> FileUploadSession<U, R> {
         ensures call { AddedRecord (told_by U.told R.told self.old) (told_by U.told R.told self.new) info.now now
             result }
         ensures untold { self.new.files.tracker ≡ self.old.files.tracker }
+        ensures group { KeepsGroup self.old self.new }
     {
         self.shards.add_xorb_block(alloc, info)?;
         self.shards.add_uploaded_xorb_block(alloc, info, now)
     }
 
-    // Puts a xorb, after which its files are finished, and adds its record to those of the session.
+    // Puts a xorb, after which its files are finished and the tracker counts it as complete, and adds its record to
+    // those of the session.
     fn put_finished<W: Wait>(
         &mut self,
         rt: &W,
@@ -269,14 +279,18 @@ impl<U: Uploader, R: ShardStore> FileUploadSession<U, R> {
         requires unfailed { self.old.failed ≡ None }
         requires space { vec_len self.old.finished + length files ≤ vec_capacity self.old.finished }
         requires named { self.old.finalized ≡ false
-            → All (Contains (self.old.listed.hashes.items ++ raw.xorb.hash ∷ [])) (names_of (map (λ p. p.info) files)) }
+            → All (Contains (self.old.listed.hashes.items ++ raw.xorb.hash ∷ []))
+            (names_of (map (λ p. p.info) files)) }
         requires describes { Describes raw.xorb_info raw.xorb }
         ensures call { PutFinished (told_by U.told R.told self.old) (told_by U.told R.told self.new)
             raw.xorb (map (λ p. p.info) files) now result }
-        ensures tracked { MaybeCompleted self.old.files.tracker self.new.files.tracker raw.xorb.hash }
+        ensures tracked { PutCounted (told_by U.told R.told self.old) (told_by U.told R.told self.new)
+            self.old.files.tracker self.new.files.tracker raw.xorb.hash result }
+        ensures group { KeepsGroup self.old self.new }
     {
         self.put_raw(rt, alloc, &raw)?;
         self.finish_files(files);
+        self.files.complete(rt, &raw.xorb.hash)?;
         self.add_record(alloc, &raw.xorb_info, now)
     }
 
@@ -290,19 +304,25 @@ impl<U: Uploader, R: ShardStore> FileUploadSession<U, R> {
     }
 
     // What waits becomes a xorb, which is put, and its files are finished. Data without chunks puts nothing, nor does
-    // data whose xorb was put before. The tracker is told of it; a refusal changes nothing.
+    // data whose xorb was put before. The tracker is told of it; a refusal changes nothing. Want of memory for that is
+    // answered where a xorb was put, after it, since what waits is taken by then.
     pub(crate) fn cut<W: Wait>(&mut self, rt: &W, alloc: Global, now: u64) -> Result<(), DataError>
-        ensures { Cut (told_by U.told R.told self.old) (told_by U.told R.told self.new) now result }
+        ensures call { Cut (told_by U.told R.told self.old) (told_by U.told R.told self.new) now result }
+        ensures tracks { TracksCut (told_by U.told R.told self.old) (told_by U.told R.told self.new)
+            self.old.files.tracker self.new.files.tracker result }
+        ensures group { KeepsGroup self.old self.new }
     {
         if let Some(error) = self.failed {
             return Err(DataError::from(error));
         }
         let chunks = self.waiting.num_chunks();
         let (raw, files) = self.take_waiting(alloc)?;
-        self.files
+        let noted = self
+            .files
             .register_cut(rt, alloc, &raw, files.as_slice(), &self.registered);
         if self.is_new(chunks, &raw.xorb.hash) {
-            return self.put_finished(rt, alloc, raw, files, now);
+            self.put_finished(rt, alloc, raw, files, now)?;
+            return Ok(noted?);
         }
         self.finish_files(files);
         Ok(())
@@ -322,6 +342,8 @@ impl<U: Uploader, R: ShardStore> FileUploadSession<U, R> {
         ensures same { told_by U.told R.told self.new
             ≡ record (told_by U.told R.told self.old) { waiting = file_data } }
         ensures is { result ≡ self.old.waiting }
+        ensures untold { self.new.files.tracker ≡ self.old.files.tracker }
+        ensures group { KeepsGroup self.old self.new }
     {
         mem::replace(&mut self.waiting, file_data)
     }
@@ -338,6 +360,8 @@ impl<U: Uploader, R: ShardStore> FileUploadSession<U, R> {
         ensures ok { OnOk result (told_by U.told R.told self.new
             ≡ record (told_by U.told R.told self.old) { waiting = merged self.old.waiting file_data }) }
         ensures err { OnErr result (told_by U.told R.told self.new ≡ told_by U.told R.told self.old) }
+        ensures untold { self.new.files.tracker ≡ self.old.files.tracker }
+        ensures group { KeepsGroup self.old self.new }
     {
         self.waiting.merge_in(alloc, file_data)
     }
@@ -349,8 +373,8 @@ impl<U: Uploader, R: ShardStore> FileUploadSession<U, R> {
         self.thresholds
     }
 
-    /// Adds the counts of the chunks of a file to those of the session; each sum stops at `u64::MAX`. The counts of what
-    /// was uploaded stay.
+    /// Adds the counts of the chunks of a file to those of the session; each sum stops at `u64::MAX`. The counts of
+    /// what was uploaded stay.
     ///
     /// In the Rust crate xet-data: a part of `FileUploadSession::register_single_file_clean_completion`.
     pub fn merge_file_metrics(&mut self, counts: &DeduplicationMetrics)
@@ -359,6 +383,8 @@ impl<U: Uploader, R: ShardStore> FileUploadSession<U, R> {
         } }
         ensures keeps { Keeps (told_by U.told R.told self.old) (told_by U.told R.told self.new) }
         ensures backs { Backs (told_by U.told R.told self.old) (told_by U.told R.told self.new) }
+        ensures untold { self.new.files.tracker ≡ self.old.files.tracker }
+        ensures group { KeepsGroup self.old self.new }
     {
         let before = self.metrics;
         self.metrics.merge_in(counts);
@@ -396,9 +422,24 @@ impl<U: Uploader, R: ShardStore> FileUploadSession<U, R> {
     /// In the Rust crate xet-data: `FileUploadSession::checkpoint`.
     pub fn checkpoint<W: Wait>(&mut self, rt: &W, alloc: Global, now: u64) -> Result<(), DataError>
         ensures call { Cut (told_by U.told R.told self.old) (told_by U.told R.told self.new) now result }
+        ensures tracks { TracksCut (told_by U.told R.told self.old) (told_by U.told R.told self.new)
+            self.old.files.tracker self.new.files.tracker result }
+        ensures group { KeepsGroup self.old self.new }
         ensures backs { Backs (told_by U.told R.told self.old) (told_by U.told R.told self.new) }
     {
         self.cut(rt, alloc, now)
+    }
+
+    // Makes room for a xorb on the lists.
+    fn make_room(&mut self) -> Result<(), OutOfMemory>
+        ensures same { told_by U.told R.told self.new ≡ told_by U.told R.told self.old }
+        ensures room { OnOk result (vec_len self.new.listed.hashes < vec_capacity self.new.listed.hashes) }
+        ensures noted { OnOk result (vec_len self.new.registered.hashes < vec_capacity self.new.registered.hashes) }
+        ensures untold { self.new.files.tracker ≡ self.old.files.tracker }
+        ensures group { KeepsGroup self.old self.new }
+    {
+        self.listed.reserve(1)?;
+        self.registered.reserve(1)
     }
 
     // Puts a xorb and adds its record to those of the session, where no put failed.
@@ -409,13 +450,15 @@ impl<U: Uploader, R: ShardStore> FileUploadSession<U, R> {
         raw: RawXorbData,
         now: u64,
     ) -> Result<(), DataError>
+        requires room { vec_len self.old.listed.hashes < vec_capacity self.old.listed.hashes }
+        requires noted { vec_len self.old.registered.hashes < vec_capacity self.old.registered.hashes }
         requires unfailed { self.old.failed ≡ None }
         requires describes { Describes raw.xorb_info raw.xorb }
         ensures call { PutGiven (told_by U.told R.told self.old) (told_by U.told R.told self.new) raw.xorb now result }
-        ensures tracked { MaybeCompleted self.old.files.tracker self.new.files.tracker raw.xorb.hash }
+        ensures tracked { PutCounted (told_by U.told R.told self.old) (told_by U.told R.told self.new)
+            self.old.files.tracker self.new.files.tracker raw.xorb.hash result }
+        ensures group { KeepsGroup self.old self.new }
     {
-        self.listed.reserve(1)?;
-        self.registered.reserve(1)?;
         self.put_finished(rt, alloc, raw, List::new(alloc), now)
     }
 
@@ -435,7 +478,8 @@ impl<U: Uploader, R: ShardStore> FileUploadSession<U, R> {
         self.failed
     }
 
-    // Tells the tracker of a xorb where none of its hash was put before, and then of what files have in xorbs.
+    // Tells the tracker of a xorb where none of its hash was put before, and then of what files have in xorbs. The
+    // lists keep their room.
     fn track_xorb<W: Wait>(
         &mut self,
         rt: &W,
@@ -447,20 +491,24 @@ impl<U: Uploader, R: ShardStore> FileUploadSession<U, R> {
         ensures same { told_by U.told R.told self.new ≡ told_by U.told R.told self.old }
         ensures tracks { Tracks self.old.files.tracker self.new.files.tracker
             (xorb_calls self.old.registered.hashes.items raw.now.xorb dependencies.now) result }
+        ensures listed { self.new.listed ≡ self.old.listed }
+        ensures registered { self.new.registered ≡ self.old.registered }
+        ensures group { KeepsGroup self.old self.new }
     {
         if self.registered.contains(&raw.xorb.hash) {
-            return self.register_xorb_dependencies(rt, alloc, dependencies);
+            return self.depend(rt, alloc, dependencies);
         }
         match self
             .files
             .register_xorb(alloc, raw.xorb.hash, raw.num_bytes())
         {
-            Ok(_new) => self.register_xorb_dependencies(rt, alloc, dependencies),
+            Ok(_new) => self.depend(rt, alloc, dependencies),
             Err(error) => Err(DataError::from(error)),
         }
     }
 
-    // Puts a xorb with its record, unless it has no chunks or one with the hash was put before.
+    // Puts a xorb with its record, unless it has no chunks or one with the hash was put before. The tracker counts it
+    // as complete.
     fn put_new<W: Wait>(
         &mut self,
         rt: &W,
@@ -468,6 +516,8 @@ impl<U: Uploader, R: ShardStore> FileUploadSession<U, R> {
         raw: RawXorbData,
         now: u64,
     ) -> Result<bool, DataError>
+        requires room { vec_len self.old.listed.hashes < vec_capacity self.old.listed.hashes }
+        requires noted { vec_len self.old.registered.hashes < vec_capacity self.old.registered.hashes }
         requires first { self.old.finalized ≡ false }
         requires unfailed { (Contains self.old.registered.hashes.items raw.xorb.hash → ⊥)
             → 0 < length raw.xorb.chunks → self.old.failed ≡ None }
@@ -475,13 +525,15 @@ impl<U: Uploader, R: ShardStore> FileUploadSession<U, R> {
         ensures call { Registers (told_by U.told R.told self.old) (told_by U.told R.told self.new)
             raw.xorb now result }
         ensures why { IfErr result (PutsFail (told_by U.told R.told self.old) (told_by U.told R.told self.new)) }
-        ensures tracked { MaybeCompleted self.old.files.tracker self.new.files.tracker raw.xorb.hash }
+        ensures tracked { GivenCounted (told_by U.told R.told self.old) (told_by U.told R.told self.new)
+            self.old.files.tracker self.new.files.tracker raw.xorb result }
+        ensures group { KeepsGroup self.old self.new }
     {
         if self.registered.contains(&raw.xorb.hash) {
             return Ok(false);
         }
         if raw.xorb.chunks.len() == 0 {
-            self.files.complete(rt, &raw.xorb.hash);
+            self.files.complete(rt, &raw.xorb.hash)?;
             return Ok(true);
         }
         self.put_given(rt, alloc, raw, now)?;
@@ -490,7 +542,7 @@ impl<U: Uploader, R: ShardStore> FileUploadSession<U, R> {
 
     /// Puts a xorb with its record, unless one with the hash was put before: then it answers false and puts nothing.
     /// A xorb without chunks is put nowhere. The tracker is told of the xorb where it is new, and of what files have in
-    /// xorbs, before the put. `now` is a moment in seconds.
+    /// xorbs, before the put, and then that the xorb is complete. `now` is a moment in seconds.
     ///
     /// `Finalized` exactly where the session is finalized. After a put that failed it answers so where it would put,
     /// and puts nothing: `ClientError` where the uploader failed. Each other `InvalidOperation` is the tracker's
@@ -510,8 +562,9 @@ impl<U: Uploader, R: ShardStore> FileUploadSession<U, R> {
         requires { Describes raw.xorb_info raw.xorb }
         ensures call { Registers (told_by U.told R.told self.old) (told_by U.told R.told self.new)
             raw.xorb now result }
-        ensures tracks { TracksXorb self.old.files.tracker self.new.files.tracker
-            (xorb_calls self.old.registered.hashes.items raw.xorb file_dependencies.now) raw.xorb result }
+        ensures tracks { TracksXorb (told_by U.told R.told self.old) (told_by U.told R.told self.new)
+            self.old.files.tracker self.new.files.tracker raw.xorb file_dependencies.now result }
+        ensures group { KeepsGroup self.old self.new }
         ensures backs { Backs (told_by U.told R.told self.old) (told_by U.told R.told self.new) }
     {
         if self.finalized {
@@ -520,6 +573,7 @@ impl<U: Uploader, R: ShardStore> FileUploadSession<U, R> {
         if let Some(error) = self.kept_failure(&raw.xorb) {
             return Err(DataError::from(error));
         }
+        self.make_room()?;
         self.track_xorb(rt, alloc, &raw, file_dependencies)?;
         self.put_new(rt, alloc, raw, now)
     }
@@ -539,6 +593,24 @@ impl<U: Uploader, R: ShardStore> FileUploadSession<U, R> {
         ensures same { told_by U.told R.told self.new ≡ told_by U.told R.told self.old }
         ensures tracks { Tracks self.old.files.tracker self.new.files.tracker
             (RegisterDependencies dependencies.now ∷ []) result }
+        ensures group { KeepsGroup self.old self.new }
+    {
+        self.depend(rt, alloc, dependencies)
+    }
+
+    // Tells the tracker what files have in xorbs. The lists keep their room.
+    fn depend<W: Wait>(
+        &mut self,
+        rt: &W,
+        alloc: Global,
+        dependencies: &[FileXorbDependency],
+    ) -> Result<(), DataError>
+        ensures same { told_by U.told R.told self.new ≡ told_by U.told R.told self.old }
+        ensures tracks { Tracks self.old.files.tracker self.new.files.tracker
+            (RegisterDependencies dependencies.now ∷ []) result }
+        ensures listed { self.new.listed ≡ self.old.listed }
+        ensures registered { self.new.registered ≡ self.old.registered }
+        ensures group { KeepsGroup self.old self.new }
     {
         match self.files.depend(rt, alloc, dependencies, &self.registered) {
             Ok(()) => Ok(()),
@@ -571,7 +643,7 @@ impl<U: Uploader, R: ShardStore> FileUploadSession<U, R> {
         size: Option<u64>,
     ) -> Result<(UniqueID, u64), DataError>
         ensures same { told_by U.told R.told self.new ≡ told_by U.told R.told self.old }
-        ensures ids { self.new.ids ≡ self.old.ids }
+        ensures group { KeepsGroup self.old self.new }
         ensures tracks { Tracks self.old.files.tracker self.new.files.tracker (RegisterNewFile size ∷ []) result }
         ensures id { IfOk result (λ r. r.0 ≡ id) }
         ensures number { IfOk result (λ r. r.1 ≡ length (sizes self.old.files.tracker)) }
@@ -603,6 +675,7 @@ impl<U: Uploader, R: ShardStore> FileUploadSession<U, R> {
         ensures same { told_by U.told R.told self.new ≡ told_by U.told R.told self.old }
         ensures starts { StartsFile self.old.files.tracker self.new.files.tracker self.old.ids self.new.ids
             self.old.finalized size result }
+        ensures group { self.new.progress ≡ self.old.progress }
     {
         if self.finalized {
             return Err(DataError::InvalidOperation(Invalid::Finalized));
@@ -624,6 +697,7 @@ impl<U: Uploader, R: ShardStore> FileUploadSession<U, R> {
         ensures same { told_by U.told R.told self.new ≡ told_by U.told R.told self.old }
         ensures tracks { Tracks self.old.files.tracker self.new.files.tracker
             (IncrementFileSize file_id bytes ∷ []) result }
+        ensures group { KeepsGroup self.old self.new }
     {
         match self.files.grow_file(rt, file_id, bytes) {
             Ok(()) => Ok(()),
@@ -636,6 +710,7 @@ impl<U: Uploader, R: ShardStore> FileUploadSession<U, R> {
         requires { vec_len self.old.listed.hashes < vec_capacity self.old.listed.hashes }
         ensures call { OnList (told_by U.told R.told self.old) (told_by U.told R.told self.new) xorb }
         ensures untold { self.new.files.tracker ≡ self.old.files.tracker }
+        ensures group { KeepsGroup self.old self.new }
     {
         if self.listed.contains(&xorb) {
             return;
@@ -655,6 +730,7 @@ impl<U: Uploader, R: ShardStore> FileUploadSession<U, R> {
             hashes.now result }
         ensures listed { self.new.listed ≡ self.old.listed }
         ensures untold { self.new.files.tracker ≡ self.old.files.tracker }
+        ensures group { KeepsGroup self.old self.new }
     {
         self.shards.chunk_hash_dedup_query(alloc, hashes)
     }
@@ -662,7 +738,7 @@ impl<U: Uploader, R: ShardStore> FileUploadSession<U, R> {
     /// A run of chunks with these hashes: from the resumed records, from those of the session, or from those of the
     /// cache. It tells how many of them, the term that names the run, and whether the session did not add the record.
     /// The xorb is on the session's list afterwards. A dry run asks the resumed store nothing. `IOError` comes only
-    /// where the faults of a store that was asked rose.
+    /// where the faults of a store that was asked rose, and those before it have no such run.
     ///
     /// In the Rust crate xet-data: `deduplication_interface::UploadSessionDataManager::chunk_hash_dedup_query`.
     pub fn chunk_hash_dedup_query(
@@ -671,8 +747,11 @@ impl<U: Uploader, R: ShardStore> FileUploadSession<U, R> {
         hashes: &[MerkleHash],
     ) -> Result<Option<(usize, FileDataSequenceEntry, bool)>, DataError>
         ensures call { Queries (told_by U.told R.told self.old) (told_by U.told R.told self.new) hashes.now result }
+        ensures order { SearchesInOrder (told_by U.told R.told self.old) (told_by U.told R.told self.new)
+            hashes.now result }
         ensures backs { Backs (told_by U.told R.told self.old) (told_by U.told R.told self.new) }
         ensures untold { self.new.files.tracker ≡ self.old.files.tracker }
+        ensures group { KeepsGroup self.old self.new }
     {
         self.listed.reserve(1)?;
         match self.search(alloc, hashes)? {
@@ -695,6 +774,7 @@ impl<U: Uploader, R: ShardStore> FileUploadSession<U, R> {
     pub(crate) fn ask(&mut self, alloc: Global, chunk: &MerkleHash) -> Result<bool, DataError>
         ensures call { AsksFor (told_by U.told R.told self.old) (told_by U.told R.told self.new) chunk.now result }
         ensures untold { self.new.files.tracker ≡ self.old.files.tracker }
+        ensures group { KeepsGroup self.old self.new }
     {
         self.shards
             .query_dedup_shard_by_chunk(alloc, &mut self.uploader, chunk)
@@ -702,7 +782,9 @@ impl<U: Uploader, R: ShardStore> FileUploadSession<U, R> {
 
     // Adds the records of the finished files to those of the session.
     fn add_finished(&mut self, alloc: Global) -> Result<(), DataError>
-        ensures { AddedFinished (told_by U.told R.told self.old) (told_by U.told R.told self.new) result }
+        ensures call { AddedFinished (told_by U.told R.told self.old) (told_by U.told R.told self.new) result }
+        ensures untold { self.new.files.tracker ≡ self.old.files.tracker }
+        ensures group { KeepsGroup self.old self.new }
     {
         let records = file_records(alloc, self.finished.as_slice())?;
         self.shards.add_files(alloc, records)
@@ -713,6 +795,8 @@ impl<U: Uploader, R: ShardStore> FileUploadSession<U, R> {
         ensures counted { told_by U.told R.told self.new
             ≡ record (told_by U.told R.told self.old) { metrics = end_counts self.old.metrics bytes } }
         ensures is { result ≡ self.new.metrics }
+        ensures untold { self.new.files.tracker ≡ self.old.files.tracker }
+        ensures group { KeepsGroup self.old self.new }
     {
         self.metrics.shard_bytes_uploaded = bytes;
         self.metrics.total_bytes_uploaded = self.metrics.xorb_bytes_uploaded.saturating_add(bytes);
@@ -721,7 +805,9 @@ impl<U: Uploader, R: ShardStore> FileUploadSession<U, R> {
 
     // Puts the records of the session as shards. It tells how many bytes these count for.
     fn put_records(&mut self, alloc: Global) -> Result<u64, DataError>
-        ensures { PutRecords (told_by U.told R.told self.old) (told_by U.told R.told self.new) result }
+        ensures call { PutRecords (told_by U.told R.told self.old) (told_by U.told R.told self.new) result }
+        ensures untold { self.new.files.tracker ≡ self.old.files.tracker }
+        ensures group { KeepsGroup self.old self.new }
     {
         self.shards
             .upload_shards(alloc, &mut self.uploader, &mut self.failed)
@@ -729,7 +815,8 @@ impl<U: Uploader, R: ShardStore> FileUploadSession<U, R> {
 
     /// Puts what waits, and then the records of all that was put and finished, and takes the counts last. The session
     /// is finalized then, whatever it answers: no call puts anything after it but `checkpoint`, which puts what waits
-    /// on. A dry run puts no records, and answers the same counts. `now` is a moment in seconds.
+    /// on, and the end of a file, where that cuts. A dry run puts no records, and answers the same counts. `now` is a
+    /// moment in seconds.
     ///
     /// `Finalized` exactly where it was called before. After a put that failed it answers so, and puts nothing more:
     /// `ClientError` where the uploader failed. `IOError` comes only where a store of records failed.
@@ -742,6 +829,10 @@ impl<U: Uploader, R: ShardStore> FileUploadSession<U, R> {
         now: u64,
     ) -> Result<DeduplicationMetrics, DataError>
         ensures call { Finalizes (told_by U.told R.told self.old) (told_by U.told R.told self.new) now result }
+        ensures tracks { TracksCut (told_by U.told R.told self.old) (told_by U.told R.told self.new)
+            self.old.files.tracker self.new.files.tracker result }
+        ensures untold { self.old.finalized ≡ true → self.new.files.tracker ≡ self.old.files.tracker }
+        ensures group { KeepsGroup self.old self.new }
         ensures counts { IfOk result (Counted (told_by U.told R.told self.old) (told_by U.told R.told self.new)) }
         ensures backs { Backs (told_by U.told R.told self.old) (told_by U.told R.told self.new) }
     {
@@ -760,6 +851,8 @@ impl<U: Uploader, R: ShardStore> FileUploadSession<U, R> {
         ensures same { told_by U.told R.told self.new
             ≡ record (told_by U.told R.told self.old) { shards = shards_told R.told self.new.shards } }
         ensures files { ListsFiles (shards_told R.told self.old.shards) (shards_told R.told self.new.shards) result }
+        ensures untold { self.new.files.tracker ≡ self.old.files.tracker }
+        ensures group { KeepsGroup self.old self.new }
     {
         self.shards.session_file_info_list(alloc)
     }
@@ -774,6 +867,10 @@ impl<U: Uploader, R: ShardStore> FileUploadSession<U, R> {
         now: u64,
     ) -> Result<(DeduplicationMetrics, List<MDBFileInfo>), DataError>
         ensures call { Finalizes (told_by U.told R.told self.old) (told_by U.told R.told self.new) now result }
+        ensures tracks { TracksCut (told_by U.told R.told self.old) (told_by U.told R.told self.new)
+            self.old.files.tracker self.new.files.tracker result }
+        ensures untold { self.old.finalized ≡ true → self.new.files.tracker ≡ self.old.files.tracker }
+        ensures group { KeepsGroup self.old self.new }
         ensures counts { IfOk result (λ r.
             Counted (told_by U.told R.told self.old) (told_by U.told R.told self.new) r.0) }
         ensures files { IfOk result (λ r.
@@ -795,6 +892,10 @@ impl<U: Uploader, R: ShardStore> FileUploadSession<U, R> {
         now: u64,
     ) -> Result<(DeduplicationMetrics, GroupProgressReport), DataError>
         ensures call { Finalizes (told_by U.told R.told self.old) (told_by U.told R.told self.new) now result }
+        ensures tracks { TracksCut (told_by U.told R.told self.old) (told_by U.told R.told self.new)
+            self.old.files.tracker self.new.files.tracker result }
+        ensures untold { self.old.finalized ≡ true → self.new.files.tracker ≡ self.old.files.tracker }
+        ensures group { KeepsGroup self.old self.new }
         ensures counts { IfOk result (λ r.
             Counted (told_by U.told R.told self.old) (told_by U.told R.told self.new) r.0) }
         ensures sums { IfOk result (λ r. Held (λ before after. (r.1 ≡ group_sums before) × (after ≡ before))) }

@@ -10,4 +10,6 @@ mod made;
 #[cfg(test)]
 mod managers;
 #[cfg(test)]
+mod resumed;
+#[cfg(test)]
 mod sessions;

@@ -1,5 +1,5 @@
 //! Settings, stores and xorbs of tests.
-ghost use Rattle.std.specs.Prelude.{IfOk};
+ghost use Rattle.std.specs.Prelude.{◌≡◌, [], IfOk};
 ghost use Rattle.xet_base.specs.Records.{Describes};
 
 use bytes::Bytes;
@@ -66,9 +66,9 @@ pub fn code(answer: Result<(), DataError>) -> u8 {
     }
 }
 
-/// A xorb of one chunk, or of none where the text is empty, with its record.
-pub fn raw(alloc: Global, text: &str) -> Result<RawXorbData, OutOfMemory>
-    ensures { IfOk result (λ raw. Describes raw.xorb_info raw.xorb) }
+/// Data of one chunk, or of none where the text is empty, and of no file.
+pub fn one_chunk(alloc: Global, text: &str) -> Result<DataAggregator, OutOfMemory>
+    ensures { IfOk result (λ waiting. waiting.files ≡ []) }
 {
     let mut waiting = DataAggregator::new(alloc);
     let bytes = Bytes::from_vec(Vec::from_slice(alloc, text.as_bytes())?)?;
@@ -79,6 +79,14 @@ pub fn raw(alloc: Global, text: &str) -> Result<RawXorbData, OutOfMemory>
         };
         waiting.push_chunk(bytes, info)?;
     }
+    Ok(waiting)
+}
+
+/// A xorb of one chunk, or of none where the text is empty, with its record.
+pub fn raw(alloc: Global, text: &str) -> Result<RawXorbData, OutOfMemory>
+    ensures { IfOk result (λ raw. Describes raw.xorb_info raw.xorb) }
+{
+    let mut waiting = one_chunk(alloc, text)?;
     let (raw, _files) = waiting.finalize(alloc)?;
     Ok(raw)
 }

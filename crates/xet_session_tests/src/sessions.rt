@@ -74,8 +74,8 @@ fn say(out: &mut String, session: &Session, answer: u8) {
     let _ = out.push_str(" ");
 }
 
-/// What the session answers to three xorbs, the first of them twice, to one without chunks, a cut and the end, and its
-/// puts at each exit.
+/// What the session answers to three xorbs, the first of them twice, to one without chunks, a cut, the end and a cut
+/// after it, and its puts at each exit.
 fn script<W: Wait>(rt: &W, alloc: Global, session: &mut Session) -> String {
     let mut out = String::new(alloc);
     for text in ["one", "two", "one", "", "three"] {
@@ -85,6 +85,8 @@ fn script<W: Wait>(rt: &W, alloc: Global, session: &mut Session) -> String {
     let answer = cut(rt, alloc, session);
     say(&mut out, session, answer);
     let answer = end(rt, alloc, session);
+    say(&mut out, session, answer);
+    let answer = cut(rt, alloc, session);
     say(&mut out, session, answer);
     out
 }
@@ -100,12 +102,12 @@ fn with_failure<W: Wait>(rt: &W, alloc: Global, fails: u64) -> String {
 #[test]
 fn a_failed_put_is_kept_and_nothing_follows_it(rt: HostRuntime) {
     for (fails, wanted) in [
-        (0, "2 2 2 0 2 2 2 "),
-        (1, "0x 2x 9x 0x 2x 2x 2x "),
-        (2, "0x 0xx 9xx 0xx 2xx 2xx 2xx "),
-        (3, "0x 0xx 9xx 0xx 0xxx 0xxx 2xxx "),
-        (4, "0x 0xx 9xx 0xx 0xxx 0xxx 2xxxs "),
-        (5, "0x 0xx 9xx 0xx 0xxx 0xxx 0xxxss "),
+        (0, "2 2 2 0 2 2 2 2 "),
+        (1, "0x 2x 9x 0x 2x 2x 2x 2x "),
+        (2, "0x 0xx 9xx 0xx 2xx 2xx 2xx 2xx "),
+        (3, "0x 0xx 9xx 0xx 0xxx 0xxx 2xxx 2xxx "),
+        (4, "0x 0xx 9xx 0xx 0xxx 0xxx 2xxxs 2xxxs "),
+        (5, "0x 0xx 9xx 0xx 0xxx 0xxx 0xxxss 0xxxss "),
     ] {
         assert_eq!(rt; with_failure(&rt, rt.alloc(), fails).as_str(), wanted);
     }

@@ -164,6 +164,14 @@ abbrev pub SearchFails : InterfaceTold → InterfaceTold → DataError → Type 
 SearchFails b n e = ResumedFails b n e
     ⊎ StoreFails b.session.faults n.session.faults e ⊎ StoreFails b.cache.faults n.cache.faults e
 
+-- a store makes a search fail only where those that are asked before it have nothing
+abbrev pub FailsInOrder : InterfaceTold → InterfaceTold → List MerkleHash → DataError → Type 0
+FailsInOrder b n hs e = (e ≡ data_error.OutOfMemory) ⊎ ResumedFails b n e
+    ⊎ ((find_in (searched_resumed b) hs ≡ None) × StoreFails b.session.faults n.session.faults e)
+    ⊎ ((find_in (searched_resumed b) hs ≡ None) × (find_in (records_of b.session).xorbs hs ≡ None)
+    × StoreFails b.cache.faults n.cache.faults e)
+
+-- a search of the resumed records, then of those of the session, then of those of the cache
 pub record Searches (b n : InterfaceTold) (hashes : List MerkleHash)
     (answer : Result (Option (ℕ × FileDataSequenceEntry × Bool)) DataError) : Type 0 where
   pub looks : Looks b n
@@ -172,6 +180,7 @@ pub record Searches (b n : InterfaceTold) (hashes : List MerkleHash)
   pub run : IfOk answer (λ o. IfSome o (λ f. IsRun hashes f.0 f.1))
   pub faults : LaterFaults b n
   pub why : IfErr answer (SearchFails b n)
+  pub order : SearchTells b → IfErr answer (FailsInOrder b n hashes)
 
 -- ---- staging
 

@@ -246,8 +246,9 @@ impl<R: ShardStore> SessionShardInterface<R> {
     }
 
     /// Keeps the record of a xorb that was put for staging. All that wait go there together, once as many wait as the
-    /// settings say, or once so many seconds passed since the last time. A dry run keeps none. After an error no record
-    /// is lost; `IOError` comes only where the faults of the staging store rose.
+    /// settings say, or once so many seconds passed since the last time. A dry run keeps none. After an error all that
+    /// waited wait still, and this record too, but where there was no memory to keep it; `IOError` comes only where the
+    /// faults of the staging store rose.
     ///
     /// In the Rust crate xet-data: `SessionShardInterface::add_uploaded_xorb_block`.
     pub fn add_uploaded_xorb_block(

@@ -1,5 +1,5 @@
 -- What the steps of a session change.
-use Rattle.std.specs.Prelude.{ℕ, ◌≡◌, ◌+◌, ◌-◌, ◌^◌, ◌⊎◌, ◌≤◌, min, Bool, List, [], ◌∷◌, ◌++◌, map, Contains, None, option_map, Result, Ok, OnOk, OnErr, IfOk, IfErr}
+use Rattle.std.specs.Prelude.{ℕ, ◌≡◌, ◌+◌, ◌-◌, ◌^◌, ◌⊎◌, ◌<◌, ◌≤◌, min, Bool, true, cond, List, [], ◌∷◌, ◌++◌, length, map, Contains, None, is_some, option_map, Result, Ok, OnOk, OnErr, IfOk, IfErr}
 use Rattle.xet_base.specs.declared.merklehash.MerkleHash.{MerkleHash}
 use Rattle.xet_base.specs.declared.mdb_shard.Xorb.{Xorb}
 use Rattle.xet_base.specs.declared.mdb_shard.MDBXorbInfo.{MDBXorbInfo}
@@ -7,6 +7,8 @@ use Rattle.xet_base.specs.declared.mdb_shard.MDBFileInfo.{MDBFileInfo}
 use Rattle.xet_base.specs.Records.{Describes}
 use Rattle.xet_outside.specs.Told.{Grew}
 use Rattle.xet_uploader.specs.declared.uploader.Put.TheVariants as put
+use Rattle.xet_progress.specs.declared.step.TrackerStep.{TrackerStep}
+use Rattle.xet_progress.specs.declared.step.TrackerStep.TheVariants.{RegisterXorbUploadCompletion}
 use Rattle.xet_shards.specs.Shards.{with_records}
 use Rattle.xet_shard_interface.specs.Interfaces.{LaterFaults, StoresTell, known_told, records_of}
 use Rattle.xet_shard_interface.specs.Puts.{Asks, PutFailed, Uploads}
@@ -17,6 +19,9 @@ use Rattle.xet_upload.specs.declared.raw_xorb.PendingFile.{PendingFile}
 use Rattle.xet_upload.specs.declared.raw_xorb.RawXorbData.{RawXorbData}
 use Rattle.xet_session.specs.Calls.{CountsSent, Keeps, NoQueries, PutsFail, Recorded, RegisterStopped, Says, StoresFail, WasPut, WasRefused, finished_records, one_xorb, waiting_hash, xorb_bytes}
 use Rattle.xet_session.specs.Sessions.{IsListed, SessionTold, Tells, log_of}
+use Rattle.xet_session.specs.Trackings.{CountsPut, own_part, with_call}
+use Rattle.xet_session.specs.steps.CutNotes.{part_of}
+use Rattle.xet_session.specs.steps.HashLists.{has}
 
 -- so many bytes of a xorb more
 abbrev pub with_sent : DeduplicationMetrics → ℕ → DeduplicationMetrics
@@ -49,6 +54,7 @@ pub record TookWaiting (b n : SessionTold) (answer : Result (RawXorbData × List
   pub xorb : IfOk answer (λ r. r.0.xorb ≡ xorb_of_chunks b.waiting.chunks)
   pub describes : IfOk answer (λ r. Describes r.0.xorb_info r.0.xorb)
   pub files : IfOk answer (λ r. map (λ p. p.info) r.1 ≡ map (record_of_file (waiting_hash b)) b.waiting.files)
+  pub parts : IfOk answer (λ r. map (part_of (waiting_hash b)) r.1 ≡ map (own_part (waiting_hash b)) b.waiting.files)
   pub why : IfErr answer (StoresFail b.shards n.shards)
 
 -- the records of the session are as they were, or one of a xorb came behind them
@@ -111,3 +117,21 @@ pub record AsksFor (b n : SessionTold) (chunk : MerkleHash) (answer : Result Boo
 pub record OnList (b n : SessionTold) (x : MerkleHash) : Type 0 where
   pub is_there : Contains n.listed x
   pub same : (n ≡ b) ⊎ (n ≡ record b { listed = b.listed ++ x ∷ [] })
+  pub once : Contains b.listed x → n ≡ b
+
+-- a xorb was put and is counted as complete, or its put failed and the tracker is as before
+pub record PutCounted (b n : SessionTold) (told after : List TrackerStep) (h : MerkleHash)
+    (answer : Result (Unit {0}) DataError) : Type 0 where
+  pub ok : OnOk answer ((n.registered ≡ b.registered ++ h ∷ [])
+      × (after ≡ with_call told (RegisterXorbUploadCompletion h)))
+  pub err : OnErr answer (((n.registered ≡ b.registered ++ h ∷ []) × CountsPut told after h answer)
+      ⊎ ((n.registered ≡ b.registered) × (is_some n.failed ≡ true) × (after ≡ told)))
+
+-- a given xorb is counted as complete where it is new; a failure of its put leaves the tracker
+pub record GivenCounted (b n : SessionTold) (told after : List TrackerStep) (x : Xorb)
+    (answer : Result Bool DataError) : Type 0 where
+  pub ok : OnOk answer (after ≡ cond (has x.hash b.registered) told
+      (with_call told (RegisterXorbUploadCompletion x.hash)))
+  pub unput : OnErr answer (n.registered ≡ b.registered → after ≡ told)
+  pub put : n.registered ≡ b.registered ++ x.hash ∷ [] → CountsPut told after x.hash answer
+  pub failed : OnErr answer (0 < length x.chunks → n.registered ≡ b.registered → is_some n.failed ≡ true)

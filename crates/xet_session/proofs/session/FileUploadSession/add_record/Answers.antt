@@ -6,7 +6,7 @@ use Rattle.xet_session.proofs.session.FileUploadSession.add_record.Goals as goal
 pub returns-in_err-add_xorb_block : goal.returns-in_err-add_xorb_block
 returns-in_err-add_xorb_block g c =
     let e : c.from_residual.result ≡ Err c.in_err-add_xorb_block.field-0.0 = search rules in
-    rw e (record { call = record { same = search rules; recorded = record-refused _ _ _ _ _ (rw c.in_err-add_xorb_block.was at c.add_xorb_block.ensures) }; untold = refl })
+    rw e (record { call = record { same = search rules; recorded = record-refused _ _ _ _ _ (rw c.in_err-add_xorb_block.was at c.add_xorb_block.ensures) }; untold = refl; group = (refl, refl) })
 
 pub returns : goal.returns
 returns g c = record {
@@ -15,4 +15,5 @@ returns g c = record {
     recorded = record-added _ _ _ _ _ _ _ (rw c.in_ok-add_xorb_block.was at c.add_xorb_block.ensures) c.add_uploaded_xorb_block.ensures;
   };
   untold = refl;
+  group = (refl, refl);
 }

@@ -11,19 +11,19 @@ pub returns-in_err-search : goal.returns-in_err-search
 returns-in_err-search g c =
     let e : c.from_residual-in_err-search.result ≡ Err c.in_err-search.field-0.0 = search rules in
     let call = queries-err _ _ _ (rw c.in_ok-reserve.ensures.same at c.search.ensures.same) _ (rw c.in_err-search.was at c.search.ensures.searches) in
-    rw e (record { call = call; backs = backs-kept _ _ (has-listed _ c.args.self.now.lists) call.keeps call.listed; untold = c.search.ensures.untold })
+    rw e (record { call = call; order = (rw c.in_err-search.was at c.search.ensures.searches).order; backs = backs-kept _ _ (has-listed _ c.args.self.now.lists) call.keeps call.listed; untold = c.search.ensures.untold; group = c.search.ensures.group })
 
 pub returns-in-None : goal.returns-in-None
 returns-in-None g c =
     let was : c.search.result ≡ Ok c.in_ok-search.field-0 = c.in_ok-search.was in
     let call = queries-none _ _ _ (rw c.in_ok-reserve.ensures.same at c.search.ensures.same) (rw (was, c.in-None.is) at c.search.ensures.searches) in
-    record { call = call; backs = backs-kept _ _ (has-listed _ c.args.self.now.lists) call.keeps call.listed; untold = c.search.ensures.untold }
+    record { call = call; order = λ t. tt; backs = backs-kept _ _ (has-listed _ c.args.self.now.lists) call.keeps call.listed; untold = c.search.ensures.untold; group = c.search.ensures.group }
 
 pub returns-in-Some : goal.returns-in-Some
 returns-in-Some g c =
     let was : c.search.result ≡ Ok c.in_ok-search.field-0 = c.in_ok-search.was in
     let call = queries-some _ _ _ (rw c.in_ok-reserve.ensures.same at c.search.ensures.same) _ _ (rw (was, c.in-Some.is) at c.search.ensures.searches) c.put_on_list.ensures.call in
-    record { call = call; backs = backs-kept _ _ (has-listed _ c.args.self.now.lists) call.keeps call.listed; untold = c.put_on_list.ensures.untold ∙ c.search.ensures.untold }
+    record { call = call; order = λ t. tt; backs = backs-kept _ _ (has-listed _ c.args.self.now.lists) call.keeps call.listed; untold = c.put_on_list.ensures.untold ∙ c.search.ensures.untold; group = (c.put_on_list.ensures.group.0 ∙ c.search.ensures.group.0, c.put_on_list.ensures.group.1 ∙ c.search.ensures.group.1) }
 
 pub returns-in_err-reserve-clause-backs : goal.returns-in_err-reserve-clause-backs
 returns-in_err-reserve-clause-backs g c =

@@ -1,24 +1,68 @@
-use Rattle.std.proofs.Common.{rules, ◌≡◌}
+use Rattle.std.proofs.Common.{ap, refl, rules, ◌∙◌, ◌≡◌}
 use Rattle.std.specs.Prelude.{Err}
-use Rattle.xet_session.proofs.Cuts.{cut-failed, cut-put, cut-same, cut-still, names-cut, names-still}
+use Rattle.xet_upload.specs.declared.data_error.DataError.TheVariants as data_error
+use Rattle.xet_session.specs.Sessions.{SessionTold}
+use Rattle.xet_session.proofs.CutTracking.{cut-counted, cut-noted, cut-stopped, cut-unnoted, cut-untold}
+use Rattle.xet_session.proofs.Cuts.{cut-failed, cut-put, cut-same, cut-still, names-cut, names-still, put-unnoted}
 use Rattle.xet_session.proofs.Tests.{has-listed}
 use Rattle.xet_session.proofs.session.FileUploadSession.cut.Goals as goal
 
 pub returns-in-Some : goal.returns-in-Some
-returns-in-Some g c = rw c.from.ensures (cut-failed _ _ _ c.in-Some.is)
+returns-in-Some g c =
+    rw c.from.ensures (record { call = cut-failed _ _ _ c.in-Some.is; tracks = cut-untold _ _ _ _ _ refl refl; group = (refl, refl) })
 
 pub returns-in_err-raw : goal.returns-in_err-raw
 returns-in_err-raw g c =
     let e : c.from_residual.result ≡ Err c.in_err-raw.field-0.0 = search rules in
-    rw e (cut-same _ _ _ _ c.in_default.is (rw c.in_err-raw.was at c.take_waiting.ensures.taken))
+    let took = rw c.in_err-raw.was at c.take_waiting.ensures.taken in
+    rw e (record {
+      call = cut-same _ _ _ _ c.in_default.is took;
+      tracks = cut-untold _ _ _ _ _ (ap (λ (t : SessionTold). t.registered) took.err) c.take_waiting.ensures.untold;
+      group = c.take_waiting.ensures.group;
+    })
+
+pub returns-in_err-put_finished : goal.returns-in_err-put_finished
+returns-in_err-put_finished g c =
+    let e : c.from_residual-in_err-put_finished.result ≡ Err c.in_err-put_finished.field-0.0 = search rules in
+    let took = rw c.in_ok-raw.was at c.take_waiting.ensures.taken in
+    let put = rw c.in_err-put_finished.was at c.put_finished.ensures.call in
+    rw e (record {
+      call = cut-put _ _ _ _ _ took c.in_default.is _ c.num_chunks-chunks.ensures.chunks (c.is_new.ensures.some c.if-is_new.true) (c.is_new.ensures.new c.if-is_new.true) _ put;
+      tracks = cut-stopped _ _ _ _ took c.in_default.is _ _ _ (rw (c.as_slice.ensures, c.take_waiting.ensures.untold) at c.register_cut-noted.ensures) _ _ c.num_chunks-chunks.ensures.chunks (c.is_new.ensures.some c.if-is_new.true) _ (rw c.in_err-put_finished.was at c.put_finished.ensures.tracked);
+      group = (c.put_finished.ensures.group.0 ∙ c.take_waiting.ensures.group.0, c.put_finished.ensures.group.1 ∙ c.take_waiting.ensures.group.1);
+    })
+
+pub returns-in_err-noted : goal.returns-in_err-noted
+returns-in_err-noted g c =
+    let e : c.from_residual-in_err-noted.result ≡ Err data_error.OutOfMemory = search rules in
+    let took = rw c.in_ok-raw.was at c.take_waiting.ensures.taken in
+    let put = put-unnoted _ _ _ _ _ _ (rw c.in_ok-put_finished.was at c.put_finished.ensures.call) in
+    rw e (record {
+      call = cut-put _ _ _ _ _ took c.in_default.is _ c.num_chunks-chunks.ensures.chunks (c.is_new.ensures.some c.if-is_new.true) (c.is_new.ensures.new c.if-is_new.true) _ put;
+      tracks = cut-unnoted _ _ _ _ took c.in_default.is _ _ _ (rw (c.as_slice.ensures, c.take_waiting.ensures.untold) at c.register_cut-noted.ensures) _ _ c.num_chunks-chunks.ensures.chunks (c.is_new.ensures.some c.if-is_new.true) _ (rw c.in_ok-put_finished.was at c.put_finished.ensures.tracked);
+      group = (c.put_finished.ensures.group.0 ∙ c.take_waiting.ensures.group.0, c.put_finished.ensures.group.1 ∙ c.take_waiting.ensures.group.1);
+    })
 
 pub returns-then-is_new : goal.returns-then-is_new
 returns-then-is_new g c =
-    cut-put _ _ _ _ _ (rw c.in_ok-raw.was at c.take_waiting.ensures.taken) c.in_default.is _ c.num_chunks-chunks.ensures.chunks (c.is_new.ensures.some c.if-is_new.true) (c.is_new.ensures.new c.if-is_new.true) c.put_finished.result c.put_finished.ensures.call
+    let took = rw c.in_ok-raw.was at c.take_waiting.ensures.taken in
+    let put = rw c.in_ok-put_finished.was at c.put_finished.ensures.call in
+    record {
+      call = cut-put _ _ _ _ _ took c.in_default.is _ c.num_chunks-chunks.ensures.chunks (c.is_new.ensures.some c.if-is_new.true) (c.is_new.ensures.new c.if-is_new.true) _ put;
+      tracks = cut-counted _ _ _ _ took c.in_default.is _ _ _ (rw (c.as_slice.ensures, c.take_waiting.ensures.untold) at c.register_cut-noted.ensures) _ _ c.num_chunks-chunks.ensures.chunks (c.is_new.ensures.some c.if-is_new.true) _ _ (rw c.in_ok-put_finished.was at c.put_finished.ensures.tracked) c.in_ok-noted.was;
+      group = (c.put_finished.ensures.group.0 ∙ c.take_waiting.ensures.group.0, c.put_finished.ensures.group.1 ∙ c.take_waiting.ensures.group.1);
+    }
 
 pub returns : goal.returns
 returns g c =
-    cut-still _ _ _ _ _ (rw c.in_ok-raw.was at c.take_waiting.ensures.taken) c.in_default.is _ c.num_chunks-chunks.ensures.chunks c.num_chunks-chunks.ensures.counted c.finish_files.ensures.call (c.is_new.ensures.old c.if-is_new.false)
+    let took = rw c.in_ok-raw.was at c.take_waiting.ensures.taken in
+    let still = cut-still _ _ _ _ _ took c.in_default.is _ c.num_chunks-chunks.ensures.chunks c.num_chunks-chunks.ensures.counted c.finish_files.ensures.call (c.is_new.ensures.old c.if-is_new.false) in
+    let put = ap (λ (t : SessionTold). t.registered) c.finish_files.ensures.call ∙ ap (λ (t : SessionTold). t.registered) took.ok in
+    record {
+      call = still;
+      tracks = rw c.finish_files.ensures.untold (cut-noted _ _ _ _ took c.in_default.is _ _ _ (rw (c.as_slice.ensures, c.take_waiting.ensures.untold) at c.register_cut-noted.ensures) _ put);
+      group = (c.finish_files.ensures.group.0 ∙ c.take_waiting.ensures.group.0, c.finish_files.ensures.group.1 ∙ c.take_waiting.ensures.group.1);
+    }
 
 pub put_finished-requires-clause-named : goal.put_finished-requires-clause-named
 put_finished-requires-clause-named g c =

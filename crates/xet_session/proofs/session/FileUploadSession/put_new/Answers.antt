@@ -1,23 +1,57 @@
-use Rattle.std.proofs.Common.{arith, rules, ◌≡◌}
-use Rattle.std.specs.Prelude.{Err}
-use Rattle.xet_session.proofs.Cuts.{registers-err, registers-put}
+use Rattle.std.proofs.Common.{arith, inl, refl, rules, ◌≡◌}
+use Rattle.std.specs.Prelude.{Err, None}
+use Rattle.xet_upload.specs.declared.data_error.DataError.TheVariants as data_error
+use Rattle.xet_session.proofs.Cuts.{registers-again, registers-empty, registers-err, registers-put, registers-refused}
+use Rattle.xet_session.proofs.Tracking.{given-again, given-counted, given-empty, given-failed, given-uncounted}
 use Rattle.xet_session.proofs.session.FileUploadSession.put_new.Goals as goal
+
+pub returns-then-contains : goal.returns-then-contains
+returns-then-contains g c =
+    let old = c.contains.ensures.yes c.if-contains.true in
+    record { call = registers-again _ _ _ c.requires.first old; why = tt; tracked = given-again _ _ _ _ _ refl old refl; group = (refl, refl) }
+
+pub returns-in_err-complete : goal.returns-in_err-complete
+returns-in_err-complete g c =
+    let e : c.from_residual.result ≡ Err data_error.OutOfMemory = search rules in
+    let fresh = c.contains.ensures.no c.if-contains.false in
+    rw e (record {
+      call = registers-refused _ _ _ c.requires.first data_error.OutOfMemory None (inl refl) c.requires.unfailed;
+      why = inl (inl (inl refl));
+      tracked = given-uncounted _ _ _ _ _ fresh (omega arith) refl c.in_err-complete.ensures.err;
+      group = (refl, refl);
+    })
+
+pub returns-then-len-eq0 : goal.returns-then-len-eq0
+returns-then-len-eq0 g c =
+    let fresh = c.contains.ensures.no c.if-contains.false in
+    record {
+      call = registers-empty _ _ _ c.requires.first fresh (omega arith);
+      why = tt;
+      tracked = given-empty _ _ _ _ _ fresh refl c.in_ok-complete.ensures.ok;
+      group = (refl, refl);
+    }
 
 pub returns-in_err-put_given : goal.returns-in_err-put_given
 returns-in_err-put_given g c =
-    let e : c.from_residual.result ≡ Err c.in_err-put_given.field-0.0 = search rules in
+    let e : c.from_residual-in_err-put_given.result ≡ Err c.in_err-put_given.field-0.0 = search rules in
+    let fresh = c.contains.ensures.no c.if-contains.false in
+    let put = rw c.in_err-put_given.was at c.put_given.ensures.call in
     rw e (record {
-      call = registers-err _ _ _ c.requires.first (c.contains.ensures.no c.if-contains.false) (c.requires.unfailed (c.contains.ensures.no c.if-contains.false) (omega arith)) _ _ (omega arith) (rw c.in_err-put_given.was at c.put_given.ensures.call);
-      why = (rw c.in_err-put_given.was at c.put_given.ensures.call).why;
-      tracked = c.put_given.ensures.tracked;
+      call = registers-err _ _ _ c.requires.first fresh (c.requires.unfailed fresh (omega arith)) _ _ (omega arith) put;
+      why = put.why;
+      tracked = given-failed _ _ _ _ _ fresh _ (rw c.in_err-put_given.was at c.put_given.ensures.tracked);
+      group = c.put_given.ensures.group;
     })
 
 pub returns : goal.returns
-returns g c = record {
-  call = registers-put _ _ _ c.requires.first (c.contains.ensures.no c.if-contains.false) (c.requires.unfailed (c.contains.ensures.no c.if-contains.false) (omega arith)) _ _ (omega arith) (rw c.in_ok-put_given.was at c.put_given.ensures.call);
-  why = tt;
-  tracked = c.put_given.ensures.tracked;
-}
+returns g c =
+    let fresh = c.contains.ensures.no c.if-contains.false in
+    record {
+      call = registers-put _ _ _ c.requires.first fresh (c.requires.unfailed fresh (omega arith)) _ _ (omega arith) (rw c.in_ok-put_given.was at c.put_given.ensures.call);
+      why = tt;
+      tracked = given-counted _ _ _ _ _ fresh _ (rw c.in_ok-put_given.was at c.put_given.ensures.tracked);
+      group = c.put_given.ensures.group;
+    }
 
 pub put_given-requires-clause-unfailed : goal.put_given-requires-clause-unfailed
 put_given-requires-clause-unfailed g c = c.requires.unfailed (c.contains.ensures.no c.if-contains.false) (omega arith)

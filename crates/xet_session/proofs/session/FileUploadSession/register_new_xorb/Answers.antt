@@ -1,43 +1,53 @@
-use Rattle.std.proofs.Common.{ap, rules, subst, sym, ◌∙◌, ◌≡◌}
-use Rattle.std.specs.Prelude.{Contains, Err, List}
+use Rattle.std.proofs.Common.{ap, inl, refl, rules, subst, sym, ◌∙◌, ◌≡◌}
+use Rattle.std.specs.Prelude.{Contains, Err, List, None}
 use Rattle.xet_base.specs.declared.merklehash.MerkleHash.{MerkleHash}
+use Rattle.xet_upload.specs.declared.data_error.DataError.TheVariants as data_error
 use Rattle.xet_session.specs.Sessions.{SessionTold}
-use Rattle.xet_session.specs.Telling.{told_by}
 use Rattle.xet_session.proofs.Cuts.{registers-finalized, registers-kept, registers-refused}
 use Rattle.xet_session.proofs.Ends.{backs-kept}
 use Rattle.xet_session.proofs.Tests.{has-listed}
-use Rattle.xet_session.proofs.Tracking.{told-failed, told-finalized, told-put, told-refused}
+use Rattle.xet_session.proofs.Tracking.{told-failed, told-finalized, told-put, told-refused, told-unmade}
 use Rattle.xet_session.proofs.session.FileUploadSession.register_new_xorb.Goals as goal
 
 pub returns-then-self : goal.returns-then-self
 returns-then-self g c =
     let call = registers-finalized _ _ _ c.if-self.true in
-    record { call = call; tracks = told-finalized _ _ _; backs = backs-kept _ _ (has-listed _ c.args.self.now.lists) call.keeps call.listed }
+    record { call = call; tracks = told-finalized _ _ _ _ c.if-self.true; group = (refl, refl); backs = backs-kept _ _ (has-listed _ c.args.self.now.lists) call.keeps call.listed }
 
 pub returns-in-Some : goal.returns-in-Some
 returns-in-Some g c =
     let kept = rw c.in-Some.is at c.kept_failure.ensures.some in
     let call = registers-kept _ _ _ c.if-self.false _ kept in
-    rw c.from.ensures (record { call = call; tracks = told-failed _ _ _ _; backs = backs-kept _ _ (has-listed _ c.args.self.now.lists) call.keeps call.listed })
+    rw c.from.ensures (record { call = call; tracks = told-failed _ _ _ _ _; group = (refl, refl); backs = backs-kept _ _ (has-listed _ c.args.self.now.lists) call.keeps call.listed })
+
+pub returns-in_err-make_room : goal.returns-in_err-make_room
+returns-in_err-make_room g c =
+    let e : c.from_residual.result ≡ Err data_error.OutOfMemory = search rules in
+    let call = registers-refused _ _ _ c.if-self.false data_error.OutOfMemory None (inl refl) (c.kept_failure.ensures.none c.in_default.is) in
+    rw (e, c.make_room.ensures.same, c.make_room.ensures.untold) (record { call = call; tracks = told-unmade _ _ _ _; group = c.make_room.ensures.group; backs = backs-kept _ _ (has-listed _ c.args.self.now.lists) call.keeps call.listed })
 
 pub returns-in_err-track_xorb : goal.returns-in_err-track_xorb
 returns-in_err-track_xorb g c =
-    let e : c.from_residual.result ≡ Err c.in_err-track_xorb.field-0.0 = search rules in
-    let tracks = rw c.in_err-track_xorb.was at c.track_xorb.ensures.tracks in
-    let call = registers-refused _ _ _ c.if-self.false _ _ tracks.err (c.kept_failure.ensures.none c.in_default.is) in
-    rw (e, c.track_xorb.ensures.same) (record { call = call; tracks = told-refused _ _ _ _ _ tracks; backs = backs-kept _ _ (has-listed _ c.args.self.now.lists) call.keeps call.listed })
+    let e : c.from_residual-in_err-track_xorb.result ≡ Err c.in_err-track_xorb.field-0.0 = search rules in
+    let sound = c.kept_failure.ensures.none c.in_default.is in
+    let tracks = rw (c.in_err-track_xorb.was, ap (λ (t : SessionTold). t.registered) c.make_room.ensures.same, c.make_room.ensures.untold) at c.track_xorb.ensures.tracks in
+    let call = registers-refused _ _ _ c.if-self.false _ _ tracks.err sound in
+    rw (e, c.track_xorb.ensures.same, c.make_room.ensures.same) (record { call = call; tracks = told-refused _ _ _ _ c.if-self.false sound _ _ tracks; group = (c.track_xorb.ensures.group.0 ∙ c.make_room.ensures.group.0, c.track_xorb.ensures.group.1 ∙ c.make_room.ensures.group.1); backs = backs-kept _ _ (has-listed _ c.args.self.now.lists) call.keeps call.listed })
 
 pub returns : goal.returns
 returns g c =
-    let call = rw c.track_xorb.ensures.same at c.put_new.ensures.call in
+    let sound = c.kept_failure.ensures.none c.in_default.is in
+    let tracks = rw (c.in_ok-track_xorb.was, ap (λ (t : SessionTold). t.registered) c.make_room.ensures.same, c.make_room.ensures.untold) at c.track_xorb.ensures.tracks in
+    let call = rw (c.track_xorb.ensures.same, c.make_room.ensures.same) at c.put_new.ensures.call in
     record {
       call = call;
-      tracks = told-put _ _ _ (told_by g.U.Uploader.told g.R.ShardStore.told c.track_xorb.new.self) (told_by g.U.Uploader.told g.R.ShardStore.told c.put_new.new.self) _ _ _ (rw c.in_ok-track_xorb.was at c.track_xorb.ensures.tracks) c.put_new.ensures.tracked c.put_new.result c.put_new.ensures.why;
+      tracks = told-put _ _ _ _ c.if-self.false sound _ _ _ _ tracks c.put_new.result (rw (c.track_xorb.ensures.same, c.make_room.ensures.same) at c.put_new.ensures.tracked) (rw (c.track_xorb.ensures.same, c.make_room.ensures.same) at c.put_new.ensures.why);
+      group = (c.put_new.ensures.group.0 ∙ c.track_xorb.ensures.group.0 ∙ c.make_room.ensures.group.0, c.put_new.ensures.group.1 ∙ c.track_xorb.ensures.group.1 ∙ c.make_room.ensures.group.1);
       backs = backs-kept _ _ (has-listed _ c.args.self.now.lists) call.keeps call.listed;
     }
 
 pub put_new-requires-clause-unfailed : goal.put_new-requires-clause-unfailed
 put_new-requires-clause-unfailed g c fresh low =
-    let same = c.track_xorb.ensures.same in
+    let same = c.track_xorb.ensures.same ∙ c.make_room.ensures.same in
     let P : List MerkleHash → Type 0 = λ hs. Contains hs c.args.raw.xorb.hash in
     ap (λ (t : SessionTold). t.failed) same ∙ c.kept_failure.ensures.none c.in_default.is (λ old. fresh (subst P (sym (ap (λ (t : SessionTold). t.registered) same)) old)) low

@@ -1,4 +1,5 @@
 use Rattle.std.proofs.Common.{arith, refl}
+use Rattle.xet_session.proofs.CutTracking.{map-parts}
 use Rattle.xet_session.proofs.Cuts.{map-infos, count-infos}
 use Rattle.xet_session.proofs.session.FileUploadSession.take_waiting.Goals as goal
 
@@ -9,6 +10,7 @@ returns-clause-taken g c = record {
   xorb = c.in_ok-finalize.ensures.xorb;
   describes = c.in_ok-finalize.ensures.info;
   files = map-infos _ _ _ c.in_ok-finalize.ensures.files;
+  parts = map-parts _ _ _ c.in_ok-finalize.ensures.files;
   why = tt;
 }
 

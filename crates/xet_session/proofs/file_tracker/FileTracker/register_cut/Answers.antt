@@ -1,0 +1,21 @@
+use Rattle.std.proofs.Common.{arith, refl, rules, ◌≡◌}
+use Rattle.std.specs.Prelude.{Err}
+use Rattle.xet_session.proofs.CutTracking.{notes-empty, notes-none, notes-parts}
+use Rattle.xet_session.proofs.file_tracker.FileTracker.register_cut.Goals as goal
+
+pub returns-then-len-eq0 : goal.returns-then-len-eq0
+returns-then-len-eq0 g c = notes-empty _ _ _ _ _ (omega arith) refl
+
+pub returns-in_err-dependencies : goal.returns-in_err-dependencies
+returns-in_err-dependencies g c =
+    let e : c.from_residual.result ≡ Err c.in_err-dependencies.field-0.0 = search rules in
+    rw e (notes-none _ _ _ _ _ refl)
+
+pub returns-in_err-note_xorb : goal.returns-in_err-note_xorb
+returns-in_err-note_xorb g c =
+    let e : c.from_residual-in_err-note_xorb.result ≡ Err c.in_err-note_xorb.field-0.0 = search rules in
+    rw e (notes-none _ _ _ _ _ c.in_err-note_xorb.ensures.err)
+
+pub returns : goal.returns
+returns g c =
+    notes-parts _ _ _ _ _ _ _ (omega arith) (rw c.as_slice.ensures c.in_ok-dependencies.ensures) c.num_bytes.ensures c.in_ok-note_xorb.ensures.ok c.note_parts.result c.note_parts.ensures.ok c.note_parts.ensures.err
