@@ -1,0 +1,406 @@
+-- The end of a cleaner: the session has a record of its file.
+use Rattle.std.proofs.Common.{◌≡◌, ℕ, ◌⊎◌, inl, inr, Bool, true, false, List, [], ◌∷◌, ◌++◌, length, refl, sym, ◌∙◌, ap, subst, arith}
+use Rattle.std.specs.Prelude.{All, Contains, Option, Some, None, Result, Ok, Err, IfErr, IfOk, OnOk, is_some}
+use Rattle.std.specs.List.{concat}
+use Rattle.std.proofs.lemmas.Bool.{false≢true}
+use Rattle.std.proofs.lemmas.List.{append-nil}
+use Rattle.std.proofs.lemmas.List.Elements.{All-nil, All-cons, All-append, All-contains, All-same, All-tail, Contains-append_cases, Contains-append_left, Contains-append_right, Contains-push}
+use Rattle.sha2.specs.Hashers.{Holds256}
+use Rattle.xet_base.specs.declared.mdb_shard.ChunkInfo.{ChunkInfo}
+use Rattle.xet_base.specs.declared.mdb_shard.Xorb.{Xorb}
+use Rattle.xet_base.specs.declared.merklehash.MerkleHash.{MerkleHash}
+use Rattle.xet_base.specs.Digests.{file_hash_of, infos_of}
+use Rattle.xet_base.specs.Store.{Store}
+use Rattle.xet_pointer.specs.declared.xet_file_info.XetFileInfo.{XetFileInfo}
+use Rattle.xet_uploader.specs.declared.uploader.Put.{Put}
+use Rattle.xet_upload.specs.FileDatas.{Parts, with_file}
+use Rattle.xet_upload.specs.Standing.{Stand, world}
+use Rattle.xet_upload.specs.Waitings.{Waiting, no_waiting, xorb_of_chunks}
+use Rattle.xet_upload.specs.declared.data_error.DataError.{DataError}
+use Rattle.xet_upload.specs.declared.data_error.DataError.TheVariants as data_error
+use Rattle.xet_upload.specs.declared.metrics.DeduplicationMetrics.{DeduplicationMetrics}
+use Rattle.xet_upload.specs.declared.sha256_policy.Sha256Policy.{Sha256Policy}
+use Rattle.xet_upload.specs.declared.sha256_policy.Sha256Policy.TheVariants.{Compute}
+use Rattle.xet_upload.specs.declared.waiting.WaitingFile.{WaitingFile}
+use Rattle.xet_session.specs.Calls.{Backs, Keeps, PutsFail, finalized_error}
+use Rattle.xet_session.specs.Completions.{TakesFile, with_file_counts}
+use Rattle.xet_session.specs.Sessions.{HasListed, SessionTold, known_of, log_of, waiting_names}
+use Rattle.xet_session.specs.Sounds.{XorbsAgree}
+use Rattle.xet_session.proofs.CallerLemmas.{keeps-both, keeps-refl, ordered-grown, stores-later}
+use Rattle.xet_clean.specs.Cleaners.{Cleaner, CleanerStands, Completes, Counts, CutsChunks, Finishes, IsFed, IsFirstUnlisted, cleaned_file, pointer_to, recorded_sha256, unknown_xorb}
+use Rattle.xet_clean.specs.Cleanings.{AreNamed, ChunkFails, CleanFails, IsHonest, Leaves, term_names}
+use Rattle.xet_clean.specs.Premises.{IsOpen, IsSteady, NoClash, waiting_xorb, with_xorbs}
+use Rattle.xet_clean.specs.Records.{CleanedFile, HasRecord, WaitsFor}
+use Rattle.xet_clean.proofs.Cleaning.{fails-later, fails-memory, leaves-refl, steady-left}
+use Rattle.xet_clean.proofs.Feeding.{cut-fed, cut-stands, never, never-failed}
+use Rattle.xet_clean.proofs.Holding.{left-holds, opened, takes-holds, takes-taken}
+use Rattle.xet_clean.proofs.Worlds.{Contains-cons, Contains-head, agree-alone, world-has}
+
+-- ---- the data of a file
+
+-- the names of the data of one file
+names-alone : (p : Parts) (id : ℕ) (h : MerkleHash) (sha : Option MerkleHash) → p.own.files ≡ [] → waiting_names
+    (with_file p id h sha).files ≡ term_names p.terms
+names-alone p id h sha e =
+    let f : WaitingFile = record { file_id = id; hash = h; terms = p.terms; sha256 = sha } in
+    ap (λ (fs : List WaitingFile). waiting_names (fs ++ f ∷ [])) e ∙ append-nil (term_names p.terms)
+
+pub data-named : (l : List MerkleHash) (p : Parts) (w : Waiting) (id : ℕ) (h : MerkleHash) (sha : Option MerkleHash)
+    → w ≡ with_file p id h sha → p.own.files ≡ [] → AreNamed l p.terms → All (Contains l) (waiting_names w.files)
+data-named l p w id h sha is alone a =
+    let P : Waiting → Type 0 = λ z. All (Contains l) (waiting_names z.files) in
+    subst P (sym is) (All-same (Contains l) (waiting_names (with_file p id h sha).files) (term_names p.terms)
+    (names-alone p id h sha alone) a)
+
+file-waits : (s : Store) (c : Cleaner) (bytes : List ℕ) (id : ℕ) (h : MerkleHash) (sha : Option MerkleHash)
+    → c.pending ≡ [] → h ≡ file_hash_of c.parts.infos → sha ≡ recorded_sha256 c.policy bytes → CleanerStands s c bytes
+    → WaitsFor s (with_file c.parts id h sha) (cleaned_file c h bytes)
+file-waits s c bytes id h sha ended is recorded a =
+    let f : WaitingFile = record { file_id = id; hash = h; terms = c.parts.terms; sha256 = sha } in
+    record {
+      file = f;
+      is_there = Contains-push c.parts.own.files f;
+      hash = refl;
+      sha256 = recorded;
+      chunks = a.parts.chunks;
+      has = record {
+        hash = is ∙ ap file_hash_of a.parts.infos_are;
+        bytes = a.bytes_are ∙ ap (λ (xs : List ℕ). a.front ++ xs) ended ∙ append-nil a.front ∙ a.parts.bytes_are;
+      };
+      stand = a.parts.stand;
+    }
+
+pub backs-both : (b m n : SessionTold) → Keeps b m → Keeps b n → Backs b m → Backs m n → Backs b n
+backs-both b m n k keeps one two = record {
+  listed = two.listed;
+  backed = λ t s. two.backed (k.tells t) (one.backed t s);
+  ordered = λ t s. ordered-grown b n (known_of b) (keeps.grew t);
+}
+
+module _ (b : SessionTold) (c : Cleaner) (ended : c.pending ≡ []) (hash : MerkleHash)
+    (is : hash ≡ file_hash_of c.parts.infos) (sha : Option MerkleHash)
+    (recorded : (bytes : List ℕ) → (c.policy ≡ Compute → Holds256 c.hasher bytes)
+    → sha ≡ recorded_sha256 c.policy bytes) where
+  -- memory was refused before the session had the data
+  pub completes-none : (n : SessionTold) (e : DataError) → n ≡ b → e ≡ data_error.OutOfMemory → Completes b n c (Err e)
+  completes-none n e same why = record {
+    keeps = keeps-refl b n same;
+    backs = (leaves-refl b n same).backs;
+    made = [];
+    honest = All-nil IsHonest;
+    hash = hash;
+    holds = λ k f s o a r. subst (λ (z : SessionTold). HasRecord k z f) (sym same) r;
+    stands = λ k bytes s o a r. tt;
+    pointer = λ bytes a. tt;
+    counts = tt;
+    counted = tt;
+    why = fails-memory b n e why;
+  }
+
+  module _ (w : Waiting) (id : ℕ) (data_is : w ≡ with_file c.parts id hash sha) (now : ℕ) where
+    abbrev own : Xorb
+    own = xorb_of_chunks w.chunks
+
+    waits : (s : Store) (bytes : List ℕ) → CleanerStands s c bytes → WaitsFor s w (cleaned_file c hash bytes)
+    waits s bytes a =
+        let P : Waiting → Type 0 = λ z. WaitsFor s z (cleaned_file c hash bytes) in
+        subst P (sym data_is) (file-waits s c bytes id hash sha ended is (recorded bytes a.fed.hashed) a)
+
+    -- the session refused the data
+    pub completes-err : (n : SessionTold) (e : DataError) → TakesFile b n w now (Err e) → Backs b n → Completes b n c
+        (Err e)
+    completes-err n e t k = record {
+      keeps = t.keeps;
+      backs = λ h. k;
+      made = own ∷ [];
+      honest = All-cons IsHonest own [] refl (All-nil IsHonest);
+      hash = hash;
+      holds = λ m f s o a r. takes-holds m b n w now s o f (waiting_xorb b ∷ own ∷ []) a (Err e) t (Contains-head
+          (waiting_xorb b) (own ∷ [])) r;
+      stands = λ m bytes s o a r. tt;
+      pointer = λ bytes a. tt;
+      counts = tt;
+      counted = tt;
+      why = inr t.why;
+    }
+
+    module _ (m : SessionTold) (counts : DeduplicationMetrics) (u : Unit {0}) (t : TakesFile b m w now (Ok u))
+        (one : Backs b m) (info : XetFileInfo) (pointer : info ≡ pointer_to hash c.fed sha)
+        (merged : counts ≡ with_file_counts m.metrics c.counts) where
+      abbrev n' : SessionTold
+      n' = record m { metrics = counts }
+
+      open-before : IsOpen n' → IsOpen m
+      open-before o = record { unfailed = o.unfailed; unfinished = o.unfinished }
+
+      counted-all : Counts b n' c.counts
+      counted-all =
+          let from_b : counts ≡ record (with_file_counts b.metrics c.counts) {
+            xorb_bytes_uploaded =
+                m.metrics.xorb_bytes_uploaded;
+          } = merged
+          ∙ ap (λ (z : DeduplicationMetrics). with_file_counts z c.counts) t.counts in
+          let sent : m.metrics.xorb_bytes_uploaded ≡ counts.xorb_bytes_uploaded = sym (ap (λ
+          (z : DeduplicationMetrics). z.xorb_bytes_uploaded) merged) in
+          from_b ∙ ap (λ (z : ℕ). record (with_file_counts b.metrics c.counts) { xorb_bytes_uploaded = z }) sent
+
+      counted : Keeps m n' → Backs m n' → Completes b n' c (Ok (info, c.counts))
+      counted keeps two =
+          let whole = keeps-both b m n' t.keeps keeps in
+          record {
+            keeps = whole;
+            backs = λ h. backs-both b m n' t.keeps whole one two;
+            made = own ∷ [];
+            honest = All-cons IsHonest own [] refl (All-nil IsHonest);
+            hash = hash;
+            holds = λ k f s o a r. takes-holds k b m w now s (open-before o) f (waiting_xorb b ∷ own ∷ []) a (Ok u) t
+                (Contains-head (waiting_xorb b) (own ∷ [])) r;
+            stands = λ k bytes s o a r. takes-taken k b m w now s (open-before o) (cleaned_file c hash bytes)
+                (waiting_xorb b ∷ own ∷ []) a u t (Contains-cons (waiting_xorb b) (own ∷ []) own
+                (Contains-head own [])) (waits (world k (log_of b)) bytes r);
+            pointer = λ bytes a. pointer ∙ ap (λ (z : ℕ). pointer_to hash z sha) a.count
+                ∙ ap (λ (o : Option MerkleHash). pointer_to hash (length bytes) o) (recorded bytes a.hashed);
+            counts = refl;
+            counted = counted-all;
+            why = tt;
+          }
+
+      -- the session has the record, and its counts are added
+      pub completes-ok : (n : SessionTold) → n ≡ record m { metrics = counts } → Keeps m n → Backs m n
+          → Completes b n c (Ok (info, c.counts))
+      completes-ok n same keeps two =
+          let P : SessionTold → Type 0 = λ z. Keeps m z → Backs m z → Completes b z c (Ok (info, c.counts)) in
+          subst P (sym same) counted keeps two
+
+-- ---- the exits of `finish`
+
+kept-holds : (b n : SessionTold) → n ≡ b → (k : Store) (f : CleanedFile) → HasRecord k b f → HasRecord k n f
+kept-holds b n e k f r = subst (λ (z : SessionTold). HasRecord k z f) (sym e) r
+
+module _ (b n : SessionTold) (c : Cleaner) (listed : HasListed b) where
+  -- the session is finalized
+  pub finishes-finalized : n ≡ b → b.finalized ≡ true → Finishes b n c (Err finalized_error)
+  finishes-finalized e fin = record {
+    keeps = keeps-refl b n e;
+    backs = (leaves-refl b n e).backs listed;
+    made = [];
+    honest = All-nil IsHonest;
+    cut = [];
+    hash = file_hash_of c.parts.infos;
+    holds = λ k f s o a r. kept-holds b n e k f r;
+    stands = λ k bytes s o a r. tt;
+    pointer = λ bytes a. tt;
+    counted = tt;
+    finalized = λ g. (refl, e);
+    kept = λ g. never b.finalized g fin;
+    unknown = λ g. never b.finalized g fin;
+    why = inr (inr (inl (inl (refl, fin))));
+  }
+
+  -- the cleaner failed before
+  pub finishes-kept : (e : DataError) → n ≡ b → b.finalized ≡ false → c.failed ≡ Some e → Finishes b n c (Err e)
+  finishes-kept e same fin failed = record {
+    keeps = keeps-refl b n same;
+    backs = (leaves-refl b n same).backs listed;
+    made = [];
+    honest = All-nil IsHonest;
+    cut = [];
+    hash = file_hash_of c.parts.infos;
+    holds = λ k f s o a r. kept-holds b n same k f r;
+    stands = λ k bytes s o a r. tt;
+    pointer = λ bytes a. tt;
+    counted = tt;
+    finalized = λ g. never b.finalized fin g;
+    kept = λ g x k. (
+      let both : Some e ≡ Some x = sym failed ∙ k in let one : e ≡ x = cc in ap (λ
+          (z : DataError). Err z) one,
+      same,
+    );
+    unknown = λ g k. never-failed c.failed e k failed;
+    why = inl failed;
+  }
+
+  -- two xorbs that are the first which isn't on the list are one
+  first-one : (front more rest tail : List MerkleHash) (h g : MerkleHash) → front ++ h ∷ rest ≡ more ++ g ∷ tail
+      → All (Contains b.listed) front → All (Contains b.listed) more → (Contains b.listed h → ⊥)
+      → (Contains b.listed g → ⊥) → h ≡ g
+  first-one [] [] rest tail h g e a k x y = cc
+  first-one [] (m ∷ more) rest tail h g e a k x y = let same : h ≡ m = cc in absurd (x (subst (Contains b.listed)
+      (sym same) (All-contains (Contains b.listed) (m ∷ more) m k (Contains-head m more))))
+  first-one (f ∷ front) [] rest tail h g e a k x y = let same : f ≡ g = cc in absurd (y (subst
+      (Contains b.listed) same (All-contains (Contains b.listed) (f ∷ front) f a (Contains-head f front))))
+  first-one (f ∷ front) (m ∷ more) rest tail h g e a k x y =
+      let later : front ++ h ∷ rest ≡ more ++ g ∷ tail = cc in
+      first-one front more rest tail h g later (tail-of f front a) (tail-of m more k) x y
+    where
+      tail-of : (z : MerkleHash) (zs : List MerkleHash) → All (Contains b.listed) (z ∷ zs) → All (Contains b.listed) zs
+      tail-of z zs q = All-tail (Contains b.listed) z zs q
+
+  -- a xorb of the cleaner's terms isn't on the list
+  pub finishes-unknown : (h : MerkleHash) → n ≡ b → b.finalized ≡ false → c.failed ≡ None
+      → IsFirstUnlisted b.listed c.parts.terms h → Finishes b n c (Err (unknown_xorb h))
+  finishes-unknown h same fin none first = record {
+    keeps = keeps-refl b n same;
+    backs = (leaves-refl b n same).backs listed;
+    made = [];
+    honest = All-nil IsHonest;
+    cut = [];
+    hash = file_hash_of c.parts.infos;
+    holds = λ k f s o a r. kept-holds b n same k f r;
+    stands = λ k bytes s o a r. tt;
+    pointer = λ bytes a. tt;
+    counted = tt;
+    finalized = λ g. never b.finalized fin g;
+    kept = λ g x k. never-failed c.failed x none k;
+    unknown = λ g k x other. (
+      ap (λ (z : MerkleHash). Err (unknown_xorb z))
+          (first-one first.front other.front first.rest other.rest h x (sym first.split
+          ∙ other.split) first.before other.before first.missing other.missing),
+      same,
+    );
+    why = inr (inl (h, first, refl));
+  }
+
+  -- no xorb of them is missing
+  pub none-missing : AreNamed b.listed c.parts.terms → (h : MerkleHash) → IsFirstUnlisted b.listed c.parts.terms h → ⊥
+  none-missing a h first =
+      let all = All-same (Contains b.listed) (first.front ++ h ∷ first.rest) (term_names c.parts.terms)
+      (sym first.split) a in
+      first.missing (All-contains (Contains b.listed) (first.front ++ h ∷ first.rest) h all
+      (Contains-append_right first.front (h ∷ first.rest) h (Contains-head h first.rest)))
+
+  -- a chunk of the bytes that waited failed
+  pub finishes-uncut : (e : DataError) → Leaves b n → b.finalized ≡ false → c.failed ≡ None
+      → AreNamed b.listed c.parts.terms → ChunkFails b n e → Finishes b n c (Err e)
+  finishes-uncut e l fin none named why = record {
+    keeps = l.keeps;
+    backs = l.backs listed;
+    made = [];
+    honest = All-nil IsHonest;
+    cut = [];
+    hash = file_hash_of c.parts.infos;
+    holds = λ k f s o a r. left-holds k b n no_waiting 0 s o f l.keeps l.waiting l.finished r;
+    stands = λ k bytes s o a r. tt;
+    pointer = λ bytes a. tt;
+    counted = tt;
+    finalized = λ g. never b.finalized fin g;
+    kept = λ g x k. never-failed c.failed x none k;
+    unknown = λ g k x first. absurd (none-missing named x first);
+    why = inr (inr why);
+  }
+
+  module _ (m : SessionTold) (d : Cleaner) (l : Leaves b m) (cuts : CutsChunks b m c d) (answer : Result (XetFileInfo
+      × DeduplicationMetrics) DataError) (z : Completes m n d answer) where
+    abbrev made : List Xorb
+    made = cuts.cleans.made ++ z.made
+
+    policy : d.policy ≡ c.policy
+    policy = ap (λ (y : Cleaner). y.policy) cuts.same
+
+    module _ (k : Store) (s : IsSteady k b) (o : IsOpen n) (clash : NoClash (world k (log_of n))
+        (waiting_xorb b ∷ made) cuts.cut) where
+      grown : (x : Xorb) → Contains (world k (log_of m)).xorbs x → Contains (world k (log_of n)).xorbs x
+      grown x c = let g = z.keeps.grew (l.keeps.tells s.tells) in world-has k (log_of m) (log_of n) _ g.grown x c
+
+      -- xorbs of the world, of what waits, and of some that were made
+      among : (xs : List Xorb) → ((x : Xorb) → Contains xs x → Contains made x) → (x : Xorb) → Contains ((world k
+          (log_of n)).xorbs ++ (waiting_xorb b ∷ xs)) x → Contains ((world k (log_of n)).xorbs ++
+          (waiting_xorb b ∷ made)) x
+      among xs sub x c = go (Contains-append_cases (world k (log_of n)).xorbs (waiting_xorb b ∷ xs) x c)
+        where
+          go : Contains (world k (log_of n)).xorbs x ⊎ Contains (waiting_xorb b ∷ xs) x → Contains ((world k
+              (log_of n)).xorbs ++ (waiting_xorb b ∷ made)) x
+          go (inl e) = Contains-append_left (world k (log_of n)).xorbs (waiting_xorb b ∷ made) x e
+          go (inr e) = Contains-append_right (world k (log_of n)).xorbs (waiting_xorb b ∷ made) x (more
+              (Contains-append_cases (waiting_xorb b ∷ []) xs x e))
+            where
+              more : Contains (waiting_xorb b ∷ []) x ⊎ Contains xs x → Contains (waiting_xorb b ∷ made) x
+              more (inl f) = Contains-append_left (waiting_xorb b ∷ []) made x f
+              more (inr f) = Contains-append_right (waiting_xorb b ∷ []) made x (sub x f)
+
+      was_open : IsOpen m
+      was_open = opened m n z.keeps o
+
+      agree : XorbsAgree (with_xorbs (world k (log_of n)) (waiting_xorb m ∷ z.made))
+      agree =
+          let P : Waiting → Type 0 = λ w. XorbsAgree (with_xorbs (world k (log_of n))
+          (xorb_of_chunks w.chunks ∷ z.made)) in
+          subst P (sym l.waiting) (λ x y c e. clash.xorbs x y (among z.made
+          (λ x f. Contains-append_right cuts.cleans.made z.made x f) x c) (among z.made
+          (λ x f. Contains-append_right cuts.cleans.made z.made x f) y e))
+
+      before : NoClash (world k (log_of m)) cuts.cleans.made cuts.cut
+      before = record {
+        xorbs = λ x y c e. clash.xorbs x y (front x c) (front y e);
+        chunks = λ x y c e. clash.chunks x y (grown x c) e;
+      }
+        where
+          front : (x : Xorb) → Contains ((world k (log_of m)).xorbs ++ cuts.cleans.made) x → Contains ((world k
+              (log_of n)).xorbs ++ (waiting_xorb b ∷ made)) x
+          front x c = go (Contains-append_cases (world k (log_of m)).xorbs cuts.cleans.made x c)
+            where
+              go : Contains (world k (log_of m)).xorbs x ⊎ Contains cuts.cleans.made x → Contains ((world k
+                  (log_of n)).xorbs ++ (waiting_xorb b ∷ made)) x
+              go (inl e) = Contains-append_left (world k (log_of n)).xorbs (waiting_xorb b ∷ made) x (grown x e)
+              go (inr e) = Contains-append_right (world k (log_of n)).xorbs (waiting_xorb b ∷ made) x (Contains-cons
+                  (waiting_xorb b) made x (Contains-append_left cuts.cleans.made z.made x e))
+
+      middle : IsSteady k m
+      middle = steady-left k b m l (agree-alone (world k (log_of m)) cuts.cleans.made before.xorbs) s
+
+      finish-holds : (f : CleanedFile) → HasRecord k b f → HasRecord k n f
+      finish-holds f r = z.holds k f middle o agree
+          (left-holds k b m no_waiting 0 s was_open f l.keeps l.waiting l.finished r)
+
+      finish-stands : (bytes : List ℕ) → CleanerStands (world k (log_of b)) c bytes → OnOk answer (HasRecord k n
+          (cleaned_file c z.hash bytes))
+      finish-stands bytes a =
+          let P : Sha256Policy → Type 0 = λ p. OnOk answer (HasRecord k n (record {
+            hash = z.hash;
+            sha256 =
+                recorded_sha256 p bytes;
+            bytes = bytes;
+          })) in
+          subst P policy (z.stands k bytes middle o agree (cut-stands b m c d cuts k bytes s was_open before a))
+
+    finish-pointer : (bytes : List ℕ) → IsFed c bytes → IfOk answer (λ r. r.0 ≡ pointer_to z.hash (length bytes)
+        (recorded_sha256 c.policy bytes))
+    finish-pointer bytes a =
+        let P : Sha256Policy → Type 0 = λ p. IfOk answer (λ r. r.0 ≡ pointer_to z.hash (length bytes)
+        (recorded_sha256 p bytes)) in
+        subst P policy (z.pointer bytes (cut-fed b m c d cuts bytes a))
+
+    finish-counted : (x : Result (XetFileInfo × DeduplicationMetrics) DataError) → IfOk x (λ r. Counts m n r.1)
+        → IfOk x (λ r. Counts b n r.1)
+    finish-counted (Ok r) e = e ∙ ap (λ (y : DeduplicationMetrics). record
+        (with_file_counts y r.1) { xorb_bytes_uploaded = n.metrics.xorb_bytes_uploaded }) l.counts
+    finish-counted (Err x) e = tt
+
+    fails : (x : Result (XetFileInfo × DeduplicationMetrics) DataError) → IfErr x (CleanFails m n) → IfErr x (λ e.
+        (c.failed ≡ Some e) ⊎ ((h : MerkleHash) × IsFirstUnlisted b.listed c.parts.terms h × (e ≡ unknown_xorb h))
+        ⊎ ChunkFails b n e)
+    fails (Ok r) f = tt
+    fails (Err e) f = inr (inr (inl (fails-later b m n e l f)))
+
+    -- all bytes were cut, and the session took the data or refused it
+    pub finishes-complete : b.finalized ≡ false → c.failed ≡ None → AreNamed b.listed c.parts.terms
+        → Finishes b n c answer
+    finishes-complete fin none named =
+        let one = l.backs listed in
+        let whole = keeps-both b m n l.keeps z.keeps in
+        record {
+          keeps = whole;
+          backs = backs-both b m n l.keeps whole one (z.backs one.listed);
+          made = made;
+          honest = All-append IsHonest cuts.cleans.made z.made cuts.cleans.honest z.honest;
+          cut = cuts.cut;
+          hash = z.hash;
+          holds = λ k f s o a r. finish-holds k s o a f r;
+          stands = λ k bytes s o a r. finish-stands k s o a bytes r;
+          pointer = finish-pointer;
+          counted = finish-counted answer z.counted;
+          finalized = λ g. never b.finalized fin g;
+          kept = λ g x k. never-failed c.failed x none k;
+          unknown = λ g k x first. absurd (none-missing named x first);
+          why = fails answer z.why;
+        }

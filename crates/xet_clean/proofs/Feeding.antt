@@ -1,0 +1,396 @@
+-- A cleaner that is fed stands for the fed bytes too.
+use Rattle.std.proofs.Common.{◌≡◌, ℕ, ◌+◌, ◌-◌, ◌<◌, ◌⊎◌, inl, inr, Bool, true, false, List, [], ◌∷◌, ◌++◌, length, map, refl, sym, ◌∙◌, ap, subst, arith}
+use Rattle.std.specs.Prelude.{All, Contains, Option, Some, None, Result, Ok, Err, IfErr, OnOk, drop, is_some, take, unwrap_or}
+use Rattle.std.specs.List.{concat}
+use Rattle.std.specs.Option.{option_or}
+use Rattle.std.proofs.lemmas.Bool.{false≢true}
+use Rattle.std.proofs.lemmas.List.{append-nil, append_assoc, length-append, take-append-drop}
+use Rattle.std.proofs.lemmas.List.Elements.{All-append}
+use Rattle.std.proofs.lemmas.List.Folds.{concat-append}
+use Rattle.sha2.specs.Hashers.{Holds256}
+use Rattle.sha2.specs.declared.Sha256.{Sha256}
+use Rattle.xet_base.specs.declared.mdb_shard.Xorb.{Xorb}
+use Rattle.xet_base.specs.Store.{Store}
+use Rattle.xet_uploader.specs.declared.uploader.Put.TheVariants as put
+use Rattle.xet_upload.specs.FileDatas.{Parts, PartsStand, no_parts}
+use Rattle.xet_upload.specs.Standing.{world}
+use Rattle.xet_upload.specs.declared.data_error.DataError.{DataError}
+use Rattle.xet_upload.specs.declared.sha256_policy.Sha256Policy.{Sha256Policy}
+use Rattle.xet_upload.specs.declared.sha256_policy.Sha256Policy.TheVariants.{Compute}
+use Rattle.xet_upload.proofs.CallerLemmas.{parts-nil}
+use Rattle.xet_session.specs.Calls.{finalized_error}
+use Rattle.xet_session.specs.Sessions.{SessionTold, log_of}
+use Rattle.xet_clean.specs.Cleaners.{AddFails, AddsData, Cleaner, CleanerStands, CutsChunks, Feeds, FeedsSo, IsFed, NextChunk, PassesTotal, TakesIn, error_of, past_total}
+use Rattle.xet_clean.specs.Cleanings.{AreNamed, ChunkFails, Cleans, IsHonest, Leaves}
+use Rattle.xet_clean.specs.Premises.{IsOpen, IsSteady, NoClash}
+use Rattle.xet_clean.proofs.Cleaning.{clash-after, clash-before, cleans-both, leaves-refl, steady-left, still-cleans}
+use Rattle.xet_clean.proofs.Holding.{opened}
+use Rattle.xet_clean.proofs.Worlds.{agree-alone, ok-err, world-has}
+
+-- nothing was fed
+pub new-stands : (s : Store) (c : Cleaner) → c.parts ≡ no_parts → c.pending ≡ [] → c.fed ≡ 0 → Holds256 c.hasher []
+    → CleanerStands s c []
+new-stands s c parts pending fed holds = record {
+  front = [];
+  parts = subst (λ (p : Parts). PartsStand s p []) (sym parts) (parts-nil s);
+  bytes_are = sym pending;
+  fed = record { count = fed; hashed = λ e. holds };
+}
+
+-- ---- chunks are cut
+
+pub cuts-none : (b n : SessionTold) (c d : Cleaner) → n ≡ b → d ≡ c → CutsChunks b n c d
+cuts-none b n c d e f =
+    let P : Cleaner → Type 0 = λ z. CutsChunks b n c z in
+    subst P (sym f) (record {
+      cut = [];
+      cleans = still-cleans b n c.parts c.parts e refl;
+      pending = refl;
+      same =
+          refl;
+    })
+
+pub cuts-one : (b n : SessionTold) (c m d : Cleaner) (last : Bool) (chunk : List ℕ) → NextChunk c m last (Some chunk)
+    → Cleans b n m.parts d.parts (chunk ∷ []) → d ≡ record m { parts = d.parts; counts = d.counts }
+    → CutsChunks b n c d
+cuts-one b n c m d last chunk next cleans same =
+    let parts : m.parts ≡ c.parts = ap (λ (z : Cleaner). z.parts) next.same in
+    let pending : d.pending ≡ m.pending = ap (λ (z : Cleaner). z.pending) same in
+    let P : Parts → Type 0 = λ p. Cleans b n p d.parts (chunk ∷ []) in
+    record {
+      cut = chunk ∷ [];
+      cleans = subst P parts cleans;
+      pending = next.pending ∙ ap (λ (xs : List ℕ). xs ++ m.pending) (sym (append-nil chunk)) ∙ ap (λ (xs : List ℕ).
+          (chunk ++ []) ++ xs) (sym pending);
+      same = same ∙ ap (λ (z : Cleaner). record z { parts = d.parts; counts = d.counts }) next.same
+          ∙ ap (λ (xs : List ℕ). record c { parts = d.parts; pending = xs; counts = d.counts }) (sym pending);
+    }
+
+pub cuts-both : (b m n : SessionTold) (c x d : Cleaner) → Leaves b m → Leaves m n → CutsChunks b m c x
+    → CutsChunks m n x d → CutsChunks b n c d
+cuts-both b m n c x d l h one two = record {
+  cut = one.cut ++ two.cut;
+  cleans = cleans-both b m n c.parts x.parts d.parts one.cut two.cut l h one.cleans two.cleans;
+  pending =
+      one.pending ∙ ap (λ (xs : List ℕ). concat one.cut ++ xs) two.pending ∙ sym (append_assoc (concat one.cut)
+      (concat two.cut) d.pending)
+      ∙ ap (λ (xs : List ℕ). xs ++ d.pending) (sym (concat-append one.cut two.cut));
+  same = two.same ∙ ap (λ (z : Cleaner). record z {
+    parts = d.parts;
+    pending = d.pending;
+    counts =
+        d.counts;
+  }) one.same;
+}
+
+-- ---- bytes are fed
+
+-- bytes came in
+take-fed : (c x : Cleaner) (bytes before : List ℕ) → TakesIn c bytes x → IsFed c before → IsFed x (before ++ bytes)
+take-fed c x bytes before tk a = record {
+  count =
+      let sum = ap (λ (z : Cleaner). z.fed) tk.same in
+      let size = length-append before bytes in
+      let count = a.count in
+      omega (arith, sum, size, count);
+  hashed = λ e.
+      let policy : c.policy ≡ Compute = sym (ap (λ (z : Cleaner). z.policy) tk.same) ∙ e in
+      tk.hashed policy before (a.hashed policy);
+}
+
+take-stands : (s : Store) (c x : Cleaner) (bytes before : List ℕ) → TakesIn c bytes x → CleanerStands s c before
+    → CleanerStands s x (before ++ bytes)
+take-stands s c x bytes before tk a =
+    let parts : x.parts ≡ c.parts = ap (λ (z : Cleaner). z.parts) tk.same in
+    let pending : x.pending ≡ c.pending ++ bytes = ap (λ (z : Cleaner). z.pending) tk.same in
+    let P : Parts → Type 0 = λ p. PartsStand s p a.front in
+    record {
+      front = a.front;
+      parts = subst P (sym parts) a.parts;
+      bytes_are = ap (λ (xs : List ℕ). xs ++ bytes) a.bytes_are ∙ append_assoc a.front c.pending bytes
+          ∙ ap (λ (xs : List ℕ). a.front ++ xs) (sym pending);
+      fed = take-fed c x bytes before tk a.fed;
+    }
+
+-- chunks were cut
+module _ (b n : SessionTold) (c d : Cleaner) (cuts : CutsChunks b n c d) where
+  pub cut-fed : (bytes : List ℕ) → IsFed c bytes → IsFed d bytes
+  cut-fed bytes a = record {
+    count = ap (λ (z : Cleaner). z.fed) cuts.same ∙ a.count;
+    hashed = λ e.
+        let policy : c.policy ≡ Compute = sym (ap (λ (z : Cleaner). z.policy) cuts.same) ∙ e in
+        let P : Sha256 → Type 0 = λ h. Holds256 h bytes in
+        subst P (sym (ap (λ (z : Cleaner). z.hasher) cuts.same)) (a.hashed policy);
+  }
+
+  pub cut-stands : (k : Store) (bytes : List ℕ) → IsSteady k b → IsOpen n → NoClash (world k
+      (log_of n)) cuts.cleans.made cuts.cut → CleanerStands (world k (log_of b)) c bytes → CleanerStands (world k
+      (log_of n)) d bytes
+  cut-stands k bytes s o clash a = record {
+    front = a.front ++ concat cuts.cut;
+    parts = cuts.cleans.stands k a.front s o clash a.parts;
+    bytes_are = a.bytes_are ∙ ap (λ (xs : List ℕ). a.front ++ xs) cuts.pending ∙ sym (append_assoc a.front
+        (concat cuts.cut) d.pending);
+    fed = cut-fed bytes a.fed;
+  }
+
+pub feeds : (b n : SessionTold) (c x d : Cleaner) (bytes : List ℕ) → TakesIn c bytes x → CutsChunks b n x d
+    → Feeds b n c bytes d
+feeds b n c x d bytes tk cuts =
+    let whole : d ≡ record c {
+      parts = d.parts;
+      pending = d.pending;
+      hasher = x.hasher;
+      fed =
+          c.fed + length bytes;
+      counts = d.counts;
+    } = cuts.same ∙ ap (λ (z : Cleaner). record z {
+      parts =
+          d.parts;
+      pending = d.pending;
+      counts = d.counts;
+    }) tk.same in
+    let hasher : d.hasher ≡ x.hasher = ap (λ (z : Cleaner). z.hasher) cuts.same in
+    record {
+      made = cuts.cleans.made;
+      honest = cuts.cleans.honest;
+      cut = cuts.cut;
+      stands = λ k before s o clash a. cut-stands b n x d cuts k (before ++ bytes) s o clash (take-stands (world k
+          (log_of b)) c x bytes before tk a);
+      fed = λ before a. cut-fed b n x d cuts (before ++ bytes) (take-fed c x bytes before tk a);
+      named = λ i o a.
+          let P : Parts → Type 0 = λ p. AreNamed b.listed p.terms in
+          cuts.cleans.named i o (subst P (sym (ap (λ (z : Cleaner). z.parts) tk.same)) a);
+      same = whole ∙ ap (λ (h : Sha256). record c {
+        parts = d.parts;
+        pending = d.pending;
+        hasher = h;
+        fed =
+            c.fed + length bytes;
+        counts = d.counts;
+      }) (sym hasher);
+    }
+
+-- ---- the exits of a call that feeds
+
+pub never : {P : Type 0} (b : Bool) → b ≡ false → b ≡ true → P
+never b f t = absurd (false≢true (sym f ∙ t))
+
+pub never-failed : {P : Type 0} (o : Option DataError) (e : DataError) → o ≡ None → o ≡ Some e → P
+never-failed o e f t = absurd (false≢true (ap (λ (z : Option DataError). is_some z) (sym f ∙ t)))
+
+-- the session is finalized
+pub feeds-finalized : (b n : SessionTold) (c d : Cleaner) (bytes : List ℕ) → n ≡ b → d ≡ c → b.finalized ≡ true
+    → FeedsSo b n c bytes d (Err finalized_error)
+feeds-finalized b n c d bytes e f fin = record {
+  leaves = leaves-refl b n e;
+  ok = tt;
+  failed = ap (λ (z : Cleaner). z.failed) f;
+  finalized = λ g. (refl, e);
+  kept = λ g. never b.finalized g fin;
+  past = λ g. never b.finalized g fin;
+  why = inr (inr (inl (inl (refl, fin))));
+}
+
+-- the cleaner failed before
+pub feeds-kept : (b n : SessionTold) (c d : Cleaner) (bytes : List ℕ) (e : DataError) → n ≡ b → d ≡ c
+    → b.finalized ≡ false → c.failed ≡ Some e → FeedsSo b n c bytes d (Err e)
+feeds-kept b n c d bytes e same f fin failed = record {
+  leaves = leaves-refl b n same;
+  ok = tt;
+  failed = ap (λ (z : Cleaner). z.failed) f;
+  finalized = λ g. never b.finalized fin g;
+  kept = λ g x k. (
+    let both : Some e ≡ Some x = sym failed ∙ k in let one : e ≡ x = cc in ap (λ
+        (z : DataError). Err z) one,
+    same,
+  );
+  past = λ g k p. never-failed c.failed e k failed;
+  why = inl failed;
+}
+
+-- more bytes than are left
+pub feeds-past : (b n : SessionTold) (c d : Cleaner) (bytes : List ℕ) (e : DataError) → n ≡ b → d ≡ c
+    → b.finalized ≡ false → c.failed ≡ None → PassesTotal c bytes → e ≡ past_total c bytes → FeedsSo b n c bytes d
+    (Err e)
+feeds-past b n c d bytes e same f fin none passes is = record {
+  leaves = leaves-refl b n same;
+  ok = tt;
+  failed = ap (λ (z : Cleaner). z.failed) f;
+  finalized = λ g. never b.finalized fin g;
+  kept = λ g x k. never-failed c.failed x none k;
+  past = λ g k p. (ap (λ (z : DataError). Err z) is, same);
+  why = inr (inl (is, passes));
+}
+
+-- a step failed
+pub feeds-failed : (b n : SessionTold) (c d : Cleaner) (bytes : List ℕ) (e : DataError) → Leaves b n
+    → d.failed ≡ c.failed → b.finalized ≡ false → c.failed ≡ None → (PassesTotal c bytes → ⊥) → ChunkFails b n e
+    → FeedsSo b n c bytes d (Err e)
+feeds-failed b n c d bytes e l f fin none fits why = record {
+  leaves = l;
+  ok = tt;
+  failed = f;
+  finalized = λ g. never b.finalized fin g;
+  kept = λ g x k. never-failed c.failed x none k;
+  past = λ g k p. absurd (fits p);
+  why = inr (inr why);
+}
+
+-- all was done
+pub feeds-ok : (b n : SessionTold) (c x d : Cleaner) (bytes : List ℕ) (u : Unit {0}) → Leaves b n → TakesIn c bytes x
+    → CutsChunks b n x d → d.failed ≡ c.failed → b.finalized ≡ false → c.failed ≡ None → (PassesTotal c bytes → ⊥)
+    → FeedsSo b n c bytes d (Ok u)
+feeds-ok b n c x d bytes u l tk cuts f fin none fits = record {
+  leaves = l;
+  ok = feeds b n c x d bytes tk cuts;
+  failed = f;
+  finalized = λ g. never b.finalized fin g;
+  kept = λ g e k. never-failed c.failed e none k;
+  past = λ g k p. absurd (fits p);
+  why = tt;
+}
+
+-- the last call of a cleaner that takes in bytes, with either answer
+pub feeds-cut : (b n : SessionTold) (c x d : Cleaner) (bytes : List ℕ) (answer : Result (Unit {0}) DataError)
+    → Leaves b n → TakesIn c bytes x → OnOk answer (CutsChunks b n x d) → d.failed ≡ c.failed → b.finalized ≡ false
+    → c.failed ≡ None → (PassesTotal c bytes → ⊥) → IfErr answer (ChunkFails b n) → FeedsSo b n c bytes d answer
+feeds-cut b n c x d bytes (Ok u) l tk cuts f fin none fits why = feeds-ok b n c x d bytes u l tk cuts f fin none fits
+feeds-cut b n c x d bytes (Err e) l tk cuts f fin none fits why = feeds-failed b n c d bytes e l f fin none fits why
+
+-- the same, where the tracker was told before and the session's words are as they were
+pub feeds-grown : (b m n : SessionTold) (c x d : Cleaner) (bytes : List ℕ) (answer : Result (Unit {0}) DataError)
+    → m ≡ b → Leaves m n → TakesIn c bytes x → OnOk answer (CutsChunks m n x d) → d.failed ≡ c.failed
+    → b.finalized ≡ false → c.failed ≡ None → (PassesTotal c bytes → ⊥) → IfErr answer (ChunkFails m n)
+    → FeedsSo b n c bytes d answer
+feeds-grown b m n c x d bytes answer e l tk cuts f fin none fits why =
+    feeds-cut b n c x d bytes answer (subst (λ (t : SessionTold). Leaves t n) e l) tk
+    (subst (λ (t : SessionTold). OnOk answer (CutsChunks t n x d)) e cuts) f fin none fits
+    (subst (λ (t : SessionTold). IfErr answer (ChunkFails t n)) e why)
+
+-- the first error is kept
+or-same : (o p : Option DataError) → p ≡ o → p ≡ option_or o None
+or-same None p e = e
+or-same (Some x) p e = e
+
+pub adds-ok : (b n : SessionTold) (c d : Cleaner) (bytes : List ℕ) (u v : Unit {0}) → FeedsSo b n c bytes d (Ok u)
+    → AddsData b n c bytes d (Ok v)
+adds-ok b n c d bytes u v f = record {
+  leaves = f.leaves;
+  ok = f.ok;
+  failed = or-same c.failed d.failed f.failed;
+  finalized = λ g. let q = f.finalized g in ok-err u finalized_error q.0;
+  kept = λ g e k. let q = f.kept g e k in ok-err u e q.0;
+  past = λ g k p. let q = f.past g k p in ok-err u (past_total c bytes) q.0;
+  why = tt;
+}
+
+pub adds-err : (b n : SessionTold) (c m d : Cleaner) (bytes : List ℕ) (e : DataError) → FeedsSo b n c bytes m (Err e)
+    → d.failed ≡ Some (unwrap_or m.failed e) → AddsData b n c bytes d (Err e)
+adds-err b n c m d bytes e f is = record {
+  leaves = f.leaves;
+  ok = tt;
+  failed = is ∙ ap (λ (o : Option DataError). Some (unwrap_or o e)) f.failed ∙ go c.failed;
+  finalized = f.finalized;
+  kept = f.kept;
+  past = f.past;
+  why = f.why;
+}
+  where
+    go : (o : Option DataError) → Some (unwrap_or o e) ≡ option_or o (Some e)
+    go None = refl
+    go (Some x) = refl
+
+-- ---- the next chunk
+
+pub next-none : (c d : Cleaner) (last : Bool) → d ≡ c → (last ≡ true → c.pending ≡ []) → NextChunk c d last None
+next-none c d last e none =
+    let P : Cleaner → Type 0 = λ z. NextChunk c z last None in
+    subst P (sym e) (record { same = refl; pending = refl; none = λ f. none })
+
+pub next-some : (c d : Cleaner) (last : Bool) (chunk : List ℕ) (n : ℕ) → d ≡ record c { pending = drop n c.pending }
+    → chunk ≡ take n c.pending → NextChunk c d last (Some chunk)
+next-some c d last chunk n e is =
+    let P : Cleaner → Type 0 = λ z. NextChunk c z last (Some chunk) in
+    subst P (sym e) (record {
+      same = refl;
+      pending = sym (take-append-drop n c.pending) ∙ ap (λ (xs : List ℕ). xs ++ drop n c.pending) (sym is);
+      none = λ f. absurd (false≢true (ap (λ (o : Option (List ℕ)). is_some o) (sym f)));
+    })
+
+-- none was cut
+pub cuts-ended : (b n : SessionTold) (c d : Cleaner) (last : Bool) → n ≡ b → NextChunk c d last None
+    → CutsChunks b n c d
+cuts-ended b n c d last e next =
+    let pending : c.pending ≡ d.pending = next.pending in
+    cuts-none b n c d e (next.same ∙ ap (λ (xs : List ℕ). record c { pending = xs }) (sym pending))
+
+pub ended-pending : (c d : Cleaner) (last : Bool) → NextChunk c d last None → last ≡ true → d.pending ≡ []
+ended-pending c d last next e = let pending : c.pending ≡ d.pending = next.pending in sym pending ∙ next.none refl e
+
+pub next-shorter : (c m : Cleaner) (last : Bool) (chunk : List ℕ) → NextChunk c m last (Some chunk) → 0 < length chunk
+    → length m.pending < length c.pending
+next-shorter c m last chunk next some =
+    let whole = ap (λ (xs : List ℕ). length xs) next.pending in
+    let size = length-append chunk m.pending in
+    omega (arith, whole, size, some)
+
+-- ---- two calls that feed
+
+pub feeds-none : (b n : SessionTold) (c d : Cleaner) → n ≡ b → d ≡ c → Feeds b n c [] d
+feeds-none b n c d e f =
+    let P : Cleaner → Type 0 = λ z. Feeds b n c [] z in
+    let none = cuts-none b n c c e refl in
+    subst P (sym f) (record {
+      made = none.cleans.made;
+      honest = none.cleans.honest;
+      cut = none.cut;
+      stands = λ k before s o clash a. subst (λ (xs : List ℕ). CleanerStands (world k (log_of n)) c xs) (sym
+          (append-nil before)) (cut-stands b n c c none k before s o clash a);
+      fed = λ before a. subst (λ (xs : List ℕ). IsFed c xs) (sym (append-nil before)) a;
+      named = λ i o a. none.cleans.named i o a;
+      same = ap (λ (z : ℕ). record c { fed = z }) (let sum : c.fed ≡ c.fed + 0 = omega arith in sum);
+    })
+
+pub feeds-both : (b m n : SessionTold) (c x d : Cleaner) (xs ys : List ℕ) → Leaves b m → Leaves m n → Feeds b m c xs x
+    → Feeds m n x ys d → Feeds b n c (xs ++ ys) d
+feeds-both b m n c x d xs ys l h one two = record {
+  made = one.made ++ two.made;
+  honest = All-append IsHonest one.made two.made one.honest two.honest;
+  cut = one.cut ++ two.cut;
+  stands = λ k before s o clash a.
+      let grown = world-before k s in
+      let first = clash-before k m n grown one.made two.made one.cut two.cut clash in
+      let second = clash-after k m n grown one.made two.made one.cut two.cut clash in
+      let middle = steady-left k b m l (agree-alone (world k (log_of m)) one.made first.xorbs) s in
+      let P : List ℕ → Type 0 = λ zs. CleanerStands (world k (log_of n)) d zs in
+      subst P (append_assoc before xs ys) (two.stands k (before ++ xs) middle o second (one.stands k before s
+      (opened m n h.keeps o) first a));
+  fed = λ before a.
+      let P : List ℕ → Type 0 = λ zs. IsFed d zs in
+      subst P (append_assoc before xs ys) (two.fed (before ++ xs) (one.fed before a));
+  named = λ i o a. two.named (l.backs i).listed o (one.named i (opened m n h.keeps o) a);
+  same =
+      let sum : (c.fed + length xs) + length ys ≡ c.fed + length (xs ++ ys) = omega (arith, length-append xs ys) in
+      two.same ∙ ap (λ (z : Cleaner). record z {
+        parts = d.parts;
+        pending = d.pending;
+        hasher = d.hasher;
+        fed =
+            z.fed + length ys;
+        counts = d.counts;
+      }) one.same
+      ∙ ap (λ (k : ℕ). record c {
+        parts = d.parts;
+        pending = d.pending;
+        hasher = d.hasher;
+        fed = k;
+        counts =
+            d.counts;
+      }) sum;
+}
+  where
+    world-before : (k : Store) → IsSteady k b → (y : Xorb) → Contains (world k (log_of m)).xorbs y → Contains (world k
+        (log_of n)).xorbs y
+    world-before k s y e = let g = h.keeps.grew (l.keeps.tells s.tells) in world-has k (log_of m) (log_of n)
+        (map put.Xorb g.xorbs) g.grown y e

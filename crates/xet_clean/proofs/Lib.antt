@@ -1,0 +1,13 @@
+pub mod Accepting
+pub mod Cleaning
+pub mod Completing
+pub mod Feeding
+pub mod FileCalls
+pub mod FileEnds
+pub mod Finding
+pub mod Holding
+pub mod Naming
+pub mod Pending
+pub mod UploadLists
+pub mod Uploading
+pub mod Worlds

@@ -1,0 +1,19 @@
+use Rattle.std.proofs.Common.{refl, rules, ap, ◌≡◌}
+use Rattle.std.specs.Prelude.{Err, Ok, Some}
+use Rattle.xet_clean.proofs.FileCalls.{tells-err, tells-ok}
+use Rattle.xet_clean.proofs.Feeding.{adds-err, adds-ok}
+use Rattle.xet_clean.proofs.cleaner.SingleFileCleaner.add_data.Goals as goal
+
+pub returns-in-Ok : goal.returns-in-Ok
+returns-in-Ok g c =
+    let is : c.feed.result ≡ Ok tt = search rules in
+    record {
+      adds = adds-ok _ _ _ _ _ tt tt (rw is at c.feed.ensures.feeds);
+      tells = tells-ok _ _ _ _ _ tt (rw is at c.feed.ensures.tells);
+    }
+
+pub returns-in-Err : goal.returns-in-Err
+returns-in-Err g c = record {
+  adds = adds-err _ _ _ _ _ _ _ (rw c.in-Err.is at c.feed.ensures.feeds) (rw c.unwrap_or.ensures refl);
+  tells = tells-err _ _ _ _ _ (rw c.in-Err.is at c.feed.ensures.tells);
+}

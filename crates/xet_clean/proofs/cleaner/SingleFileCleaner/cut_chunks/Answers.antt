@@ -1,0 +1,60 @@
+use Rattle.std.proofs.Common.{refl, rules, ap, true, false, ◌≡◌, ◌∙◌}
+use Rattle.std.specs.Prelude.{Err, Ok}
+use Rattle.xet_session.specs.Telling.{told_by}
+use Rattle.xet_clean.specs.Cleaners.{Cleaner}
+use Rattle.xet_clean.proofs.Cleaning.{chunk-later, leaves-both, leaves-refl}
+use Rattle.xet_clean.proofs.FileCalls.{tells-both, tells-err, tells-late, tells-none, tells-ok}
+use Rattle.xet_clean.proofs.Feeding.{cuts-both, cuts-none}
+use Rattle.xet_clean.proofs.cleaner.SingleFileCleaner.cut_chunks.Goals as goal
+
+pub chunks-init : goal.chunks-init
+chunks-init g c = record {
+  leaves = leaves-refl _ _ refl;
+  cuts = cuts-none _ _ _ _ refl refl;
+  failed = refl;
+  tells = tells-none _ _ _ _ _ refl tt;
+}
+
+pub chunks-preserved : goal.chunks-preserved
+chunks-preserved g c =
+    let is : c.cut_chunk.result ≡ Ok true = search rules in
+    let old = c.chunks.invariant in
+    record {
+      leaves = leaves-both _ _ _ old.leaves c.cut_chunk.ensures.leaves;
+      cuts = cuts-both _ _ _ _ _ _ old.leaves c.cut_chunk.ensures.leaves old.cuts (rw is at c.cut_chunk.ensures.cuts);
+      failed = c.cut_chunk.ensures.failed ∙ old.failed;
+      tells =
+          let file = ap (λ (z : Cleaner). z.file_id) old.cuts.same in
+          tells-both _ _ _ _ _ tt old.tells _ (tells-late _ _ _ _ _ _ old.leaves.keeps.finalized
+          (tells-ok _ _ _ _ _ tt (rw (is, file) at c.cut_chunk.ensures.tells)));
+    }
+
+pub returns-in-Ok-false : goal.returns-in-Ok-false
+returns-in-Ok-false g c =
+    let is : c.cut_chunk.result ≡ Ok false = search rules in
+    let old = c.chunks.invariant in
+    let file = ap (λ (z : Cleaner). z.file_id) old.cuts.same in
+    record {
+      leaves = leaves-both _ _ _ old.leaves c.cut_chunk.ensures.leaves;
+      cuts = cuts-both _ _ _ _ _ _ old.leaves c.cut_chunk.ensures.leaves old.cuts (rw is at c.cut_chunk.ensures.cuts);
+      none = rw is at c.cut_chunk.ensures.none refl;
+      failed = c.cut_chunk.ensures.failed ∙ old.failed;
+      why = tt;
+      tells = tells-both _ _ _ _ _ tt old.tells _ (tells-late _ _ _ _ _ _ old.leaves.keeps.finalized
+          (tells-ok _ _ _ _ _ tt (rw (is, file) at c.cut_chunk.ensures.tells)));
+    }
+
+pub returns-in-Err : goal.returns-in-Err
+returns-in-Err g c =
+    let old = c.chunks.invariant in
+    let file = ap (λ (z : Cleaner). z.file_id) old.cuts.same in
+    record {
+      leaves = leaves-both _ _ _ old.leaves c.cut_chunk.ensures.leaves;
+      cuts = tt;
+      none = tt;
+      failed = c.cut_chunk.ensures.failed ∙ old.failed;
+      why = chunk-later _ _ (told_by g.U.Uploader.told g.R.ShardStore.told c.cut_chunk.new.session) _ old.leaves
+          (rw c.in-Err.is at c.cut_chunk.ensures.why);
+      tells = tells-both _ _ _ _ _ tt old.tells _ (tells-late _ _ _ _ _ _ old.leaves.keeps.finalized
+          (tells-err _ _ _ _ _ (rw (c.in-Err.is, file) at c.cut_chunk.ensures.tells)));
+    }

@@ -1,0 +1,64 @@
+use Rattle.std.proofs.Common.{refl, rules, ap, inl, inr, sym, ◌≡◌, ◌∙◌}
+use Rattle.std.specs.Prelude.{Err, Ok}
+use Rattle.xet_upload.specs.declared.data_error.DataError.TheVariants as data_error
+use Rattle.xet_session.specs.Sessions.{SessionTold}
+use Rattle.xet_session.specs.Telling.{told_by}
+use Rattle.xet_clean.specs.Cleaners.{Cleaner}
+use Rattle.xet_clean.proofs.Cleaning.{chunk-memory, chunk-tracks, leaves-refl}
+use Rattle.xet_clean.proofs.FileCalls.{tells-both, tells-err, tells-late, tells-memory, tells-none, tells-own}
+use Rattle.xet_clean.proofs.Feeding.{feeds-failed, feeds-finalized, feeds-grown, feeds-kept, feeds-past}
+use Rattle.xet_clean.proofs.cleaner.SingleFileCleaner.feed.Goals as goal
+
+pub returns-then-is_finalized : goal.returns-then-is_finalized
+returns-then-is_finalized g c = record {
+  feeds = feeds-finalized _ _ _ _ _ refl refl (sym c.is_finalized.ensures.is ∙ c.if-is_finalized.true);
+  tells = tells-none _ _ _ _ _ refl (λ why q. inl (inl (
+    refl,
+    sym c.is_finalized.ensures.is ∙ c.if-is_finalized.true,
+  )));
+}
+
+pub returns-in_err-grow : goal.returns-in_err-grow
+returns-in_err-grow g c =
+    let e : c.from_residual.result ≡ Err c.in_err-grow.field-0.0 = search rules in
+    rw e (record {
+      feeds = feeds-failed _ _ _ _ _ _ (leaves-refl _ _ c.grow.ensures.same) refl
+          (sym c.is_finalized.ensures.is ∙ c.if-is_finalized.false) c.in_default.is
+          (c.past_total.ensures.none c.in_default-past_total.is)
+          (chunk-tracks (told_by g.U.Uploader.told g.R.ShardStore.told c.args.session.now)
+          (told_by g.U.Uploader.told g.R.ShardStore.told c.grow.new.session) _
+          (rw c.in_err-grow.was at c.grow.ensures.why));
+      tells = tells-own _ _ _ _ _ _ (λ e l. inl l) (tells-err _ _ _ _ _
+          (rw c.in_err-grow.was at c.grow.ensures.tells));
+    })
+
+pub returns-in_err-take_in : goal.returns-in_err-take_in
+returns-in_err-take_in g c =
+    let e : c.from_residual-in_err-take_in.result ≡ Err data_error.OutOfMemory = search rules in
+    rw e (record {
+      feeds = feeds-failed _ _ _ _ _ _ (leaves-refl _ _ c.grow.ensures.same)
+          (ap (λ (z : Cleaner). z.failed) c.in_err-take_in.ensures.err)
+          (sym c.is_finalized.ensures.is ∙ c.if-is_finalized.false) c.in_default.is
+          (c.past_total.ensures.none c.in_default-past_total.is)
+          (chunk-memory (told_by g.U.Uploader.told g.R.ShardStore.told c.args.session.now)
+          (told_by g.U.Uploader.told g.R.ShardStore.told c.grow.new.session) _ refl);
+      tells = tells-own _ _ _ _ _ _ (λ e l. inl l) (tells-both _ _ _ _ _ _
+          (rw c.in_ok-grow.was at c.grow.ensures.tells) _ (tells-memory _ _ _ _ refl));
+    })
+
+pub returns : goal.returns
+returns g c = record {
+  feeds = feeds-grown _ _ _ _ _ _ _ c.cut_chunks.result c.grow.ensures.same c.cut_chunks.ensures.leaves
+      c.in_ok-take_in.ensures.ok c.cut_chunks.ensures.cuts
+      (c.cut_chunks.ensures.failed ∙ ap (λ (z : Cleaner). z.failed) c.in_ok-take_in.ensures.ok.same)
+      (sym c.is_finalized.ensures.is ∙ c.if-is_finalized.false) c.in_default.is
+      (c.past_total.ensures.none c.in_default-past_total.is) c.cut_chunks.ensures.why;
+  tells =
+      let file = ap (λ (z : Cleaner). z.file_id) c.in_ok-take_in.ensures.ok.same in
+      tells-own _ _ _ _ _ _ (λ e l. inl l) (tells-both _ _ _ _ _ _ (rw c.in_ok-grow.was at c.grow.ensures.tells) _
+      (tells-late _ _ _ _ _ _ (ap (λ (z : SessionTold). z.finalized) c.grow.ensures.same)
+      (rw file at c.cut_chunks.ensures.tells)));
+}
+
+pub take_in-requires : goal.take_in-requires
+take_in-requires g c = c.past_total.ensures.fits c.in_default-past_total.is

@@ -1,0 +1,74 @@
+use Rattle.std.proofs.Common.{refl, rules, ◌≡◌}
+use Rattle.std.specs.Prelude.{Err, Ok}
+use Rattle.xet_session.specs.Telling.{told_by}
+use Rattle.xet_clean.proofs.Cleaning.{chunk-tracks}
+use Rattle.xet_clean.proofs.FileCalls.{tells-err, tells-late, tells-moved, tells-none, tells-ok}
+use Rattle.xet_clean.proofs.Finding.{fails-search, found-err, found-failed, found-none, found-some, found-told, leaves-told, queries-leaves, search-valid}
+use Rattle.xet_clean.proofs.deduper.find_chunk.Goals as goal
+
+pub returns-in_err-chunk_hash_dedup_query : goal.returns-in_err-chunk_hash_dedup_query
+returns-in_err-chunk_hash_dedup_query g c =
+    let e : c.from_residual.result ≡ Err c.in_err-chunk_hash_dedup_query.field-0.0 = search rules in
+    let call = rw (c.in_err-chunk_hash_dedup_query.was, c.as_slice.ensures) at c.chunk_hash_dedup_query.ensures.call in
+    rw e (record {
+      leaves = queries-leaves _ _ _ _ call c.chunk_hash_dedup_query.ensures.backs;
+      found =
+          found-err _ _ _ _ _ call;
+      why = fails-search (told_by g.U.Uploader.told g.R.ShardStore.told c.args.session.now)
+          (told_by g.U.Uploader.told g.R.ShardStore.told c.chunk_hash_dedup_query.new.self) _ call.why;
+      tells = tells-none _ _ _ _ _ c.chunk_hash_dedup_query.ensures.untold
+          (λ why q. search-valid
+          (told_by g.U.Uploader.told g.R.ShardStore.told c.args.session.now).shards
+          (told_by g.U.Uploader.told g.R.ShardStore.told c.chunk_hash_dedup_query.new.self).shards _ call.why why q);
+    })
+
+pub returns-in-None : goal.returns-in-None
+returns-in-None g c =
+    let was : c.chunk_hash_dedup_query.result ≡ Ok c.in_ok-chunk_hash_dedup_query.field-0 =
+    c.in_ok-chunk_hash_dedup_query.was in
+    let call = rw (was, c.in-None.is, c.as_slice.ensures) at c.chunk_hash_dedup_query.ensures.call in
+    record {
+      leaves = queries-leaves _ _ _ _ call c.chunk_hash_dedup_query.ensures.backs;
+      found =
+          found-none _ _ _ call;
+      why = tt;
+      tells = tells-none _ _ _ _ _ c.chunk_hash_dedup_query.ensures.untold tt;
+    }
+
+pub returns-in_err-tell_found-in-Some-clause-found : goal.returns-in_err-tell_found-in-Some-clause-found
+returns-in_err-tell_found-in-Some-clause-found g c =
+    let was : c.chunk_hash_dedup_query.result ≡ Ok c.in_ok-chunk_hash_dedup_query.field-0 =
+    c.in_ok-chunk_hash_dedup_query.was in
+    let call = rw (was, c.in-Some.is, c.as_slice.ensures) at c.chunk_hash_dedup_query.ensures.call in
+    let e : c.from_residual-in_err-tell_found-in-Some.result ≡ Err c.in_err-tell_found-in-Some.field-0.0 =
+    search rules in
+    rw e (found-told _ _ _ _ _ c.tell_found.ensures.same (found-failed _ _ _ _ _ (found-some _ _ _ c.in-Some.found call)))
+
+pub returns-in_ok-tell_found-in-Some-clause-found : goal.returns-in_ok-tell_found-in-Some-clause-found
+returns-in_ok-tell_found-in-Some-clause-found g c =
+    let was : c.chunk_hash_dedup_query.result ≡ Ok c.in_ok-chunk_hash_dedup_query.field-0 =
+    c.in_ok-chunk_hash_dedup_query.was in
+    let call = rw (was, c.in-Some.is, c.as_slice.ensures) at c.chunk_hash_dedup_query.ensures.call in
+    found-told _ _ _ _ _ c.tell_found.ensures.same (found-some _ _ _ c.in-Some.found call)
+
+pub returns-in_err-tell_found-in-Some-clause-tells : goal.returns-in_err-tell_found-in-Some-clause-tells
+returns-in_err-tell_found-in-Some-clause-tells g c =
+    let e : c.from_residual-in_err-tell_found-in-Some.result ≡ Err c.in_err-tell_found-in-Some.field-0.0 =
+    search rules in
+    rw e (tells-moved _ _ _ _ _ _ c.chunk_hash_dedup_query.ensures.untold (tells-late _ _ _ _ _ _
+    c.chunk_hash_dedup_query.ensures.call.keeps.finalized
+    (tells-err _ _ _ _ _ (rw c.in_err-tell_found-in-Some.was at c.tell_found.ensures.tells))))
+
+pub returns-in_ok-tell_found-in-Some-clause-tells : goal.returns-in_ok-tell_found-in-Some-clause-tells
+returns-in_ok-tell_found-in-Some-clause-tells g c =
+    tells-moved _ _ _ _ _ _ c.chunk_hash_dedup_query.ensures.untold (tells-late _ _ _ _ _ _
+    c.chunk_hash_dedup_query.ensures.call.keeps.finalized
+    (tells-ok _ _ _ _ _ _ (rw c.in_ok-tell_found-in-Some.was at c.tell_found.ensures.tells)))
+
+pub returns-in_err-tell_found-in-Some-clause-why : goal.returns-in_err-tell_found-in-Some-clause-why
+returns-in_err-tell_found-in-Some-clause-why g c =
+    let e : c.from_residual-in_err-tell_found-in-Some.result ≡ Err c.in_err-tell_found-in-Some.field-0.0 =
+    search rules in
+    rw e (chunk-tracks (told_by g.U.Uploader.told g.R.ShardStore.told c.args.session.now)
+    (told_by g.U.Uploader.told g.R.ShardStore.told c.tell_found.new.session) _
+    (rw c.in_err-tell_found-in-Some.was at c.tell_found.ensures.why))

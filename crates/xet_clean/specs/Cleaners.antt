@@ -1,0 +1,256 @@
+-- A cleaner, what it stands for, and what its calls do.
+use Rattle.std.specs.Prelude.{ℕ, ◌≡◌, ◌+◌, ◌-◌, ◌<◌, ◌^◌, ◌⊎◌, Bool, true, false, List, [], ◌∷◌, ◌++◌, length, All, Contains, Option, Some, None, option_map, unwrap_or, Result, Ok, Err, IfOk, IfErr, OnOk}
+use Rattle.std.specs.List.{concat}
+use Rattle.std.specs.Option.{option_or}
+use Rattle.hex.specs.Hex.{encode_lower}
+use Rattle.sha2.specs.Hashers.{Holds256}
+use Rattle.sha2.specs.Sha256.{sha256}
+use Rattle.sha2.specs.declared.Sha256.{Sha256}
+use Rattle.xet_base.specs.declared.invalid.Invalid.TheVariants as invalid
+use Rattle.xet_base.specs.declared.merklehash.MerkleHash.{MerkleHash}
+use Rattle.xet_base.specs.declared.mdb_shard.Xorb.{Xorb}
+use Rattle.xet_base.specs.Store.{Store}
+use Rattle.xet_pointer.specs.declared.xet_file_info.XetFileInfo.{XetFileInfo}
+use Rattle.xet_upload.specs.FileDatas.{Parts, PartsStand, no_parts}
+use Rattle.xet_upload.specs.Metrics.{no_counts}
+use Rattle.xet_upload.specs.Standing.{world}
+use Rattle.xet_upload.specs.declared.data_error.DataError.{DataError}
+use Rattle.xet_upload.specs.declared.data_error.DataError.TheVariants as data_error
+use Rattle.xet_upload.specs.declared.metrics.DeduplicationMetrics.{DeduplicationMetrics}
+use Rattle.xet_upload.specs.declared.sha256_policy.Sha256Policy.{Sha256Policy}
+use Rattle.xet_upload.specs.declared.sha256_policy.Sha256Policy.TheVariants.{Compute, Provided, Skip}
+use Rattle.xet_upload.specs.declared.waiting.WaitingTerm.{WaitingTerm}
+use Rattle.xet_session.specs.Calls.{Backs, Keeps, finalized_error}
+use Rattle.xet_session.specs.Completions.{with_file_counts}
+use Rattle.xet_session.specs.Sessions.{HasListed, SessionTold, log_of}
+use Rattle.xet_session.specs.Sounds.{XorbsAgree}
+use Rattle.xet_clean.specs.Cleanings.{AreNamed, ChunkFails, CleanFails, Cleans, IsHonest, Leaves, term_names}
+use Rattle.xet_clean.specs.FileCalls.{IsLate}
+use Rattle.xet_clean.specs.Premises.{IsOpen, IsSteady, NoClash, waiting_xorb, with_xorbs}
+use Rattle.xet_clean.specs.Records.{CleanedFile, HasRecord}
+
+-- a cleaner, but for its cutter
+pub record Cleaner : Type 0 where
+  pub file_id : ℕ
+  pub size : Option ℕ
+  pub policy : Sha256Policy
+  -- what was cut
+  pub parts : Parts
+  -- the bytes that were not cut yet
+  pub pending : List ℕ
+  pub hasher : Sha256
+  -- how many bytes were fed
+  pub fed : ℕ
+  pub counts : DeduplicationMetrics
+  -- the first error of `add_data`
+  pub failed : Option DataError
+
+-- the cleaner counts these bytes, and its hasher holds them where SHA-256 is computed
+pub record IsFed (c : Cleaner) (bytes : List ℕ) : Type 0 where
+  pub count : c.fed ≡ length bytes
+  pub hashed : c.policy ≡ Compute → Holds256 c.hasher bytes
+
+-- over a store, the cleaner stands for these bytes, which are those that were fed
+pub record CleanerStands (s : Store) (c : Cleaner) (bytes : List ℕ) : Type 0 where
+  pub front : List ℕ
+  pub parts : PartsStand s c.parts front
+  pub bytes_are : bytes ≡ front ++ c.pending
+  pub fed : IsFed c bytes
+
+-- a cleaner to which nothing was fed
+pub record IsNewCleaner (c : Cleaner) (size : Option ℕ) (policy : Sha256Policy) : Type 0 where
+  pub size_is : c.size ≡ size
+  pub policy_is : c.policy ≡ policy
+  pub parts : c.parts ≡ no_parts
+  pub pending : c.pending ≡ []
+  pub fed : c.fed ≡ 0
+  pub counts : c.counts ≡ no_counts
+  pub failed : c.failed ≡ None
+  pub stands : (s : Store) → CleanerStands s c []
+
+-- the answer of a call that begins a file, of which only the numbers are looked at
+abbrev pub started : {A B : Type 0} → (A → B) → Result A DataError → Result B DataError
+started f (Ok a) = Ok (f a)
+started f (Err e) = Err e
+
+-- ---- feeding
+
+-- the counts of a chunk of so many bytes
+abbrev pub chunk_counts : ℕ → Bool → DeduplicationMetrics
+chunk_counts n true = record no_counts { total_bytes = n; deduped_bytes = n; total_chunks = 1; deduped_chunks = 1 }
+chunk_counts n false = record no_counts { total_bytes = n; new_bytes = n; total_chunks = 1; new_chunks = 1 }
+
+-- bytes came behind those that wait
+pub record TakesIn (c : Cleaner) (bytes : List ℕ) (d : Cleaner) : Type 0 where
+  pub same : d ≡ record c {
+    pending = c.pending ++ bytes;
+    hasher = d.hasher;
+    fed = c.fed + length bytes;
+  }
+  pub hashed : c.policy ≡ Compute → (m : List ℕ) → Holds256 c.hasher m → Holds256 d.hasher (m ++ bytes)
+
+-- the next chunk came off the front, or none does
+pub record NextChunk (c d : Cleaner) (last : Bool) (chunk : Option (List ℕ)) : Type 0 where
+  pub same : d ≡ record c { pending = d.pending }
+  pub pending : c.pending ≡ unwrap_or chunk [] ++ d.pending
+  pub none : chunk ≡ None → last ≡ true → c.pending ≡ []
+
+-- chunks were cut off the front of the pending bytes and cleaned
+pub record CutsChunks (b n : SessionTold) (c d : Cleaner) : Type 0 where
+  pub cut : List (List ℕ)
+  pub cleans : Cleans b n c.parts d.parts cut
+  pub pending : c.pending ≡ concat cut ++ d.pending
+  pub same : d ≡ record c { parts = d.parts; pending = d.pending; counts = d.counts }
+
+-- the cleaner stands for these bytes too, and its terms are on the list as before
+pub record Feeds (b n : SessionTold) (c : Cleaner) (bytes : List ℕ) (d : Cleaner) : Type 0 where
+  pub made : List Xorb
+  pub honest : All IsHonest made
+  pub cut : List (List ℕ)
+  pub stands : (k : Store) (before : List ℕ) → IsSteady k b → IsOpen n → NoClash (world k (log_of n)) made cut
+      → CleanerStands (world k (log_of b)) c before → CleanerStands (world k (log_of n)) d (before ++ bytes)
+  pub fed : (before : List ℕ) → IsFed c before → IsFed d (before ++ bytes)
+  pub named : HasListed b → IsOpen n → AreNamed b.listed c.parts.terms → AreNamed n.listed d.parts.terms
+  pub same : d ≡ record c {
+    parts = d.parts;
+    pending = d.pending;
+    hasher = d.hasher;
+    fed = c.fed + length bytes;
+    counts = d.counts;
+  }
+
+-- how many bytes may be fed
+abbrev pub total_of : Cleaner → ℕ
+total_of c = unwrap_or c.size (2 ^ 64 - 1)
+
+-- more bytes than are left of them
+abbrev pub PassesTotal : Cleaner → List ℕ → Type 0
+PassesTotal c bytes = total_of c - c.fed < length bytes
+
+abbrev pub past_total : Cleaner → List ℕ → DataError
+past_total c bytes = data_error.InvalidOperation (invalid.PastTotal (total_of c) c.fed (length bytes))
+
+-- why `add_data` fails: the cleaner failed before, or its size is passed, or a chunk of it wasn't added
+abbrev pub AddFails : SessionTold → SessionTold → Cleaner → List ℕ → DataError → Type 0
+AddFails b n c bytes e = (c.failed ≡ Some e) ⊎ ((e ≡ past_total c bytes) × PassesTotal c bytes) ⊎ ChunkFails b n e
+
+-- the invalid operations of `add_data` that are no refusal of the tracker
+abbrev pub IsOwnError : Bool → Cleaner → List ℕ → DataError → Type 0
+IsOwnError finalized c bytes e = IsLate finalized e ⊎ (c.failed ≡ Some e)
+    ⊎ ((e ≡ past_total c bytes) × PassesTotal c bytes)
+
+-- bytes were fed, in one call; `AddsData` says what the cleaner keeps of an error
+pub record FeedsSo (b n : SessionTold) (c : Cleaner) (bytes : List ℕ) (d : Cleaner)
+    (answer : Result (Unit {0}) DataError) : Type 0 where
+  pub leaves : Leaves b n
+  pub ok : OnOk answer (Feeds b n c bytes d)
+  pub failed : d.failed ≡ c.failed
+  pub finalized : b.finalized ≡ true → (answer ≡ Err finalized_error) × (n ≡ b)
+  pub kept : b.finalized ≡ false → (e : DataError) → c.failed ≡ Some e → (answer ≡ Err e) × (n ≡ b)
+  pub past : b.finalized ≡ false → c.failed ≡ None → PassesTotal c bytes
+      → (answer ≡ Err (past_total c bytes)) × (n ≡ b)
+  pub why : IfErr answer (AddFails b n c bytes)
+
+-- the error of an answer
+abbrev pub error_of : {A : Type 0} → Result A DataError → Option DataError
+error_of (Ok a) = None
+error_of (Err e) = Some e
+
+-- bytes were fed, or the error is kept where none was
+pub record AddsData (b n : SessionTold) (c : Cleaner) (bytes : List ℕ) (d : Cleaner)
+    (answer : Result (Unit {0}) DataError) : Type 0 where
+  pub leaves : Leaves b n
+  pub ok : OnOk answer (Feeds b n c bytes d)
+  pub failed : d.failed ≡ option_or c.failed (error_of answer)
+  pub finalized : b.finalized ≡ true → (answer ≡ Err finalized_error) × (n ≡ b)
+  pub kept : b.finalized ≡ false → (e : DataError) → c.failed ≡ Some e → (answer ≡ Err e) × (n ≡ b)
+  pub past : b.finalized ≡ false → c.failed ≡ None → PassesTotal c bytes
+      → (answer ≡ Err (past_total c bytes)) × (n ≡ b)
+  pub why : IfErr answer (AddFails b n c bytes)
+
+-- ---- the end
+
+-- the SHA-256 that is recorded of a file
+abbrev pub recorded_sha256 : Sha256Policy → List ℕ → Option MerkleHash
+recorded_sha256 Compute bytes = Some (record { 0 = sha256 bytes })
+recorded_sha256 (Provided hash) bytes = Some hash
+recorded_sha256 Skip bytes = None
+
+-- the pointer record of a file
+abbrev pub pointer_to : MerkleHash → ℕ → Option MerkleHash → XetFileInfo
+pointer_to hash size sha = record {
+  hash = encode_lower hash.0;
+  file_size = Some size;
+  sha256 = option_map (λ h. encode_lower h.0) sha;
+}
+
+-- the first xorb that these terms name and that is not on the list
+pub record IsFirstUnlisted (listed : List MerkleHash) (terms : List WaitingTerm) (hash : MerkleHash) : Type 0 where
+  pub front : List MerkleHash
+  pub rest : List MerkleHash
+  pub split : term_names terms ≡ front ++ hash ∷ rest
+  pub before : All (Contains listed) front
+  pub missing : Contains listed hash → ⊥
+
+abbrev pub unknown_xorb : MerkleHash → DataError
+unknown_xorb hash = data_error.InvalidOperation (invalid.UnknownXorb hash)
+
+-- the invalid operations of `finish` that are no refusal of the tracker
+abbrev pub IsEndError : SessionTold → Cleaner → DataError → Type 0
+IsEndError b c e = IsLate b.finalized e ⊎ (c.failed ≡ Some e)
+    ⊎ ((h : MerkleHash) × IsFirstUnlisted b.listed c.parts.terms h × (e ≡ unknown_xorb h))
+
+-- the file that a cleaner ends, of these bytes and with this hash
+abbrev pub cleaned_file : Cleaner → MerkleHash → List ℕ → CleanedFile
+cleaned_file c hash bytes = record { hash = hash; sha256 = recorded_sha256 c.policy bytes; bytes = bytes }
+
+-- these counts were added to the session's, in which the bytes of xorbs may have grown too
+abbrev pub Counts : SessionTold → SessionTold → DeduplicationMetrics → Type 0
+Counts b n counts = n.metrics
+    ≡ record (with_file_counts b.metrics counts) { xorb_bytes_uploaded = n.metrics.xorb_bytes_uploaded }
+
+-- the data of a cleaner was taken, which has cut all bytes: what other records stand for is kept, and the session has
+-- a record of its file
+pub record Completes (b n : SessionTold) (c : Cleaner)
+    (answer : Result (XetFileInfo × DeduplicationMetrics) DataError) : Type 0 where
+  pub keeps : Keeps b n
+  pub backs : HasListed b → Backs b n
+  pub made : List Xorb
+  pub honest : All IsHonest made
+  pub hash : MerkleHash
+  pub holds : (k : Store) (f : CleanedFile) → IsSteady k b → IsOpen n
+      → XorbsAgree (with_xorbs (world k (log_of n)) (waiting_xorb b ∷ made)) → HasRecord k b f → HasRecord k n f
+  pub stands : (k : Store) (bytes : List ℕ) → IsSteady k b → IsOpen n
+      → XorbsAgree (with_xorbs (world k (log_of n)) (waiting_xorb b ∷ made))
+      → CleanerStands (world k (log_of b)) c bytes
+      → OnOk answer (HasRecord k n (cleaned_file c hash bytes))
+  pub pointer : (bytes : List ℕ) → IsFed c bytes
+      → IfOk answer (λ r. r.0 ≡ pointer_to hash (length bytes) (recorded_sha256 c.policy bytes))
+  pub counts : IfOk answer (λ r. r.1 ≡ c.counts)
+  pub counted : IfOk answer (λ r. Counts b n r.1)
+  pub why : IfErr answer (CleanFails b n)
+
+-- a cleaner ended: what other records stand for is kept, and the session has a record that stands for what the cleaner
+-- stood for
+pub record Finishes (b n : SessionTold) (c : Cleaner)
+    (answer : Result (XetFileInfo × DeduplicationMetrics) DataError) : Type 0 where
+  pub keeps : Keeps b n
+  pub backs : Backs b n
+  pub made : List Xorb
+  pub honest : All IsHonest made
+  pub cut : List (List ℕ)
+  pub hash : MerkleHash
+  pub holds : (k : Store) (f : CleanedFile) → IsSteady k b → IsOpen n
+      → NoClash (world k (log_of n)) (waiting_xorb b ∷ made) cut → HasRecord k b f → HasRecord k n f
+  pub stands : (k : Store) (bytes : List ℕ) → IsSteady k b → IsOpen n
+      → NoClash (world k (log_of n)) (waiting_xorb b ∷ made) cut → CleanerStands (world k (log_of b)) c bytes
+      → OnOk answer (HasRecord k n (cleaned_file c hash bytes))
+  pub pointer : (bytes : List ℕ) → IsFed c bytes
+      → IfOk answer (λ r. r.0 ≡ pointer_to hash (length bytes) (recorded_sha256 c.policy bytes))
+  pub counted : IfOk answer (λ r. Counts b n r.1)
+  pub finalized : b.finalized ≡ true → (answer ≡ Err finalized_error) × (n ≡ b)
+  pub kept : b.finalized ≡ false → (e : DataError) → c.failed ≡ Some e → (answer ≡ Err e) × (n ≡ b)
+  pub unknown : b.finalized ≡ false → c.failed ≡ None → (h : MerkleHash) → IsFirstUnlisted b.listed c.parts.terms h
+      → (answer ≡ Err (unknown_xorb h)) × (n ≡ b)
+  pub why : IfErr answer (λ e. (c.failed ≡ Some e)
+      ⊎ ((h : MerkleHash) × IsFirstUnlisted b.listed c.parts.terms h × (e ≡ unknown_xorb h)) ⊎ ChunkFails b n e)

@@ -1,0 +1,11 @@
+pub mod Cleaners
+pub mod Cleanings
+pub mod FileCalls
+pub mod Laws
+pub mod Pending
+pub mod Premises
+pub mod Records
+pub mod Showing
+pub mod UploadTelling
+pub mod Uploads
+pub mod steps

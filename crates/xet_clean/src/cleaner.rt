@@ -1,0 +1,421 @@
+//! A file on its way into a session.
+ghost use Rattle.std.specs.Prelude.{◌≡◌, ◌+◌, ◌++◌, ◌∷◌, ◌<◌, ◌≤◌, ◌^◌, ℕ, List, [], IfErr, IfOk, IfSome, None, OnErr, OnOk, false, length, true};
+ghost use Rattle.sha2.specs.Hashers.{Holds256};
+ghost use Rattle.xet_upload.specs.declared.sha256_policy.Sha256Policy.TheVariants.{Compute};
+ghost use Rattle.xet_session.specs.Telling.{told_by};
+ghost use Rattle.xet_session.specs.Trackings.{StartsFile};
+ghost use Rattle.xet_clean.specs.Cleaners.{AddsData, Completes, CutsChunks, FeedsSo, Finishes, IsEndError, IsNewCleaner, IsOwnError, NextChunk, PassesTotal, TakesIn, chunk_counts, past_total, started};
+ghost use Rattle.xet_clean.specs.Cleanings.{AreNamed, ChunkFails, Cleans, Leaves, TrackFails};
+ghost use Rattle.xet_clean.specs.FileCalls.{IsLate, RefusedOf, TellsOf};
+ghost use Rattle.xet_clean.specs.Pending.{bytes_left};
+ghost use Rattle.xet_clean.specs.Showing.{cleaner_of};
+
+use crate::deduper::add_chunk;
+use crate::named_terms::first_unlisted;
+use crate::pending_bytes::PendingBytes;
+use crate::pointers::{pointer_to, recorded_sha256};
+use bytes::Bytes;
+use sha2::{Digest, Sha256};
+use std::alloc::Global;
+use std::sync::Wait;
+use xet_base::{Invalid, MerkleHash, OutOfMemory, UniqueID};
+use xet_pointer::XetFileInfo;
+use xet_session::FileUploadSession;
+use xet_shards::ShardStore;
+use xet_upload::{Cutter, DataError, DeduplicationMetrics, FileParts, Sha256Policy, next_cut};
+use xet_uploader::Uploader;
+
+/// A file on its way into a session: what was cut of it, and the bytes that wait to be cut.
+///
+/// In the Rust crate xet-data: `processing::file_cleaner::SingleFileCleaner`.
+#[derive(Drop)]
+pub struct SingleFileCleaner<T: Cutter> {
+    // the number by which the tracker names the file
+    file_id: u64,
+    // how many bytes it has, where this is fixed
+    size: Option<u64>,
+    policy: Sha256Policy,
+    cutter: T,
+    parts: FileParts,
+    pending: PendingBytes,
+    // of the bytes that were fed, where SHA-256 is computed
+    hasher: Sha256,
+    // how many bytes were fed
+    fed: u64,
+    counts: DeduplicationMetrics,
+    // the first error of `add_data`
+    failed: Option<DataError>,
+}
+
+impl<T: Cutter> SingleFileCleaner<T> {
+    // A cleaner to which nothing was fed. It takes no memory.
+    pub(crate) fn new(
+        alloc: Global,
+        file_id: u64,
+        size: Option<u64>,
+        policy: Sha256Policy,
+        cutter: T,
+    ) -> SingleFileCleaner<T>
+        ensures cleaner { IsNewCleaner (cleaner_of result) size policy }
+        ensures number { result.file_id ≡ file_id }
+    {
+        SingleFileCleaner {
+            file_id,
+            size,
+            policy,
+            cutter,
+            parts: FileParts::new(alloc),
+            pending: PendingBytes::new(alloc),
+            hasher: Sha256::new(),
+            fed: 0,
+            counts: DeduplicationMetrics::new(),
+            failed: None,
+        }
+    }
+
+    // Adds bytes to those whose SHA-256 is computed.
+    fn hash(&mut self, bytes: &[u8])
+        ensures same { cleaner_of self.new ≡ record (cleaner_of self.old) { hasher = self.new.hasher } }
+        ensures hashed { self.old.policy ≡ Compute → (m : List ℕ) → Holds256 self.old.hasher m
+            → Holds256 self.new.hasher (m ++ bytes.now) }
+    {
+        match self.policy {
+            Sha256Policy::Compute => self.hasher.update(bytes),
+            Sha256Policy::Provided(_) => {}
+            Sha256Policy::Skip => {}
+        }
+    }
+
+    // Takes in bytes, behind those that wait to be cut.
+    fn take_in(&mut self, bytes: &[u8]) -> Result<(), OutOfMemory>
+        requires { self.old.fed + length bytes.now < 2 ^ 64 }
+        ensures ok { OnOk result (TakesIn (cleaner_of self.old) bytes.now (cleaner_of self.new)) }
+        ensures err { OnErr result (cleaner_of self.new ≡ cleaner_of self.old) }
+    {
+        self.pending.push(bytes)?;
+        self.hash(bytes);
+        self.fed += bytes.len() as u64;
+        Ok(())
+    }
+
+    // Takes the next chunk off the bytes that wait. None where more bytes are waited for, or none are left.
+    fn next_chunk(&mut self, alloc: Global, last: bool) -> Result<Option<Bytes>, OutOfMemory>
+        ensures next { IfOk result (NextChunk (cleaner_of self.old) (cleaner_of self.new) last) }
+        ensures some { IfOk result (λ o. IfSome o (λ chunk. 0 < length chunk)) }
+        ensures short { IfOk result (λ o. IfSome o (λ chunk. length chunk ≤ 131072)) }
+        ensures failed { self.new.failed ≡ self.old.failed }
+    {
+        if self.pending.as_slice().is_empty() {
+            return Ok(None);
+        }
+        match next_cut(&mut self.cutter, self.pending.as_slice(), last) {
+            None => Ok(None),
+            Some(count) => Ok(Some(self.pending.take(alloc, count)?)),
+        }
+    }
+
+    // Cleans a chunk that was cut, and counts it.
+    fn clean<U: Uploader, R: ShardStore, W: Wait>(
+        &mut self,
+        session: &mut FileUploadSession<U, R>,
+        rt: &W,
+        alloc: Global,
+        chunk: Bytes,
+        now: u64,
+    ) -> Result<(), DataError>
+        requires some { 0 < length chunk }
+        requires short { length chunk ≤ 131072 }
+        ensures leaves { Leaves (told_by U.told R.told session.old) (told_by U.told R.told session.new) }
+        ensures cleans { OnOk result (Cleans (told_by U.told R.told session.old) (told_by U.told R.told session.new)
+            self.old.parts self.new.parts (chunk ∷ [])) }
+        ensures same { OnOk result (cleaner_of self.new ≡ record (cleaner_of self.old) {
+          parts = self.new.parts;
+          counts = self.new.counts;
+        }) }
+        ensures failed { self.new.failed ≡ self.old.failed }
+        ensures why { IfErr result (ChunkFails (told_by U.told R.told session.old)
+            (told_by U.told R.told session.new)) }
+        ensures tells { TellsOf self.old.file_id (IsLate session.old.finalized) session.old.files.tracker
+            session.new.files.tracker result }
+    {
+        let length = chunk.len() as u64;
+        let found = add_chunk(
+            session,
+            rt,
+            alloc,
+            self.file_id,
+            &mut self.parts,
+            chunk,
+            now,
+        )?;
+        self.counts.merge_in(&chunk_counts(length, found));
+        Ok(())
+    }
+
+    // Cuts the next chunk off the bytes that wait, and cleans it. False where none was cut.
+    fn cut_chunk<U: Uploader, R: ShardStore, W: Wait>(
+        &mut self,
+        session: &mut FileUploadSession<U, R>,
+        rt: &W,
+        alloc: Global,
+        last: bool,
+        now: u64,
+    ) -> Result<bool, DataError>
+        ensures leaves { Leaves (told_by U.told R.told session.old) (told_by U.told R.told session.new) }
+        ensures cuts { OnOk result (CutsChunks (told_by U.told R.told session.old) (told_by U.told R.told session.new)
+            (cleaner_of self.old) (cleaner_of self.new)) }
+        ensures shorter { IfOk result (λ more. more ≡ true
+            → length (bytes_left self.new.pending) < length (bytes_left self.old.pending)) }
+        ensures none { IfOk result (λ more. more ≡ false → last ≡ true → bytes_left self.new.pending ≡ []) }
+        ensures failed { self.new.failed ≡ self.old.failed }
+        ensures why { IfErr result (ChunkFails (told_by U.told R.told session.old)
+            (told_by U.told R.told session.new)) }
+        ensures tells { TellsOf self.old.file_id (IsLate session.old.finalized) session.old.files.tracker
+            session.new.files.tracker result }
+    {
+        match self.next_chunk(alloc, last)? {
+            None => Ok(false),
+            Some(chunk) => {
+                self.clean(session, rt, alloc, chunk, now)?;
+                Ok(true)
+            }
+        }
+    }
+
+    // Cuts chunks off the bytes that wait, and cleans them, as long as the cutter cuts.
+    fn cut_chunks<U: Uploader, R: ShardStore, W: Wait>(
+        &mut self,
+        session: &mut FileUploadSession<U, R>,
+        rt: &W,
+        alloc: Global,
+        last: bool,
+        now: u64,
+    ) -> Result<(), DataError>
+        ensures leaves { Leaves (told_by U.told R.told session.old) (told_by U.told R.told session.new) }
+        ensures cuts { OnOk result (CutsChunks (told_by U.told R.told session.old) (told_by U.told R.told session.new)
+            (cleaner_of self.old) (cleaner_of self.new)) }
+        ensures none { OnOk result (last ≡ true → bytes_left self.new.pending ≡ []) }
+        ensures failed { self.new.failed ≡ self.old.failed }
+        ensures why { IfErr result (ChunkFails (told_by U.told R.told session.old)
+            (told_by U.told R.told session.new)) }
+        ensures tells { TellsOf self.old.file_id (IsLate session.old.finalized) session.old.files.tracker
+            session.new.files.tracker result }
+    {
+        'chunks: loop {
+            match self.cut_chunk(session, rt, alloc, last, now) {
+                Ok(true) => {}
+                Ok(false) => return Ok(()),
+                Err(error) => return Err(error),
+            }
+        }
+    }
+
+    // Why so many bytes more are refused: they pass the size that is fixed.
+    fn past_total(&self, bytes: &[u8]) -> Option<DataError>
+        ensures some { IfSome result (λ e. PassesTotal (cleaner_of self.now) bytes.now
+            × (e ≡ past_total (cleaner_of self.now) bytes.now)) }
+        ensures none { result ≡ None → PassesTotal (cleaner_of self.now) bytes.now → ⊥ }
+        ensures fits { result ≡ None → self.now.fed + length bytes.now < 2 ^ 64 }
+    {
+        let total = self.size.unwrap_or(u64::MAX);
+        let increment = bytes.len() as u64;
+        if increment <= total.saturating_sub(self.fed) {
+            return None;
+        }
+        let counted = self.fed;
+        Some(DataError::InvalidOperation(Invalid::PastTotal {
+            total,
+            counted,
+            increment,
+        }))
+    }
+
+    // Tells the tracker that the file grows by so many bytes, where its size isn't fixed.
+    fn grow<U: Uploader, R: ShardStore, W: Wait>(
+        &self,
+        session: &mut FileUploadSession<U, R>,
+        rt: &W,
+        bytes: u64,
+    ) -> Result<(), DataError>
+        ensures same { told_by U.told R.told session.new ≡ told_by U.told R.told session.old }
+        ensures why { IfErr result TrackFails }
+        ensures tells { TellsOf self.now.file_id (IsLate session.old.finalized) session.old.files.tracker
+            session.new.files.tracker result }
+    {
+        match self.size {
+            Some(_size) => Ok(()),
+            None => session.grow_file(rt, self.file_id, bytes),
+        }
+    }
+
+    // Takes in bytes, and cuts and cleans chunks. An error isn't kept.
+    fn feed<U: Uploader, R: ShardStore, W: Wait>(
+        &mut self,
+        session: &mut FileUploadSession<U, R>,
+        rt: &W,
+        alloc: Global,
+        bytes: &[u8],
+        now: u64,
+    ) -> Result<(), DataError>
+        ensures feeds { FeedsSo (told_by U.told R.told session.old) (told_by U.told R.told session.new)
+            (cleaner_of self.old) bytes.now (cleaner_of self.new) result }
+        ensures tells { TellsOf self.old.file_id (IsOwnError session.old.finalized (cleaner_of self.old) bytes.now)
+            session.old.files.tracker session.new.files.tracker result }
+    {
+        if session.is_finalized() {
+            return Err(DataError::InvalidOperation(Invalid::Finalized));
+        }
+        if let Some(error) = self.failed {
+            return Err(error);
+        }
+        if let Some(error) = self.past_total(bytes) {
+            return Err(error);
+        }
+        self.grow(session, rt, bytes.len() as u64)?;
+        self.take_in(bytes)?;
+        self.cut_chunks(session, rt, alloc, false, now)
+    }
+
+    /// Feeds bytes behind those that were fed: chunks are cut where the cutter says so, and each is found in a known
+    /// xorb or waits for one. `now` is a moment in seconds.
+    ///
+    /// Its first error is kept, and each later call answers it, but `Finalized`, which comes exactly where the session
+    /// is finalized. `PastTotal` exactly where more bytes come than are left of a fixed size; then the session is as
+    /// it was. `ClientError` where a put failed and is kept, `IOError` only where a store of records failed. Each other
+    /// `InvalidOperation` is a refusal of the session's tracker.
+    ///
+    /// In the Rust crate xet-data: `SingleFileCleaner::add_data`.
+    pub fn add_data<U: Uploader, R: ShardStore, W: Wait>(
+        &mut self,
+        session: &mut FileUploadSession<U, R>,
+        rt: &W,
+        alloc: Global,
+        bytes: &[u8],
+        now: u64,
+    ) -> Result<(), DataError>
+        ensures adds { AddsData (told_by U.told R.told session.old) (told_by U.told R.told session.new)
+            (cleaner_of self.old) bytes.now (cleaner_of self.new) result }
+        ensures tells { TellsOf self.old.file_id (IsOwnError session.old.finalized (cleaner_of self.old) bytes.now)
+            session.old.files.tracker session.new.files.tracker result }
+    {
+        match self.feed(session, rt, alloc, bytes, now) {
+            Ok(()) => Ok(()),
+            Err(error) => {
+                self.failed = Some(self.failed.unwrap_or(error));
+                Err(error)
+            }
+        }
+    }
+
+    // Hands the data over to the session, which has a record of the file then. All bytes were cut.
+    fn complete<U: Uploader, R: ShardStore, W: Wait>(
+        self,
+        session: &mut FileUploadSession<U, R>,
+        rt: &W,
+        alloc: Global,
+        now: u64,
+    ) -> Result<(XetFileInfo, DeduplicationMetrics), DataError>
+    where
+        T: Drop,
+        requires named { session.old.failed ≡ None → session.old.finalized ≡ false
+            → AreNamed session.old.listed.hashes.items self.parts.terms }
+        requires ended { bytes_left self.pending ≡ [] }
+        ensures { Completes (told_by U.told R.told session.old) (told_by U.told R.told session.new)
+            (cleaner_of self) result }
+    {
+        let hash = MerkleHash::file_hash(self.parts.infos());
+        let sha256 = recorded_sha256(self.policy, self.hasher);
+        let info = pointer_to(alloc, &hash, self.fed, sha256)?;
+        let file_data = self.parts.into_waiting(self.file_id, hash, sha256)?;
+        session.register_single_file_clean_completion(rt, alloc, file_data, now)?;
+        session.merge_file_metrics(&self.counts);
+        Ok((info, self.counts))
+    }
+
+    /// Ends the file: the bytes that wait are cut, and its record waits in the session with its data, or is finished.
+    /// It answers the pointer record of the file, and the counts of its chunks. `now` is a moment in seconds.
+    ///
+    /// `Finalized` exactly where the session is finalized. Next, a cleaner whose `add_data` failed answers the same
+    /// error; then `UnknownXorb` comes exactly where its terms name a xorb that isn't on the session's list, as those
+    /// of a cleaner of another session may, with the first such xorb. In these three cases the session is as it was.
+    /// `ClientError` where a put failed and is kept, `IOError` only where a store of records failed. Each other
+    /// `InvalidOperation` is a refusal of the session's tracker.
+    ///
+    /// In the Rust crate xet-data: `SingleFileCleaner::finish`.
+    pub fn finish<U: Uploader, R: ShardStore, W: Wait>(
+        self,
+        session: &mut FileUploadSession<U, R>,
+        rt: &W,
+        alloc: Global,
+        now: u64,
+    ) -> Result<(XetFileInfo, DeduplicationMetrics), DataError>
+    where
+        T: Drop,
+        ensures ends { Finishes (told_by U.told R.told session.old) (told_by U.told R.told session.new)
+            (cleaner_of self) result }
+        ensures refused { RefusedOf self.file_id (IsEndError (told_by U.told R.told session.old) (cleaner_of self))
+            session.old.files.tracker result }
+    {
+        if session.is_finalized() {
+            return Err(DataError::InvalidOperation(Invalid::Finalized));
+        }
+        if let Some(error) = self.failed {
+            return Err(error);
+        }
+        if let Some(hash) = first_unlisted(session, &self.parts) {
+            return Err(DataError::InvalidOperation(Invalid::UnknownXorb { hash }));
+        }
+        let mut cleaner = self;
+        cleaner.cut_chunks(session, rt, alloc, true, now)?;
+        cleaner.complete(session, rt, alloc, now)
+    }
+}
+
+/// Begins a file, to whose cleaner nothing was fed, and answers the id of its item in the session's group.
+/// `tracking_name` is the item's name, empty where none is given, `size` how many bytes the file has, where this is
+/// fixed, and `sha256` says which SHA-256 is recorded of it.
+///
+/// `Finalized` exactly where the session is finalized, else `IdsUsedUp` exactly where no id is left, else `SumTooGreat`
+/// where the sum of all files' sizes would pass `u64::MAX`. `OutOfMemory` where an allocation was refused.
+///
+/// In the Rust crate xet-data: `FileUploadSession::start_clean`.
+pub fn start_clean<U: Uploader, R: ShardStore, W: Wait, T: Cutter>(
+    session: &mut FileUploadSession<U, R>,
+    rt: &W,
+    alloc: Global,
+    tracking_name: Option<&str>,
+    size: Option<u64>,
+    sha256: Sha256Policy,
+    cutter: T,
+) -> Result<(UniqueID, SingleFileCleaner<T>), DataError>
+where
+    T: Drop,
+    ensures same { told_by U.told R.told session.new ≡ told_by U.told R.told session.old }
+    ensures cleaner { IfOk result (λ r. IsNewCleaner (cleaner_of r.1) size sha256) }
+    ensures starts { StartsFile session.old.files.tracker session.new.files.tracker session.old.ids session.new.ids
+        session.old.finalized size (started (λ r. (r.0, r.1.file_id)) result) }
+{
+    let name = tracking_name.unwrap_or("");
+    let (id, file_id) = session.start_file(rt, alloc, name, size)?;
+    Ok((
+        id,
+        SingleFileCleaner::new(alloc, file_id, size, sha256, cutter),
+    ))
+}
+
+// The counts of a chunk of so many bytes.
+fn chunk_counts(length: u64, found: bool) -> DeduplicationMetrics
+    ensures { result ≡ chunk_counts length found }
+{
+    let mut counts = DeduplicationMetrics::new();
+    counts.total_bytes = length;
+    counts.total_chunks = 1;
+    if found {
+        counts.deduped_bytes = length;
+        counts.deduped_chunks = 1;
+    } else {
+        counts.new_bytes = length;
+        counts.new_chunks = 1;
+    }
+    counts
+}
