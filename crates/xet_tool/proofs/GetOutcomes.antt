@@ -18,12 +18,12 @@ use Rattle.xet_tool.specs.declared.status.Status.{Status}
 use Rattle.xet_tool.specs.declared.status.Status.TheVariants.{Done, BadWords, BadStore, BadScript, NotFound, ReadFault, WriteFault, NoMemory, TooLong, BadBlock, BadSettings}
 use Rattle.xet_tool.specs.AnyBytes.{AnyCut, AnyGet, IsOfRun, last_line}
 use Rattle.xet_tool.specs.Document.{HasStore, NoStore, OfNoDocument}
-use Rattle.xet_tool.specs.Ends.{Told, WasReadToEnd}
+use Rattle.xet_tool.specs.Ends.{IsTooLong, Told, WasReadToEnd}
 use Rattle.xet_tool.specs.commands.Get.{GetOutcome, IsCut, IsCutGet, OverStore, memory_text, settings_text}
 use Rattle.xet_tool.specs.Outcome.{Finished}
 use Rattle.xet_tool.specs.steps.PrintedDigits.{DigitsBehind, DigitsOf}
 use Rattle.xet_tool.specs.steps.Printing.{GetFrom, GotFrom, PrintedWithin, SettingsFrom, status_of}
-use Rattle.xet_tool.specs.Taps.{AllHonest, FromTaps}
+use Rattle.xet_tool.specs.Taps.{FromTaps, LanesHonest}
 use Rattle.xet_tool.specs.Texts.{block_line, get_text, line, ok_line}
 use Rattle.xet_tool.specs.Wanted.{failing_setting, wanted_bytes}
 use Rattle.xet_tool.proofs.PrintedDigits.{encode-nil, from_memory}
@@ -145,7 +145,7 @@ module _ (s : Store) (q : Wanted) (ts us : List TapTold) where
         any = lined_any P b m n d.any.bytes Done status tt d.any.from d.any.took d.faults (rw e at h)
             (λ w. (record { bytes = d.any.bytes; from = d.any.from }, w));
         chunks = λ honest _. d.chunks honest;
-        others = d.others;
+        go_on = d.go_on;
       }
 
   -- all digits, and want of memory
@@ -155,7 +155,7 @@ module _ (s : Store) (q : Wanted) (ts us : List TapTold) where
     settings = fits q b m n _ NoMemory status h (λ _. tt);
     any = lined_memory P b m n d.any.bytes status (from_memory s q ts us Done d.any.bytes d.any.from) d.any.took d.faults h;
     chunks = λ honest e. absurd (not_done m n (10 ∷ line NoMemory) NoMemory status no_memory h e);
-    others = d.others;
+    go_on = d.go_on;
   }
 
   -- some digits, and want of memory
@@ -165,7 +165,7 @@ module _ (s : Store) (q : Wanted) (ts us : List TapTold) where
     settings = fits q b m n _ NoMemory status h (λ _. tt);
     any = lined_memory P b m n d.any.bytes status d.any.from d.any.took d.faults h;
     chunks = λ honest e. absurd (not_done m n (10 ∷ line NoMemory) NoMemory status no_memory h e);
-    others = d.others;
+    go_on = d.go_on;
   }
 
   -- no file
@@ -176,7 +176,7 @@ module _ (s : Store) (q : Wanted) (ts us : List TapTold) where
     any = lined_any P b m n d.any.bytes NotFound status tt d.any.from d.any.took d.faults h
         (λ w. (record { bytes = d.any.bytes; from = d.any.from }, w));
     chunks = λ honest e. absurd (not_done m n (10 ∷ line NotFound) NotFound status wrong h e);
-    others = d.others;
+    go_on = d.go_on;
   }
     where
       wrong : NotFound ≡ Done → ⊥
@@ -190,7 +190,7 @@ module _ (s : Store) (q : Wanted) (ts us : List TapTold) where
     any = lined_any P b m n d.any.bytes (BadBlock k) status tt d.any.from d.any.took d.faults h
         (λ w. (record { bytes = d.any.bytes; from = d.any.from }, w));
     chunks = λ honest e. absurd (not_done m n (10 ∷ block_line k) (BadBlock k) status wrong h e);
-    others = d.others;
+    go_on = d.go_on;
   }
     where
       wrong : BadBlock k ≡ Done → ⊥
@@ -203,7 +203,7 @@ module _ (s : Store) (q : Wanted) (ts us : List TapTold) where
     settings = fits q b m n _ NoMemory status h (λ _. tt);
     any = lined_memory P b m n d.any.bytes status (from_memory s q ts us (BadBlock k) d.any.bytes d.any.from) d.any.took d.faults h;
     chunks = λ honest e. absurd (not_done m n (10 ∷ line NoMemory) NoMemory status no_memory h e);
-    others = d.others;
+    go_on = d.go_on;
   }
 
   -- a setting fails
@@ -216,7 +216,7 @@ module _ (s : Store) (q : Wanted) (ts us : List TapTold) where
         any = lined_any P b m n d.any.bytes (BadSettings e) status tt d.any.from d.any.took d.faults h
             (λ w. (record { bytes = d.any.bytes; from = d.any.from }, w));
         chunks = λ honest w. absurd (not_done m n (10 ∷ line (BadSettings e)) (BadSettings e) status wrong h w);
-        others = d.others;
+        go_on = d.go_on;
       }
     where
       wrong : BadSettings e ≡ Done → ⊥
@@ -237,7 +237,7 @@ module _ (s : Store) (q : Wanted) (ts us : List TapTold) where
     settings = fit e;
     any = by_error e d.stops;
     chunks = λ honest w. absurd (wrong e w);
-    others = d.others;
+    go_on = d.go_on;
   }
     where
       fit : (e : SinkError) → SettingsFrom q b n (status_of e)
@@ -269,8 +269,22 @@ said limit q b n whole status (inr (inl h)) done cut = rw h.0 (h.1, cut h.2)
 said limit q b n whole status (inr (inr h)) done cut = rw h.0 (cut h.1)
 
 -- want of memory before a store was there
-pub got_no_memory : (limit : ℕ) (q : Wanted) (b n : Told) (status : Status) → Finished (line NoMemory) NoMemory b.sink n.sink status → GetOutcome limit q b n status
-got_no_memory limit q b n status h = said limit q b n NoMemory status h (λ t. inl (whole_prefix b.sink.took n.sink.took (line NoMemory) t)) (λ p. inl p)
+pub got_no_memory : (limit : ℕ) (q : Wanted) (b n : Told) (status : Status) → n.taps ≡ b.taps → Finished (line NoMemory) NoMemory b.sink n.sink status → GetOutcome limit q b n status
+got_no_memory limit q b n status unasked h =
+    said limit q b n NoMemory status h (λ t. inl (record { unasked = unasked; text = inl (whole_prefix b.sink.took n.sink.took (line NoMemory) t) }))
+    (λ p. inl (record { unasked = unasked; text = inl p }))
+
+-- the input failed
+pub got_read_fault : (limit : ℕ) (q : Wanted) (b n : Told) (status : Status) → Rose b.source.faults n.source.faults → n.taps ≡ b.taps → Finished (line ReadFault) ReadFault b.sink n.sink status → GetOutcome limit q b n status
+got_read_fault limit q b n status rose unasked h =
+    said limit q b n ReadFault status h (λ t. record { rose = rose; unasked = unasked; took = t })
+    (λ p. inl (record { unasked = unasked; text = inr (inl (rose, p)) }))
+
+-- the input is longer than the limit
+pub got_too_long : (limit : ℕ) (q : Wanted) (b n : Told) (status : Status) → IsTooLong limit b.source → n.taps ≡ b.taps → Finished (line TooLong) TooLong b.sink n.sink status → GetOutcome limit q b n status
+got_too_long limit q b n status long unasked h =
+    said limit q b n TooLong status h (λ t. record { too_long = long; unasked = unasked; took = t })
+    (λ p. inl (record { unasked = unasked; text = inr (inr (inl (long, p))) }))
 
 -- what the input had, where that is told, and that it was read to its end
 abbrev pub IsWhole : ℕ → SourceTold → SourceTold → List ℕ → Type 0
@@ -284,24 +298,24 @@ pub got_no_store : (limit : ℕ) (q : Wanted) (b n : Told) (text : List ℕ) (st
 got_no_store limit q b n text status w none unasked h =
     let read = read_to_end limit b.source n.source text w in
     said limit q b n BadStore status h (λ t. record { read = read; no_document = here; unasked = unasked; took = t })
-    (λ p. inr (inr (inr (inl (read, here, p)))))
+    (λ p. inl (record { unasked = unasked; text = inr (inr (inr (read, here, p))) }))
   where
     here : OfNoDocument b.source
     here t l = rw (w t l).0 at none
 
 -- a text that is a document of a store
 pub got_from : (limit : ℕ) (q : Wanted) (b n : Told) (text : List ℕ) (s : Store) (status : Status) → IsWhole limit b.source n.source text → HasStore text s → PrintedWithin s q b.taps n.taps b.sink n.sink status → GetOutcome limit q b n status
-got_from limit q b n text s status w d (inr h) = got_no_memory limit q b n status h
+got_from limit q b n text s status w d (inr h) = got_no_memory limit q b n status h.0 h.1
 got_from limit q b n text s status w d (inl g) = by_status status g
   where
     read : WasReadToEnd limit b.source n.source
     read = read_to_end limit b.source n.source text w
 
     over : OverStore limit s q b n
-    over = record { read = read; document = λ t l. rw (w t l).0 at d; others = g.others }
+    over = record { read = read; document = λ t l. rw (w t l).0 at d; go_on = g.go_on }
 
-    cut : (AllHonest b.taps → IsCutGet s q b.sink n.sink) → AnyCut (FromTaps s q b.taps n.taps) b.sink n.sink → IsCut limit q b n
-    cut honest any = inr (inr (inr (inr (record { store = s; over = over; honest = honest; any = any }))))
+    cut : (LanesHonest q b.taps → IsCutGet s q b.sink n.sink) → AnyCut (FromTaps s q b.taps n.taps) b.sink n.sink → IsCut limit q b n
+    cut honest any = inr (record { store = s; over = over; honest = honest; any = any })
 
     by_status : (status : Status) → GotFrom s q b.taps n.taps b.sink n.sink status → GetOutcome limit q b n status
     by_status Done g = record {

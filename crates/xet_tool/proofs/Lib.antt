@@ -11,5 +11,6 @@ mod OptionWords
 mod PrintedDigits
 mod StoreRefusals
 mod TapLanes
+mod TapMoves
 mod TapRuns
 mod TrackOutcomes

@@ -29,7 +29,7 @@ use Rattle.xet_tool.specs.declared.commands.get.wanted.Wanted.{Wanted}
 use Rattle.xet_tool.specs.declared.status.Status.{Status}
 use Rattle.xet_tool.specs.declared.status.Status.TheVariants.{Done, BadWords, BadStore, BadScript, NotFound, ReadFault, WriteFault, NoMemory, TooLong, BadBlock, BadSettings}
 use Rattle.xet_tool.specs.steps.PrintedDigits.{AnyDigits, CountedAs, CountsAs, DigitsAs, DigitsBehind, Driven, IsRefusal, NothingAs, PassedAs, Ran, RanAs, StopsAs, Tapped, TookAs, TookMade, WholeText, Wrote, count_of, status_of_printed}
-use Rattle.xet_tool.specs.Taps.{AllHonest, FirstBytes, FromTap, FromTaps, IsMade, MadeOf}
+use Rattle.xet_tool.specs.Taps.{FirstBytes, FromTaps, IsMade, MadeOf, Passage, all_passages, lane_taps}
 use Rattle.xet_tool.specs.Wanted.{failing_setting, setup_of, wanted_bytes}
 use Rattle.xet_tool.proofs.TapRuns.{took_same}
 
@@ -85,7 +85,7 @@ module _ (s : Store) (q : Wanted) (ts us : List TapTold) (b n : SinkTold) where
     stops = tt;
     any = h.any;
     chunks = h.chunks;
-    others = h.others;
+    go_on = h.go_on;
     faults = h.faults;
     link = h.link;
   })
@@ -97,7 +97,7 @@ module _ (s : Store) (q : Wanted) (ts us : List TapTold) (b n : SinkTold) where
     stops = tt;
     any = h.any;
     chunks = λ honest. tt;
-    others = h.others;
+    go_on = h.go_on;
     faults = h.faults;
     link = h.link;
   })
@@ -110,7 +110,7 @@ module _ (s : Store) (q : Wanted) (ts us : List TapTold) (b n : SinkTold) where
     stops = tt;
     any = h.any;
     chunks = λ honest. tt;
-    others = h.others;
+    go_on = h.go_on;
     faults = h.faults;
     link = h.link;
   })
@@ -126,7 +126,7 @@ module _ (s : Store) (q : Wanted) (ts us : List TapTold) (b n : SinkTold) where
     stops = λ _. h.cause;
     any = h.any;
     chunks = λ honest. tt;
-    others = h.others;
+    go_on = h.go_on;
     faults = h.faults;
     link = h.link;
   })
@@ -138,7 +138,7 @@ module _ (s : Store) (q : Wanted) (ts us : List TapTold) (b n : SinkTold) where
     stops = tt;
     any = h.any;
     chunks = λ honest. tt;
-    others = h.others;
+    go_on = h.go_on;
     faults = h.faults;
     link = h.link;
   })
@@ -154,7 +154,7 @@ module _ (s : Store) (q : Wanted) (ts us : List TapTold) (b n : SinkTold) where
     stops = tt;
     any = h.any;
     chunks = λ honest. tt;
-    others = h.others;
+    go_on = h.go_on;
     faults = h.faults;
     link = h.link;
   })
@@ -193,16 +193,11 @@ made_first s q xs looks (BadSettings e) bytes m = inl m.1
 made_first s q xs looks _ bytes m = absurd m
 
 pub from_memory : (s : Store) (q : Wanted) (ts us : List TapTold) (status : Status) (bytes : List ℕ) → FromTaps s q ts us status bytes → FromTaps s q ts us NoMemory bytes
-from_memory s q [] us status bytes h = tt
-from_memory s q (t ∷ ts) [] status bytes h = tt
-from_memory s q (t ∷ ts) (u ∷ us) status bytes h = λ one. by_lists (new_in t.passed u.passed) (new_in t.gave u.gave) (h one)
+from_memory s q ts us status bytes h = by_passages (all_passages (lane_taps q ts) (lane_taps q us)) h
   where
-    by_lists : (o : Option (List Served)) (p : Option (List BlockBytes))
-        → IfSome o (λ served. IfSome p (λ blocks. MadeOf s q served blocks status bytes))
-        → IfSome o (λ served. IfSome p (λ blocks. MadeOf s q served blocks NoMemory bytes))
-    by_lists None p h = tt
-    by_lists (Some es) None h = tt
-    by_lists (Some es) (Some bs) h = record { x = h.x; passed = h.passed; looks = h.looks; looked = h.looked; made = made_first s q (h.x ∷ []) h.looks status bytes h.made }
+    by_passages : (o : Option (List Passage)) → IfSome o (λ ps. MadeOf s q ps status bytes) → IfSome o (λ ps. MadeOf s q ps NoMemory bytes)
+    by_passages None h = tt
+    by_passages (Some ps) h = record { xs = h.xs; passed = h.passed; looks = h.looks; looked = h.looked; made = made_first s q h.xs h.looks status bytes h.made }
 
 -- ---- a flush after a run
 
@@ -221,7 +216,7 @@ module _ (s : Store) (q : Wanted) (ts us : List TapTold) (a b n : SinkTold) wher
       stops = stops answer r.stops;
       any = more (FromTaps s q ts us) (status_of_printed answer) (count_of answer) f.took r.any;
       chunks = r.chunks;
-      others = r.others;
+      go_on = r.go_on;
       faults = let l = f.faults in let m = r.faults in omega arith;
       link = f.link ∙ r.link;
     };
@@ -285,7 +280,7 @@ module _ (s : Store) (q : Wanted) (ts us : List TapTold) (a b n : SinkTold) wher
       stops = failed e f;
       any = stopped r.any;
       chunks = λ honest. tt;
-      others = r.others;
+      go_on = r.go_on;
       faults = let l = f.faults in let m = r.faults in omega arith;
       link = f.link ∙ r.link;
     };
@@ -344,7 +339,7 @@ digits_of s q ts us b n t0 t1 start x y answer e0 f0 l0 f1 l1 d p =
         stops = stops answer d.ran.stops;
         any = any answer d.ran.any d.ran.counts (rw same.0 at d.text) (rw same.0 at p);
         chunks = d.ran.chunks;
-        others = d.ran.others;
+        go_on = d.ran.go_on;
         faults = later;
       },
       same.1,

@@ -1,203 +1,391 @@
 -- Runs behind the taps of the lanes.
-use Rattle.std.proofs.Common.{◌≡◌, ℕ, ◌+◌, ◌<◌, ◌≤◌, zero, suc, Bool, true, false, List, [], ◌∷◌, ◌++◌, length, map, drop, take, get_or, set, Option, Some, None, Ok, Err, refl, sym, ap, ◌∙◌, arith, length-append, inl, inr, subst}
-use Rattle.std.specs.Prelude.{◌⊎◌, All, IfErr, IfSome, OnOk, Result, min, nat_lt}
+use Rattle.std.proofs.Common.{◌≡◌, ℕ, ◌+◌, ◌<◌, ◌≤◌, zero, suc, Bool, true, false, cond, List, [], ◌∷◌, ◌++◌, length, map, min, drop, take, Option, Some, None, Ok, Err, refl, sym, ap, ◌∙◌, arith, inl, inr, subst}
+use Rattle.std.specs.Prelude.{◌⊎◌, All, Contains, IfErr, IfSome, OnOk, Result, count_by, nat_eq, option_map, unwrap_or}
+use Rattle.std.specs.List.{AllZip, drop-map, take-map}
 use Rattle.std.specs.Result.{result_ok}
-use Rattle.std.proofs.lemmas.Bool.{ltb-true, ltb-false}
 use Rattle.std.proofs.Math.Seq.{drop-length}
-use Rattle.std.proofs.lemmas.List.{append-nil, drop_at, length-map, map-append, take_more}
+use Rattle.std.proofs.lemmas.List.{append-nil, drop_at, length-map, length-take, map-append, take-append-drop}
+use Rattle.std.proofs.lemmas.List.Sums.{sum_by-cons}
 use Rattle.std.proofs.lemmas.List.Elements.{All-cons, All-head, All-nil, All-tail}
-use Rattle.xet_base.specs.Store.{Store}
+use Rattle.xet_base.specs.Store.{IsValid, Store}
+use Rattle.xet_outside.specs.Answers.{bytes_in, plans_in}
+use Rattle.xet_outside.specs.declared.block.BlockAnswer.TheVariants.{Bytes}
+use Rattle.xet_outside.specs.declared.block.BlockBytes.{BlockBytes}
+use Rattle.xet_outside.specs.declared.said.Said.{Said}
+use Rattle.xet_outside.specs.declared.said.Said.TheVariants as said
 use Rattle.xet_outside.specs.declared.served.Served.{Served}
-use Rattle.xet_outside.specs.Told.{CacheTold, ClientTold, SinkTold}
-use Rattle.xet_store.specs.Taps.{TapTold}
+use Rattle.xet_outside.specs.Told.{CacheEntry, CacheTold, ClientTold, Query, SinkTold}
+use Rattle.xet_store.specs.HonestPlans.{PlansAreHonest}
+use Rattle.xet_store.specs.declared.client_log.ClientLog.{ClientLog}
+use Rattle.xet_store.specs.Taps.{AreGiven, TapTold, given_count, said_behind}
+use Rattle.xet_store.proofs.CallerLemmas.{same_link}
 use Rattle.xet_error.specs.declared.error.FileReconstructionError.{FileReconstructionError}
 use Rattle.xet_error.specs.declared.error.FileReconstructionError.TheVariants as error
 use Rattle.xet_blocks.specs.ServedChunks.{AllServed}
-use Rattle.xet_ties.specs.InCall.{Look, joined, new_in}
-use Rattle.xet_ties.specs.Setup.{AllTell, CacheTells}
+use Rattle.xet_reconstruct.specs.Laws.{HonestAnswersPass}
+use Rattle.xet_ties.specs.Causes.{expired_answers}
+use Rattle.xet_ties.specs.Causes as causes
+use Rattle.xet_ties.specs.InCall.{Exchange, Look, EachExchange, all_exchanges, exchange_of, expired_said, joined, new_in, served_of_all, with_exchange}
+use Rattle.xet_ties.proofs.CallerLemmas.{if_some, told_new}
+use Rattle.xet_ties.specs.Ties.{IsEntryOf}
+use Rattle.xet_ties.specs.Legal.{Legal}
+use Rattle.xet_ties.specs.Setup.{AllTell, CacheTells, EachGoesOn}
 use Rattle.xet_tool.specs.declared.commands.get.wanted.Wanted.{Wanted}
 use Rattle.xet_tool.specs.declared.status.Status.{Status}
+use Rattle.xet_tool.specs.declared.status.Status.TheVariants.{NoMemory}
 use Rattle.xet_tool.specs.GetOptions.{lanes_of}
-use Rattle.xet_tool.specs.steps.PrintedDigits.{AllPassed, TapCause, Tapped, Wrote, status_of_answer}
-use Rattle.xet_tool.specs.steps.TapRuns.{AreConnections, BehindAll, BehindOne, BehindTaps}
-use Rattle.xet_tool.specs.Taps.{AllHonest, FromTap, FromTaps, GaveNothing, all_passed}
-use Rattle.xet_tool.proofs.TapRuns.{AreCalm}
-
--- ---- connections
-
-pub all_tell : (s : Store) (ts : List TapTold) (cs : List ClientTold) → AreConnections s ts cs → AllHonest ts → AllTell s cs
-all_tell s [] [] h honest = tt
-all_tell s [] (c ∷ cs) h honest = absurd h
-all_tell s (t ∷ ts) [] h honest = absurd h
-all_tell s (t ∷ ts) (c ∷ cs) h honest =
-    (h.0 (All-head (λ (t : TapTold). t.honest ≡ true) t ts honest), all_tell s ts cs h.1 (All-tail (λ (t : TapTold). t.honest ≡ true) t ts honest))
-
-pub connected_length : (s : Store) (ts : List TapTold) (cs : List ClientTold) → AreConnections s ts cs → length cs ≡ length ts
-connected_length s [] [] h = refl
-connected_length s [] (c ∷ cs) h = absurd h
-connected_length s (t ∷ ts) [] h = absurd h
-connected_length s (t ∷ ts) (c ∷ cs) h = ap suc (connected_length s ts cs h.1)
-
-pub connected_more : (s : Store) (ts : List TapTold) (cs : List ClientTold) (t : TapTold) (c : ClientTold) → AreConnections s ts cs → (t.honest ≡ true → c.store ≡ Some s) → AreConnections s (ts ++ t ∷ []) (cs ++ c ∷ [])
-connected_more s [] [] t c h one = (one, tt)
-connected_more s [] (d ∷ cs) t c h one = absurd h
-connected_more s (u ∷ ts) [] t c h one = absurd h
-connected_more s (u ∷ ts) (d ∷ cs) t c h one = (h.0, connected_more s ts cs t c h.1 one)
-
-pub connected_next : {T X : Type 0} (told : T → TapTold) (client : X → ClientTold) (s : Store) (taps : List T) (i : ℕ) (d : T) (xs ys : List X) (x : X)
-    → i < length taps → ys ≡ xs ++ x ∷ [] → AreConnections s (map told (take i taps)) (map client xs) → ((told (get_or taps i d)).honest ≡ true → (client x).store ≡ Some s)
-    → AreConnections s (map told (take (i + 1) taps)) (map client ys)
-connected_next {T} {X} told client s taps i d xs ys x within is so_far one =
-    let first : map told (take (i + 1) taps) ≡ map told (take i taps) ++ told (get_or taps i d) ∷ [] = ap (map told) (take_more taps i d within) ∙ map-append told (take i taps) (get_or taps i d ∷ []) in
-    let second : map client ys ≡ map client xs ++ client x ∷ [] = ap (map client) is ∙ map-append client xs (x ∷ []) in
-    rw (first, second) (connected_more s (map told (take i taps)) (map client xs) (told (get_or taps i d)) (client x) so_far one)
-
-pub all_calm : {X : Type 0} (told : X → ClientTold) → ((x : X) → ((told x).faults ≡ 0) × ((told x).expiries ≡ 0)) → (xs : List X) → AreCalm (map told xs)
-all_calm told calm [] = tt
-all_calm told calm (x ∷ xs) = ((calm x).0, (calm x).1, all_calm told calm xs)
-
--- ---- where less is said of the taps
-
-weaker_cause : (s : Store) (q : Wanted) (H I : Type 0) (b n : SinkTold) → (I → H) → (e : FileReconstructionError) → TapCause s q H b n e → TapCause s q I b n e
-weaker_cause s q H I b n to error.OutOfMemory h = h
-weaker_cause s q H I b n to error.ClientError h = h
-weaker_cause s q H I b n to error.FileNotFound h = λ i. h (to i)
-weaker_cause s q H I b n to error.UrlExpired h = h
-weaker_cause s q H I b n to error.IoError h = h
-weaker_cause s q H I b n to (error.CorruptedReconstruction c) h = λ i. h (to i)
-weaker_cause s q H I b n to (error.ConfigurationError e) h = h
-weaker_cause s q H I b n to error.Cancelled h = h
-weaker_cause s q H I b n to (error.InternalWriterError w) h = h
-
-weaker : (s : Store) (q : Wanted) (H I : Type 0) (k : CacheTold) (b n : SinkTold) (a : Result ℕ FileReconstructionError) → (I → H) → BehindAll s q H k b n a → BehindAll s q I k b n a
-weaker s q H I k b n a to h = record {
-  exact = λ i cache. h.exact (to i) cache;
-  prefix = λ i cache. h.prefix (to i) cache;
-  cause = by a h.cause;
-  settings = h.settings;
-  counts = h.counts;
-  faults = h.faults;
-  link = h.link;
-}
-  where
-    by : (a : Result ℕ FileReconstructionError) → IfErr a (TapCause s q H b n) → IfErr a (TapCause s q I b n)
-    by (Ok m) h = tt
-    by (Err e) h = weaker_cause s q H I b n to e h
+use Rattle.xet_tool.specs.steps.OwnTaps.{behind_own}
+use Rattle.xet_tool.specs.steps.PrintedDigits.{AllPassed, Tapped, Wrote, status_of_answer, told_of}
+use Rattle.xet_tool.specs.steps.TapRuns.{BehindAll, BehindTaps, IsNew}
+use Rattle.xet_tool.specs.Taps.{FromTaps, GaveNothing, gave, gave_some, IsPassed, LanesHonest, MadeOf, Passage, TapsGoOn, all_passages, all_passed, lane_taps, passage, with_passage}
+use Rattle.xet_tool.specs.Wanted.{failing_setting, setup_of}
+use Rattle.xet_tool.proofs.TapRuns.{AreCalm, FirstHonest, behind_all, behind_none, made, no_some, same_setting, took_same}
 
 -- ---- one lane
 
--- nothing passed the taps that were not asked
-none_passed : (ts : List TapTold) → (all_passed ts ts ≡ None) ⊎ (all_passed ts ts ≡ Some [])
-none_passed [] = inr refl
-none_passed (t ∷ ts) = by_told t.passed (none_passed ts)
-  where
-    by_told : (o : Option (List Served)) → (all_passed ts ts ≡ None) ⊎ (all_passed ts ts ≡ Some []) → (joined (new_in o o) (all_passed ts ts) ≡ None) ⊎ (joined (new_in o o) (all_passed ts ts) ≡ Some [])
-    by_told None h = inl refl
-    by_told (Some xs) (inl e) = inl (ap (joined (Some (drop (length xs) xs))) e)
-    by_told (Some xs) (inr e) = inr (ap (joined (Some (drop (length xs) xs))) e ∙ ap (λ (l : List Served). Some (l ++ [])) (drop-length xs))
+-- the blocks that were given, as answers that were said
+abbrev pub front : List BlockBytes → List Said
+front gave = map (λ b. said.Block (Bytes b)) gave
 
--- what passed the first passed them all
-first_passed : (o : Option (List Served)) (ts : List TapTold) (P : List Served → Type 0) → IfSome o P → IfSome (joined o (all_passed ts ts)) P
-first_passed None ts P h = tt
-first_passed (Some xs) ts P h = by_others (none_passed ts)
-  where
-    by_others : (all_passed ts ts ≡ None) ⊎ (all_passed ts ts ≡ Some []) → IfSome (joined (Some xs) (all_passed ts ts)) P
-    by_others (inl e) = rw e tt
-    by_others (inr e) = rw (e, append-nil xs) h
+length-front : (gave : List BlockBytes) → length (front gave) ≡ length gave
+length-front [] = refl
+length-front (b ∷ gave) = ap suc (length-front gave)
 
-pub behind_first : {T : Type 0} (told : T → TapTold) (s : Store) (q : Wanted) (taps : List T) (d tap : T) (k l : CacheTold) (b n : SinkTold) (a : Result ℕ FileReconstructionError)
-    → 0 < length taps → lanes_of q.options ≡ 1 → BehindOne s q (told (get_or taps 0 d)) (told tap) k l b n a → BehindTaps s q (map told taps) (map told (set taps 0 tap)) k l b n a
-behind_first told s q [] d tap k l b n a some one h = absurd (omega arith)
-behind_first {T} told s q (t ∷ ts) d tap k l b n a some one h = record {
-  all = weaker s q ((told t).honest ≡ true) (AllHonest (told t ∷ map told ts)) k b n a first h.all;
-  chunks = λ all none. by_answer a (h.chunks (first all) none);
-  any = λ looks looked nothing. wrote (h.any looks looked nothing);
-  others = rw one refl;
+bytes_in-front : (gave : List BlockBytes) (rest : List Said) → bytes_in (front gave ++ rest) ≡ gave ++ bytes_in rest
+bytes_in-front [] rest = refl
+bytes_in-front (b ∷ gave) rest = ap (λ (l : List BlockBytes). b ∷ l) (bytes_in-front gave rest)
+
+some_same : {A : Type 0} (x y : A) → ◌≡◌ {A = Option A} (Some x) (Some y) → x ≡ y
+some_same x y e = cc
+
+abbrev new_log : ClientLog
+new_log = record { asked = []; said = []; served = [] }
+
+module _ (s : Store) where
+  -- a connection to the store behind its tap, before a run and after it
+  pub record Lane : Type 0 where
+    -- the tap
+    pub t : TapTold
+    pub u : TapTold
+    -- what the connection has of the start and of the run
+    pub start : TapTold
+    pub log : ClientLog
+    pub count : given_count start ≡ given_count t
+    pub given : AreGiven (said_behind start log) u
+    pub plans : PlansAreHonest s log.asked (plans_in log.said)
+    pub unexpired : count_by expired_said log.said ≡ 0
+    pub honest : u.honest ≡ t.honest
+
+  abbrev pub client_before : Lane → ClientTold
+  client_before a = behind_own s new_log a.t a.t
+
+  abbrev pub client_after : Lane → ClientTold
+  client_after a = behind_own s a.log a.start a.u
+
+  -- what was added to its lists, where the tap tells what passed
+  abbrev side : Lane → Passage → Exchange
+  side a p = record { asked = a.log.asked; served = p.served; said = a.log.said }
+
+  record HasSide (a : Lane) (p : Passage) : Type 0 where
+    is : exchange_of (client_before a) (client_after a) ≡ Some (side a p)
+    passed : IsPassed s p (side a p)
+
+  has_side : (a : Lane) (p : Passage) → passage (new_in a.t.passed a.u.passed) (new_in a.t.gave a.u.gave) ≡ Some p → HasSide a p
+  has_side a p e = by a.t.passed a.u.passed a.t.gave a.start.gave a.u.gave refl refl refl refl refl
+    where
+      by : (tp up : Option (List Served)) (tg sg ug : Option (List BlockBytes)) → a.t.passed ≡ tp → a.u.passed ≡ up → a.t.gave ≡ tg → a.start.gave ≡ sg → a.u.gave ≡ ug → HasSide a p
+      by None up tg sg ug e1 e2 e3 e4 e5 = absurd (no_some p (rw e1 at e))
+      by (Some xs) None tg sg ug e1 e2 e3 e4 e5 = absurd (no_some p (rw (e1, e2) at e))
+      by (Some xs) (Some es) None sg ug e1 e2 e3 e4 e5 = absurd (no_some p (rw (e1, e2, e3) at e))
+      by (Some xs) (Some es) (Some gs) sg None e1 e2 e3 e4 e5 = absurd (no_some p (rw (e1, e2, e3, e5) at e))
+      by (Some xs) (Some es) (Some gs) None (Some hs) e1 e2 e3 e4 e5 = absurd (no_some hs (rw (e4, e5) at a.given))
+      by (Some xs) (Some es) (Some gs) (Some fs) (Some hs) e1 e2 e3 e4 e5 =
+          let whole : Passage = record { served = drop (length xs) es; blocks = drop (length gs) hs } in
+          let p_is : whole ≡ p = some_same whole p (rw (e1, e2, e3, e5) at e) in
+          let size : length fs ≡ length gs = rw (e3, e4) at a.count in
+          let all_given : bytes_in (front fs ++ a.log.said) ≡ hs = some_same _ hs (rw (e4, e5) at a.given) in
+          let place : length (front fs) ≡ length (front gs ++ []) = length-front fs ∙ size ∙ sym (length-front gs) ∙ ap length (sym (append-nil (front gs))) in
+          let new_said : drop (length (front gs ++ [])) (front fs ++ a.log.said) ≡ a.log.said = drop_at (front fs) a.log.said (length (front gs ++ [])) place in
+          let new_given : bytes_in a.log.said ≡ drop (length gs) hs = rw (← all_given, bytes_in-front fs a.log.said) (sym (drop_at fs (bytes_in a.log.said) (length gs) size)) in
+          rw (← p_is) (record {
+            is = rw (e1, e2, e3, e4, new_said) refl;
+            passed = record { served_is = refl; blocks_are = new_given; plans = a.plans };
+          })
+
+  -- ---- all lanes
+
+  abbrev pub befores : List Lane → List ClientTold
+  befores lanes = map client_before lanes
+
+  abbrev pub afters : List Lane → List ClientTold
+  afters lanes = map client_after lanes
+
+  abbrev pub taps_before : List Lane → List TapTold
+  taps_before lanes = map (λ a. a.t) lanes
+
+  abbrev pub taps_after : List Lane → List TapTold
+  taps_after lanes = map (λ a. a.u) lanes
+
+  tell : (lanes : List Lane) → All (λ (t : TapTold). t.honest ≡ true) (taps_before lanes) → AllTell s (befores lanes)
+  tell [] h = tt
+  tell (a ∷ lanes) h =
+      let P : TapTold → Type 0 = λ t. t.honest ≡ true in
+      let one : a.t.honest ≡ true = All-head P a.t (taps_before lanes) h in
+      (rw one refl, tell lanes (All-tail P a.t (taps_before lanes) h))
+
+  calm : (lanes : List Lane) → AreCalm (afters lanes)
+  calm [] = tt
+  calm (a ∷ lanes) = (refl, refl, calm lanes)
+
+  -- what passed the taps is what was served
+  served : (lanes : List Lane) (xs : List Exchange) → EachExchange (befores lanes) (afters lanes) xs → IfSome (all_passed (taps_before lanes) (taps_after lanes)) (λ es. es ≡ served_of_all xs)
+  served [] [] h = refl
+  served [] (x ∷ xs) h = absurd h
+  served (a ∷ lanes) [] h = absurd h
+  served (a ∷ lanes) (x ∷ xs) h = both (new_in a.t.passed a.u.passed) (all_passed (taps_before lanes) (taps_after lanes)) (told_new a.t.passed a.u.passed x.served h.0.serves) (served lanes xs h.1)
+    where
+      both : (o r : Option (List Served)) → IfSome o (λ es. es ≡ x.served) → IfSome r (λ es. es ≡ served_of_all xs) → IfSome (joined o r) (λ es. es ≡ served_of_all (x ∷ xs))
+      both None r e f = tt
+      both (Some es) None e f = tt
+      both (Some es) (Some fs) e f = rw (e, f) refl
+
+  honest : (lanes : List Lane) → map (λ (t : TapTold). t.honest) (taps_after lanes) ≡ map (λ (t : TapTold). t.honest) (taps_before lanes)
+  honest [] = refl
+  honest (a ∷ lanes) = rw (a.honest, honest lanes) refl
+
+  -- what was added to the lists of all
+  record HaveSides (lanes : List Lane) (ps : List Passage) : Type 0 where
+    xs : List Exchange
+    is : all_exchanges (befores lanes) (afters lanes) ≡ Some xs
+    passed : AllZip (IsPassed s) ps xs
+    first : FirstHonest s xs
+    unexpired : expired_answers xs ≡ 0
+
+  have_sides : (lanes : List Lane) (ps : List Passage) → all_passages (taps_before lanes) (taps_after lanes) ≡ Some ps → HaveSides lanes ps
+  have_sides [] ps e = rw (← some_same [] ps e) (record { xs = []; is = refl; passed = tt; first = tt; unexpired = refl })
+  have_sides (a ∷ lanes) ps e = by (have_sides lanes) (passage (new_in a.t.passed a.u.passed) (new_in a.t.gave a.u.gave)) (all_passages (taps_before lanes) (taps_after lanes)) refl refl
+    where
+      by : ((qs : List Passage) → all_passages (taps_before lanes) (taps_after lanes) ≡ Some qs → HaveSides lanes qs) → (o : Option Passage) (r : Option (List Passage)) → passage (new_in a.t.passed a.u.passed) (new_in a.t.gave a.u.gave) ≡ o → all_passages (taps_before lanes) (taps_after lanes) ≡ r → HaveSides (a ∷ lanes) ps
+      by others None r f g = absurd (no_some ps (rw f at e))
+      by others (Some p) None f g = absurd (no_some ps (rw (f, g) at e))
+      by others (Some p) (Some qs) f g =
+          let one = has_side a p f in
+          let rest = others qs g in
+          let more = rest.unexpired in
+          let here = a.unexpired in
+          rw (← some_same (p ∷ qs) ps (rw (f, g) at e)) (record {
+            xs = side a p ∷ rest.xs;
+            is = rw (one.is, rest.is) refl;
+            passed = (one.passed, rest.passed);
+            first = a.plans;
+            unexpired = omega (arith, more, here);
+          })
+
+-- ---- a run
+
+-- what a run over connections, each behind one of these taps, leaves
+pub record BehindLanes (s : Store) (q : Wanted) (ts us : List TapTold) (k l : CacheTold) (b n : SinkTold)
+    (answer : Result ℕ FileReconstructionError) : Type 0 where
+  pub all : BehindAll s q (All (λ t. t.honest ≡ true) ts) k b n answer
+  pub chunks : All (λ t. t.honest ≡ true) ts → l.entries ≡ Some [] → OnOk answer (IfSome (all_passed ts us) (AllServed s q.file q.range))
+  pub any : (q.options.cache ≡ false → l.entries ≡ Some [])
+      → Wrote (λ status bytes. IfSome (all_passages ts us) (λ ps. MadeOf s q ps status bytes)) b n (status_of_answer answer) (result_ok answer)
+  pub honest : map (λ t. t.honest) us ≡ map (λ t. t.honest) ts
+
+-- no look gave an entry of a cache that has none
+none_given : (looks : List Look) (entries : Option (List CacheEntry)) → entries ≡ Some [] → All (IsEntryOf entries) looks → count_by gave looks ≡ 0
+none_given [] entries e h = refl
+none_given (l ∷ looks) entries e h =
+    let f : Look → ℕ = λ y. cond (gave y) 1 0 in
+    let both = sum_by-cons f l looks in
+    let rest = none_given looks entries e (All-tail (IsEntryOf entries) l looks h) in
+    let none : f l ≡ 0 = one l.2 (subst (λ (es : Option (List CacheEntry)). IsEntryOf es l) e (All-head (IsEntryOf entries) l looks h)) in
+    omega (arith, both, rest, none)
+  where
+    one : (o : Option BlockBytes) → IfSome o (λ b. Contains {X = CacheEntry} [] (l.0, l.1, b)) → ◌≡◌ {A = ℕ} (cond (gave_some o) 1 0) 0
+    one None w = refl
+    one (Some b) w = absurd (let c = w.1 in omega (arith, c))
+
+behind_lanes : (pass : HonestAnswersPass) (s : Store) (valid : IsValid s) (q : Wanted) (lanes : List (Lane s)) (k l : CacheTold) (b n : SinkTold) (answer : Result ℕ FileReconstructionError)
+    → causes.failing_setting (setup_of q) (befores s lanes) ≡ failing_setting q → Legal (setup_of q) (told_of (befores s lanes) k b) (told_of (afters s lanes) l n) answer
+    → BehindLanes s q (taps_before s lanes) (taps_after s lanes) k l b n answer
+behind_lanes pass s valid q lanes k l b n answer same h = record {
+  all = behind_all s valid q (All (λ (t : TapTold). t.honest ≡ true) (taps_before s lanes)) (befores s lanes) (afters s lanes) k l b n (tell s lanes) (calm s lanes) same answer h;
+  chunks = λ honest none. on_ok answer (h.chunks s (record { tell = tell s lanes honest; valid = valid }) none);
+  any = λ none. by (λ plain. none_given h.looks.list l.entries (none plain) h.looks.given) (all_passages (taps_before s lanes) (taps_after s lanes)) refl;
+  honest = honest s lanes;
 }
   where
-    first : AllHonest (told t ∷ map told ts) → (told t).honest ≡ true
-    first all = All-head (λ (t : TapTold). t.honest ≡ true) (told t) (map told ts) all
+    on_ok : (a : Result ℕ FileReconstructionError) → OnOk a (AllServed s q.file q.range (served_of_all h.heard.list)) → OnOk a (IfSome (all_passed (taps_before s lanes) (taps_after s lanes)) (AllServed s q.file q.range))
+    on_ok (Ok m) w =
+        if_some (all_passed (taps_before s lanes) (taps_after s lanes)) (λ es. es ≡ served_of_all h.heard.list) (AllServed s q.file q.range)
+        (λ es e. subst (AllServed s q.file q.range) (sym e) w) (served s lanes h.heard.list h.heard.told)
+    on_ok (Err e) w = tt
 
-    by_answer : (a : Result ℕ FileReconstructionError) → OnOk a (IfSome (new_in (told t).passed (told tap).passed) (AllServed s q.file q.range))
-        → OnOk a (lanes_of q.options ≡ 1 → IfSome (joined (new_in (told t).passed (told tap).passed) (all_passed (map told ts) (map told ts))) (AllServed s q.file q.range))
-    by_answer (Ok m) h = λ _. first_passed (new_in (told t).passed (told tap).passed) (map told ts) (AllServed s q.file q.range) h
-    by_answer (Err e) h = tt
+    by : GaveNothing q h.looks.list → (o : Option (List Passage)) → all_passages (taps_before s lanes) (taps_after s lanes) ≡ o → Wrote (λ status bytes. IfSome (all_passages (taps_before s lanes) (taps_after s lanes)) (λ ps. MadeOf s q ps status bytes)) b n (status_of_answer answer) (result_ok answer)
+    by nothing None e = inr (λ status bytes. rw e tt)
+    by nothing (Some ps) e =
+        let sides = have_sides s lanes ps e in
+        let m = made pass s valid q (befores s lanes) (afters s lanes) k l b n same sides.xs sides.is sides.first sides.unexpired answer h in
+        inl (record {
+          bytes = m.0;
+          took = m.1;
+          total = m.2;
+          from = rw e (record { xs = sides.xs; passed = sides.passed; looks = h.looks.list; looked = nothing; made = m.3 });
+        })
 
-    wrote : Wrote (FromTap s q (told t) (told tap)) b n (status_of_answer a) (result_ok a) → Wrote (FromTaps s q (told t ∷ map told ts) (told tap ∷ map told ts)) b n (status_of_answer a) (result_ok a)
-    wrote (inl h) = inl (record { bytes = h.bytes; took = h.took; total = h.total; from = λ _. h.from })
-    wrote (inr h) = inr (λ status bytes _. h status bytes)
+-- ---- want of memory before it
 
--- ---- another number of lanes
-
-drop_past : {A : Type 0} (xs : List A) (k : ℕ) → length xs ≤ k → drop k xs ≡ []
-drop_past [] zero h = refl
-drop_past [] (suc k) h = refl
-drop_past (x ∷ xs) zero h = absurd (omega arith)
-drop_past (x ∷ xs) (suc k) h = drop_past xs k (omega arith)
-
--- the taps past the lanes are as they were
-others_kept : {T : Type 0} (told : T → TapTold) (lanes : ℕ) (used left rest : List T) → length left ≡ length used → length used ≡ min lanes 64 → length (used ++ rest) ≡ 64 → drop lanes (map told (left ++ rest)) ≡ drop lanes (map told (used ++ rest))
-others_kept {T} told lanes used left rest same count all = by (nat_lt 64 lanes) refl
+none_passed : (ts : List TapTold) (ps : List Passage) → all_passages ts ts ≡ Some ps → (s : Store) → (xs : List Exchange) × AllZip (IsPassed s) ps xs
+none_passed [] ps e s = rw (← some_same [] ps e) ([], tt)
+none_passed (t ∷ ts) ps e s = by (λ qs f. none_passed ts qs f s) t.passed t.gave (all_passages ts ts) refl refl refl
   where
-    one : (xs : List T) → length xs ≡ lanes → drop lanes (map told (xs ++ rest)) ≡ map told rest
-    one xs e = ap (drop lanes) (map-append told xs rest) ∙ drop_at (map told xs) (map told rest) lanes (length-map xs told ∙ e)
+    by : ((qs : List Passage) → all_passages ts ts ≡ Some qs → (xs : List Exchange) × AllZip (IsPassed s) qs xs) → (o : Option (List Served)) (g : Option (List BlockBytes)) (r : Option (List Passage)) → t.passed ≡ o → t.gave ≡ g → all_passages ts ts ≡ r → (xs : List Exchange) × AllZip (IsPassed s) ps xs
+    by others None g r e1 e2 e3 = absurd (no_some ps (rw e1 at e))
+    by others (Some es) None r e1 e2 e3 = absurd (no_some ps (rw (e1, e2) at e))
+    by others (Some es) (Some bs) None e1 e2 e3 = absurd (no_some ps (rw (e1, e2, e3) at e))
+    by others (Some es) (Some bs) (Some qs) e1 e2 e3 =
+        let p : Passage = record { served = drop (length es) es; blocks = drop (length bs) bs } in
+        let rest = others qs e3 in
+        let x : Exchange = record { asked = []; served = []; said = [] } in
+        let one : IsPassed s p x = record { served_is = sym (drop-length es); blocks_are = sym (drop-length bs); plans = tt } in
+        rw (← some_same (p ∷ qs) ps (rw (e1, e2, e3) at e)) (x ∷ rest.0, (one, rest.1))
 
-    past : (xs : List T) → length xs ≤ 64 → 64 ≤ lanes → drop lanes (map told xs) ≡ []
-    past xs e f = drop_past (map told xs) lanes (let z = length-map xs told in omega (arith, z, e, f))
-
-    by : (v : Bool) → nat_lt 64 lanes ≡ v → drop lanes (map told (left ++ rest)) ≡ drop lanes (map told (used ++ rest))
-    by true e =
-        let h = ltb-true 64 lanes e in
-        past (left ++ rest) (let m = length-append left rest in let k = length-append used rest in omega (arith, m, k, same, all)) (omega (arith, h)) ∙ sym (past (used ++ rest) (omega (arith, all)) (omega (arith, h)))
-    by false e =
-        let h = ltb-false 64 lanes e in
-        one left (omega (arith, h, same, count)) ∙ sym (one used (omega (arith, h, count)))
-
-pub behind_used : {T : Type 0} (told : T → TapTold) (s : Store) (q : Wanted) (taps used left rest : List T) (k l : CacheTold) (b n : SinkTold) (a : Result ℕ FileReconstructionError)
-    → taps ≡ used ++ rest → length taps ≡ 64 → length used ≡ min (lanes_of q.options) 64 → length left ≡ length used → (lanes_of q.options ≡ 1 → ⊥)
-    → BehindAll s q (AllHonest (map told used)) k b n a → BehindTaps s q (map told taps) (map told (left ++ rest)) k l b n a
-behind_used {T} told s q taps used left rest k l b n a is count few same other h = record {
-  all = weaker s q (AllHonest (map told used)) (AllHonest (map told taps)) k b n a front h;
-  chunks = λ all none. by_answer a;
-  any = λ looks looked nothing. inr (λ status bytes. untold (map told taps) (map told (left ++ rest)) status bytes);
-  others = others_kept told (lanes_of q.options) used left rest same few (ap (λ (l : List T). length l) (sym is) ∙ count) ∙ ap (λ (l : List T). drop (lanes_of q.options) (map told l)) (sym is);
+pub unbehind : (s : Store) (q : Wanted) (ts : List TapTold) (k : CacheTold) (b : SinkTold) → BehindTaps s q ts ts k k b b (Err error.OutOfMemory)
+unbehind s q ts k b = record {
+  all = behind_none s q (LanesHonest q ts) k b;
+  chunks = λ honest none. tt;
+  any = λ none. by (all_passages (lane_taps q ts) (lane_taps q ts)) refl;
+  go_on = record { honest = refl; past = refl };
 }
   where
-    first_honest : (xs ys : List TapTold) → AllHonest (xs ++ ys) → AllHonest xs
-    first_honest [] ys h = All-nil (λ (t : TapTold). t.honest ≡ true)
-    first_honest (x ∷ xs) ys h = All-cons (λ (t : TapTold). t.honest ≡ true) x xs (All-head (λ (t : TapTold). t.honest ≡ true) x (xs ++ ys) h) (first_honest xs ys (All-tail (λ (t : TapTold). t.honest ≡ true) x (xs ++ ys) h))
+    by : (o : Option (List Passage)) → all_passages (lane_taps q ts) (lane_taps q ts) ≡ o → Wrote (FromTaps s q ts ts) b b NoMemory None
+    by None e = inr (λ status bytes. rw e tt)
+    by (Some ps) e =
+        let sides = none_passed (lane_taps q ts) ps e s in
+        inl (record { bytes = []; took = took_same b.took; total = tt; from = rw e (record { xs = sides.0; passed = sides.1; looks = []; looked = λ plain. refl; made = inl refl }) })
 
-    front : AllHonest (map told taps) → AllHonest (map told used)
-    front all = first_honest (map told used) (map told rest) (subst AllHonest (ap (map told) is ∙ map-append told used rest) all)
+-- ---- connections that own their taps
 
-    by_answer : (a : Result ℕ FileReconstructionError) → OnOk a (lanes_of q.options ≡ 1 → IfSome (all_passed (map told taps) (map told (left ++ rest))) (AllServed s q.file q.range))
-    by_answer (Ok m) = λ one. absurd (other one)
-    by_answer (Err e) = tt
+same_honest : (v w : Bool) (r s : Store) → ◌≡◌ {A = Option Store} (cond v (Some r) None) (cond w (Some s) None) → v ≡ w
+same_honest true true r s e = refl
+same_honest false false r s e = refl
+same_honest true false r s e = absurd (no_some r (sym e))
+same_honest false true r s e = absurd (no_some s e)
 
-    untold : (ts us : List TapTold) (status : Status) (bytes : List ℕ) → FromTaps s q ts us status bytes
-    untold [] us status bytes = tt
-    untold (t ∷ ts) [] status bytes = tt
-    untold (t ∷ ts) (u ∷ us) status bytes = λ one. absurd (other one)
+all_taken : {X : Type 0} (P : X → Type 0) (n : ℕ) (xs : List X) → All P xs → All P (take n xs)
+all_taken P zero xs h = All-nil P
+all_taken P (suc n) [] h = All-nil P
+all_taken P (suc n) (x ∷ xs) h = All-cons P x (take n xs) (All-head P x xs h) (all_taken P n xs (All-tail P x xs h))
+
+honest_both : (n : ℕ) (ts us : List TapTold) → map (λ (t : TapTold). t.honest) (take n us) ≡ map (λ (t : TapTold). t.honest) (take n ts) → drop n us ≡ drop n ts → map (λ (t : TapTold). t.honest) us ≡ map (λ (t : TapTold). t.honest) ts
+honest_both n ts us e f =
+    let h : TapTold → Bool = λ t. t.honest in
+    let same : map h (take n us) ++ map h (drop n us) ≡ map h (take n ts) ++ map h (drop n ts) = rw (e, f) refl in
+    ap (map h) (sym (take-append-drop n us)) ∙ map-append h (take n us) (drop n us) ∙ same ∙ sym (map-append h (take n ts) (drop n ts)) ∙ ap (map h) (take-append-drop n ts)
+
+module _ {X T : Type 0} (told : T → TapTold) (tap : X → T) (store : X → Store) (log : X → ClientLog) (start : X → TapTold)
+    (given : (x : X) → AreGiven (said_behind (start x) (log x)) (told (tap x)))
+    (plans : (x : X) → PlansAreHonest (store x) (log x).asked (plans_in (log x).said))
+    (unexpired : (x : X) → count_by expired_said (log x).said ≡ 0) where
+  abbrev client : X → ClientTold
+  client x = behind_own (store x) (log x) (start x) (told (tap x))
+
+  -- the lanes of a run, by its connections before it and after it
+  record AreLanes (s : Store) (xs ys : List X) : Type 0 where
+    lanes : List (Lane s)
+    before_is : map client xs ≡ befores s lanes
+    after_is : map client ys ≡ afters s lanes
+    t_is : map told (map tap xs) ≡ taps_before s lanes
+    u_is : map told (map tap ys) ≡ taps_after s lanes
+
+  are_lanes : (s : Store) (xs ys : List X) → All (λ x. IsNew s (told (tap x)) (client x)) xs → EachGoesOn (map client xs) (map client ys) → AreLanes s xs ys
+  are_lanes s [] [] new h = record { lanes = []; before_is = refl; after_is = refl; t_is = refl; u_is = refl }
+  are_lanes s [] (y ∷ ys) new h = absurd h
+  are_lanes s (x ∷ xs) [] new h = absurd h
+  are_lanes s (x ∷ xs) (y ∷ ys) new h =
+      let P : X → Type 0 = λ x. IsNew s (told (tap x)) (client x) in
+      let is : IsNew s (told (tap x)) (client x) = All-head P x xs new in
+      let link = same_link _ _ _ _ _ _ (h.0.link ∙ ap (λ (c : ClientTold). c.link) is) in
+      let same : store y ≡ s = link.2 in
+      let rest = are_lanes s xs ys (All-tail P x xs new) h.1 in
+      let one : Lane s = record {
+        t = told (tap x);
+        u = told (tap y);
+        start = start y;
+        log = log y;
+        count = link.1;
+        given = given y;
+        plans = subst (λ (r : Store). PlansAreHonest r (log y).asked (plans_in (log y).said)) same (plans y);
+        unexpired = unexpired y;
+        honest = same_honest (told (tap y)).honest (told (tap x)).honest (store y) s (h.0.store ∙ ap (λ (c : ClientTold). c.store) is);
+      } in
+      record {
+        lanes = one ∷ rest.lanes;
+        before_is = ap (λ (c : ClientTold). c ∷ map client xs) is ∙ ap (λ (l : List ClientTold). client_before s one ∷ l) rest.before_is;
+        after_is = ap (λ (r : Store). behind_own r (log y) (start y) (told (tap y)) ∷ map client ys) same ∙ ap (λ (l : List ClientTold). client_after s one ∷ l) rest.after_is;
+        t_is = ap (λ (l : List TapTold). told (tap x) ∷ l) rest.t_is;
+        u_is = ap (λ (l : List TapTold). told (tap y) ∷ l) rest.u_is;
+      }
+
+  pub behind_taps : (pass : HonestAnswersPass) (s : Store) (valid : IsValid s) (q : Wanted) (olds : List T) (xs ys : List X) (k l : CacheTold) (b n : SinkTold) (answer : Result ℕ FileReconstructionError)
+      → map tap xs ≡ olds → length olds ≡ 64 → All (λ x. IsNew s (told (tap x)) (client x)) xs
+      → Legal (setup_of q) (told_of (map client (take (lanes_of q.options) xs)) k b) (told_of (map client (take (lanes_of q.options) ys)) l n) answer
+      → drop (lanes_of q.options) ys ≡ drop (lanes_of q.options) xs
+      → BehindTaps s q (map told olds) (map told (map tap ys)) k l b n answer
+  behind_taps pass s valid q olds xs ys k l b n answer is count new h past =
+      let c : ℕ = lanes_of q.options in
+      let some = are_lanes s (take c xs) (take c ys) (all_taken (λ (x : X). IsNew s (told (tap x)) (client x)) c xs new) h.goes_on in
+      let fits : causes.failing_setting (setup_of q) (map client (take c xs)) ≡ failing_setting q = settings in
+      let run : BehindLanes s q (taps_before s some.lanes) (taps_after s some.lanes) k l b n answer =
+      behind_lanes pass s valid q some.lanes k l b n answer
+      (subst (λ (cs : List ClientTold). causes.failing_setting (setup_of q) cs ≡ failing_setting q) some.before_is fits)
+      (subst (λ (ds : List ClientTold). Legal (setup_of q) (told_of (befores s some.lanes) k b) (told_of ds l n) answer) some.after_is
+      (subst (λ (cs : List ClientTold). Legal (setup_of q) (told_of cs k b) (told_of (map client (take c ys)) l n) answer) some.before_is h)) in
+      let first : lane_taps q (map told olds) ≡ taps_before s some.lanes = rw (← is) (lane_of xs ∙ some.t_is) in
+      let last : lane_taps q (map told (map tap ys)) ≡ taps_after s some.lanes = lane_of ys ∙ some.u_is in
+      let same : BehindLanes s q (lane_taps q (map told olds)) (lane_taps q (map told (map tap ys))) k l b n answer = rw (first, last) run in
+      let rest : drop c (map told (map tap ys)) ≡ drop c (map told olds) = rw (← is) (rest_of ys ∙ ap (λ (zs : List X). map told (map tap zs)) past ∙ sym (rest_of xs)) in
+      record {
+        all = same.all;
+        chunks = same.chunks;
+        any = same.any;
+        go_on = record { honest = honest_both c (map told olds) (map told (map tap ys)) same.honest rest; past = rest };
+      }
+    where
+      lane_of : (zs : List X) → take (lanes_of q.options) (map told (map tap zs)) ≡ map told (map tap (take (lanes_of q.options) zs))
+      lane_of zs = take-map told (lanes_of q.options) (map tap zs) ∙ ap (map told) (take-map tap (lanes_of q.options) zs)
+
+      rest_of : (zs : List X) → drop (lanes_of q.options) (map told (map tap zs)) ≡ map told (map tap (drop (lanes_of q.options) zs))
+      rest_of zs = drop-map told (lanes_of q.options) (map tap zs) ∙ ap (map told) (drop-map tap (lanes_of q.options) zs)
+
+      size : length (map client (take (lanes_of q.options) xs)) ≡ min (lanes_of q.options) 64
+      size =
+          let a = length-map (take (lanes_of q.options) xs) client in
+          let d = length-take (lanes_of q.options) xs in
+          let e = length-map xs tap in
+          let f : length (map tap xs) ≡ length olds = ap length is in
+          omega (arith, a, d, e, f, count)
+
+      settings : causes.failing_setting (setup_of q) (map client (take (lanes_of q.options) xs)) ≡ failing_setting q
+      settings = same_setting q (map client (take (lanes_of q.options) xs)) (λ e. let z = size in omega (arith, z, e)) (λ e. let z = size in omega (arith, z, e))
 
 -- ---- with a cache of the run's own
-
-pub new_looks : (o : Option (List Look)) (looks : List Look) → o ≡ Some [] → new_in o (Some looks) ≡ Some looks
-new_looks o looks e = rw e refl
 
 pub true_not : (v : Bool) → v ≡ true → v ≡ false → ⊥
 true_not v e f = cc
 
-pub tapped : (s : Store) (q : Wanted) (ts us : List TapTold) (k l : CacheTold) (b n : SinkTold) (a : Result ℕ FileReconstructionError) (looks : List Look)
-    → BehindTaps s q ts us k l b n a → k.entries ≡ Some [] → new_in k.looked l.looked ≡ Some looks → GaveNothing q looks → (q.options.cache ≡ false → l.entries ≡ Some []) → Tapped s q ts us b n a
-tapped s q ts us k l b n a looks h empty looked nothing none = record {
+pub tapped : (s : Store) (q : Wanted) (ts us : List TapTold) (k l : CacheTold) (b n : SinkTold) (a : Result ℕ FileReconstructionError)
+    → BehindTaps s q ts us k l b n a → k.entries ≡ Some [] → (q.options.cache ≡ false → l.entries ≡ Some []) → Tapped s q ts us b n a
+tapped s q ts us k l b n a h empty none = record {
   exact = λ honest. h.all.exact honest tells;
   prefix = λ honest. h.all.prefix honest tells;
   cause = h.all.cause;
   settings = h.all.settings;
   chunks = λ honest. by_answer a (λ plain. h.chunks honest (none plain));
   counts = h.all.counts;
-  any = h.any looks looked nothing;
-  others = h.others;
+  any = h.any none;
+  go_on = h.go_on;
   faults = h.all.faults;
   link = h.all.link;
 }
@@ -205,6 +393,6 @@ tapped s q ts us k l b n a looks h empty looked nothing none = record {
     tells : CacheTells s k
     tells = rw empty (All-nil _)
 
-    by_answer : (a : Result ℕ FileReconstructionError) → (q.options.cache ≡ false → OnOk a (lanes_of q.options ≡ 1 → IfSome (all_passed ts us) (AllServed s q.file q.range))) → OnOk a (AllPassed s q ts us)
-    by_answer (Ok m) h = λ one plain. h plain one
+    by_answer : (a : Result ℕ FileReconstructionError) → (q.options.cache ≡ false → OnOk a (IfSome (all_passed (lane_taps q ts) (lane_taps q us)) (AllServed s q.file q.range))) → OnOk a (AllPassed s q ts us)
+    by_answer (Ok m) h = h
     by_answer (Err e) h = tt

@@ -1,26 +1,31 @@
 -- Runs over connections to a valid store behind taps.
-use Rattle.std.proofs.Common.{◌≡◌, ℕ, ◌+◌, ◌<◌, ◌≤◌, suc, true, false, cond, Bool, List, [], ◌∷◌, ◌++◌, length, map, take, drop, Option, Some, None, IsNone, IsSome, Ok, Err, refl, sym, ap, ◌∙◌, arith, inl, inr, subst}
-use Rattle.std.specs.Prelude.{◌⊎◌, IfErr, IfOk, IfSome, OnOk, Result, nat_eq, option_map, unwrap_or}
+use Rattle.std.proofs.Common.{◌≡◌, ℕ, ◌+◌, ◌<◌, ◌≤◌, zero, suc, true, false, cond, Bool, List, [], ◌∷◌, ◌++◌, length, map, take, drop, Option, Some, None, IsNone, IsSome, Ok, Err, refl, sym, ap, ◌∙◌, arith, inl, inr, subst}
+use Rattle.std.specs.Prelude.{◌⊎◌, All, IfErr, IfOk, IfSome, OnOk, Result, count_by, nat_eq, option_map, slice_get, unwrap_or}
 use Rattle.std.specs.List.{AllZip, concat}
 use Rattle.std.specs.Result.{result_ok}
 use Rattle.std.proofs.lemmas.Bool.{eqb-true}
 use Rattle.std.proofs.lemmas.List.{append-nil, drop_at}
+use Rattle.std.proofs.lemmas.List.Sums.{sum_by-append, sum_by-cons}
+use Rattle.std.proofs.lemmas.List.Elements.{All-cons, All-head, All-nil, All-tail}
+use Rattle.std.proofs.Math.Seq.{drop-length}
 use Rattle.xet_base.specs.declared.cas_types.FileRange.{FileRange}
 use Rattle.xet_base.specs.Store.{IsValid, Store, file_of}
 use Rattle.xet_base.proofs.CallerLemmas.{take-nil}
-use Rattle.xet_outside.specs.Answers.{bytes_in, plans_in}
+use Rattle.xet_outside.specs.Answers.{bytes_in, plans_in, block_said, plan_said}
 use Rattle.xet_outside.specs.declared.block.BlockAnswer.TheVariants.{Bytes}
 use Rattle.xet_outside.specs.declared.block.BlockBytes.{BlockBytes}
+use Rattle.xet_outside.specs.declared.block.BlockRequest.{BlockRequest}
 use Rattle.xet_outside.specs.declared.plan.Plan.{Plan}
 use Rattle.xet_outside.specs.declared.plan.PlanAnswer.{PlanAnswer}
 use Rattle.xet_outside.specs.declared.plan.PlanAnswer.TheVariants.{Found, NoFile}
 use Rattle.xet_outside.specs.declared.said.Said.{Said}
 use Rattle.xet_outside.specs.declared.said.Said.TheVariants as said
 use Rattle.xet_outside.specs.declared.served.Served.{Served}
-use Rattle.xet_outside.specs.Plan.{Shape, plan_of, shape}
 use Rattle.xet_outside.specs.Told.{CacheTold, ClientTold, IsHonest, Query, SinkTold, Took}
 use Rattle.xet_store.specs.HonestPlans.{PlansAreHonest}
 use Rattle.xet_store.proofs.CallerLemmas.{honest_answer}
+use Rattle.xet_store.proofs.TapConnections.{with_block, with_plan}
+use Rattle.xet_store.specs.declared.client_log.ClientLog.{ClientLog}
 use Rattle.xet_store.specs.Taps.{TapTold, given_count}
 use Rattle.xet_error.specs.declared.error.Corruption.{Corruption}
 use Rattle.xet_error.specs.declared.error.FileReconstructionError.{FileReconstructionError}
@@ -28,27 +33,31 @@ use Rattle.xet_error.specs.declared.error.FileReconstructionError.TheVariants as
 use Rattle.xet_error.specs.declared.error.Setting.{Setting}
 use Rattle.xet_error.specs.declared.error.Setting.TheVariants.{NoConnection}
 use Rattle.xet_error.specs.Errors.{corruption_number}
-use Rattle.xet_blocks.proofs.CallerLemmas.{honest_accepted}
-use Rattle.xet_blocks.specs.PlanChecks.{failed_test}
+use Rattle.xet_blocks.specs.declared.reconstruction_terms.xorb_block.XorbBlock.{XorbBlock}
 use Rattle.xet_blocks.specs.ServedChunks.{AllServed}
-use Rattle.xet_ties.specs.Causes.{Cause, NoneAtEnd, PlanFails, RefreshFails, SomeFailed, SomeRose, failing_size, total_expiries}
+use Rattle.xet_reconstruct.specs.Laws.{AreHonest, HonestAnswersPass}
+use Rattle.xet_ties.specs.Causes.{Cause, NoneAtEnd, PlanFails, RefreshFails, SomeFailed, SomeRose, expired_answers, failing_size, total_expiries}
 use Rattle.xet_ties.specs.Causes as causes
-use Rattle.xet_ties.specs.Cuts.{IsSaidPiece, SaidTerm, some_said}
-use Rattle.xet_ties.specs.InCall.{Exchange, Look, exchange_of, joined, new_in, with_exchange}
-use Rattle.xet_ties.specs.Legal.{IsExact, Legal, TookCounted, TookTested, TookWhole}
-use Rattle.xet_ties.specs.Saids.{IsPlanSaid, IsQueryAnswer}
-use Rattle.xet_ties.proofs.CallerLemmas.{own_answer}
+use Rattle.xet_ties.specs.Cuts.{AskedCut, IsSaidPiece, SaidTerm, some_said}
+use Rattle.xet_ties.specs.InCall.{Exchange, Look, SomeOne, all_exchanges, expired_said}
+use Rattle.xet_ties.specs.Legal.{AsksFew, FirstAsksFew, IsExact, Legal, TookCounted, TookTested, TookWhole}
+use Rattle.xet_ties.specs.Saids.{IsBlockAnswer, IsPlanAccepted, IsPlanSaid, IsQueryAnswer}
+use Rattle.xet_ties.proofs.CallerLemmas.{all_told}
 use Rattle.xet_ties.specs.Setup.{AllTell, RunTold}
+use Rattle.xet_ties.specs.Ties.{CutsRange}
+use Rattle.xet_terms.specs.Queries.{CutFrom}
 use Rattle.xet_tool.specs.declared.commands.get.wanted.Wanted.{Wanted}
 use Rattle.xet_tool.specs.declared.status.Status.{Status}
-use Rattle.xet_tool.specs.GetOptions.{lanes_of}
+use Rattle.xet_tool.specs.GetOptions.{greatest_of, lanes_of, least_of}
 use Rattle.xet_tool.specs.steps.PrintedDigits.{CountsOk, IsRefusal, TapCause, TookMade, Wrote, status_of_answer, told_of}
-use Rattle.xet_tool.specs.steps.TapRuns.{BehindAll, BehindOne}
-use Rattle.xet_tool.specs.Taps.{BlockFailed, FirstBytes, FromTap, GaveNothing, IsMade, IsPassed}
+use Rattle.xet_tool.specs.steps.TapRuns.{BehindAll}
+use Rattle.xet_tool.specs.Taps.{BlockFailed, FirstBytes, GaveNothing, IsMade, IsPassed, MadeOf, Passage, all_passages, all_passed, passage, with_passage}
 use Rattle.xet_tool.specs.Wanted.{failing_setting, setup_of}
-use Rattle.xet_tool.proofs.HonestRefreshes.{refresh_passes}
 
 -- ---- small facts
+
+pub no_some : {A : Type 0} (x : A) → ◌≡◌ {A = Option A} None (Some x) → ⊥
+no_some x e = cc
 
 pub took_same : (o : Option (List ℕ)) → Took o o []
 took_same None = refl
@@ -99,225 +108,215 @@ behind_none s q H k b = record {
 
 module _ (s : Store) (valid : IsValid s) (q : Wanted) (H : Type 0) (cs ds : List ClientTold) (k l : CacheTold) (b n : SinkTold)
     (tells : H → AllTell s cs) (calm : AreCalm ds) (same : causes.failing_setting (setup_of q) cs ≡ failing_setting q) where
-  by_cause : (e : FileReconstructionError) → Cause (setup_of q) (told_of cs k b) (told_of ds l n) e → TapCause s q H b n e
-  by_cause error.OutOfMemory h = tt
-  by_cause error.ClientError h = none_rose cs ds calm h
-  by_cause error.FileNotFound h = λ honest. (h.some, h.unstored s (tells honest))
-  by_cause error.UrlExpired h =
+  by_cause : (xs : List Exchange) (e : FileReconstructionError) → Cause (setup_of q) xs (told_of cs k b) (told_of ds l n) e → TapCause s q H b n e
+  by_cause xs error.OutOfMemory h = tt
+  by_cause xs error.ClientError h = none_rose cs ds calm h
+  by_cause xs error.FileNotFound h = λ honest. (h.some, h.unstored s (tells honest))
+  by_cause xs error.UrlExpired h =
       let grew = h.counted (none_at_end ds calm) in
       let none = none_expired ds calm in
       omega (arith, grew, none)
-  by_cause error.IoError h = h
-  by_cause (error.CorruptedReconstruction c) h = λ honest. h.untrue s (record { tell = tells honest; valid = valid })
-  by_cause (error.ConfigurationError e) h = sym same ∙ h
-  by_cause error.Cancelled h = omega (arith, h)
-  by_cause (error.InternalWriterError w) h = h
+  by_cause xs error.IoError h = h
+  by_cause xs (error.CorruptedReconstruction c) h = λ honest. h.untrue s (record { tell = tells honest; valid = valid })
+  by_cause xs (error.ConfigurationError e) h = sym same ∙ h
+  by_cause xs error.Cancelled h = omega (arith, h)
+  by_cause xs (error.InternalWriterError w) h = h
 
   counts_ok : (answer : Result ℕ FileReconstructionError) → IfOk answer (TookCounted b n) → CountsOk b n answer
   counts_ok (Ok m) h = (h.bytes, h.took, h.total)
   counts_ok (Err e) h = tt
 
-  causes_of : (answer : Result ℕ FileReconstructionError) → IfErr answer (Cause (setup_of q) (told_of cs k b) (told_of ds l n)) → IfErr answer (TapCause s q H b n)
-  causes_of (Ok m) h = tt
-  causes_of (Err e) h = by_cause e h
+  causes_of : (xs : List Exchange) (answer : Result ℕ FileReconstructionError) → IfErr answer (Cause (setup_of q) xs (told_of cs k b) (told_of ds l n)) → IfErr answer (TapCause s q H b n)
+  causes_of xs (Ok m) h = tt
+  causes_of xs (Err e) h = by_cause xs e h
 
   pub behind_all : (answer : Result ℕ FileReconstructionError) → Legal (setup_of q) (told_of cs k b) (told_of ds l n) answer → BehindAll s q H k b n answer
   behind_all answer h = record {
     exact = λ honest cache. h.exact s (record { tell = tells honest; valid = valid }) cache;
     prefix = λ honest cache. h.prefix s (record { tell = tells honest; valid = valid }) cache;
-    cause = causes_of answer h.cause;
+    cause = causes_of h.heard.list answer h.cause;
     settings = λ e f. let r = h.settings e (same ∙ f) in (inl r.0, ap (λ (t : RunTold). t.sink.took) r.1);
     counts = counts_ok answer h.total;
     faults = h.sink_later;
     link = h.link;
   }
 
+-- ---- no answer is an expired one
+
+none_more : (xs : List Said) (x : Said) → expired_said x ≡ false → count_by expired_said xs ≡ 0 → count_by expired_said (xs ++ x ∷ []) ≡ 0
+none_more xs x e h =
+    let f : Said → ℕ = λ y. cond (expired_said y) 1 0 in
+    let both = sum_by-append f xs (x ∷ []) in
+    let one = sum_by-cons f x [] in
+    let none : f x ≡ 0 = rw e refl in
+    omega (arith, h, both, one, none)
+
+pub unexpired_plan : (log after : ClientLog) (q : Query) (a : PlanAnswer) → after ≡ with_plan log q a → count_by expired_said log.said ≡ 0 → count_by expired_said after.said ≡ 0
+unexpired_plan log after q a e h = rw e (none_more log.said (said.Plan a) refl h)
+
+pub unexpired_block : (log after : ClientLog) (r : BlockRequest) (b : BlockBytes) → after ≡ with_block log r b → count_by expired_said log.said ≡ 0 → count_by expired_said after.said ≡ 0
+unexpired_block log after r b e h = rw e (none_more log.said (said.Block (Bytes b)) refl h)
+
 -- ---- answers that are the store's
 
-module _ (s : Store) (valid : IsValid s) (q : Wanted) (x : Exchange) (plans : PlansAreHonest s x.asked (plans_in x.said)) where
-  answer_honest : (r : FileRange) (a : PlanAnswer) → IsQueryAnswer q.file (x ∷ []) r a → IsHonest s q.file r a
-  answer_honest r a h = honest_answer s x.asked x.said (q.file, r) a plans h
+-- the first connection's answers to queries are the store's
+abbrev pub FirstHonest : Store → List Exchange → Type 0
+FirstHonest s [] = Unit {0}
+FirstHonest s (x ∷ xs) = PlansAreHonest s x.asked (plans_in x.said)
 
-  -- and so is a plan that was said
-  plan_honest : (p : Plan) (r : FileRange) → IsPlanSaid (setup_of q) (x ∷ []) p r → IsHonest s q.file r (Found p)
-  plan_honest p r h = answer_honest r (Found p) (own_answer q.file (x ∷ []) h.number r (Found p) h.answer)
+answer_honest : (s : Store) (q : Wanted) (xs : List Exchange) → FirstHonest s xs → (r : FileRange) (a : PlanAnswer) → IsQueryAnswer q.file xs r a → IsHonest s q.file r a
+answer_honest s q [] plans r a h = absurd h
+answer_honest s q (x ∷ xs) plans r a h = honest_answer s x.asked x.said (q.file, r) a plans h
 
-  -- the store's own plan passes its tests
-  plan_passes : (k : Corruption) → PlanFails (setup_of q) (x ∷ []) k → ⊥
-  plan_passes k h =
-      let honest = plan_honest h.plan h.query h.said in
-      let multi : Bool = q.options.multirange in
-      let passes = honest_accepted s valid q.file h.query multi in
-      let fails : failed_test (plan_of s q.file h.query) h.query multi ≡ Some k = subst (λ (p : Shape). failed_test p h.query multi ≡ Some k) honest.2 h.fails in
-      wrong _ k passes fails
-    where
-      wrong : (o : Option Corruption) (k : Corruption) → o ≡ None → o ≡ Some k → ⊥
-      wrong o k e f = cc
+-- a plan that was said is of a stored file
+plan_stored : (s : Store) (q : Wanted) (xs : List Exchange) → FirstHonest s xs → (p : Plan) (r : FileRange) → IsPlanSaid (setup_of q) xs p r → IsSome (file_of s q.file)
+plan_stored s q [] plans p r h = absurd h.answer
+plan_stored s q (x ∷ xs) plans p r h = (honest_answer s x.asked x.said (q.file, r) (Found p) plans (record { place = h.answer.place; query = h.answer.query; answer = h.answer.answer })).0
 
-  -- and its refreshes are not refused
-  refresh_accepted : (k : Corruption) → RefreshFails (setup_of q) (x ∷ []) k → ⊥
-  refresh_accepted k h =
-      let own = plan_honest h.plan h.query h.accepted.said in
-      let again = answer_honest _ h.answer h.answered in
-      wrong _ _ (refresh_passes (setup_of q) s valid h.plan h.query own h.accepted.said.some h.answer again) h.fails
-    where
-      wrong : (o : Option FileReconstructionError) (e : FileReconstructionError) → o ≡ None → o ≡ Some e → ⊥
-      wrong o k e f = cc
+-- a file that isn't stored has no pieces
+no_pieces : (s : Store) (q : Wanted) (xs : List Exchange) → FirstHonest s xs → (looks : List Look) (ts : List SaidTerm) (pieces : List (List ℕ)) → IsNone (file_of s q.file) → AllZip (IsSaidPiece (setup_of q) xs looks) ts pieces → pieces ≡ []
+no_pieces s q xs plans looks ts [] none h = refl
+no_pieces s q xs plans looks [] (p ∷ pieces) none h = absurd h
+no_pieces s q xs plans looks (t ∷ ts) (p ∷ pieces) none h =
+    let accepted = h.0.of_plan.place.accepted in
+    absurd (not_both (file_of s q.file) none (plan_stored s q xs plans h.0.of_plan.place.plan h.0.of_plan.place.query accepted.said))
+  where
+    not_both : {A : Type 0} (o : Option A) → IsNone o → IsSome o → ⊥
+    not_both None n h = cc
+    not_both (Some y) n h = cc
 
-  -- a file that isn't stored has no pieces
-  no_pieces : (looks : List Look) (ts : List SaidTerm) (pieces : List (List ℕ)) → IsNone (file_of s q.file) → AllZip (IsSaidPiece (setup_of q) (x ∷ []) looks) ts pieces → pieces ≡ []
-  no_pieces looks ts [] none h = refl
-  no_pieces looks [] (p ∷ pieces) none h = absurd h
-  no_pieces looks (t ∷ ts) (p ∷ pieces) none h =
-      let accepted = h.0.of_plan.place.accepted in
-      absurd (not_both (file_of s q.file) none (plan_honest h.0.of_plan.place.plan h.0.of_plan.place.query accepted.said).0)
-    where
-      not_both : {A : Type 0} (o : Option A) → IsNone o → IsSome o → ⊥
-      not_both None n h = cc
-      not_both (Some y) n h = cc
+-- ---- queries that all cut the range
 
--- ---- blocks as answers
+cut_within : (before : List FileRange) (qs : List Query) (cut : List FileRange) → AskedCut before qs cut → length cut ≤ length qs
+cut_within before [] cut h = rw h (omega arith)
+cut_within before (q ∷ qs) [] h = omega arith
+cut_within before (q ∷ qs) (c ∷ cs) (inl h) = let z = cut_within (c ∷ before) qs cs h.1 in omega (arith, z)
+cut_within before (q ∷ qs) (c ∷ cs) (inr h) = let z = cut_within before qs (c ∷ cs) h.1 in omega (arith, z)
 
--- the blocks that were given, as answers that were said
-abbrev pub front : List BlockBytes → List Said
-front gave = map (λ b. said.Block (Bytes b)) gave
+-- these have bytes
+abbrev Forward : List Query → Type 0
+Forward qs = All (λ (q : Query). q.1.start < q.1.end) qs
 
-length-front : (gave : List BlockBytes) → length (front gave) ≡ length gave
-length-front [] = refl
-length-front (b ∷ gave) = ap suc (length-front gave)
+forward : (before : List FileRange) (qs : List Query) (cut : List FileRange) (place end bound : ℕ) → AskedCut before qs cut → length qs ≤ length cut → CutFrom place end bound cut → Forward qs
+forward before [] cut place end bound h few c = All-nil _
+forward before (q ∷ qs) [] place end bound h few c = absurd (omega (arith, few))
+forward before (q ∷ qs) (r ∷ rs) place end bound (inl h) few c =
+    let here : q.1.start < q.1.end = rw h.0 c.1 in
+    All-cons (λ (p : Query). p.1.start < p.1.end) q qs here (forward (r ∷ before) qs rs r.end end bound h.1 (omega (arith, few)) c.4)
+forward before (q ∷ qs) (r ∷ rs) place end bound (inr h) few c =
+    absurd (let z = cut_within before qs (r ∷ rs) h.1 in omega (arith, z, few))
 
-bytes_in-front : (gave : List BlockBytes) (rest : List Said) → bytes_in (front gave ++ rest) ≡ gave ++ bytes_in rest
-bytes_in-front [] rest = refl
-bytes_in-front (b ∷ gave) rest = ap (λ (l : List BlockBytes). b ∷ l) (bytes_in-front gave rest)
+at_place : (P : Query → Type 0) (qs : List Query) (k : ℕ) (q : Query) → All P qs → slice_get qs k ≡ Some q → P q
+at_place P [] k q all e = absurd (cc)
+at_place P (p ∷ qs) zero q all e = let same : p ≡ q = cc in rw (← same) (All-head P p qs all)
+at_place P (p ∷ qs) (suc k) q all e = at_place P qs k q (All-tail P p qs all) e
 
--- bytes that are made of what a tap told
-from_told : (s : Store) (q : Wanted) (t u : TapTold) (xs es : List Served) (gs hs : List BlockBytes) → t.passed ≡ Some xs → u.passed ≡ Some es → t.gave ≡ Some gs → u.gave ≡ Some hs
-    → (x : Exchange) (looks : List Look) (status : Status) (bytes : List ℕ) → IsPassed s (drop (length xs) es) (drop (length gs) hs) x → GaveNothing q looks → IsMade s q (x ∷ []) looks status bytes → FromTap s q t u status bytes
-from_told s q t u xs es gs hs e f g i x looks status bytes p w m = rw (e, f, g, i) (record { x = x; passed = p; looks = looks; looked = w; made = m })
+-- ---- the tests of plans never fail
 
--- ---- one connection
+module _ (pass : HonestAnswersPass) (s : Store) (valid : IsValid s) (q : Wanted) (x : Exchange) (xs : List Exchange) (plans : PlansAreHonest s x.asked (plans_in x.said)) (has_bytes : Forward x.asked) where
+  -- the first connection's queries and answers alone
+  abbrev bare : Exchange
+  bare = record { asked = x.asked; served = []; said = x.said }
 
-module _ (s : Store) (valid : IsValid s) (q : Wanted) (c d : ClientTold) (t u : TapTold) (k l : CacheTold) (b n : SinkTold)
-    (same : causes.failing_setting (setup_of q) (c ∷ []) ≡ failing_setting q) where
+  no_blocks : (p k : ℕ) (b : XorbBlock) (given : BlockBytes) → SomeOne (λ y. IsBlockAnswer y p k b given) (bare ∷ []) → ⊥
+  no_blocks p k b given (inl h) = no_some _ h.entry
+  no_blocks p k b given (inr h) = h
+
+  honest : AreHonest s (setup_of q) (bare ∷ [])
+  honest = record {
+    plans = λ r a h. record {
+      forward = at_place (λ (p : Query). p.1.start < p.1.end) x.asked h.place (q.file, r) has_bytes h.query;
+      is = honest_answer s x.asked x.said (q.file, r) a plans (record { place = h.place; query = h.query; answer = h.answer });
+    };
+    blocks = λ p k b given h. absurd (no_blocks p k b given h);
+  }
+
+  said_by : (p : Plan) (r : FileRange) → IsPlanSaid (setup_of q) (x ∷ xs) p r → IsPlanSaid (setup_of q) (bare ∷ []) p r
+  said_by p r h = record {
+    number = h.number;
+    answer = record { place = h.answer.place; some = h.answer.some; at = h.answer.at; query = h.answer.query; answer = h.answer.answer };
+    some = h.some;
+    from = h.from;
+    to = h.to;
+  }
+
+  accepted_by : (p : Plan) (r : FileRange) → IsPlanAccepted (setup_of q) (x ∷ xs) p r → IsPlanAccepted (setup_of q) (bare ∷ []) p r
+  accepted_by p r h = record { said = said_by p r h.said; passes = h.passes }
+
+  answered_by : (r : FileRange) (a : PlanAnswer) → IsQueryAnswer q.file (x ∷ xs) r a → IsQueryAnswer q.file (bare ∷ []) r a
+  answered_by r a h = record { place = h.place; query = h.query; answer = h.answer }
+
+  block_failed : (k : Corruption) → SomeFailed (setup_of q) (x ∷ xs) k → BlockFailed (setup_of q) (x ∷ xs) (corruption_number k)
+  block_failed k (inl f) = absurd (pass s valid (setup_of q) (bare ∷ []) honest k (inl (record { plan = f.plan; query = f.query; said = said_by f.plan f.query f.said; fails = f.fails })))
+  block_failed k (inr (inl f)) = absurd (pass s valid (setup_of q) (bare ∷ []) honest k (inr (inl (record {
+    plan = f.plan;
+    query = f.query;
+    accepted = accepted_by f.plan f.query f.accepted;
+    answer = f.answer;
+    answered = answered_by _ f.answer f.answered;
+    fails = f.fails;
+  }))))
+  block_failed k (inr (inr (inl f))) = record { test = k; number_is = refl; fails = inl f }
+  block_failed k (inr (inr (inr f))) = record { test = k; number_is = refl; fails = inr f }
+
+-- ---- what was written
+
+module _ (pass : HonestAnswersPass) (s : Store) (valid : IsValid s) (q : Wanted) (cs ds : List ClientTold) (k l : CacheTold) (b n : SinkTold)
+    (same : causes.failing_setting (setup_of q) cs ≡ failing_setting q)
+    (xs : List Exchange) (is : all_exchanges cs ds ≡ Some xs) (plans : FirstHonest s xs) (unexpired : expired_answers xs ≡ 0) where
   -- what was written, over these blocks
-  abbrev Made : Result ℕ FileReconstructionError → Exchange → List Look → Type 0
-  Made answer x looks = (bytes : List ℕ) × Took b.took n.took bytes × IfSome (result_ok answer) (λ m. m ≡ length bytes) × IsMade s q (x ∷ []) looks (status_of_answer answer) bytes
+  abbrev Made : Result ℕ FileReconstructionError → List Look → Type 0
+  Made answer looks = (bytes : List ℕ) × Took b.took n.took bytes × IfSome (result_ok answer) (λ m. m ≡ length bytes) × IsMade s q xs looks (status_of_answer answer) bytes
 
-  module _ (x : Exchange) (is : exchange_of c d ≡ Some x) (plans : PlansAreHonest s x.asked (plans_in x.said))
-      (looks : List Look) (looked : new_in k.looked l.looked ≡ Some looks) where
-    made : (answer : Result ℕ FileReconstructionError) → Legal (setup_of q) (told_of (c ∷ []) k b) (told_of (d ∷ []) l n) answer → Made answer x looks
-    made (Ok m) h =
-        let all : TookWhole (setup_of q) (x ∷ []) looks b n m =
-        subst (λ (v : Option (List Look)). IfSome v (λ ls. TookWhole (setup_of q) (x ∷ []) ls b n m)) looked
-        (subst (λ (o : Option Exchange). IfSome (with_exchange o (Some [])) (λ xs. IfSome (new_in k.looked l.looked) (λ ls. TookWhole (setup_of q) xs ls b n m))) is h.whole) in
-        (concat all.pieces, all.took, all.total, record { all = all.all; pieces = all.pieces; each = all.each; is = refl })
-    made (Err e) h = by_error e h.cause
-      where
-        some : TookTested (setup_of q) (x ∷ []) looks b n
-        some =
-            subst (λ (v : Option (List Look)). IfSome v (λ ls. TookTested (setup_of q) (x ∷ []) ls b n)) looked
-            (subst (λ (o : Option Exchange). IfSome (with_exchange o (Some [])) (λ xs. IfSome (new_in k.looked l.looked) (λ ls. TookTested (setup_of q) xs ls b n))) is h.tested)
+  -- what holds of what was heard holds of what is told
+  here : (P : List Exchange → Type 0) (answer : Result ℕ FileReconstructionError) (h : Legal (setup_of q) (told_of cs k b) (told_of ds l n) answer) → P h.heard.list → P xs
+  here P answer h p =
+      let heard : xs ≡ h.heard.list = subst (λ (o : Option (List Exchange)). IfSome o (λ ys. ys ≡ h.heard.list)) is (all_told cs ds h.heard.list h.heard.told) in
+      subst P (sym heard) p
 
-        bytes : List ℕ
-        bytes = take some.took.count (concat some.pieces)
+  -- the test that failed is a block's or a term's
+  block_is : (test : Corruption) → FirstAsksFew (setup_of q) xs → SomeFailed (setup_of q) xs test → BlockFailed (setup_of q) xs (corruption_number test)
+  block_is test few failed = by xs plans unexpired few failed
+    where
+      by : (xs : List Exchange) → FirstHonest s xs → expired_answers xs ≡ 0 → FirstAsksFew (setup_of q) xs → SomeFailed (setup_of q) xs test → BlockFailed (setup_of q) xs (corruption_number test)
+      by [] plans none few (inl f) = absurd f.said.answer
+      by [] plans none few (inr (inl f)) = absurd f.answered
+      by [] plans none few (inr (inr (inl f))) = absurd f.bytes
+      by [] plans none few (inr (inr (inr f))) = absurd f.bytes
+      by (x ∷ xs) plans none few failed =
+          let count = few.few in
+          let cuts : CutsRange (setup_of q) few.cut = few.cuts in
+          block_failed pass s valid q x xs plans (forward [] x.asked few.cut q.range.start q.range.end (greatest_of q.options + least_of q.options) few.asked (omega (arith, count, none)) cuts.from) test failed
 
-        first : FirstBytes (setup_of q) (x ∷ []) looks bytes
-        first = inr (record { planning = some.planning; pieces = some.pieces; each = some.each; count = some.took.count; is = refl })
+  pub made : (answer : Result ℕ FileReconstructionError) → (h : Legal (setup_of q) (told_of cs k b) (told_of ds l n) answer) → Made answer h.looks.list
+  made (Ok m) h =
+      let all : TookWhole (setup_of q) xs h.looks.list b n m = here (λ xs. TookWhole (setup_of q) xs h.looks.list b n m) (Ok m) h h.whole in
+      (concat all.pieces, all.took, all.total, record { all = all.all; pieces = all.pieces; each = all.each; is = refl })
+  made (Err e) h = by_error e (here (λ xs. Cause (setup_of q) xs (told_of cs k b) (told_of ds l n) e) (Err e) h h.cause)
+    where
+      some : TookTested (setup_of q) xs h.looks.list b n
+      some = here (λ xs. TookTested (setup_of q) xs h.looks.list b n) (Err e) h h.tested
 
-        by_error : (e : FileReconstructionError) → Cause (setup_of q) (told_of (c ∷ []) k b) (told_of (d ∷ []) l n) e → Made (Err e) x looks
-        by_error error.OutOfMemory h = (bytes, some.took.took, tt, first)
-        by_error error.ClientError h = (bytes, some.took.took, tt, first)
-        by_error error.FileNotFound h =
-            let said = subst (λ (o : Option Exchange). IfSome (with_exchange o (Some [])) (λ xs. (r : FileRange) × IsQueryAnswer q.file xs r NoFile)) is h.said in
-            let none = answer_honest s valid q x plans said.0 NoFile said.1 in
-            let nothing = no_pieces s valid q x plans looks (take (length some.pieces) (some_said (setup_of q) some.planning.parts)) some.pieces none some.each in
-            (bytes, some.took.took, tt, ((h.some, none), rw nothing (take-nil some.took.count)))
-        by_error error.UrlExpired h = (bytes, some.took.took, tt, first)
-        by_error error.IoError h = (bytes, some.took.took, tt, first)
-        by_error (error.CorruptedReconstruction test) h =
-            let failed = subst (λ (o : Option Exchange). IfSome (with_exchange o (Some [])) (λ xs. SomeFailed (setup_of q) xs test)) is h.failed in
-            (bytes, some.took.took, tt, (first, by_failure failed))
-          where
-            by_failure : SomeFailed (setup_of q) (x ∷ []) test → BlockFailed (setup_of q) (x ∷ []) (corruption_number test)
-            by_failure (inl f) = absurd (plan_passes s valid q x plans test f)
-            by_failure (inr (inl f)) = absurd (refresh_accepted s valid q x plans test f)
-            by_failure (inr (inr f)) = record { test = test; number_is = refl; fails = f }
-        by_error (error.ConfigurationError e) f =
-            let took : n.took ≡ b.took = ap (λ (t : RunTold). t.sink.took) (h.settings e f).1 in
-            ([], took ∙ took_same b.took, tt, (sym same ∙ f, refl))
-        by_error error.Cancelled h = (bytes, some.took.took, tt, first)
-        by_error (error.InternalWriterError w) h = (bytes, some.took.took, tt, first)
+      bytes : List ℕ
+      bytes = take some.took.count (concat some.pieces)
 
-  -- the lists that a connection behind a tap tells when it is made, and those at last, where the tap had given as many
-  -- blocks when it was made
-  module _ (asked : List Query) (all : List Said) (start : TapTold)
-      (c_asked : c.asked ≡ Some []) (d_asked : d.asked ≡ Some asked)
-      (c_said : c.said ≡ option_map (λ gave. front gave ++ []) t.gave) (d_said : d.said ≡ option_map (λ gave. front gave ++ all) start.gave)
-      (c_served : c.served ≡ t.passed) (d_served : d.served ≡ u.passed) (count : given_count start ≡ given_count t)
-      (given : option_map bytes_in d.said ≡ u.gave) (plans : PlansAreHonest s asked (plans_in all))
-      (answer : Result ℕ FileReconstructionError) (h : Legal (setup_of q) (told_of (c ∷ []) k b) (told_of (d ∷ []) l n) answer) where
-    abbrev Written : Type 0
-    Written = Wrote (FromTap s q t u) b n (status_of_answer answer) (result_ok answer)
+      first : FirstBytes (setup_of q) xs h.looks.list bytes
+      first = inr (record { planning = some.planning; pieces = some.pieces; each = some.each; count = some.took.count; is = refl })
 
-    -- all lists are told
-    known : (looks : List Look) → new_in k.looked l.looked ≡ Some looks → GaveNothing q looks
-        → (xs es : List Served) (gs fs hs : List BlockBytes) → t.passed ≡ Some xs → u.passed ≡ Some es → t.gave ≡ Some gs → start.gave ≡ Some fs → u.gave ≡ Some hs → Written
-    known looks looked nothing xs es gs fs hs e f g j i =
-        let x : Exchange = record { asked = asked; served = drop (length xs) es; said = all } in
-        let said0 : c.said ≡ Some (front gs ++ []) = rw (c_said, g) refl in
-        let said1 : d.said ≡ Some (front fs ++ all) = rw (d_said, j) refl in
-        let served0 : c.served ≡ Some xs = c_served ∙ e in
-        let served1 : d.served ≡ Some es = d_served ∙ f in
-        let size : length fs ≡ length gs = sym (ap size_of j) ∙ count ∙ ap size_of g in
-        let place : length (front fs) ≡ length (front gs ++ []) = length-front fs ∙ size ∙ sym (length-front gs) ∙ ap length (sym (append-nil (front gs))) in
-        let new_said : drop (length (front gs ++ [])) (front fs ++ all) ≡ all = drop_at (front fs) all (length (front gs ++ [])) place in
-        let is : exchange_of c d ≡ Some x = rw (c_asked, d_asked, said0, said1, served0, served1, new_said) refl in
-        let made_of = made x is plans looks looked answer h in
-        let all_given : fs ++ bytes_in all ≡ hs = some_same _ _ (sym (ap (λ (l : List BlockBytes). Some l) (bytes_in-front fs all)) ∙ rw said1 at given ∙ i) in
-        let new_given : bytes_in all ≡ drop (length gs) hs = rw (← all_given) (sym (drop_at fs (bytes_in all) (length gs) size)) in
-        let passed : IsPassed s (drop (length xs) es) (drop (length gs) hs) x = record { served_is = refl; blocks_are = new_given; plans = plans } in
-        inl (record { bytes = made_of.0; took = made_of.1; total = made_of.2; from = from_told s q t u xs es gs hs e f g i x looks (status_of_answer answer) made_of.0 passed nothing made_of.3 })
-      where
-        size_of : Option (List BlockBytes) → ℕ
-        size_of o = length (unwrap_or o [])
-
-        some_same : (x y : List BlockBytes) → ◌≡◌ {A = Option (List BlockBytes)} (Some x) (Some y) → x ≡ y
-        some_same x y e = cc
-
-    told_at_first : (looks : List Look) → new_in k.looked l.looked ≡ Some looks → GaveNothing q looks
-        → (xs es : List Served) (gs hs : List BlockBytes) (o : Option (List BlockBytes)) → t.passed ≡ Some xs → u.passed ≡ Some es → t.gave ≡ Some gs → start.gave ≡ o → u.gave ≡ Some hs → Written
-    told_at_first looks looked nothing xs es gs hs None e f g j i = absurd (untold (rw (d_said, j) at given ∙ i))
-      where
-        untold : ◌≡◌ {A = Option (List BlockBytes)} None (Some hs) → ⊥
-        untold e = cc
-    told_at_first looks looked nothing xs es gs hs (Some fs) e f g j i = known looks looked nothing xs es gs fs hs e f g j i
-
-    wrote : (looks : List Look) → new_in k.looked l.looked ≡ Some looks → GaveNothing q looks
-        → (xs es : Option (List Served)) (gs hs : Option (List BlockBytes)) → t.passed ≡ xs → u.passed ≡ es → t.gave ≡ gs → u.gave ≡ hs → Written
-    wrote looks looked nothing None es gs hs e f g i = inr (λ status bytes. rw e tt)
-    wrote looks looked nothing (Some xs) None gs hs e f g i = inr (λ status bytes. rw (e, f) tt)
-    wrote looks looked nothing (Some xs) (Some es) None hs e f g i = inr (λ status bytes. rw (e, f, g) tt)
-    wrote looks looked nothing (Some xs) (Some es) (Some gs) None e f g i = inr (λ status bytes. rw (e, f, g, i) tt)
-    wrote looks looked nothing (Some xs) (Some es) (Some gs) (Some hs) e f g i = told_at_first looks looked nothing xs es gs hs start.gave e f g refl i
-
-    pub behind_one : d.faults ≡ 0 → d.expiries ≡ 0 → (t.honest ≡ true → c.store ≡ Some s) → BehindOne s q t u k l b n answer
-    behind_one f1 e1 told = record {
-      all = behind_all s valid q (t.honest ≡ true) (c ∷ []) (d ∷ []) k l b n (λ honest. (told honest, tt)) (f1, e1, tt) same answer h;
-      chunks = λ honest none. by_answer answer (h.chunks s (record { tell = (told honest, tt); valid = valid }) none);
-      any = λ looks looked nothing. wrote looks looked nothing t.passed u.passed t.gave u.gave refl refl refl refl;
-    }
-      where
-        -- the list of one connection
-        joined_one : (o : Option (List Served)) (P : List Served → Type 0) → IfSome (joined o (Some [])) P → IfSome o P
-        joined_one None P h = tt
-        joined_one (Some xs) P h = subst P (append-nil xs) h
-
-        passed_one : IfSome (joined (new_in c.served d.served) (Some [])) (AllServed s q.file q.range) → IfSome (new_in t.passed u.passed) (AllServed s q.file q.range)
-        passed_one h =
-            subst (λ (z : Option (List Served)). IfSome (new_in z u.passed) (AllServed s q.file q.range)) c_served
-            (subst (λ (z : Option (List Served)). IfSome (new_in c.served z) (AllServed s q.file q.range)) d_served
-            (joined_one (new_in c.served d.served) _ h))
-
-        by_answer : (a : Result ℕ FileReconstructionError) → OnOk a (IfSome (joined (new_in c.served d.served) (Some [])) (AllServed s q.file q.range)) → OnOk a (IfSome (new_in t.passed u.passed) (AllServed s q.file q.range))
-        by_answer (Ok m) h = passed_one h
-        by_answer (Err e) h = tt
+      by_error : (e : FileReconstructionError) → Cause (setup_of q) xs (told_of cs k b) (told_of ds l n) e → Made (Err e) h.looks.list
+      by_error error.OutOfMemory h = (bytes, some.took.took, tt, first)
+      by_error error.ClientError h = (bytes, some.took.took, tt, first)
+      by_error error.FileNotFound cause =
+          let said = cause.said in
+          let none = answer_honest s q xs plans said.0 NoFile said.1 in
+          let nothing = no_pieces s q xs plans h.looks.list (take (length some.pieces) (some_said (setup_of q) some.planning.parts)) some.pieces none some.each in
+          (bytes, some.took.took, tt, ((cause.some, none), rw nothing (take-nil some.took.count)))
+      by_error error.UrlExpired h = (bytes, some.took.took, tt, first)
+      by_error error.IoError h = (bytes, some.took.took, tt, first)
+      by_error (error.CorruptedReconstruction test) cause =
+          (bytes, some.took.took, tt, (first, block_is test (here (FirstAsksFew (setup_of q)) (Err e) h h.refreshed) cause.failed))
+      by_error (error.ConfigurationError e) f =
+          let took : n.took ≡ b.took = ap (λ (t : RunTold). t.sink.took) (h.settings e f).1 in
+          ([], took ∙ took_same b.took, tt, (sym same ∙ f, refl))
+      by_error error.Cancelled h = (bytes, some.took.took, tt, first)
+      by_error (error.InternalWriterError w) h = (bytes, some.took.took, tt, first)

@@ -1,5 +1,5 @@
--- What passed the taps of `get`, and which bytes a run makes of the blocks that the first one handed on.
-use Rattle.std.specs.Prelude.{ℕ, ◌≡◌, ◌⊎◌, false, List, [], ◌∷◌, count_by, take, length, true, Bool, All, Option, Some, None, IfSome}
+-- What passed the taps of `get`, and which bytes a run makes of the blocks that they handed on.
+use Rattle.std.specs.Prelude.{ℕ, ◌≡◌, ◌⊎◌, false, List, [], ◌∷◌, count_by, drop, take, length, map, true, Bool, All, Option, Some, None, IfSome}
 use Rattle.std.specs.List.{AllZip, concat}
 use Rattle.xet_base.specs.Store.{Store}
 use Rattle.xet_outside.specs.Answers.{bytes_in, plans_in}
@@ -10,7 +10,7 @@ use Rattle.xet_store.specs.Taps.{TapTold}
 use Rattle.xet_error.specs.declared.error.Corruption.{Corruption}
 use Rattle.xet_error.specs.declared.error.Setting.{Setting}
 use Rattle.xet_error.specs.Errors.{corruption_number}
-use Rattle.xet_ties.specs.Causes.{BlockFails, EndFails, TermFails}
+use Rattle.xet_ties.specs.Causes.{BlockFails, TermFails}
 use Rattle.xet_ties.specs.Cuts.{IsSaidPiece, Planning, PlansAll, some_said}
 use Rattle.xet_ties.specs.InCall.{Exchange, Look, joined, new_in}
 use Rattle.xet_ties.specs.Setup.{Setup}
@@ -20,24 +20,61 @@ use Rattle.xet_tool.specs.declared.status.Status.TheVariants.{Done, BadWords, Ba
 use Rattle.xet_tool.specs.GetOptions.{lanes_of}
 use Rattle.xet_tool.specs.Wanted.{IsMissing, failing_setting, setup_of}
 
--- each tap hands each block on as it came
-abbrev pub AllHonest : List TapTold → Type 0
-AllHonest taps = All (λ t. t.honest ≡ true) taps
+-- ---- the taps of the lanes
 
--- what all taps together passed in a call, where each tells it
+-- the taps that the lanes of a run stand behind: the first ones
+abbrev pub lane_taps : Wanted → List TapTold → List TapTold
+lane_taps wanted taps = take (lanes_of wanted.options) taps
+
+-- each of these hands each block on as it came
+abbrev pub LanesHonest : Wanted → List TapTold → Type 0
+LanesHonest wanted taps = All (λ t. t.honest ≡ true) (lane_taps wanted taps)
+
+-- each tap is honest exactly where it was, and those past the lanes are as they were
+pub record TapsGoOn (wanted : Wanted) (before after : List TapTold) : Type 0 where
+  pub honest : map (λ t. t.honest) after ≡ map (λ t. t.honest) before
+  pub past : drop (lanes_of wanted.options) after ≡ drop (lanes_of wanted.options) before
+
+-- ---- what passed
+
+-- the requests of what all of some taps passed in a call, where each tells it
 abbrev pub all_passed : List TapTold → List TapTold → Option (List Served)
 all_passed (t ∷ ts) (u ∷ us) = joined (new_in t.passed u.passed) (all_passed ts us)
 all_passed [] [] = Some []
 all_passed [] (u ∷ us) = None
 all_passed (t ∷ ts) [] = None
 
+-- what passed one tap: the requests of the blocks, and the blocks as it handed them on
+pub record Passage : Type 0 where
+  pub served : List Served
+  pub blocks : List BlockBytes
+
+abbrev pub passage : Option (List Served) → Option (List BlockBytes) → Option Passage
+passage (Some es) (Some bs) = Some (record { served = es; blocks = bs })
+passage (Some es) None = None
+passage None bs = None
+
+-- one more, where all are told
+abbrev pub with_passage : Option Passage → Option (List Passage) → Option (List Passage)
+with_passage (Some p) (Some ps) = Some (p ∷ ps)
+with_passage (Some p) None = None
+with_passage None ps = None
+
+-- what passed each of some taps in a call, where each tells it
+abbrev pub all_passages : List TapTold → List TapTold → Option (List Passage)
+all_passages (t ∷ ts) (u ∷ us) =
+    with_passage (passage (new_in t.passed u.passed) (new_in t.gave u.gave)) (all_passages ts us)
+all_passages [] [] = Some []
+all_passages [] (u ∷ us) = None
+all_passages (t ∷ ts) [] = None
+
 -- ---- what a run makes of the blocks that a tap handed on
 
--- the run's side of a call behind a tap: it was asked for these blocks and handed these on, each in answer to its own
--- request, and its queries were answered by the store
-pub record IsPassed (store : Store) (served : List Served) (blocks : List BlockBytes) (x : Exchange) : Type 0 where
-  pub served_is : x.served ≡ served
-  pub blocks_are : bytes_in x.said ≡ blocks
+-- a connection's side of a call behind a tap: it was asked for these blocks and handed these on, each in answer to its
+-- own request, and its queries were answered by the store
+pub record IsPassed (store : Store) (p : Passage) (x : Exchange) : Type 0 where
+  pub served_is : x.served ≡ p.served
+  pub blocks_are : bytes_in x.said ≡ p.blocks
   pub plans : PlansAreHonest store x.asked (plans_in x.said)
 
 -- a look into a cache gave an entry
@@ -71,12 +108,11 @@ pub record SomeFirst (setup : Setup) (xs : List Exchange) (looks : List Look) (b
 abbrev pub FirstBytes : Setup → List Exchange → List Look → List ℕ → Type 0
 FirstBytes setup xs looks bytes = (bytes ≡ []) ⊎ SomeFirst setup xs looks bytes
 
--- a block of a plan fails the test of this number, or passes and a term fails it in the block; or a plan with terms was
--- answered to a query past the end that the answer to another one told
+-- a block of a plan fails the test of this number, or passes and a term fails it in the block
 pub record BlockFailed (setup : Setup) (xs : List Exchange) (number : ℕ) : Type 0 where
   pub test : Corruption
   pub number_is : number ≡ corruption_number test
-  pub fails : BlockFails setup xs test ⊎ TermFails setup xs test ⊎ EndFails setup xs test
+  pub fails : BlockFails setup xs test ⊎ TermFails setup xs test
 
 -- the bytes of a run with this status, over this store and these blocks
 abbrev pub IsMade : Store → Wanted → List Exchange → List Look → Status → List ℕ → Type 0
@@ -88,24 +124,17 @@ IsMade store wanted xs looks (BadBlock number) bytes =
 IsMade store wanted xs looks (BadSettings e) bytes = (failing_setting wanted ≡ Some e) × (bytes ≡ [])
 IsMade store wanted xs looks _ bytes = ⊥
 
--- a run over one connection made these bytes of the blocks that were handed on
-pub record MadeOf (store : Store) (wanted : Wanted) (served : List Served) (blocks : List BlockBytes) (status : Status)
+-- a run over connections, each behind one of the taps, made these bytes of the blocks that were handed on
+pub record MadeOf (store : Store) (wanted : Wanted) (passages : List Passage) (status : Status)
     (bytes : List ℕ) : Type 0 where
-  pub x : Exchange
-  pub passed : IsPassed store served blocks x
+  pub xs : List Exchange
+  pub passed : AllZip (IsPassed store) passages xs
   pub looks : List Look
   pub looked : GaveNothing wanted looks
-  pub made : IsMade store wanted (x ∷ []) looks status bytes
+  pub made : IsMade store wanted xs looks status bytes
 
--- the same, of the blocks that a tap told in a call, where it tells what passed and what it handed on
-abbrev pub FromTap : Store → Wanted → TapTold → TapTold → Status → List ℕ → Type 0
-FromTap store wanted before after status bytes =
-    IfSome (new_in before.passed after.passed) (λ served. IfSome (new_in before.gave after.gave) (λ blocks.
-    MadeOf store wanted served blocks status bytes))
-
--- and of those of the first of some taps, where there is one lane
+-- the same, of the blocks that passed the taps of the lanes in a call, where each of these tells it
 abbrev pub FromTaps : Store → Wanted → List TapTold → List TapTold → Status → List ℕ → Type 0
-FromTaps store wanted (t ∷ ts) (u ∷ us) status bytes =
-    lanes_of wanted.options ≡ 1 → FromTap store wanted t u status bytes
-FromTaps store wanted [] us status bytes = Unit {0}
-FromTaps store wanted (t ∷ ts) [] status bytes = Unit {0}
+FromTaps store wanted before after status bytes =
+    IfSome (all_passages (lane_taps wanted before) (lane_taps wanted after)) (λ passages.
+    MadeOf store wanted passages status bytes)

@@ -2,6 +2,7 @@
 pub mod AddedMembers
 pub mod ChunkEnds
 pub mod LaterFlushes
+pub mod OwnTaps
 pub mod PrintedDigits
 pub mod Printing
 pub mod Reading

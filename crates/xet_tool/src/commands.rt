@@ -65,12 +65,12 @@ pub fn run_words<R: Threads + Wait + Sync, I: Source, O: Sink, T: Tap + Send>(
     words: &[String],
     input: &mut I,
     out: &mut O,
-    taps: &mut [T],
+    taps: &mut Vec<T>,
 ) -> Status
-    requires { length taps.old ≡ 64 }
+    requires { length taps.old.items ≡ 64 }
     ensures outcome { Outcome input_limit (command_of (map string_bytes words.now))
-        (record { source = I.told input.old; sink = O.told out.old; taps = map T.told taps.old })
-        (record { source = I.told input.new; sink = O.told out.new; taps = map T.told taps.new }) result }
+        (record { source = I.told input.old; sink = O.told out.old; taps = map T.told taps.old.items })
+        (record { source = I.told input.new; sink = O.told out.new; taps = map T.told taps.new.items }) result }
     ensures flushed { IsFlushed result (O.told out.new) }
 {
     match read_words(words) {

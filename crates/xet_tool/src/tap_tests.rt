@@ -31,9 +31,9 @@ fn printed<R: Threads + Wait + Sync, T: Tap + Send>(
     alloc: Global,
     digit: char,
     range: &str,
-    taps: &mut [T],
+    taps: &mut Vec<T>,
 ) -> Result<(u8, VecSink), AllocError>
-    requires { length taps.old ≡ 64 }
+    requires { length taps.old.items ≡ 64 }
 {
     let mut file = String::new(alloc);
     for _ in 0..64 {
@@ -107,7 +107,7 @@ fn what_a_tap_hands_on_is_printed(rt: HostRuntime) -> Result<(), Fail> {
     for (offsets, bytes, wanted, text) in cases {
         let mut taps = lying_taps(rt.alloc(), offsets, bytes)?;
         assert_eq!(rt; taps.len(), 64);
-        let (status, out) = printed(&rt, rt.alloc(), 'a', "0 end", taps.as_mut_slice())?;
+        let (status, out) = printed(&rt, rt.alloc(), 'a', "0 end", &mut taps)?;
         assert_eq!(rt; status, wanted, "at {bytes}");
         assert!(rt; out.taken() == text.as_bytes(), "at {bytes}");
     }
@@ -157,12 +157,34 @@ fn each_block_passes_the_first_tap_once(rt: HostRuntime) -> Result<(), Fail> {
             taps.push(MemTap::new(rt.alloc()))?;
         }
         assert_eq!(rt; taps.len(), 64);
-        let (status, out) = printed(&rt, rt.alloc(), file, range, taps.as_mut_slice())?;
+        let (status, out) = printed(&rt, rt.alloc(), file, range, &mut taps)?;
         assert_eq!(rt; status, 0, "at {range}");
         assert!(rt; out.taken() == text.as_bytes(), "at {range}");
+        assert_eq!(rt; taps.len(), 64);
         let passed = text_of(rt.alloc(), taps[0].passed())?;
         assert_eq!(rt; passed.as_str(), blocks, "at {range}");
         assert!(rt; taps[1].passed().is_empty(), "at {range}");
     }
+    Ok(())
+}
+
+#[test]
+fn each_block_passes_the_tap_of_one_lane(rt: HostRuntime) -> Result<(), Fail> {
+    let mut taps = Vec::new(rt.alloc());
+    for _ in 0..64 {
+        taps.push(MemTap::new(rt.alloc()))?;
+    }
+    assert_eq!(rt; taps.len(), 64);
+    let range = "4 13 lanes=2";
+    let (status, out) = printed(&rt, rt.alloc(), 'b', range, &mut taps)?;
+    assert_eq!(rt; status, 0);
+    assert!(rt; out.taken() == "642148656c6c6f4865\nok 9\n".as_bytes());
+    assert_eq!(rt; taps.len(), 64);
+    let mut passed = 0usize;
+    for tap in taps.iter() {
+        passed = passed.saturating_add(tap.passed().len());
+    }
+    assert_eq!(rt; passed, 2);
+    assert!(rt; taps[2].passed().is_empty());
     Ok(())
 }

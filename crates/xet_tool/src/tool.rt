@@ -26,18 +26,18 @@ use xet_store::{Sink, Source, Tap};
 /// - 7, a line end and `error settings K`: exactly where the input is a document of a valid store and setting K of the
 ///   words fails first, whatever the file and the range are. Nothing was fetched.
 /// - 8, `error input`: exactly where the input has more than 67,108,864 bytes, which is the limit.
-/// - 12, `error block K` after the digits of some bytes and a line end: over a tap that isn't honest. With one lane,
-///   and where the first tap tells what passed and what it handed on, K is the test that a block of a plan of the
-///   store's, or a term in one, fails in what it handed on, or that of terms past an end that was told. Never over taps
-///   that hand each block on as it came.
+/// - 12, `error block K` after the digits of some bytes and a line end: over a tap that isn't honest. Where the taps of
+///   the lanes tell what passed and what they handed on, K is the test that a block of a plan of the store's, or a term
+///   in one, fails in what they handed on. Never over taps that hand each block on as it came.
 ///
-/// "Exactly" yields to 5 and 6, and for 2, 3, 7 and 8 to 4 too: a read may fail first. What is said of the bytes of a
-/// store's file is said over taps that hand each block on as it came, for all options. With one lane and no cache, over
-/// such taps that tell what passed, each chunk with a byte in the range passed with status 0. With one lane, over a
-/// first tap of any kind that tells what passed and what it handed on, the digits of status 0 are those of all terms of
-/// the store's own plans in these blocks, which pass their tests, and with another status those of some first bytes; a
-/// cache may give other blocks that pass the tests. What passed a tap isn't known with more lanes. There are 64 taps,
-/// of which no more are asked than there are lanes, and with 1, 2, 4 and 8 and for `track` none.
+/// "Exactly" yields to 5 and 6, and for 2, 3, 7 and 8 to 4 too: a read may fail first. There are 64 taps: while a run
+/// of `get` goes on each is owned by a connection, the first by those of the lanes, and handed back then; the others
+/// are as before, and with 1, 2, 4 and 8 and for `track` all are. Each tap is as honest afterwards as it was. What is
+/// said of the bytes of a store's file is said where those of the lanes hand each block on as it came, for all options.
+/// Without `cache`, over such taps that tell what passed, each chunk with a byte in the range passed one of them with
+/// status 0. Over taps of any kind that tell what passed and what they handed on, the digits of status 0 are those of
+/// all terms of the store's own plans in these blocks, which pass their tests, and with another status those of some
+/// first bytes; a cache may give other blocks that pass the tests.
 ///
 /// With 1, 2, 4 and 8, but 2 of `track`, that line and nothing else was printed. With 5 and 6 a prefix of one text was
 /// printed: of the text of another status, of which all that is said here holds; or of `error memory`, for `get` with
@@ -49,12 +49,12 @@ pub fn run_tool<R: Threads + Wait + Sync, I: Source, O: Sink + Send, T: Tap + Se
     words: &[String],
     input: &mut I,
     out: &mut O,
-    taps: &mut [T],
+    taps: &mut Vec<T>,
 ) -> u8
-    requires { length taps.old ≡ 64 }
+    requires { length taps.old.items ≡ 64 }
     ensures { Answers input_limit (map string_bytes words.now)
-        (record { source = I.told input.old; sink = O.told out.old; taps = map T.told taps.old })
-        (record { source = I.told input.new; sink = O.told out.new; taps = map T.told taps.new }) result }
+        (record { source = I.told input.old; sink = O.told out.old; taps = map T.told taps.old.items })
+        (record { source = I.told input.new; sink = O.told out.new; taps = map T.told taps.new.items }) result }
 {
     run_words(rt, alloc, words, input, out, taps).number()
 }
@@ -85,13 +85,14 @@ mod tests {
             }
             let mut input = VecSource::new(text.as_bytes().to_vec(rt.alloc())?);
             let mut out = VecSink::new(rt.alloc());
+            let mut taps = Vec::from_array(rt.alloc(), [NoTap; 64])?;
             let number = run_tool(
                 &rt,
                 rt.alloc(),
                 words.as_slice(),
                 &mut input,
                 &mut out,
-                &mut [NoTap; 64],
+                &mut taps,
             );
             assert_eq!(rt; number, status, "at {line}");
             assert!(rt; out.taken() == printed.as_bytes());

@@ -1,5 +1,5 @@
 -- What each status of the command `get` says.
-use Rattle.std.specs.Prelude.{ℕ, ◌≡◌, ◌⊎◌, false, List, [], drop, length, take, None, Some, IfSome}
+use Rattle.std.specs.Prelude.{ℕ, ◌≡◌, ◌⊎◌, false, List, [], length, take, None, Some, IfSome}
 use Rattle.xet_base.specs.Store.{Store}
 use Rattle.xet_outside.specs.Told.{Rose, SinkTold, Took, TookPrefix}
 use Rattle.xet_error.specs.declared.error.Setting.{Setting}
@@ -10,8 +10,7 @@ use Rattle.xet_tool.specs.declared.commands.get.wanted.Wanted.{Wanted}
 use Rattle.xet_tool.specs.AnyBytes.{AnyCut, AnyGet}
 use Rattle.xet_tool.specs.Document.{IsOfStore, OfNoDocument}
 use Rattle.xet_tool.specs.Ends.{IsTooLong, Told, WasReadToEnd}
-use Rattle.xet_tool.specs.GetOptions.{lanes_of}
-use Rattle.xet_tool.specs.Taps.{AllHonest, FromTaps, all_passed}
+use Rattle.xet_tool.specs.Taps.{FromTaps, LanesHonest, TapsGoOn, all_passed, lane_taps}
 use Rattle.xet_tool.specs.Texts.{get_text, line, ok_line}
 use Rattle.xet_tool.specs.Wanted.{IsFound, IsMissing, failing_setting, wanted_bytes}
 
@@ -36,12 +35,13 @@ pub record IsPrinted (store : Store) (wanted : Wanted) (before after : SinkTold)
   pub found : IsFound store wanted
   pub took : Took before.took after.took (done_text store wanted)
 
--- and, with what the taps passed, each chunk of the file that has a byte in the range passed one in this call, where
--- there is one lane and no cache
+-- and each chunk of the file that has a byte in the range passed one of the taps in this call, where each tells what
+-- passed and there is no cache
 pub record IsGot (store : Store) (wanted : Wanted) (before after : Told) : Type 0 where
   pub printed : IsPrinted store wanted before.sink after.sink
-  pub passed : lanes_of wanted.options ≡ 1 → wanted.options.cache ≡ false
-      → IfSome (all_passed before.taps after.taps) (AllServed store wanted.file wanted.range)
+  pub passed : wanted.options.cache ≡ false
+      → IfSome (all_passed (lane_taps wanted before.taps) (lane_taps wanted after.taps))
+      (AllServed store wanted.file wanted.range)
 
 -- a store without the file
 pub record IsRefused (store : Store) (wanted : Wanted) (before after : SinkTold) : Type 0 where
@@ -59,14 +59,14 @@ IsCutGet store wanted before after =
 
 -- ---- what holds of each run
 
--- the input was read to its end and is a document of this store, and no tap past the lanes was asked
+-- the input was read to its end and is a document of this store; each tap is as honest as it was, and none past the
+-- lanes was asked
 pub record OverStore (limit : ℕ) (store : Store) (wanted : Wanted) (before after : Told) : Type 0 where
   pub read : WasReadToEnd limit before.source after.source
   pub document : IsOfStore before.source store
-  pub others : drop (lanes_of wanted.options) after.taps ≡ drop (lanes_of wanted.options) before.taps
+  pub go_on : TapsGoOn wanted before.taps after.taps
 
--- over any taps: what was printed are the digits of bytes, with one lane of those that the run made of the blocks that
--- the first tap handed on
+-- over any taps: what was printed are the digits of bytes that the run made of the blocks that the taps handed on
 abbrev pub GetAny : Store → Wanted → Told → Told → Status → Type 0
 GetAny store wanted before after status =
     AnyGet (FromTaps store wanted before.taps after.taps) before.sink after.sink status
@@ -78,7 +78,7 @@ pub record GetDone (limit : ℕ) (wanted : Wanted) (before after : Told) : Type 
   pub store : Store
   pub over : OverStore limit store wanted before after
   pub settings : failing_setting wanted ≡ None
-  pub honest : AllHonest before.taps → IsGot store wanted before after
+  pub honest : LanesHonest wanted before.taps → IsGot store wanted before after
   pub any : GetAny store wanted before after Done
 
 -- 2: the input is a document of no store
@@ -93,7 +93,7 @@ pub record GetNotFound (limit : ℕ) (wanted : Wanted) (before after : Told) : T
   pub store : Store
   pub over : OverStore limit store wanted before after
   pub settings : failing_setting wanted ≡ None
-  pub honest : AllHonest before.taps → IsRefused store wanted before.sink after.sink
+  pub honest : LanesHonest wanted before.taps → IsRefused store wanted before.sink after.sink
   pub any : GetAny store wanted before after NotFound
 
 -- 4: the input failed
@@ -115,31 +115,34 @@ pub record GetTooLong (limit : ℕ) (before after : Told) : Type 0 where
   pub unasked : after.taps ≡ before.taps
   pub took : Took before.sink.took after.sink.took (line TooLong)
 
--- 12: a block that the first tap handed on fails the test of this number, where the tap tells what it handed on
+-- 12: a block that a tap handed on fails the test of this number, where the taps tell what they handed on
 pub record GetBadBlock (limit : ℕ) (wanted : Wanted) (before after : Told) (number : ℕ) : Type 0 where
   pub store : Store
   pub over : OverStore limit store wanted before after
   pub settings : failing_setting wanted ≡ None
-  pub dishonest : AllHonest before.taps → ⊥
+  pub dishonest : LanesHonest wanted before.taps → ⊥
   pub any : GetAny store wanted before after (BadBlock number)
 
 -- a document of a store, of which a prefix of a text was printed
 pub record GetCut (limit : ℕ) (wanted : Wanted) (before after : Told) : Type 0 where
   pub store : Store
   pub over : OverStore limit store wanted before after
-  pub honest : AllHonest before.taps → IsCutGet store wanted before.sink after.sink
+  pub honest : LanesHonest wanted before.taps → IsCutGet store wanted before.sink after.sink
   pub any : AnyCut (FromTaps store wanted before.taps after.taps) before.sink after.sink
 
--- what was printed where a write failed or memory ended, of any input: a prefix of `error memory`, or of the text of
--- another status where the input is as that status says
+-- and of an input that was not a document, or not yet: a prefix of `error memory`, or of the text of another status
+-- where the input is as that status says. No tap was asked
+pub record IsCutUnasked (limit : ℕ) (before after : Told) : Type 0 where
+  pub unasked : after.taps ≡ before.taps
+  pub text : TookPrefix before.sink.took after.sink.took (line NoMemory)
+      ⊎ (Rose before.source.faults after.source.faults × TookPrefix before.sink.took after.sink.took (line ReadFault))
+      ⊎ (IsTooLong limit before.source × TookPrefix before.sink.took after.sink.took (line TooLong))
+      ⊎ (WasReadToEnd limit before.source after.source × OfNoDocument before.source
+      × TookPrefix before.sink.took after.sink.took (line BadStore))
+
+-- what was printed where a write failed or memory ended
 abbrev pub IsCut : ℕ → Wanted → Told → Told → Type 0
-IsCut limit wanted before after =
-    TookPrefix before.sink.took after.sink.took (line NoMemory)
-    ⊎ (Rose before.source.faults after.source.faults × TookPrefix before.sink.took after.sink.took (line ReadFault))
-    ⊎ (IsTooLong limit before.source × TookPrefix before.sink.took after.sink.took (line TooLong))
-    ⊎ (WasReadToEnd limit before.source after.source × OfNoDocument before.source
-    × TookPrefix before.sink.took after.sink.took (line BadStore))
-    ⊎ GetCut limit wanted before after
+IsCut limit wanted before after = IsCutUnasked limit before after ⊎ GetCut limit wanted before after
 
 -- `get` over an input, by its status
 abbrev pub GetOutcome : ℕ → Wanted → Told → Told → Status → Type 0

@@ -1,5 +1,5 @@
 -- What the functions that print the digits of a range say.
-use Rattle.std.specs.Prelude.{ℕ, ◌≡◌, ◌⊎◌, ◌≤◌, false, List, [], drop, length, take, Option, None, Some, IfSome, IfOk, IfErr, OnOk, Result, Ok, Err}
+use Rattle.std.specs.Prelude.{ℕ, ◌≡◌, ◌⊎◌, ◌≤◌, false, List, [], length, take, Option, None, Some, IfSome, IfOk, IfErr, OnOk, Result, Ok, Err}
 use Rattle.std.specs.Result.{result_ok}
 use Rattle.hex.specs.Hex.{encode_lower}
 use Rattle.xet_base.specs.Store.{Store}
@@ -20,8 +20,7 @@ use Rattle.xet_tool.specs.declared.commands.get.digits.Printed.TheVariants.{All 
 use Rattle.xet_tool.specs.declared.commands.get.wanted.Wanted.{Wanted}
 use Rattle.xet_tool.specs.declared.status.Status.{Status}
 use Rattle.xet_tool.specs.declared.status.Status.TheVariants as status
-use Rattle.xet_tool.specs.GetOptions.{lanes_of}
-use Rattle.xet_tool.specs.Taps.{AllHonest, FromTaps, all_passed}
+use Rattle.xet_tool.specs.Taps.{FromTaps, LanesHonest, TapsGoOn, all_passed, lane_taps}
 use Rattle.xet_tool.specs.Wanted.{IsFound, IsMissing, failing_setting, setup_of, wanted_bytes}
 
 -- what the arguments of a run tell that no signal stops
@@ -75,22 +74,22 @@ pub record TookMade (P : Status → List ℕ → Type 0) (b n : SinkTold) (statu
 abbrev pub Wrote : (Status → List ℕ → Type 0) → SinkTold → SinkTold → Status → Option ℕ → Type 0
 Wrote P b n status count = TookMade P b n status count ⊎ ((status : Status) (bytes : List ℕ) → P status bytes)
 
--- each chunk with a byte in the window passed a tap, where there is one lane and no cache
+-- each chunk with a byte in the window passed a tap, where there is no cache
 abbrev pub AllPassed : Store → Wanted → List TapTold → List TapTold → Type 0
-AllPassed s q ts us = lanes_of q.options ≡ 1 → q.options.cache ≡ false
-    → IfSome (all_passed ts us) (AllServed s q.file q.range)
+AllPassed s q ts us = q.options.cache ≡ false
+    → IfSome (all_passed (lane_taps q ts) (lane_taps q us)) (AllServed s q.file q.range)
 
 -- a run over connections to a valid store behind taps
 pub record Tapped (s : Store) (q : Wanted) (ts us : List TapTold) (b n : SinkTold)
     (answer : Result ℕ FileReconstructionError) : Type 0 where
-  pub exact : AllHonest ts → IfOk answer (IsExact s (setup_of q) b n)
-  pub prefix : AllHonest ts → TookPrefix b.took n.took (wanted_bytes s q)
-  pub cause : IfErr answer (TapCause s q (AllHonest ts) b n)
+  pub exact : LanesHonest q ts → IfOk answer (IsExact s (setup_of q) b n)
+  pub prefix : LanesHonest q ts → TookPrefix b.took n.took (wanted_bytes s q)
+  pub cause : IfErr answer (TapCause s q (LanesHonest q ts) b n)
   pub settings : (e : Setting) → failing_setting q ≡ Some e → IsRefusal e answer × (n.took ≡ b.took)
-  pub chunks : AllHonest ts → OnOk answer (AllPassed s q ts us)
+  pub chunks : LanesHonest q ts → OnOk answer (AllPassed s q ts us)
   pub counts : CountsOk b n answer
   pub any : Wrote (FromTaps s q ts us) b n (status_of_answer answer) (result_ok answer)
-  pub others : drop (lanes_of q.options) us ≡ drop (lanes_of q.options) ts
+  pub go_on : TapsGoOn q ts us
   pub faults : b.faults ≤ n.faults
   pub link : n.link ≡ b.link
 
@@ -155,14 +154,14 @@ PassedAs s q ts us _ = Unit {0}
 
 -- a run, with how far the bytes were printed
 pub record Ran (s : Store) (q : Wanted) (ts us : List TapTold) (b n : SinkTold) (answer : Printed) : Type 0 where
-  pub bytes : AllHonest ts → RanAs s q b n answer
+  pub bytes : LanesHonest q ts → RanAs s q b n answer
   pub settings : SettingsAs q answer
   pub nothing : NothingAs b n answer
   pub counts : CountedAs b n answer
   pub stops : StopsAs answer b n
   pub any : Wrote (FromTaps s q ts us) b n (status_of_printed answer) (count_of answer)
-  pub chunks : AllHonest ts → PassedAs s q ts us answer
-  pub others : drop (lanes_of q.options) us ≡ drop (lanes_of q.options) ts
+  pub chunks : LanesHonest q ts → PassedAs s q ts us answer
+  pub go_on : TapsGoOn q ts us
   pub faults : b.faults ≤ n.faults
   pub link : n.link ≡ b.link
 
@@ -215,11 +214,11 @@ pub record AnyDigits (P : Status → List ℕ → Type 0) (b n : SinkTold) (answ
 -- the digits that were printed from blocks that the taps handed on
 pub record DigitsBehind (s : Store) (q : Wanted) (ts us : List TapTold) (b n : SinkTold)
     (answer : Printed) : Type 0 where
-  pub digits : AllHonest ts → DigitsOf s q b n answer
+  pub digits : LanesHonest q ts → DigitsOf s q b n answer
   pub settings : SettingsAs q answer
   pub nothing : NothingAs b n answer
   pub stops : StopsAs answer b n
   pub any : AnyDigits (FromTaps s q ts us) b n answer
-  pub chunks : AllHonest ts → PassedAs s q ts us answer
-  pub others : drop (lanes_of q.options) us ≡ drop (lanes_of q.options) ts
+  pub chunks : LanesHonest q ts → PassedAs s q ts us answer
+  pub go_on : TapsGoOn q ts us
   pub faults : b.faults ≤ n.faults

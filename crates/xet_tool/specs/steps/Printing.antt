@@ -1,5 +1,5 @@
 -- What the functions that print texts and the command `get` say.
-use Rattle.std.specs.Prelude.{ℕ, ◌≡◌, ◌⊎◌, List, drop, None, Some}
+use Rattle.std.specs.Prelude.{ℕ, ◌≡◌, ◌⊎◌, List, None, Some}
 use Rattle.serde_json.specs.Data.{Data}
 use Rattle.xet_base.specs.Store.{Store}
 use Rattle.xet_outside.specs.declared.sink.SinkError.{SinkError}
@@ -12,9 +12,8 @@ use Rattle.xet_tool.specs.declared.commands.get.wanted.Wanted.{Wanted}
 use Rattle.xet_tool.specs.Document.{Reads}
 use Rattle.xet_tool.specs.AnyBytes.{AnyGet}
 use Rattle.xet_tool.specs.commands.Get.{IsCutGet, IsPrinted, IsRefused, settings_text}
-use Rattle.xet_tool.specs.GetOptions.{lanes_of}
 use Rattle.xet_tool.specs.Outcome.{Finished}
-use Rattle.xet_tool.specs.Taps.{AllHonest, FromTaps}
+use Rattle.xet_tool.specs.Taps.{FromTaps, LanesHonest, TapsGoOn}
 use Rattle.xet_tool.specs.Texts.{line}
 use Rattle.xet_tool.specs.Wanted.{failing_setting}
 use Rattle.xet_tool.specs.steps.PrintedDigits.{AllPassed}
@@ -47,12 +46,13 @@ SettingsFrom q b n _ = Unit {0}
 
 -- what was done over a store and the taps, by the status
 pub record GotFrom (s : Store) (q : Wanted) (ts us : List TapTold) (b n : SinkTold) (status : Status) : Type 0 where
-  pub honest : AllHonest ts → GetFrom s q b n status
+  pub honest : LanesHonest q ts → GetFrom s q b n status
   pub settings : SettingsFrom q b n status
   pub any : AnyGet (FromTaps s q ts us) b n status
-  pub chunks : AllHonest ts → status ≡ Done → AllPassed s q ts us
-  pub others : drop (lanes_of q.options) us ≡ drop (lanes_of q.options) ts
+  pub chunks : LanesHonest q ts → status ≡ Done → AllPassed s q ts us
+  pub go_on : TapsGoOn q ts us
 
--- the same, or want of memory before it
+-- the same, or want of memory before it, and then no tap was asked
 abbrev pub PrintedWithin : Store → Wanted → List TapTold → List TapTold → SinkTold → SinkTold → Status → Type 0
-PrintedWithin s q ts us b n status = GotFrom s q ts us b n status ⊎ Finished (line NoMemory) NoMemory b n status
+PrintedWithin s q ts us b n status =
+    GotFrom s q ts us b n status ⊎ ((us ≡ ts) × Finished (line NoMemory) NoMemory b n status)

@@ -1,5 +1,5 @@
 -- What runs over connections to a store say, whose blocks go through taps.
-use Rattle.std.specs.Prelude.{ℕ, ◌≡◌, ◌≤◌, true, List, [], ◌∷◌, drop, Some, IfSome, IfOk, IfErr, OnOk, Result}
+use Rattle.std.specs.Prelude.{false, ℕ, ◌≡◌, ◌≤◌, List, [], Some, IfSome, IfOk, IfErr, OnOk, Result}
 use Rattle.std.specs.Result.{result_ok}
 use Rattle.xet_base.specs.Store.{Store}
 use Rattle.xet_outside.specs.Told.{CacheTold, ClientTold, SinkTold, TookPrefix}
@@ -11,17 +11,14 @@ use Rattle.xet_ties.specs.InCall.{Look, new_in}
 use Rattle.xet_ties.specs.Legal.{IsExact}
 use Rattle.xet_ties.specs.Setup.{CacheTells}
 use Rattle.xet_tool.specs.declared.commands.get.wanted.Wanted.{Wanted}
-use Rattle.xet_tool.specs.GetOptions.{lanes_of}
-use Rattle.xet_tool.specs.Taps.{AllHonest, FromTap, FromTaps, GaveNothing, all_passed}
+use Rattle.xet_tool.specs.Taps.{FromTaps, GaveNothing, LanesHonest, TapsGoOn, all_passed, lane_taps}
 use Rattle.xet_tool.specs.Wanted.{failing_setting, setup_of, wanted_bytes}
+use Rattle.xet_tool.specs.steps.OwnTaps.{behind_own}
 use Rattle.xet_tool.specs.steps.PrintedDigits.{CountsOk, IsRefusal, TapCause, Wrote, status_of_answer}
 
--- each connection behind an honest tap tells the store
-abbrev pub AreConnections : Store → List TapTold → List ClientTold → Type 0
-AreConnections s [] [] = Unit {0}
-AreConnections s [] (c ∷ cs) = ⊥
-AreConnections s (t ∷ ts) [] = ⊥
-AreConnections s (t ∷ ts) (c ∷ cs) = (t.honest ≡ true → c.store ≡ Some s) × AreConnections s ts cs
+-- a connection that was asked nothing yet, to this store behind this tap
+abbrev pub IsNew : Store → TapTold → ClientTold → Type 0
+IsNew s t c = c ≡ behind_own s (record { asked = []; said = []; served = [] }) t t
 
 -- a run over connections to a valid store behind taps, where `H` says that these are honest
 pub record BehindAll (s : Store) (q : Wanted) (H : Type 0) (k : CacheTold) (b n : SinkTold)
@@ -34,21 +31,12 @@ pub record BehindAll (s : Store) (q : Wanted) (H : Type 0) (k : CacheTold) (b n 
   pub faults : b.faults ≤ n.faults
   pub link : n.link ≡ b.link
 
--- a run over one connection behind a tap
-pub record BehindOne (s : Store) (q : Wanted) (t u : TapTold) (k l : CacheTold) (b n : SinkTold)
-    (answer : Result ℕ FileReconstructionError) : Type 0 where
-  pub all : BehindAll s q (t.honest ≡ true) k b n answer
-  pub chunks : t.honest ≡ true → l.entries ≡ Some []
-      → OnOk answer (IfSome (new_in t.passed u.passed) (AllServed s q.file q.range))
-  pub any : (looks : List Look) → new_in k.looked l.looked ≡ Some looks → GaveNothing q looks
-      → Wrote (FromTap s q t u) b n (status_of_answer answer) (result_ok answer)
-
 -- a run over as many connections as are wanted, with a cache
 pub record BehindTaps (s : Store) (q : Wanted) (ts us : List TapTold) (k l : CacheTold) (b n : SinkTold)
     (answer : Result ℕ FileReconstructionError) : Type 0 where
-  pub all : BehindAll s q (AllHonest ts) k b n answer
-  pub chunks : AllHonest ts → l.entries ≡ Some []
-      → OnOk answer (lanes_of q.options ≡ 1 → IfSome (all_passed ts us) (AllServed s q.file q.range))
-  pub any : (looks : List Look) → new_in k.looked l.looked ≡ Some looks → GaveNothing q looks
+  pub all : BehindAll s q (LanesHonest q ts) k b n answer
+  pub chunks : LanesHonest q ts → l.entries ≡ Some []
+      → OnOk answer (IfSome (all_passed (lane_taps q ts) (lane_taps q us)) (AllServed s q.file q.range))
+  pub any : (q.options.cache ≡ false → l.entries ≡ Some [])
       → Wrote (FromTaps s q ts us) b n (status_of_answer answer) (result_ok answer)
-  pub others : drop (lanes_of q.options) us ≡ drop (lanes_of q.options) ts
+  pub go_on : TapsGoOn q ts us

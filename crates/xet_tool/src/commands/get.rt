@@ -10,10 +10,10 @@ ghost use Rattle.xet_tool.specs.steps.Printing.{GotFrom, NoData, PrintedWithin};
 mod connections;
 mod digits;
 mod document;
-mod empty_cache;
 mod hex_digits;
 mod numbers;
 pub mod options;
+mod tapped_client;
 pub mod wanted;
 
 use crate::commands::get::digits::{Printed, print_digits};
@@ -73,11 +73,11 @@ fn print<R: Threads + Wait + Sync, T: Tap + Send, O: Sink>(
     wanted: Wanted,
     view: BookView,
     store: &MemStore,
-    taps: &mut [T],
+    taps: &mut Vec<T>,
     out: &mut O,
 ) -> Status
-    requires { length taps.old ≡ 64 }
-    ensures printed { GotFrom store.now wanted (map T.told taps.old) (map T.told taps.new)
+    requires { length taps.old.items ≡ 64 }
+    ensures printed { GotFrom store.now wanted (map T.told taps.old.items) (map T.told taps.new.items)
         (O.told out.old) (O.told out.new) result }
     ensures flushed { IsFlushed result (O.told out.new) }
 {
@@ -103,11 +103,11 @@ fn print_within<R: Threads + Wait + Sync, T: Tap + Send, O: Sink>(
     alloc: Global,
     wanted: Wanted,
     store: &MemStore,
-    taps: &mut [T],
+    taps: &mut Vec<T>,
     out: &mut O,
 ) -> Status
-    requires { length taps.old ≡ 64 }
-    ensures printed { PrintedWithin store.now wanted (map T.told taps.old) (map T.told taps.new)
+    requires { length taps.old.items ≡ 64 }
+    ensures printed { PrintedWithin store.now wanted (map T.told taps.old.items) (map T.told taps.new.items)
         (O.told out.old) (O.told out.new) result }
     ensures flushed { IsFlushed result (O.told out.new) }
 {
@@ -125,12 +125,12 @@ pub fn get<R: Threads + Wait + Sync, I: Source, O: Sink, T: Tap + Send>(
     wanted: Wanted,
     input: &mut I,
     out: &mut O,
-    taps: &mut [T],
+    taps: &mut Vec<T>,
 ) -> Status
-    requires { length taps.old ≡ 64 }
+    requires { length taps.old.items ≡ 64 }
     ensures outcome { GetOutcome input_limit wanted
-        (record { source = I.told input.old; sink = O.told out.old; taps = map T.told taps.old })
-        (record { source = I.told input.new; sink = O.told out.new; taps = map T.told taps.new }) result }
+        (record { source = I.told input.old; sink = O.told out.old; taps = map T.told taps.old.items })
+        (record { source = I.told input.new; sink = O.told out.new; taps = map T.told taps.new.items }) result }
     ensures flushed { IsFlushed result (O.told out.new) }
 {
     let text = match read_to_end(alloc, input, LIMIT) {

@@ -7,4 +7,4 @@ use Rattle.xet_tool.proofs.commands.run_words.Goals as goal
 pub returns-in-Some-Track-clause-outcome : goal.returns-in-Some-Track-clause-outcome
 returns-in-Some-Track-clause-outcome g c =
     let is : command_of (map string_bytes c.args.words.now) ≡ Some Track = search rules in
-    rw is (c.track.ensures.outcome (map g.T.Tap.told c.args.taps.now))
+    rw is (c.track.ensures.outcome (map g.T.Tap.told c.args.taps.now.items))

@@ -36,11 +36,11 @@ fn run<R: Threads + Wait + Sync, T: Tap + Send, O: Sink>(
     wanted: Wanted,
     view: BookView,
     store: &MemStore,
-    taps: &mut [T],
+    taps: &mut Vec<T>,
     out: &mut O,
 ) -> Printed
-    requires { length taps.old ≡ 64 }
-    ensures { Ran store.now wanted (map T.told taps.old) (map T.told taps.new)
+    requires { length taps.old.items ≡ 64 }
+    ensures { Ran store.now wanted (map T.told taps.old.items) (map T.told taps.new.items)
         (O.told out.old) (O.told out.new) result }
 {
     match run_on_store(rt, alloc, wanted, view, store, taps, out) {
@@ -67,11 +67,11 @@ fn drive<R: Threads + Wait + Sync, T: Tap + Send, O: Sink>(
     wanted: Wanted,
     view: BookView,
     store: &MemStore,
-    taps: &mut [T],
+    taps: &mut Vec<T>,
     digits: &mut HexSink<O>,
 ) -> Printed
-    requires { length taps.old ≡ 64 }
-    ensures { Driven store.now wanted (map T.told taps.old) (map T.told taps.new)
+    requires { length taps.old.items ≡ 64 }
+    ensures { Driven store.now wanted (map T.told taps.old.items) (map T.told taps.new.items)
         (⟦<HexSink<O> as Sink>⟧.told digits.old) (⟦<HexSink<O> as Sink>⟧.told digits.new)
         (O.told digits.new.start.value).took (O.told digits.new.inner).took result }
 {
@@ -93,11 +93,11 @@ pub fn print_digits<R: Threads + Wait + Sync, T: Tap + Send, O: Sink>(
     wanted: Wanted,
     view: BookView,
     store: &MemStore,
-    taps: &mut [T],
+    taps: &mut Vec<T>,
     out: &mut O,
 ) -> Printed
-    requires { length taps.old ≡ 64 }
-    ensures { DigitsBehind store.now wanted (map T.told taps.old) (map T.told taps.new)
+    requires { length taps.old.items ≡ 64 }
+    ensures { DigitsBehind store.now wanted (map T.told taps.old.items) (map T.told taps.new.items)
         (O.told out.old) (O.told out.new) result }
 {
     let mut digits = HexSink::new(LaterFlush::new(out));

@@ -21,9 +21,9 @@ returns g c =
     (later_told (borrowed_told (told n.start.value.flushed.value.now) n.start.value.flushed.value.ghost_name) (borrowed_told (told n.start.value.inner.now) n.start.value.inner.ghost_name))
     (later_told (borrowed_told (told n.known.value.flushed.value.now) n.known.value.flushed.value.ghost_name) (borrowed_told (told n.known.value.inner.now) n.known.value.inner.ghost_name))
     (later_told (borrowed_told (told n.inner.flushed.value.now) n.inner.flushed.value.ghost_name) (borrowed_told (told n.inner.inner.now) n.inner.inner.ghost_name)) n.digits in
-    let r = digits_of c.args.store.now c.args.wanted (map g.T.Tap.told c.args.taps.now) (map g.T.Tap.told c.drive-printed.new.taps) bt nt t0 t1
+    let r = digits_of c.args.store.now c.args.wanted (map g.T.Tap.told c.args.taps.now.items) (map g.T.Tap.told c.drive-printed.new.taps.items) bt nt t0 t1
     (told n.start.value.inner.now).took s.inner.inner.ghost_name n.inner.inner.ghost_name c.drive-printed.result
     (search rules) (search rules) (search rules) refl refl c.drive-printed.ensures c.into_inner.ensures.text in
     let name : n.inner.inner.ghost_name ≡ s.inner.inner.ghost_name = r.1 in
-    let run : DigitsBehind c.args.store.now c.args.wanted (map g.T.Tap.told c.args.taps.now) (map g.T.Tap.told c.drive-printed.new.taps) bt nt c.drive-printed.result = r.0 in
+    let run : DigitsBehind c.args.store.now c.args.wanted (map g.T.Tap.told c.args.taps.now.items) (map g.T.Tap.told c.drive-printed.new.taps.items) bt nt c.drive-printed.result = r.0 in
     search rules

@@ -1,0 +1,12 @@
+use Rattle.std.proofs.Common.{◌≡◌, ◌+◌, ◌≤◌, ◌++◌, length, map}
+use Rattle.std.specs.Prelude.{reverse, vec_capacity, vec_len}
+use Rattle.xet_tool.proofs.commands.get.connections.hand_back.Given as goal
+
+abbrev pub invariant-loop-client : goal.invariant-loop-client
+invariant-loop-client g l = record {
+  room : vec_len l.clients + vec_len l.taps ≤ vec_capacity l.taps;
+  joined : l.taps.items ++ map (λ c. c.tap) (reverse l.clients.items) ≡ map (λ c. c.tap) l.fn.clients.items;
+}
+
+abbrev pub decreases-loop-client : goal.decreases-loop-client
+decreases-loop-client g l = vec_len l.clients
