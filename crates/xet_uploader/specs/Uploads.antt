@@ -32,6 +32,8 @@ pub record PutXorbCall (before after : UploaderTold) (xorb : Xorb) (answer : Res
   pub answered : after.answered ≡ before.answered
   pub faults : before.faults ≤ after.faults
   pub failed : IsErrOf answer client_error.Failed → Rose before.faults after.faults
+  pub unfailed : OnOk answer (after.faults ≡ before.faults)
+  pub memory : IsErrOf answer client_error.OutOfMemory → after.faults ≡ before.faults
 
 -- one call of `put_shard`
 pub record PutShardCall (before after : UploaderTold) (shard : ShardRecord)
@@ -42,6 +44,8 @@ pub record PutShardCall (before after : UploaderTold) (shard : ShardRecord)
   pub answered : after.answered ≡ before.answered
   pub faults : before.faults ≤ after.faults
   pub failed : IsErrOf answer client_error.Failed → Rose before.faults after.faults
+  pub unfailed : OnOk answer (after.faults ≡ before.faults)
+  pub memory : IsErrOf answer client_error.OutOfMemory → after.faults ≡ before.faults
 
 -- the chunk was asked for at most once, and no other was
 abbrev pub AskedOnce : UploaderTold → UploaderTold → MerkleHash → Type 0

@@ -22,15 +22,15 @@ pub trait Uploader {
     /// count of faults.
     ghost told: { Self → UploaderTold };
 
-    /// Stores a xorb, and answers how many bytes were sent. `Failed` comes only where the count of faults rose. A
-    /// refused put leaves the log.
+    /// Stores a xorb, and answers how many bytes were sent. `Failed` comes only where the count of faults rose,
+    /// and it rises with no other answer. A refused put leaves the log.
     ///
     /// In the Rust crates: `cas_client::Client::upload_xorb`.
     fn put_xorb(&mut self, alloc: Global, xorb: &Xorb) -> Result<u64, ClientError>
         ensures { PutXorbCall (told self.old) (told self.new) xorb.now result };
 
-    /// Stores records, and answers how many bytes were sent. `Failed` comes only where the count of faults rose. A
-    /// refused put leaves the log.
+    /// Stores records, and answers how many bytes were sent. `Failed` comes only where the count of faults rose,
+    /// and it rises with no other answer. A refused put leaves the log.
     ///
     /// In the Rust crates: `cas_client::Client::upload_shard`.
     fn put_shard(&mut self, alloc: Global, shard: &ShardRecord) -> Result<u64, ClientError>
