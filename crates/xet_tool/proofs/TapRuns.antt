@@ -23,8 +23,7 @@ use Rattle.xet_outside.specs.declared.said.Said.TheVariants as said
 use Rattle.xet_outside.specs.declared.served.Served.{Served}
 use Rattle.xet_outside.specs.Told.{CacheTold, ClientTold, IsHonest, Query, SinkTold, Took}
 use Rattle.xet_store.specs.HonestPlans.{PlansAreHonest}
-use Rattle.xet_store.proofs.CallerLemmas.{honest_answer}
-use Rattle.xet_store.proofs.TapConnections.{with_block, with_plan}
+use Rattle.xet_store.proofs.CallerLemmas.{honest_answer, with_block, with_plan}
 use Rattle.xet_store.specs.declared.client_log.ClientLog.{ClientLog}
 use Rattle.xet_store.specs.Taps.{TapTold, given_count}
 use Rattle.xet_error.specs.declared.error.Corruption.{Corruption}
