@@ -1,12 +1,12 @@
 -- Marks on chunks, and the ranges of the marked ones.
-use Rattle.std.proofs.Common.{◌≡◌, ℕ, zero, suc, ◌+◌, ◌-◌, ◌≤◌, ◌<◌, Bool, true, false, cond, ◌||◌, ◌&&◌, List, [], ◌∷◌, ◌++◌, length, take, get_or, set, reverse, min, max, refl, sym, ◌∙◌, ap, arith}
+use Rattle.std.proofs.Common.{◌≡◌, ℕ, zero, suc, ◌+◌, ◌-◌, ◌≤◌, ◌<◌, Bool, true, false, cond, ◌||◌, ◌&&◌, List, [], ◌∷◌, ◌++◌, length, take, get_or, set, reverse, min, max, inl, inr, refl, sym, ◌∙◌, ap, arith}
 use Rattle.std.specs.Prelude.{filter, nat_le, nat_lt}
 use Rattle.std.specs.List.{range_with_len}
-use Rattle.std.proofs.lemmas.Bool.{le-ltb, lt-leb, eq-eqb}
+use Rattle.std.proofs.lemmas.Bool.{cases_lt, le-leb, le-ltb, lt-leb, lt-ltb, eq-eqb}
 use Rattle.std.proofs.lemmas.List.{get_or-set_same, take_more, take_all, reverse-append, length-set, take-set-le, get_or_default}
 use Rattle.xet_base.specs.declared.cas_types.ChunkRange.{ChunkRange}
 use Rattle.xet_outside.specs.Plan.{with_number, ranges_of}
-use Rattle.xet_store.specs.steps.Marks.{IsMarkedWithin}
+use Rattle.xet_store.specs.steps.Marks.{AreMarked, IsMarkedWithin}
 
 -- the number lies from a on and before b
 abbrev pub between : ℕ → ℕ → ℕ → Bool
@@ -127,3 +127,89 @@ none_before ms (suc l) h is =
     ap (λ (i : ℕ). filter p (range_with_len l i)) n ∙ ap (λ b. cond b (l ∷ rest) rest) (is l (omega arith)) in
     ap (λ (i : ℕ). filter p (range_with_len i (length ms - suc l))) (sym m) ∙ sym step
     ∙ none_before ms l (omega (arith, h)) (λ k a. is k (omega (arith, a)))
+
+-- ---- chunks that are all marked
+
+and_true : (b c : Bool) → b ≡ true → c ≡ true → (b && c) ≡ true
+and_true b c e f = ap (λ (x : Bool). x && c) e ∙ f
+
+between_inside : (a b k : ℕ) → a ≤ k → k < b → between a b k ≡ true
+between_inside a b k h i = and_true (nat_le a k) (nat_lt k b) (le-leb a k h) (lt-ltb k b i)
+
+or_true : (c d : Bool) → d ≡ true → (c || d) ≡ true
+or_true true d e = refl
+or_true false d e = e
+
+-- the marks of one range
+pub first_marked : (ms : List Bool) (a b : ℕ) → ((k : ℕ) → get_or ms k false ≡ between a b k)
+    → AreMarked (min a b) b ms
+first_marked ms a b is k low high = is k ∙ between_inside a b k (omega (arith, low, high)) high
+
+-- one range more, which overlaps or adjoins those before it
+pub more_marked : (ms ns : List Bool) (low high a b : ℕ)
+    → ((k : ℕ) → get_or ns k false ≡ (get_or ms k false || between a b k)) → AreMarked low high ms
+    → a ≤ high → low ≤ b → AreMarked (min low a) (max high b) ns
+more_marked ms ns low high a b is all i j k l h = is k ∙ elim (cases_lt k low) [
+  | inl early ↦ or_true (get_or ms k false) (between a b k)
+      (between_inside a b k (omega (arith, l, early)) (omega (arith, early, j)))
+  | inr from ↦ elim (cases_lt k high) [
+    | inl within ↦ ap (λ (c : Bool). c || between a b k) (all k from within)
+    | inr late ↦ or_true (get_or ms k false) (between a b k)
+        (between_inside a b k (omega (arith, late, i)) (omega (arith, h, late)))
+  ]
+]
+
+-- a marked chunk goes before the ranges of those after it
+marked_first : (ms : List Bool) (low : ℕ) → low < length ms → get_or ms low false ≡ true
+    → ranges_of (filter (λ j. get_or ms j false) (range_with_len low (length ms - low)))
+    ≡ with_number low (ranges_of (filter (λ j. get_or ms j false) (range_with_len (low + 1) (length ms - (low + 1)))))
+marked_first ms low h is =
+    let p : ℕ → Bool = λ j. get_or ms j false in
+    let n : length ms - low ≡ suc (length ms - (low + 1)) = omega (arith, h) in
+    let rest = filter p (range_with_len (low + 1) (length ms - (low + 1))) in
+    ap (λ (i : ℕ). ranges_of (filter p (range_with_len low i))) n ∙ ap (λ b. ranges_of (cond b (low ∷ rest) rest)) is
+
+-- chunks that are all marked are one range
+one_range : (ms : List Bool) (m low : ℕ) → low + suc m ≤ length ms → AreMarked low (low + suc m) ms
+    → ((k : ℕ) → low + suc m ≤ k → get_or ms k false ≡ false)
+    → ranges_of (filter (λ j. get_or ms j false) (range_with_len low (length ms - low)))
+    ≡ record { start = low; end = low + suc m } ∷ []
+one_range ms zero low h is out =
+    let e : suc low ≡ low + 1 = omega arith in
+    marked_first ms low (omega (arith, h)) (is low (omega arith) (omega arith))
+    ∙ ap (λ (ks : List ℕ). with_number low (ranges_of ks))
+    (none_marked ms (low + 1) (length ms - (low + 1)) (λ k l. out k (omega (arith, l))))
+    ∙ ap (λ (n : ℕ). record { start = low; end = n } ∷ []) e
+one_range ms (suc m) low h is out =
+    let s : ChunkRange = record { start = low + 1; end = low + 1 + suc m } in
+    let next = one_range ms m (low + 1) (omega (arith, h)) (λ k a b. is k (omega (arith, a)) (omega (arith, b)))
+    (λ k a. out k (omega (arith, a))) in
+    let e : low + 1 + suc m ≡ low + suc (suc m) = omega arith in
+    marked_first ms low (omega (arith, h)) (is low (omega arith) (omega arith))
+    ∙ ap (λ (rs : List ChunkRange). with_number low rs) next
+    ∙ ap (λ b. cond b (record { start = low; end = s.end } ∷ []) (record { start = low; end = suc low } ∷ s ∷ []))
+    (eq-eqb (low + 1) (suc low) (omega arith))
+    ∙ ap (λ (n : ℕ). record { start = low; end = n } ∷ []) e
+
+-- the ranges of all marks, where those between the first and the last one are marked
+pub whole_ranges : (ms : List Bool) (low high : ℕ) → IsMarkedWithin low high ms → AreMarked low high ms → low < high
+    → record { start = low; end = high } ∷ []
+    ≡ ranges_of (filter (λ j. get_or ms j false) (range_with_len 0 (length ms)))
+whole_ranges ms low high w is some =
+    let order = w.order in
+    let inside = w.inside in
+    let m : ℕ = high - (low + 1) in
+    let e : low + suc m ≡ high = omega (arith, some) in
+    let one = one_range ms m low (omega (arith, e, inside)) (λ k a b. is k a (omega (arith, b, e)))
+    (λ k a. w.after k (omega (arith, a, e))) in
+    ap (λ (n : ℕ). record { start = low; end = n } ∷ []) (sym e) ∙ sym one
+    ∙ ap ranges_of (none_before ms low (omega (arith, order, inside)) w.before)
+
+-- no ranges, where no chunk is marked
+pub no_ranges : (ms : List Bool) (low high : ℕ) → IsMarkedWithin low high ms → high ≤ low
+    → [] ≡ ranges_of (filter (λ j. get_or ms j false) (range_with_len 0 (length ms)))
+no_ranges ms low high w h =
+    let order = w.order in
+    let inside = w.inside in
+    ap ranges_of (sym (none_marked ms low (length ms - low) (λ k l. w.after k (omega (arith, l, h))))
+    ∙ none_before ms low (omega (arith, order, inside)) w.before)
