@@ -97,12 +97,16 @@ pub fn offer_data<K: ChunkCache>(
 pub fn entry(alloc: Global, found: &XorbBlockData) -> std::result::Result<BlockBytes, OutOfMemory>
     ensures { IfOk result (λ e. e ≡ entry_of found.now) }
 {
-    let mut offsets = List::new(alloc);
-    for (_, offset) in found.chunk_offsets.as_slice() {
-        offsets.push((*offset).min(u32::MAX as usize) as u32)?;
+    let places = found.chunk_offsets.as_slice();
+    let mut offsets = Vec::with_capacity(alloc, places.len())?;
+    for (_, offset) in places {
+        offsets.push_reserved((*offset).min(u32::MAX as usize) as u32);
     }
     let bytes = found.bytes.clone().map_err(OutOfMemory::from)?;
-    Ok(BlockBytes { offsets, bytes })
+    Ok(BlockBytes {
+        offsets: List::from_vec(offsets),
+        bytes,
+    })
 }
 
 /// Whether an entry of these ranges has all bytes of a reference.

@@ -176,6 +176,7 @@ fn queue_terms(
     ensures ok { OnOk result (waiting.new.items ≡ waiting.old.items ++ waiting_in plan terms.now) }
     ensures err { OnErr result (waiting.new.items ≡ waiting.old.items) }
 {
+    waiting.reserve(terms.len())?;
     let before = waiting.len();
     for term in terms {
         let id = BlockId {

@@ -89,7 +89,7 @@ impl RunCore {
     }
 
     /// Records the plan of a query, with its terms and blocks; its number is the next one. A query past the file's end
-    /// is a plan without terms.
+    /// is a plan without terms. It takes room for the events that terms and blocks have in a run that goes well.
     ///
     /// Allowed where no Fail or Cancel came, the terms adjoin from where the planned terms end (from the query's start
     /// where nothing is planned yet), none is reversed, and each has one of the blocks.
@@ -108,7 +108,7 @@ impl RunCore {
         if !adjoin(terms.as_slice(), place, blocks.len()) {
             return Err(CoreRefusal::NotAllowed);
         }
-        self.events.reserve(1)?;
+        self.events.reserve(event_room(terms.len(), blocks.len()))?;
         let plan = self.index.plans + 1;
         self.index.queue(plan, terms.as_slice())?;
         self.index.plans = plan;
@@ -292,4 +292,15 @@ impl RunCore {
         }
         taken <= oldest.end.saturating_sub(self.index.written)
     }
+}
+
+/// How many events a plan with so many terms and blocks has in a run that goes well, and some more: its own, one for
+/// the admission and one for the writing of each term, and one for each block.
+fn event_room(terms: usize, blocks: usize) -> usize
+    ensures { 1 ≤ result }
+{
+    terms
+        .saturating_mul(2)
+        .saturating_add(blocks)
+        .saturating_add(16)
 }

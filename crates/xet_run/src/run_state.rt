@@ -138,6 +138,12 @@ impl<L: Ledger> Logged<L> {
         *kept = book;
     }
 
+    // Room for so many calls more.
+    fn make_room(&mut self, calls: usize) -> Result<(), OutOfMemory> {
+        self.history.reserve(calls)?;
+        Ok(())
+    }
+
     fn set_error(
         &mut self,
         mine: &mut RunPass<L>,
@@ -292,6 +298,13 @@ impl<L: Ledger> RunState<L> {
         ensures { result.now ≡ self.now.file_hash }
     {
         &self.file_hash
+    }
+
+    /// Takes room for so many calls more at once, which else is taken call by call. It is no call itself.
+    ///
+    /// The Rust crate has no such call.
+    pub fn make_room<R: Wait>(&self, rt: &R, calls: usize) -> Result<(), OutOfMemory> {
+        self.state.lock(rt).make_room(calls)
     }
 
     /// Keeps the error where it is the first one, and marks the run as cancelled.

@@ -1,5 +1,5 @@
 //! The blocks that a plan's terms use, each found by its key.
-ghost use Rattle.std.specs.Prelude.{◌≡◌, ◌++◌, ◌∷◌, ◌<◌, ℕ, [], None, OnErr, OnOk, Some, cond, length, nat_eq, slice_index_or};
+ghost use Rattle.std.specs.Prelude.{◌≡◌, ◌++◌, ◌∷◌, ◌<◌, ℕ, [], IfOk, None, OnErr, OnOk, Some, cond, length, nat_eq, slice_index_or};
 ghost use Rattle.xet_blocks.specs.declared.reconstruction_terms.block_list.BlockKey.{BlockKey};
 ghost use Rattle.xet_blocks.specs.steps.BlockKeys.{key_of, number_at, place_of_key, row_at, rows_of, same_key};
 
@@ -60,14 +60,14 @@ impl<'a> Model for BlockList<'a> {
 }
 
 impl<'a> BlockList<'a> {
-    /// No blocks. It takes no memory.
-    pub(crate) fn new(alloc: Global) -> BlockList<'a>
-        ensures { result ≡ [] }
+    /// No blocks, with room for so many.
+    pub(crate) fn with_room(alloc: Global, count: usize) -> Result<BlockList<'a>, OutOfMemory>
+        ensures { IfOk result (λ made. made ≡ []) }
     {
-        BlockList {
-            blocks: Vec::new(alloc),
+        Ok(BlockList {
+            blocks: Vec::with_capacity(alloc, count)?,
             rows: Vec::new(alloc),
-        }
+        })
     }
 
     /// The blocks.

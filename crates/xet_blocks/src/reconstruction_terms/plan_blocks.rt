@@ -67,13 +67,13 @@ impl<'a> PlanBlocks<'a> {
         Ok(made)
     }
 
-    /// No terms, with room for so many.
+    /// No terms, with room for so many, each with a block of its own.
     fn with_room(alloc: Global, terms: usize) -> Result<PlanBlocks<'a>, OutOfMemory>
         ensures blocks { IfOk result (λ made. made.blocks ≡ []) }
         ensures terms { IfOk result (λ made. made.terms ≡ []) }
     {
         Ok(PlanBlocks {
-            blocks: BlockList::new(alloc),
+            blocks: BlockList::with_room(alloc, terms)?,
             terms: with_room(alloc, terms)?,
         })
     }

@@ -11,7 +11,6 @@ ghost use Rattle.xet_blocks.specs.Chain.{last_end};
 ghost use Rattle.xet_blocks.specs.TermBlocks.{known_size};
 ghost use Rattle.xet_blocks.specs.steps.Reached.{size_between};
 
-use crate::reconstruction_terms::lists::with_room;
 use crate::reconstruction_terms::reached_sizes::{ReachedSizes, sizes_fit};
 use crate::reconstruction_terms::retrieval_urls::{RetrievalUrl, TermBlockRetrievalURLs};
 use bytes::Bytes;
@@ -317,26 +316,29 @@ fn numbered_offsets(
 ) -> std::result::Result<List<(usize, usize)>, OutOfMemory>
     ensures { IfOk result (λ pairs. pairs ≡ zip (numbers_in ranges.now) offsets.now) }
 {
-    let mut pairs = with_room(alloc, offsets.len())?;
+    let mut pairs = Vec::with_capacity(alloc, offsets.len())?;
     for range in ranges {
         let rest = &offsets[pairs.len()..];
         push_chunks(&mut pairs, *range, rest)?;
     }
-    Ok(pairs)
+    Ok(List::from_vec(pairs))
 }
 
-/// Adds the number of each chunk of a range, with its offset, as far as there are both.
+/// Adds the number of each chunk of a range, with its offset, as far as there are both. Room for all of them is taken
+/// at once.
 fn push_chunks(
-    pairs: &mut List<(usize, usize)>,
+    pairs: &mut Vec<(usize, usize)>,
     range: ChunkRange,
     offsets: &[u32],
 ) -> std::result::Result<(), OutOfMemory>
-    ensures { OnOk result (pairs.new
-        ≡ pairs.old ++ zip (range_with_len range.start (range.end - range.start)) offsets.now) }
+    ensures { OnOk result (pairs.new.items
+        ≡ pairs.old.items ++ zip (range_with_len range.start (range.end - range.start)) offsets.now) }
 {
     let count = range.end.saturating_sub(range.start) as usize;
-    for (index, offset) in offsets[..count.min(offsets.len())].iter().enumerate() {
-        pairs.push((range.start as usize + index, *offset as usize))?;
+    let used = &offsets[..count.min(offsets.len())];
+    pairs.reserve(used.len())?;
+    for (index, offset) in used.iter().enumerate() {
+        pairs.push_reserved((range.start as usize + index, *offset as usize));
     }
     Ok(())
 }

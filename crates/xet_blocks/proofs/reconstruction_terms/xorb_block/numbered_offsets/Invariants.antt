@@ -4,5 +4,5 @@ use Rattle.xet_blocks.proofs.reconstruction_terms.xorb_block.numbered_offsets.Gi
 
 abbrev pub invariant-loop-range : goal.invariant-loop-range
 invariant-loop-range l =
-    (length l.pairs ≤ length l.offsets)
-    × (l.pairs ++ zip (numbers_in (drop l.range-index l.ranges)) (drop (length l.pairs) l.offsets) ≡ zip (numbers_in l.ranges) l.offsets)
+    (length l.pairs.items ≤ length l.offsets)
+    × (l.pairs.items ++ zip (numbers_in (drop l.range-index l.ranges)) (drop (length l.pairs.items) l.offsets) ≡ zip (numbers_in l.ranges) l.offsets)
