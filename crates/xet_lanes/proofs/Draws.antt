@@ -130,12 +130,6 @@ get_at [] k d h = absurd (omega arith)
 get_at (x ∷ fs) zero d h = refl
 get_at (x ∷ fs) (suc k) d h = get_at fs k d (omega arith)
 
-pub asks_at : (fs : List Fetch) (k : ℕ) (d : Fetch) → All IsFor (map ask_of fs) → k < length fs
-    → IsFor (ask_of (get_or fs k d))
-asks_at [] k d a h = absurd (omega arith)
-asks_at (x ∷ fs) zero d a h = a 0 (ask_of d) (omega arith)
-asks_at (x ∷ fs) (suc k) d a h = asks_at fs k d (λ j e l. a (suc j) e (omega arith)) (omega arith)
-
 -- none of the steps failed, nor did the last one
 none_at : (ss : List LaneStep) (k : ℕ) → NoneFailed ss → error_at (slice_get ss k) ≡ None
 none_at [] k h = refl

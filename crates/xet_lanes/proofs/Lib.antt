@@ -4,5 +4,6 @@ mod ErrorCauses
 mod FirstErrors
 mod LaneSteps
 mod NewJobs
+mod Requests
 mod RoundEnds
 pub mod CallerLemmas

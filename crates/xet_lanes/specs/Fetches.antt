@@ -4,6 +4,8 @@ use Rattle.xet_base.specs.declared.error.OutOfMemory.{OutOfMemory}
 use Rattle.xet_outside.specs.Told.{ClientTold}
 use Rattle.xet_outside.specs.declared.block.BlockRequest.{BlockRequest}
 use Rattle.xet_error.specs.declared.error.FileReconstructionError.{FileReconstructionError}
+use Rattle.xet_blocks.specs.declared.reconstruction_terms.retrieval_urls.RetrievalUrl.{RetrievalUrl}
+use Rattle.xet_blocks.specs.declared.reconstruction_terms.retrieval_urls.TermBlockRetrievalURLs.{TermBlockRetrievalURLs}
 use Rattle.xet_blocks.specs.declared.reconstruction_terms.xorb_block.XorbBlock.{XorbBlock}
 use Rattle.xet_ties.specs.declared.lane_step.LaneStep.{LaneStep}
 use Rattle.xet_ties.specs.declared.lane_step.LaneStep.TheVariants as step
@@ -15,9 +17,31 @@ use Rattle.xet_lanes.specs.declared.lane.Fetch.{Fetch}
 abbrev pub ask : XorbBlock → BlockRequest → Ask
 ask x q = record { block = x; request = q }
 
+-- the request of a block by what a table has for its number; an empty URL without ranges where it has nothing
+abbrev pub request_by : XorbBlock → TermBlockRetrievalURLs → Option RetrievalUrl → BlockRequest
+request_by x t None = record {
+  acquisition = t.acquisition_id;
+  index = x.xorb_block_index;
+  url = [];
+  xorb = x.xorb_hash;
+  chunks = x.chunk_ranges;
+  bytes = [];
+}
+request_by x t (Some u) = record {
+  acquisition = t.acquisition_id;
+  index = x.xorb_block_index;
+  url = u.url;
+  xorb = x.xorb_hash;
+  chunks = x.chunk_ranges;
+  bytes = u.ranges;
+}
+
+abbrev pub request_of : XorbBlock → TermBlockRetrievalURLs → BlockRequest
+request_of x t = request_by x t (slice_get t.retrieval_urls x.xorb_block_index)
+
 -- what a fetch asks
 abbrev pub ask_of : Fetch → Ask
-ask_of f = ask f.block.now f.request
+ask_of f = ask f.block.now (request_of f.block.now f.urls.now)
 
 -- ---- failed steps
 

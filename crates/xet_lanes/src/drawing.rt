@@ -26,6 +26,8 @@ pub(crate) struct Shared<'a, R, G, L: Ledger> {
     pub(crate) claims: &'a Claims,
     pub(crate) state: &'a RunState<L>,
     pub(crate) fetches: &'a [Fetch<'a>],
+    /// How many steps a lane has room for at first.
+    pub(crate) room: usize,
 }
 
 /// What a lane does next.
@@ -139,13 +141,7 @@ fn draw_all<R: Wait, C: Client, G: Gate, L: Ledger>(
             Next::Short => return stop_short(rt, claims, state, claim, run),
         };
         let fetch = &shared.fetches[number as usize];
-        let made = lane.fetch(
-            shared.alloc,
-            fetch.number,
-            fetch.block,
-            &fetch.request,
-            shared.gate,
-        );
+        let made = lane.make(shared.alloc, fetch, shared.gate);
         if made.is_err() {
             return stop_short(rt, claims, state, claim, run);
         }
@@ -170,7 +166,7 @@ pub(crate) fn draw_alone<R: Wait, C: Client, G: Gate, L: Ledger>(
         (C.told client.old ∷ []) (C.told client.new ∷ [])
         (work job.new.claim job.new.run.share.parts job.new.steps.items job.new.short ∷ []) }
 {
-    let mut lane = Lane::new(shared.alloc, client);
+    let mut lane = Lane::with_room(shared.alloc, client, shared.room);
     let short = draw_all(shared, &mut lane, &mut job.claim, &mut job.run);
     let (client, steps) = lane.into_parts();
     give_back(client);

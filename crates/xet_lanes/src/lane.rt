@@ -1,12 +1,12 @@
 //! A connection, and the fetches that it made in one round.
-ghost use Rattle.std.specs.Prelude.{◌≡◌, []};
+ghost use Rattle.std.specs.Prelude.{◌≡◌, [], IfOk};
 ghost use Rattle.xet_ties.specs.Lanes.{AnswerStep, IsFor};
-ghost use Rattle.xet_lanes.specs.Fetches.{LaneCall, NoneFailed, ask, error_in, last_error};
+ghost use Rattle.xet_lanes.specs.Fetches.{LaneCall, NoneFailed, ask, ask_of, error_in, last_error};
 
 use crate::gate::Gate;
 use std::alloc::Global;
 use xet_base::OutOfMemory;
-use xet_blocks::XorbBlock;
+use xet_blocks::{TermBlockRetrievalURLs, XorbBlock};
 use xet_error::FileReconstructionError;
 use xet_outside::{BlockAnswer, BlockRequest, Client, ClientError};
 use xet_ties::LaneStep;
@@ -20,8 +20,31 @@ pub struct Fetch<'a> {
     pub number: u64,
     /// The block.
     pub block: &'a XorbBlock,
-    /// The block's request.
-    pub request: BlockRequest,
+    /// The URLs of the block's plan, by which its request is made when it is asked for.
+    pub urls: &'a TermBlockRetrievalURLs,
+}
+
+impl<'a> Fetch<'a> {
+    /// The block's request. `OutOfMemory` where memory was refused, or the table has no URL for the block's number.
+    #[tactic(auto, using(crate::proofs::Requests::request_made))]
+    pub fn request(&self, alloc: Global) -> Result<BlockRequest, OutOfMemory>
+        ensures { IfOk result (λ made. made ≡ (ask_of self.now).request) }
+    {
+        match self.block.request(alloc, self.urls) {
+            Ok(Some(request)) => Ok(request),
+            Ok(None) | Err(_) => Err(OutOfMemory),
+        }
+    }
+}
+
+/// No steps, with room for so many, where memory allows it.
+fn steps_with_room(alloc: Global, count: usize) -> Vec<LaneStep>
+    ensures { result.items ≡ [] }
+{
+    match Vec::with_capacity(alloc, count) {
+        Ok(made) => made,
+        Err(_) => Vec::new(alloc),
+    }
 }
 
 /// The error of a failed step.
@@ -92,6 +115,18 @@ impl<'a, C: Client> Lane<'a, C> {
         }
     }
 
+    /// A lane with no steps, and room for so many, where memory allows it.
+    pub(crate) fn with_room(alloc: Global, client: &'a mut C, steps: usize) -> Lane<'a, C>
+        ensures same_reference { result.client.ghost_name ≡ client.entry.ghost_name }
+        ensures client { result.client.now ≡ client.old }
+        ensures steps { result.steps.items ≡ [] }
+    {
+        Lane {
+            client,
+            steps: steps_with_room(alloc, steps),
+        }
+    }
+
     /// The steps of the round, in order.
     pub fn steps(&self) -> &[LaneStep]
         ensures { result.now ≡ self.now.steps.items }
@@ -128,6 +163,25 @@ impl<'a, C: Client> Lane<'a, C> {
         let step = step_of(alloc, block, request, answer);
         self.steps.push_reserved(step);
         Ok(())
+    }
+
+    /// Asks for the block of a fetch, as `fetch` does, by its own request, which is made for that alone. `OutOfMemory`
+    /// besides where the request couldn't be made.
+    pub(crate) fn make<G: Gate>(
+        &mut self,
+        alloc: Global,
+        wanted: &Fetch,
+        gate: &G,
+    ) -> Result<(), OutOfMemory>
+        requires good { NoneFailed self.old.steps.items }
+        ensures same_reference { self.new.client.ghost_name ≡ self.old.client.ghost_name }
+        ensures call { LaneCall (C.told self.old.client.now) (C.told self.new.client.now)
+            self.old.steps.items self.new.steps.items (ask_of wanted.now) result }
+    {
+        match wanted.request(alloc) {
+            Ok(request) => self.fetch(alloc, wanted.number, wanted.block, &request, gate),
+            Err(error) => Err(error),
+        }
     }
 
     /// The connection and the steps.

@@ -149,6 +149,7 @@ fn join_lanes<
         claims: &claims,
         state,
         fetches,
+        room: fetches.len() / count,
     };
     let wrote = draw_and_write(&shared, clients, &mut jobs, beside, writer);
     take_apart(jobs, &mut passes, &mut ends, pass);

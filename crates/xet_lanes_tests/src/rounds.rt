@@ -1,7 +1,7 @@
 //! Rounds of one join over a run of its own.
 ghost use Rattle.std.specs.Prelude.{◌^◌, ◌≡◌, ◌<◌, All, IfOk, length, map};
 ghost use Rattle.xet_ties.specs.Lanes.{IsFor};
-ghost use Rattle.xet_lanes.specs.Fetches.{ask, ask_of};
+ghost use Rattle.xet_lanes.specs.Fetches.{ask_of};
 
 use crate::meeting::Waiting;
 use crate::one_byte::OneByte;
@@ -12,10 +12,9 @@ use std::sync::Wait;
 use std::sync::ledger::{Blank, Ledger};
 use std::thread::Threads;
 use xet_base::{ChunkRange, FileRange, List, MerkleHash, OutOfMemory, Text, UniqueId};
-use xet_blocks::{DataSource, XorbBlock};
+use xet_blocks::{DataSource, RetrievalUrl, TermBlockRetrievalURLs, XorbBlock};
 use xet_error::FileReconstructionError;
 use xet_lanes::{Fetch, Gate, Joined, LaneStep, fetch_and_write};
-use xet_outside::BlockRequest;
 use xet_run::RunState;
 use xet_writers::{DataWriter, SequentialWriter};
 
@@ -32,37 +31,35 @@ fn one_chunk(alloc: Global) -> Result<XorbBlock, OutOfMemory> {
     })
 }
 
-fn request(alloc: Global, block: &XorbBlock) -> Result<BlockRequest, OutOfMemory>
-    ensures { IfOk result (λ r. IsFor (ask block.now r)) }
-{
-    Ok(BlockRequest {
-        acquisition: UniqueId {
-            plan: 1,
-            refresh: 0,
-        },
-        index: block.xorb_block_index,
+/// A table with a URL of no bytes for the block.
+fn one_url(alloc: Global) -> Result<TermBlockRetrievalURLs, OutOfMemory> {
+    let mut urls = List::new(alloc);
+    urls.push(RetrievalUrl {
         url: Text::from_string(String::new(alloc)),
-        xorb: block.xorb_hash,
-        chunks: block.chunk_ranges.copied(alloc)?,
-        bytes: List::new(alloc),
-    })
+        ranges: List::new(alloc),
+    })?;
+    let id = UniqueId {
+        plan: 1,
+        refresh: 0,
+    };
+    Ok(TermBlockRetrievalURLs::new(MerkleHash([1; 32]), FileRange::new(0, 1), id, urls))
 }
 
 /// So many fetches of one block.
 fn fetches<'a>(
     alloc: Global,
     block: &'a XorbBlock,
+    urls: &'a TermBlockRetrievalURLs,
     count: u64,
 ) -> Result<Vec<Fetch<'a>>, OutOfMemory>
     ensures { IfOk result (λ v. All IsFor (map ask_of v.items)) }
 {
     let mut all = Vec::new(alloc);
     for number in 0..count {
-        let request = request(alloc, block)?;
         all.push(Fetch {
             number,
             block,
-            request,
+            urls,
         })?;
     }
     Ok(all)
@@ -85,7 +82,8 @@ fn round<L: Ledger + Send + Sync, R: Threads + Wait + Sync, G: Gate + Sync>(
 {
     let (state, mut pass) = RunState::<L>::new(alloc, blank, MerkleHash([1; 32]))?;
     let block = one_chunk(alloc)?;
-    let fetches = fetches(alloc, &block, count)?;
+    let urls = one_url(alloc)?;
+    let fetches = fetches(alloc, &block, &urls, count)?;
     fetch_and_write(
         rt,
         alloc,

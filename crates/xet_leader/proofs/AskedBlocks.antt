@@ -113,7 +113,7 @@ request_parts x t r h = go (slice_get t.retrieval_urls x.xorb_block_index) h
     )
 
 own_request : (ls : List LedPlan) (c : BlockAt) (n : ℕ) (f : Fetch) → IsFetch ls c n f → IsFor (ask_of f)
-own_request ls c n f is = let r = request_parts f.block.now is.plan.block.urls f.request is.request_is in
+own_request ls c n f is = let r = request_parts f.block.now is.plan.block.urls (ask_of f).request is.request_is in
     record { xorb = r.2; chunks = r.3; index = r.1 }
 
 -- each fetch asks for its own block
@@ -153,12 +153,13 @@ asked g b es sl l c n f a m is =
     let plan : is.plan ≡ w.plan = same_found is.plan w.plan l.plans i i is.at w.at refl in
     let block : f.block.now ≡ w.block = same_found f.block.now w.block w.plan.block.blocks c.block c.block
     (ap (λ (q : LedPlan). slice_get q.block.blocks c.block) (sym plan) ∙ is.of_plan) w.of_plan refl in
-    let r = request_parts f.block.now is.plan.block.urls f.request is.request_is in
+    let r = request_parts f.block.now is.plan.block.urls (ask_of f).request is.request_is in
     let table : w.plan.block.urls.acquisition_id.plan ≡ w.plan.number = w.led.table.number in
-    let named : f.request.acquisition.plan ≡ c.plan =
+    let named : (ask_of f).request.acquisition.plan ≡ c.plan =
     ap (λ (u : UniqueId). u.plan) r.0 ∙ ap (λ (q : LedPlan). q.block.urls.acquisition_id.plan) plan ∙ table
     ∙ w.number in
-    let numbered : f.request.index ≡ c.block = r.1 ∙ ap (λ (x : XorbBlock). x.xorb_block_index) block ∙ w.index in
+    let numbered : (ask_of f).request.index ≡ c.block =
+    r.1 ∙ ap (λ (x : XorbBlock). x.xorb_block_index) block ∙ w.index in
     let there : c.block < length w.plan.block.blocks =
     slice_get_within w.plan.block.blocks c.block w.block w.of_plan in
     let ready : IsReady g es [] c.plan c.block = subst (λ (p : ℕ). IsReady g es [] p c.block) w.number

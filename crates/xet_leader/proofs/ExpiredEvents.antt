@@ -17,7 +17,7 @@ use Rattle.xet_run.proofs.CallerLemmas.{stale-push}
 use Rattle.xet_ties.specs.History.{is_expired}
 use Rattle.xet_ties.specs.Setup.{RunTold, Setup}
 use Rattle.xet_ties.specs.Ties.{Slack}
-use Rattle.xet_ties.proofs.CallerLemmas.{count-more, count-same, expired-push}
+use Rattle.xet_ties.proofs.CallerLemmas.{count-more, count-same, fetched_before, expired-push}
 use Rattle.xet_leader.specs.declared.leader.LedPlan.{LedPlan}
 use Rattle.xet_leader.specs.declared.missing_blocks.BlockAt.{BlockAt}
 use Rattle.xet_leader.specs.ByNumber.{plan_index}
@@ -47,6 +47,7 @@ block_off b es sl lane p j q k t x off a = record {
   tries_are = a.tries_are ∙ sym (count-same (expires q k) es (Expired lane p j) off);
   kept = a.kept ∙ sym (quiet_kept es (Expired lane p j) q k refl);
   data_is = a.data_is;
+  fetched = λ h. a.fetched (fetched_before es (Expired lane p j) q k refl h);
 }
 
 blocks_off : (b : RunTold) (es : List Event) (sl : Slack) (lane p j q k : ℕ) (ts : List ℕ) (xs : List XorbBlock)
@@ -80,6 +81,7 @@ blocks_on b es sl lane p j k zero (t ∷ ts) (x ∷ xs) e a =
         kept = a.0.kept
             ∙ sym (quiet_kept es (Expired lane p j) p k refl);
         data_is = a.0.data_is;
+        fetched = λ h. a.0.fetched (fetched_before es (Expired lane p j) p k refl h);
       },
       blocks_off b es sl lane p j p (k + 1) ts xs (λ n h. apart p j n (λ s. absurd (omega (arith, s, h, at)))) a.1,
     )

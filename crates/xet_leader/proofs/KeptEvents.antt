@@ -1,6 +1,6 @@
 -- A leader after an event that keeps a block: it was fetched, or the cache gave it.
 use Rattle.std.proofs.Common.{◌≡◌, ℕ, ◌+◌, ◌<◌, ◌≤◌, ◌==◌, ◌&&◌, ◌||◌, suc, zero, Bool, true, false, List, [], ◌∷◌, ◌++◌, length, refl, sym, subst, ◌∙◌, ap, arith}
-use Rattle.std.specs.Prelude.{All, map, None, Some, slice_get, slice_set}
+use Rattle.std.specs.Prelude.{All, count_by, map, None, Some, slice_get, slice_set}
 use Rattle.std.specs.List.{list_any}
 use Rattle.std.specs.Option.{is_some}
 use Rattle.std.proofs.lemmas.Bool.{eq-eqb, eqb-true, ne_eqb}
@@ -14,13 +14,13 @@ use Rattle.xet_run.specs.declared.event.PlannedBlock.{PlannedBlock}
 use Rattle.xet_run.specs.Events.{Task, expires, expiry_in, is_admit, is_kept, keeps, planned, taken_in, tasks_of}
 use Rattle.xet_run.proofs.CallerLemmas.{any-push}
 use Rattle.xet_history.specs.TrueHistory.{planned_term}
-use Rattle.xet_ties.specs.History.{blocks_in, expiry_of}
+use Rattle.xet_ties.specs.History.{blocks_in, expiry_of, fetches}
 use Rattle.xet_ties.specs.Saids.{planned_of}
 use Rattle.xet_ties.specs.Setup.{RunTold, Setup}
 use Rattle.xet_ties.specs.Ties.{Slack}
-use Rattle.xet_ties.proofs.CallerLemmas.{count-same}
+use Rattle.xet_ties.proofs.CallerLemmas.{count-same, fetched_before}
 use Rattle.xet_leader.specs.declared.leader.LedPlan.{LedPlan}
-use Rattle.xet_leader.specs.Led.{AreLedPlans, EachLedBlock, FollowOn, IsLed, IsLedBlock, IsLedData, IsLedPlan, IsRecordedPlan, Led, bare}
+use Rattle.xet_leader.specs.Led.{AreLedPlans, EachLedBlock, FollowOn, IsAnswerData, IsLed, IsLedBlock, IsLedData, IsLedPlan, IsRecordedPlan, Led, bare}
 use Rattle.xet_leader.specs.KeptBlocks.{kept_in_plan, kept_in_plans, with_data}
 use Rattle.xet_leader.proofs.AlikePlans.{AllPast, alike_begins, alike_follow, alike_number, alike_set, alike_terms, follow_rest, past_at, past_first}
 use Rattle.xet_leader.proofs.MoreTold.{TellsMore, data_more, led_more}
@@ -80,6 +80,7 @@ block_same b es e sl p k q j t x n off a = record {
   tries_are = a.tries_are ∙ sym (count-same (expires q j) es e (n.expires_none q j));
   kept = a.kept ∙ sym (quiet_kept es e q j (n.keeps_other q j off));
   data_is = a.data_is;
+  fetched = λ h. a.fetched (fetched_before es e q j (n.keeps_other q j off) h);
 }
 
 -- blocks from a number on, none of which it keeps
@@ -94,15 +95,22 @@ blocks_same b es e sl p k q j (t ∷ ts) (x ∷ xs) n off a = (
   blocks_same b es e sl p k q (j + 1) ts xs n (λ i h. off i (omega arith)) a.1,
 )
 
+-- data that a block keeps by the event: of the answer to its own request where the event is its fetch
+pub record IsKeptData (b : RunTold) (es : List Event) (e : Event) (sl : Slack) (p k : ℕ) (x : XorbBlock)
+    (d : XorbBlockData) : Type 0 where
+  pub data_is : IsLedData b sl p k (with_data x d)
+  pub fetched : 0 < count_by (fetches p k) (es ++ e ∷ []) → IsAnswerData sl p k (bare x) d
+
 -- the block that it keeps
 block_kept : (b : RunTold) (es : List Event) (e : Event) (sl : Slack) (p k t : ℕ) (x : XorbBlock) (d : XorbBlockData)
-    → IsKeeping p k e → IsLedData b sl p k (with_data x d) → IsLedBlock b es sl p k t x
+    → IsKeeping p k e → IsKeptData b es e sl p k x d → IsLedBlock b es sl p k t x
     → IsLedBlock b (es ++ e ∷ []) sl p k t (with_data x d)
 block_kept b es e sl p k t x d n h a = record {
   tries_are = a.tries_are ∙ sym (count-same (expires p k) es e (n.expires_none p k));
   kept = sym (any-push (keeps p k) es e ∙ ap (λ (v : Bool). list_any (keeps p k) es || v) n.keeps_it
       ∙ or_yes (list_any (keeps p k) es));
-  data_is = h;
+  data_is = h.data_is;
+  fetched = h.fetched;
 }
   where
     or_yes : (v : Bool) → (v || true) ≡ true
@@ -112,7 +120,7 @@ block_kept b es e sl p k t x d n h a = record {
 -- blocks from a number on, one of which it keeps
 blocks_kept : (b : RunTold) (es : List Event) (e : Event) (sl : Slack) (p k j i : ℕ) (ts : List ℕ)
     (xs : List XorbBlock) (x : XorbBlock) (d : XorbBlockData) → IsKeeping p k e → j + i ≡ k → slice_get xs i ≡ Some x
-    → IsLedData b sl p k (with_data x d) → EachLedBlock b es sl p j ts xs
+    → IsKeptData b es e sl p k x d → EachLedBlock b es sl p j ts xs
     → EachLedBlock b (es ++ e ∷ []) sl p j ts (slice_set xs i (with_data x d))
 blocks_kept b es e sl p k j i [] [] x d n at is h a = absurd (cc)
 blocks_kept b es e sl p k j i [] (y ∷ xs) x d n at is h a = absurd a
@@ -179,7 +187,7 @@ plan_same g b es e sl stale p k l n off a = record {
 -- the plan that has it
 plan_kept : (g : Setup) (b : RunTold) (es : List Event) (e : Event) (sl : Slack) (stale : List ℕ) (k : ℕ)
     (l : LedPlan) (x : XorbBlock) (d : XorbBlockData) → IsKeeping l.number k e → slice_get l.block.blocks k ≡ Some x
-    → IsLedData b sl l.number k (with_data x d) → IsLedPlan g b es sl stale l
+    → IsKeptData b es e sl l.number k x d → IsLedPlan g b es sl stale l
     → IsLedPlan g b (es ++ e ∷ []) sl stale (kept_in_plan l k x d)
 plan_kept g b es e sl stale k l x d n is h a =
     let long : length (slice_set l.block.blocks k (with_data x d)) ≡ length l.block.blocks =
@@ -218,7 +226,7 @@ later_same g b es e sl stale p k (l ∷ ls) n off a =
 
 each_kept : (g : Setup) (b : RunTold) (es : List Event) (e : Event) (sl : Slack) (stale : List ℕ) (ls : List LedPlan)
     (i k : ℕ) (l : LedPlan) (x : XorbBlock) (d : XorbBlockData) → IsKeeping l.number k e → FollowOn ls
-    → slice_get ls i ≡ Some l → slice_get l.block.blocks k ≡ Some x → IsLedData b sl l.number k (with_data x d)
+    → slice_get ls i ≡ Some l → slice_get l.block.blocks k ≡ Some x → IsKeptData b es e sl l.number k x d
     → All (IsLedPlan g b es sl stale) ls → All (IsLedPlan g b (es ++ e ∷ []) sl stale)
     (slice_set ls i (kept_in_plan l k x d))
 each_kept g b es e sl stale [] i k l x d n f at is h a = absurd (cc)
@@ -240,7 +248,7 @@ each_kept g b es e sl stale (m ∷ ls) (suc i) k l x d n f at is h a =
 
 plans_kept : (g : Setup) (b : RunTold) (es : List Event) (e : Event) (sl : Slack) (stale : List ℕ) (l : Led) (i k : ℕ)
     (p : LedPlan) (x : XorbBlock) (d : XorbBlockData) → IsKeeping p.number k e → slice_get l.plans i ≡ Some p
-    → slice_get p.block.blocks k ≡ Some x → IsLedData b sl p.number k (with_data x d)
+    → slice_get p.block.blocks k ≡ Some x → IsKeptData b es e sl p.number k x d
     → AreLedPlans g b es sl stale l → AreLedPlans g b (es ++ e ∷ []) sl stale
     (record l { plans = kept_in_plans l.plans i p k x d })
 plans_kept g b es e sl stale l i k p x d n at is h a =
@@ -259,7 +267,7 @@ plans_kept g b es e sl stale l i k p x d n at is h a =
 pub led_kept : (g : Setup) (b : RunTold) (es : List Event) (e : Event) (sl to : Slack) (stale : List ℕ) (l : Led)
     (i k : ℕ) (p : LedPlan) (x : XorbBlock) (d : XorbBlockData) → IsKeeping p.number k e → TellsMore sl to
     → slice_get l.plans i ≡ Some p → slice_get p.block.blocks k ≡ Some x
-    → IsLedData b to p.number k (with_data x d) → IsLed g b es sl stale l
+    → IsKeptData b es e to p.number k x d → IsLed g b es sl stale l
     → IsLed g b (es ++ e ∷ []) to stale (record l { plans = kept_in_plans l.plans i p k x d })
 led_kept g b es e sl to stale l i k p x d n more at is h before =
     let a = led_more g b es sl to stale l more before in

@@ -1,42 +1,13 @@
 -- Lists of blocks without repetition, and what terms lack.
-use Rattle.std.proofs.Common.{⊎_elim, ◌≡◌, ℕ, ◌+◌, ◌-◌, ◌<◌, ◌≤◌, ◌==◌, ◌&&◌, ◌||◌, suc, zero, Bool, true, false, cond, List, [], ◌∷◌, ◌++◌, length, take, drop, refl, sym, subst, ◌∙◌, ap, arith, Option, None, Some, get_or}
-use Rattle.std.specs.Prelude.{◌⊎◌, count_by, map, slice_get, position, is_some}
-use Rattle.std.specs.List.{flat_map, list_any}
-use Rattle.std.specs.Ordering.{is_eq}
-use Rattle.std.proofs.lemmas.Bool.{and_parts, eq-eqb, eqb-true}
+use Rattle.std.proofs.Common.{⊎_elim, ◌≡◌, ℕ, ◌+◌, ◌-◌, ◌<◌, ◌≤◌, List, [], ◌∷◌, ◌++◌, length, take, drop, refl, sym, ◌∙◌, ap, arith, get_or}
+use Rattle.std.specs.Prelude.{◌⊎◌}
+use Rattle.std.specs.List.{flat_map}
 use Rattle.std.proofs.lemmas.List.{append-nil, drop_all, drop_more, take_more}
 use Rattle.std.proofs.lemmas.List.Concat.{flat_map-append}
-use Rattle.xet_base.proofs.CallerLemmas.{position_no, position_some}
 use Rattle.xet_blocks.specs.declared.reconstruction_terms.file_term.FileTerm.{FileTerm}
 use Rattle.xet_leader.specs.declared.leader.LedPlan.{LedPlan}
 use Rattle.xet_leader.specs.declared.missing_blocks.BlockAt.{BlockAt}
-use Rattle.xet_leader.specs.contracts.missing_blocks.BlockAtOrd.TheImpl.{ghosts}
-use Rattle.xet_leader.specs.contracts.missing_blocks.BlockAtOrd.TheImpl.Laws.{matches_eq-law}
-use Rattle.xet_leader.specs.Lacking.{lacked, lacked_by, lacked_in, lists, same_place, with_place, with_places}
-
--- ---- the order of places
-
-place_cmp : (c d : BlockAt) → is_eq (ghosts.cmp c d) ≡ same_place c d
-place_cmp c d = sym (matches_eq-law c d)
-
-position-place : (cs : List BlockAt) (c : BlockAt)
-    → position (λ d. is_eq (ghosts.cmp d c)) cs ≡ position (λ d. same_place d c) cs
-position-place cs c = λ i. position (λ d. place_cmp d c i) cs
-
--- a place that is found is listed, and one that isn't isn't
-pub placed : (cs : List BlockAt) (c : BlockAt) (o : Option ℕ) → o ≡ position (λ d. is_eq (ghosts.cmp d c)) cs
-    → lists cs c ≡ is_some o
-placed cs c None h = position_no (λ d. same_place d c) cs (sym (h ∙ position-place cs c))
-placed cs c (Some i) h = (position_some (λ d. same_place d c) cs i (sym (h ∙ position-place cs c))).0
-
--- so what adding it does
-pub place_found : (cs : List BlockAt) (c : BlockAt) (o : Option ℕ) → o ≡ position (λ d. is_eq (ghosts.cmp d c)) cs
-    → is_some o ≡ true → cs ≡ with_place cs c
-place_found cs c o h s = ap (λ (v : Bool). cond v cs (cs ++ c ∷ [])) (sym (placed cs c o h ∙ s))
-
-pub place_new : (cs : List BlockAt) (c : BlockAt) (o : Option ℕ) → o ≡ position (λ d. is_eq (ghosts.cmp d c)) cs
-    → is_some o ≡ false → cs ++ c ∷ [] ≡ with_place cs c
-place_new cs c o h s = ap (λ (v : Bool). cond v cs (cs ++ c ∷ [])) (sym (placed cs c o h ∙ s))
+use Rattle.xet_leader.specs.Lacking.{lacked, lacked_by, lacked_in, with_place, with_places}
 
 -- ---- lists of places
 

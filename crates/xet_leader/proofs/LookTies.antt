@@ -1,5 +1,5 @@
 -- A run after looks for its missing blocks.
-use Rattle.std.proofs.Common.{◌≡◌, ℕ, ◌+◌, ◌≤◌, ◌==◌, Bool, true, false, cond, List, [], ◌∷◌, ◌++◌, length, take, drop, refl, sym, subst, ◌∙◌, ap, arith, inl, inr, ⊎_elim, append_assoc}
+use Rattle.std.proofs.Common.{◌≡◌, ℕ, ◌+◌, ◌<◌, ◌≤◌, ◌==◌, Bool, true, false, cond, List, [], ◌∷◌, ◌++◌, length, take, drop, refl, sym, subst, ◌∙◌, ap, arith, inl, inr, ⊎_elim, append_assoc}
 use Rattle.std.specs.Prelude.{All, Contains, IfSome, MatchOption, Option, Some, None, count_by, slice_get, slice_set}
 use Rattle.std.specs.Option.{is_some}
 use Rattle.std.proofs.lemmas.Bool.{false≢true}
@@ -19,14 +19,15 @@ use Rattle.xet_fetch.specs.CachedBlocks.{FoundIn, LookOk, LookedFor, passes_cach
 use Rattle.xet_run.specs.declared.event.Event.{Event}
 use Rattle.xet_run.specs.declared.event.Event.TheVariants.{Cached}
 use Rattle.xet_run.specs.declared.event.PlannedBlock.{PlannedBlock}
+use Rattle.xet_run.specs.Events.{is_kept}
 use Rattle.xet_run.specs.Allowed.{IsMissing}
-use Rattle.xet_ties.specs.History.{block_at}
+use Rattle.xet_ties.specs.History.{block_at, fetches}
 use Rattle.xet_ties.specs.InCall.{Look}
 use Rattle.xet_ties.specs.Saids.{IsLookedData, planned_of}
 use Rattle.xet_ties.specs.Setup.{CacheTells, IsHonestEntry, IsOver, RunTold, Setup}
 use Rattle.xet_ties.specs.Ties.{Slack, Ties, is_one}
 use Rattle.xet_ties.specs.steps.Parts.{FoundBlock, LookedUp, looks_after, pending_after}
-use Rattle.xet_ties.proofs.CallerLemmas.{count-append, look_up_ties, tie_rest}
+use Rattle.xet_ties.proofs.CallerLemmas.{count-append, count-same, look_up_ties, none_fetched, tie_rest}
 use Rattle.xet_parts.proofs.CallerLemmas.{look_tells}
 use Rattle.xet_leader.specs.ByNumber.{plan_index}
 use Rattle.xet_leader.specs.declared.leader.LedPlan.{LedPlan}
@@ -186,8 +187,16 @@ module _ (g : Setup) (b : RunTold) (m : Moment) (l : Led) where
             (s.cache_tells v o y) (holds v o);
       } in
       let event : Cached p.number c.block ≡ e = ap (λ (q : ℕ). Cached q c.block) number in
+      let missing = list_at es l.finished acc cs c w.1 in
+      let unfetched : 0 < count_by (fetches p.number c.block) (es ++ Cached p.number c.block ∷ []) → ⊥ =
+      (λ f.
+      let same = count-same (fetches p.number c.block) es (Cached p.number c.block) refl in
+      let none = none_fetched p.number c.block es
+      (ap (λ (q : ℕ). is_kept es q c.block) number ∙ missing.absent) in
+      omega (arith, f, same, none)) in
       let led = led_kept g b es (Cached p.number c.block) sl to [] k (plan_index ls c.plan) c.block p x d
-      (cached_keeps p.number c.block) (tells_more_looks sl to grew.0 refl grew.1) at of_plan data_is s.led in
+      (cached_keeps p.number c.block) (tells_more_looks sl to grew.0 refl grew.1) at of_plan
+      (record { data_is = data_is; fetched = λ f. absurd (unfetched f) }) s.led in
       let ms : List LedPlan = slice_set ls (plan_index ls c.plan) (with_block p c.block (with_data x d)) in
       let named : Each (λ a. (v : PlannedBlock) × (block_at es a.plan a.block ≡ v ∷ [])) acc =
       each_weaker (λ a. IsMissing es a.plan a.block)

@@ -12,7 +12,7 @@ use Rattle.xet_ties.specs.InCall.{EachGrew, Look}
 use Rattle.xet_ties.specs.Saids.{IsLookedData, IsTestedData}
 use Rattle.xet_ties.specs.Setup.{IsOver, RunTold, Setup}
 use Rattle.xet_ties.specs.Ties.{Slack}
-use Rattle.xet_ties.proofs.CallerLemmas.{accepted_more, grew_none, tested_data_more}
+use Rattle.xet_ties.proofs.CallerLemmas.{accepted_more, grew_none, served_more, tested_data_more}
 use Rattle.xet_leader.specs.declared.leader.LedPlan.{LedPlan}
 use Rattle.xet_leader.specs.Led.{AreLedPlans, EachLedBlock, IsLed, IsLedData, IsLedPlan, Led, bare, true_data}
 
@@ -67,7 +67,13 @@ blocks_more b es sl to p k [] [] t a = tt
 blocks_more b es sl to p k [] (x ∷ xs) t a = absurd a
 blocks_more b es sl to p k (n ∷ ts) [] t a = absurd a
 blocks_more b es sl to p k (n ∷ ts) (x ∷ xs) t a = (
-  record { tries_are = a.0.tries_are; kept = a.0.kept; data_is = data_more b sl to p k x t a.0.data_is },
+  record {
+    tries_are = a.0.tries_are;
+    kept = a.0.kept;
+    data_is = data_more b sl to p k x t a.0.data_is;
+    fetched = λ h. IfSome_then x.kept (a.0.fetched h)
+        (λ d s. served_more sl.heard to.heard p k (bare x) d t.heard s);
+  },
   blocks_more b es sl to p (k + 1) ts xs t a.1,
 )
 

@@ -1,23 +1,25 @@
 -- A run after the blocks that lanes served were offered to the cache.
-use Rattle.std.proofs.Common.{◌≡◌, ℕ, ◌+◌, true, cond, List, [], ◌∷◌, ◌++◌, take, drop, zero, suc, Option, None, Some, Ok, Err, refl, sym, subst, ◌∙◌, ap, arith}
-use Rattle.std.specs.Prelude.{IsSome, count_by, IfSome, map, option_and_then, option_map, option_to_list, slice_get}
+use Rattle.std.proofs.Common.{◌≡◌, ℕ, ◌+◌, ◌<◌, true, cond, List, [], ◌∷◌, ◌++◌, take, drop, zero, suc, Option, None, Some, Ok, Err, refl, sym, subst, ◌∙◌, ap, arith}
+use Rattle.std.specs.Prelude.{count_by, IfSome, map, option_and_then, option_map, option_to_list, slice_get}
 use Rattle.std.specs.Option.{is_some}
 use Rattle.std.specs.List.{flat_map}
 use Rattle.std.proofs.lemmas.List.{append-nil, take-append-drop}
-use Rattle.std.proofs.lemmas.Option.{slice_get-map}
+use Rattle.std.proofs.lemmas.Option.{IfSome_then, slice_get-map}
 use Rattle.xet_base.specs.Lists.{first_some}
 use Rattle.xet_base.specs.Store.{Store}
+use Rattle.xet_outside.specs.Plan.{shape}
 use Rattle.xet_outside.specs.Told.{CacheTold}
 use Rattle.xet_outside.proofs.CallerLemmas.{count_by-cons}
 use Rattle.xet_error.specs.declared.error.FileReconstructionError.{FileReconstructionError}
 use Rattle.xet_error.specs.declared.error.FileReconstructionError.TheVariants as error
 use Rattle.xet_blocks.specs.declared.reconstruction_terms.xorb_block.XorbBlock.{XorbBlock}
 use Rattle.xet_blocks.specs.declared.reconstruction_terms.xorb_block.XorbBlockData.{XorbBlockData}
+use Rattle.xet_blocks.specs.TermBlocks.{xorb_blocks}
 use Rattle.xet_run.specs.declared.event.Event.{Event}
 use Rattle.xet_run.specs.declared.event.PlannedBlock.{PlannedBlock}
-use Rattle.xet_run.specs.Events.{is_kept}
 use Rattle.xet_ties.specs.Causes.{Cause}
-use Rattle.xet_ties.specs.History.{block_at, blocks_in}
+use Rattle.xet_ties.specs.Gains.{MayOffer}
+use Rattle.xet_ties.specs.History.{block_at, blocks_in, fetches}
 use Rattle.xet_ties.specs.Saids.{planned_of}
 use Rattle.xet_ties.specs.Setup.{CacheTells, IsOver, RunTold, Setup}
 use Rattle.xet_ties.specs.steps.Parts.{offers_in, offers_of}
@@ -28,7 +30,7 @@ use Rattle.xet_parts.specs.Offers.{OfferBlockCall}
 use Rattle.xet_parts.proofs.CallerLemmas.{offer_block_ties, offer_tells}
 use Rattle.xet_leader.specs.declared.leader.LedPlan.{LedPlan}
 use Rattle.xet_leader.specs.declared.missing_blocks.BlockAt.{BlockAt}
-use Rattle.xet_leader.specs.Led.{EachLedBlock, IsLed, IsLedPlan, Led, true_data}
+use Rattle.xet_leader.specs.Led.{EachLedBlock, IsAnswerData, IsLed, IsLedPlan, Led, bare, true_data}
 use Rattle.xet_leader.specs.Offering.{AreServed, IsServed, OfferCalls, OfferFails, OfferLeads, OfferedBlock, OfferedEach, OfferedOne, due_of}
 use Rattle.xet_leader.specs.Plans.{Answer, block_in, block_there, find_plan}
 use Rattle.xet_leader.specs.Steady.{IsFailing, IsGoing, LeadPart, Loose, Moment}
@@ -46,10 +48,10 @@ with_due o n = record o { due = n }
 
 -- ---- the block at a place
 
--- what the block is in the history, and what it keeps
-record Found (b : RunTold) (es : List Event) (p k : ℕ) (x : XorbBlock) : Type 0 where
+-- what the block is in the history, and what it keeps: where it was fetched that may be offered
+record Found (g : Setup) (b : RunTold) (es : List Event) (sl : Slack) (p k : ℕ) (x : XorbBlock) : Type 0 where
   pub at : block_at es p k ≡ planned_of x ∷ []
-  pub kept : is_some x.kept ≡ is_kept es p k
+  pub may : 0 < count_by (fetches p k) es → MayOffer g sl.heard x
   pub honest : (s : Store) → IsOver s b.clients → CacheTells s b.cache → IfSome x.kept (λ d. d ≡ true_data s x)
 
 each_honest : (b : RunTold) (es : List Event) (sl : Slack) (p n k : ℕ) (ts : List ℕ) (xs : List XorbBlock)
@@ -63,18 +65,46 @@ each_honest b es sl p n zero (u ∷ ts) (y ∷ xs) x a e s o t =
     subst (λ (z : XorbBlock). IfSome z.kept (λ d. d ≡ true_data s z)) is (a.0.data_is.honest s o t)
 each_honest b es sl p n (suc k) (u ∷ ts) (y ∷ xs) x a e s o t = each_honest b es sl p (n + 1) k ts xs x a.1 e s o t
 
-each_kept : (b : RunTold) (es : List Event) (sl : Slack) (p n k : ℕ) (ts : List ℕ) (xs : List XorbBlock)
-    (x : XorbBlock) → EachLedBlock b es sl p n ts xs → slice_get xs k ≡ Some x → is_some x.kept ≡ is_kept es p (n + k)
-each_kept b es sl p n k [] [] x a e = absurd (cc)
-each_kept b es sl p n k [] (y ∷ xs) x a e = absurd a
-each_kept b es sl p n k (u ∷ ts) [] x a e = absurd a
-each_kept b es sl p n zero (u ∷ ts) (y ∷ xs) x a e =
+-- where the block of this number was fetched it keeps an answer's data
+abbrev IsAnswered : List Event → Slack → ℕ → XorbBlock → ℕ → Type 0
+IsAnswered es sl p x k = 0 < count_by (fetches p k) es → IfSome x.kept (IsAnswerData sl p k (bare x))
+
+each_answered : (b : RunTold) (es : List Event) (sl : Slack) (p n k : ℕ) (ts : List ℕ) (xs : List XorbBlock)
+    (x : XorbBlock) → EachLedBlock b es sl p n ts xs → slice_get xs k ≡ Some x → IsAnswered es sl p x (n + k)
+each_answered b es sl p n k [] [] x a e = absurd (cc)
+each_answered b es sl p n k [] (y ∷ xs) x a e = absurd a
+each_answered b es sl p n k (u ∷ ts) [] x a e = absurd a
+each_answered b es sl p n zero (u ∷ ts) (y ∷ xs) x a e =
     let is : y ≡ x = cc in
     let m : n ≡ n + 0 = omega arith in
-    ap (λ (z : XorbBlock). is_some z.kept) (sym is) ∙ a.0.kept ∙ ap (λ (j : ℕ). is_kept es p j) m
-each_kept b es sl p n (suc k) (u ∷ ts) (y ∷ xs) x a e =
+    subst (IsAnswered es sl p x) m (subst (λ (z : XorbBlock). IsAnswered es sl p z n) is a.0.fetched)
+each_answered b es sl p n (suc k) (u ∷ ts) (y ∷ xs) x a e =
     let m : n + 1 + k ≡ n + suc k = omega arith in
-    each_kept b es sl p (n + 1) k ts xs x a.1 e ∙ ap (λ (j : ℕ). is_kept es p j) m
+    subst (IsAnswered es sl p x) m (each_answered b es sl p (n + 1) k ts xs x a.1 e)
+
+-- such data of a block of a plan that was said may be offered
+may_offer : (g : Setup) (b : RunTold) (es : List Event) (sl : Slack) (stale : List ℕ) (y : LedPlan) (k : ℕ)
+    (x : XorbBlock) → IsLedPlan g b es sl stale y → slice_get y.block.blocks k ≡ Some x
+    → IfSome x.kept (IsAnswerData sl y.number k (bare x)) → MayOffer g sl.heard x
+may_offer g b es sl stale y k x own e h =
+    let there : slice_get (xorb_blocks (shape own.plan) g.multirange) k ≡ Some (bare x) =
+    ap (λ (l : List XorbBlock). slice_get l k) (sym own.blocks) ∙ slice_get-map bare y.block.blocks k
+    ∙ ap (λ (o : Option XorbBlock). option_map bare o) e in
+    IfSome_then x.kept h (λ d s r one. record {
+      place = record {
+        plan = own.plan;
+        query = own.query;
+        accepted = own.accepted;
+        number = k;
+        block = bare x;
+        numbered = there;
+      };
+      range = r;
+      one = one;
+      data_of = d;
+      served = subst (λ (n : ℕ). IsAnswerData sl n k (bare x) d) own.said_as s;
+      is = refl;
+    })
 
 planned_at : (es : List Event) (p k : ℕ) (xs : List XorbBlock) (x : XorbBlock)
     → first_some (map (blocks_in p) es) ≡ Some (map planned_of xs) → slice_get xs k ≡ Some x
@@ -88,7 +118,7 @@ planned_at es p k xs x h e =
 found_in : (g : Setup) (b : RunTold) (es : List Event) (sl : Slack) (stale : List ℕ) (l : Led) (p k place : ℕ)
     (y : LedPlan) (x : XorbBlock) → IsLed g b es sl stale l → find_plan l.plans p ≡ Some place
     → slice_get l.plans place ≡ Some y
-    → slice_get y.block.blocks k ≡ Some x → Found b es p k x
+    → slice_get y.block.blocks k ≡ Some x → Found g b es sl p k x
 found_in g b es sl stale l p k place y x a found at e =
     let own = at_place (IsLedPlan g b es sl stale) l.plans place y at a.plans.each in
     let number = place_number l.plans p place y a.plans.follow found at in
@@ -96,46 +126,26 @@ found_in g b es sl stale l p k place y x a found at e =
     record {
       at = subst (λ (n : ℕ). block_at es n k ≡ planned_of x ∷ []) number
           (planned_at es y.number k y.block.blocks x own.recorded.blocks e);
-      kept = subst (λ (n : ℕ). is_some x.kept ≡ is_kept es n k) number
-          (each_kept b es sl y.number 0 k y.tries.items y.block.blocks x own.each e
-          ∙ ap (λ (j : ℕ). is_kept es y.number j) here);
+      may = λ h. may_offer g b es sl stale y k x own e
+          (subst (IsAnswered es sl y.number x) here
+          (each_answered b es sl y.number 0 k y.tries.items y.block.blocks x own.each e)
+          (subst (λ (n : ℕ). 0 < count_by (fetches n k) es) (sym number) h));
       honest = each_honest b es sl y.number 0 k y.tries.items y.block.blocks x own.each e;
     }
 
 found_block : (g : Setup) (b : RunTold) (es : List Event) (sl : Slack) (stale : List ℕ) (l : Led) (p k : ℕ)
-    (x : XorbBlock) → IsLed g b es sl stale l → block_in l.plans p k ≡ Some x → Found b es p k x
+    (x : XorbBlock) → IsLed g b es sl stale l → block_in l.plans p k ≡ Some x → Found g b es sl p k x
 found_block g b es sl stale l p k x a e = by (find_plan l.plans p) refl e
   where
     there : (place : ℕ) → find_plan l.plans p ≡ Some place → (o : Option LedPlan) → slice_get l.plans place ≡ o
-        → option_and_then (λ (y : LedPlan). slice_get y.block.blocks k) o ≡ Some x → Found b es p k x
+        → option_and_then (λ (y : LedPlan). slice_get y.block.blocks k) o ≡ Some x → Found g b es sl p k x
     there place found None at h = absurd (cc)
     there place found (Some y) at h = found_in g b es sl stale l p k place y x a found at h
 
     by : (o : Option ℕ) → find_plan l.plans p ≡ o → option_and_then (block_there l.plans k) o ≡ Some x
-        → Found b es p k x
+        → Found g b es sl p k x
     by None found h = absurd (cc)
     by (Some place) found h = there place found (slice_get l.plans place) refl h
-
--- ---- places of blocks that the history keeps
-
--- each of these places is that of a block of the plans, and the history keeps it
-abbrev pub AreKeptAt : List Event → List LedPlan → List BlockAt → Type 0
-AreKeptAt es ls [] = Unit {0}
-AreKeptAt es ls (a ∷ ps) = IsSome (block_in ls a.plan a.block) × (is_kept es a.plan a.block ≡ true)
-    × AreKeptAt es ls ps
-
--- so each keeps data
-pub kept_served : (g : Setup) (b : RunTold) (es : List Event) (sl : Slack) (stale : List ℕ) (l : Led)
-    (ps : List BlockAt) → IsLed g b es sl stale l → AreKeptAt es l.plans ps → AreServed l.plans ps
-kept_served g b es sl stale l [] led a = tt
-kept_served g b es sl stale l (p ∷ ps) led a = (
-  by (block_in l.plans p.plan p.block) refl a.0,
-  kept_served g b es sl stale l ps led a.2,
-)
-  where
-    by : (x : Option XorbBlock) → block_in l.plans p.plan p.block ≡ x → IsSome x → IsServed x
-    by None e h = absurd (cc)
-    by (Some x) e h = (found_block g b es sl stale l p.plan p.block x led e).kept ∙ a.1
 
 -- ---- one block
 
@@ -159,18 +169,18 @@ due_step es a ps x at kept =
 
 offered_going : (g : Setup) (b : RunTold) (m : Moment) (o : Loose) (a : BlockAt) (ps : List BlockAt) (l : Led)
     (x : XorbBlock) (d : CacheTold) → block_in l.plans a.plan a.block ≡ Some x → is_some x.kept ≡ true
-    → OfferBlockCall x m.told.cache d (Ok tt)
+    → 0 < count_by (fetches a.plan a.block) m.events → OfferBlockCall x m.told.cache d (Ok tt)
     → IsGoing g b m (with_due o (due_of m.events (a ∷ ps))) l
     → IsGoing g b (cached_at m d) (with_due o (due_of m.events ps)) l
-offered_going g b m o a ps l x d at kept call s =
+offered_going g b m o a ps l x d at kept fetched call s =
     let found = found_block g b m.events s.slack o.stale l a.plan a.block x s.led at in
     let step = due_step m.events a ps x found.at kept in
     let due = s.settled.due in
     let n = due_of m.events ps in
     record {
       slack = record s.slack { due = n };
-      ties = (offer_block_ties x m.told.cache d (Ok tt) call).done.ties g b m.told m.events s.slack n refl
-          (omega (arith, step, due)) s.ties;
+      ties = (offer_block_ties x m.told.cache d (Ok tt) call).done g b m.told m.events s.slack n refl
+          (omega (arith, step, due)) (found.may fetched) s.ties;
       settled = record {
         hidden = s.settled.hidden;
         late = s.settled.late;
@@ -190,16 +200,17 @@ offered_going g b m o a ps l x d at kept call s =
     }
 
 one_offered : (g : Setup) (m : Moment) (o : Loose) (a : BlockAt) (ps : List BlockAt) (l : Led) (d : CacheTold)
-    → IsServed (block_in l.plans a.plan a.block) → OfferedOne l.plans a m.told.cache d (Ok tt)
+    → IsServed (block_in l.plans a.plan a.block) → 0 < count_by (fetches a.plan a.block) m.events
+    → OfferedOne l.plans a m.told.cache d (Ok tt)
     → LeadPart {A = Unit {0}} g m (cached_at m d) (with_due o (due_of m.events (a ∷ ps)))
     (with_due o (due_of m.events ps)) l l (Ok tt)
-one_offered g m o a ps l d served r = by (block_in l.plans a.plan a.block) refl served r
+one_offered g m o a ps l d served fetched r = by (block_in l.plans a.plan a.block) refl served r
   where
     by : (x : Option XorbBlock) → block_in l.plans a.plan a.block ≡ x → IsServed x
         → OfferedBlock x m.told.cache d (Ok tt) → LeadPart {A = Unit {0}} g m (cached_at m d)
         (with_due o (due_of m.events (a ∷ ps))) (with_due o (due_of m.events ps)) l l (Ok tt)
     by None e h t = absurd h
-    by (Some x) e h t = record { ok = λ b s. offered_going g b m o a ps l x d e h t s; err = λ b s. tt }
+    by (Some x) e h t = record { ok = λ b s. offered_going g b m o a ps l x d e h fetched t s; err = λ b s. tt }
 
 -- ---- all of them
 
@@ -211,7 +222,7 @@ same_cache g m o l d e = record {
 }
 
 each_offered : (g : Setup) (m : Moment) (o : Loose) (ps rest : List BlockAt) (l : Led) (d : CacheTold)
-    → AreServed l.plans ps → OfferedEach l.plans ps m.told.cache d
+    → AreServed m.events l.plans ps → OfferedEach l.plans ps m.told.cache d
     → LeadPart {A = Unit {0}} g m (cached_at m d) (with_due o (due_of m.events (ps ++ rest)))
     (with_due o (due_of m.events rest)) l l (Ok tt)
 each_offered g m o [] rest l d served r = same_cache g m (with_due o (due_of m.events rest)) l d r
@@ -219,8 +230,8 @@ each_offered g m o (p ∷ ps) rest l d served r =
     let x = r.0 in
     lead_more g m (cached_at m x) (cached_at m d) (with_due o (due_of m.events (p ∷ ps ++ rest)))
     (with_due o (due_of m.events (ps ++ rest))) (with_due o (due_of m.events rest)) l l l tt (Ok tt)
-    (one_offered g m o p (ps ++ rest) l x served.0 r.1)
-    (each_offered g (cached_at m x) o ps rest l d served.1 r.2)
+    (one_offered g m o p (ps ++ rest) l x served.0 served.1 r.1)
+    (each_offered g (cached_at m x) o ps rest l d served.2 r.2)
 
 -- ---- want of memory
 
@@ -251,18 +262,20 @@ one_short g m o u a l d e r = by (block_in l.plans a.plan a.block) r
     by None t = absurd (let z : ◌≡◌ {A = Answer} (Err e) (Ok tt) = t.1 in cc)
     by (Some x) t = record { ok = λ b s. tt; err = λ b s. short_failing g b m o l x d e t s }
 
-served_first : (ls : List LedPlan) (xs ys : List BlockAt) → AreServed ls (xs ++ ys) → AreServed ls xs
-served_first ls [] ys a = tt
-served_first ls (x ∷ xs) ys a = (a.0, served_first ls xs ys a.1)
+served_first : (es : List Event) (ls : List LedPlan) (xs ys : List BlockAt) → AreServed es ls (xs ++ ys)
+    → AreServed es ls xs
+served_first es ls [] ys a = tt
+served_first es ls (x ∷ xs) ys a = (a.0, a.1, served_first es ls xs ys a.2)
 
 fails_lead : (g : Setup) (m : Moment) (o : Loose) (places : List BlockAt) (l : Led) (d : CacheTold)
-    (e : FileReconstructionError) → AreServed l.plans places → OfferFails l.plans places m.told.cache d e
+    (e : FileReconstructionError) → AreServed m.events l.plans places → OfferFails l.plans places m.told.cache d e
     → LeadPart {A = Unit {0}} g m (cached_at m d) (with_due o (due_of m.events places)) (with_due o 0) l l (Err e)
 fails_lead g m o places l d e served f =
     let k = f.count in
     let x = f.last in
     let split : take k places ++ drop k places ≡ places = take-append-drop k places in
-    let front = served_first l.plans (take k places) (drop k places) (subst (AreServed l.plans) (sym split) served) in
+    let front = served_first m.events l.plans (take k places) (drop k places)
+    (subst (AreServed m.events l.plans) (sym split) served) in
     let first = each_offered g m o (take k places) (drop k places) l x front f.before in
     let last : LeadPart {A = Unit {0}} g (cached_at m x) (cached_at m d)
     (with_due o (due_of m.events (drop k places))) (with_due o 0) l l (Err e) =
@@ -273,7 +286,7 @@ fails_lead g m o places l d e served f =
     (record { ok = λ b s. tt; err = λ b s. last.err b (first.ok b s) })
 
 calls_lead : (g : Setup) (m : Moment) (o : Loose) (places : List BlockAt) (l : Led) (d : CacheTold) (answer : Answer)
-    → AreServed l.plans places → OfferCalls l.plans places m.told.cache d answer
+    → AreServed m.events l.plans places → OfferCalls l.plans places m.told.cache d answer
     → LeadPart g m (cached_at m d) (with_due o (due_of m.events places)) (with_due o 0) l l answer
 calls_lead g m o places l d (Ok tt) served r = subst
     (λ (ps : List BlockAt). LeadPart {A = Unit {0}} g m (cached_at m d) (with_due o (due_of m.events ps))

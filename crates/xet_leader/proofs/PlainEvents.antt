@@ -11,7 +11,7 @@ use Rattle.xet_terms.specs.Managers.{Manager}
 use Rattle.xet_ties.specs.History.{expiry_of}
 use Rattle.xet_ties.specs.Setup.{RunTold, Setup}
 use Rattle.xet_ties.specs.Ties.{Slack}
-use Rattle.xet_ties.proofs.CallerLemmas.{count-same}
+use Rattle.xet_ties.proofs.CallerLemmas.{count-same, fetched_before}
 use Rattle.xet_leader.specs.declared.leader.LedPlan.{LedPlan}
 use Rattle.xet_leader.specs.Led.{AreLedPlans, AreStale, EachLedBlock, IsLedManager, IsLedPlan, Led}
 use Rattle.xet_leader.proofs.QuietEvents.{IsQuiet, quiet_kept, quiet_manager, quiet_numbered, quiet_ready, quiet_recorded, quiet_running, quiet_stale}
@@ -40,6 +40,7 @@ blocks_same b es e sl p k (t ∷ ts) (x ∷ xs) n a = (
     tries_are = a.0.tries_are ∙ sym (count-same (expires p k) es e (n.expires_none p k));
     kept = a.0.kept ∙ sym (quiet_kept es e p k (n.keeps_none p k));
     data_is = a.0.data_is;
+    fetched = λ h. a.0.fetched (fetched_before es e p k (n.keeps_none p k) h);
   },
   blocks_same b es e sl p (k + 1) ts xs n a.1,
 )

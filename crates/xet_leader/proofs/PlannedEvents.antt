@@ -43,7 +43,7 @@ use Rattle.xet_ties.specs.Setup.{IsOver, RunTold, Setup}
 use Rattle.xet_ties.specs.steps.Moves.{heard_first}
 use Rattle.xet_ties.specs.steps.Parts.{plan_event, plan_query}
 use Rattle.xet_ties.specs.Ties.{Slack}
-use Rattle.xet_ties.proofs.CallerLemmas.{count-same, expired-push, first_stays, grew_first, range_at-push}
+use Rattle.xet_ties.proofs.CallerLemmas.{count-same, fetched_before, expired-push, first_stays, grew_first, range_at-push}
 use Rattle.xet_leader.specs.declared.leader.LedPlan.{LedPlan}
 use Rattle.xet_leader.specs.Asking.{IsAdded}
 use Rattle.xet_leader.specs.Led.{EachLedBlock, IsLedPlan, bare}
@@ -141,6 +141,7 @@ blocks_after b es sl n q terms bs p k (t ∷ ts) (x ∷ xs) a = (
     tries_are = a.0.tries_are ∙ sym (count-same (expires p k) es (Planned n q terms bs) refl);
     kept = a.0.kept ∙ sym (quiet_kept es (Planned n q terms bs) p k refl);
     data_is = a.0.data_is;
+    fetched = λ h. a.0.fetched (fetched_before es (Planned n q terms bs) p k refl h);
   },
   blocks_after b es sl n q terms bs p (k + 1) ts xs a.1,
 )
@@ -198,6 +199,7 @@ new_blocks b es sl p k s multi (x ∷ xs) none unkept = (
     tries_are = sym (none k);
     kept = sym (unkept k);
     data_is = record { tested = tt; sound = λ s over. tt; honest = λ s over tells. tt };
+    fetched = λ h. tt;
   },
   new_blocks b es sl p (k + 1) s multi xs none unkept,
 )

@@ -30,7 +30,7 @@ use Rattle.xet_run.proofs.CallerLemmas.{flat-push, last_of-append, stale-push}
 use Rattle.xet_ties.specs.History.{expiry_of, is_expired}
 use Rattle.xet_ties.specs.Setup.{RunTold, Setup}
 use Rattle.xet_ties.specs.Ties.{Slack}
-use Rattle.xet_ties.proofs.CallerLemmas.{count-same, expired-push}
+use Rattle.xet_ties.proofs.CallerLemmas.{count-same, fetched_before, expired-push}
 use Rattle.xet_parts.specs.PlanRefreshes.{TookUrls}
 use Rattle.xet_leader.specs.declared.leader.LedPlan.{LedPlan}
 use Rattle.xet_leader.specs.Led.{AreLedPlans, AreStale, EachLedBlock, IsCounted, IsLed, IsLedPlan, IsReady, Led}
@@ -118,6 +118,7 @@ blocks_after b es sl p q k (t ∷ ts) (x ∷ xs) a = (
     tries_are = a.0.tries_are ∙ sym (count-same (expires q k) es (Refreshed p) refl);
     kept = a.0.kept ∙ sym (quiet_kept es (Refreshed p) q k refl);
     data_is = a.0.data_is;
+    fetched = λ h. a.0.fetched (fetched_before es (Refreshed p) q k refl h);
   },
   blocks_after b es sl p q (k + 1) ts xs a.1,
 )

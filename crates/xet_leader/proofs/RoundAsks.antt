@@ -31,7 +31,7 @@ fetches_for ls n [] (f ∷ fs) h = absurd h
 fetches_for ls n (c ∷ cs) [] h = absurd h
 fetches_for ls n (c ∷ cs) (f ∷ fs) h =
     let is = h.0 in
-    let r = request_parts f.block.now is.plan.block.urls f.request is.request_is in
+    let r = request_parts f.block.now is.plan.block.urls (ask_of f).request is.request_is in
     All-cons IsFor (ask_of f) (map ask_of fs) (record { xorb = r.2; chunks = r.3; index = r.1 })
     (fetches_for ls (n + 1) cs fs h.1)
 

@@ -52,7 +52,7 @@ use Rattle.xet_leader.proofs.RoundLeads.{loose_after, round_goes, round_memory, 
 use Rattle.xet_leader.proofs.RoundsLeft.{round_left}
 use Rattle.xet_leader.proofs.RoundMeasures.{round_less}
 use Rattle.xet_leader.proofs.RoundStops.{round_stops, sink_since}
-use Rattle.xet_leader.proofs.ServedStay.{IsPassed, lanes_missing, round_kept, served_places}
+use Rattle.xet_leader.proofs.ServedStay.{IsPassed, FetchedBy, lanes_missing, round_fetched, served_places}
 use Rattle.xet_leader.proofs.WindowTies.{window_tied}
 use Rattle.xet_leader.proofs.WindowWriters.{HoldsPieces, holds_pieces}
 use Rattle.xet_leader.proofs.WroteEvents.{are_writes, planned_same, sizes_sum}
@@ -378,7 +378,8 @@ went : {S : Type 0} (told : S → SinkTold) (g : Setup) (b : RunTold) (m : Momen
     (lengths : List ℕ) (a z : RoundTold S) (j : Joined) (tries : ℕ) (fs : List Event) (o : Outcome) → g.tries ≡ tries
     → m.told.clients ≡ a.clients → IsPrepared told g b m l cs lengths a.writer → FetchedBeside told l cs a z j
     → TookOutcome tries lengths j m.events fs (fetched_led cs l) k o
-    → IsSteady told g b (after_round told m z fs) (to_settle fs o) k z.writer × AreServed k.plans o.served.items
+    → IsSteady told g b (after_round told m z fs) (to_settle fs o) k z.writer ×
+    AreServed fs k.plans o.served.items
 went told g b m l k cs lengths a z j tries fs o few same p f h =
     let t = join_told told g b m l cs lengths a z j same p f in
     let s = p.going in
@@ -441,15 +442,16 @@ went told g b m l k cs lengths a z j tries fs o few same p f h =
     } in
     let missing = lanes_missing es (map ask_of f.asked) at.clients t.left.slack.heard ls t.asks.missing
     (t.left.after.found t.asks.own) in
-    let served_kept = round_kept es (wrote_of (map size ts)) ls in
+    let fetched = round_fetched es (wrote_of (map size ts)) ls in
     let served = served_places g b es (es ++ all) s.slack going.slack [] o.stale.items l k1 ts w.rest o.served.items
     s.led going.led passed
     (subst (Each (λ (c : Place). IsMissing es c.0 c.1)) (sym kept.served_are) missing)
-    (subst (Each (λ (c : Place). is_kept (es ++ all) c.0 c.1 ≡ true)) (sym kept.served_are) served_kept) in (
+    (subst (Each (FetchedBy (es ++ all))) (sym kept.served_are) fetched) in (
       subst (λ (x : List Event). IsSteady told g b (after_round told m z x) (to_settle x o) k z.writer) (sym events)
           (subst (λ (y : Led). IsSteady told g b (after_round told m z (es ++ all))
           (to_settle (es ++ all) o) y z.writer) (sym led_is) (record { going = going; writer = idle })),
-      subst (λ (y : Led). AreServed y.plans o.served.items) (sym led_is) served,
+      subst (λ (x : List Event). AreServed x k.plans o.served.items) (sym events)
+          (subst (λ (y : Led). AreServed (es ++ all) y.plans o.served.items) (sym led_is) served),
     )
 
 -- ---- both

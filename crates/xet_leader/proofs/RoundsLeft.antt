@@ -27,7 +27,7 @@ use Rattle.xet_ties.proofs.CallerLemmas.{new_pairs, round_allowed, round_may_exp
 use Rattle.xet_leader.specs.Expiries.{stale_after}
 use Rattle.xet_leader.specs.Keeping.{given_of}
 use Rattle.xet_leader.specs.KeptBlocks.{with_data}
-use Rattle.xet_leader.specs.Led.{IsLed, IsLedPlan, IsReady, Led, bare}
+use Rattle.xet_leader.specs.Led.{IsAnswerData, IsLed, IsLedPlan, IsReady, Led, bare}
 use Rattle.xet_leader.specs.RoundRecords.{expired_events, fetched_events}
 use Rattle.xet_leader.specs.Rounds.{AreLedAsks, IsLedAsk, IsLedAt, IsSpent, RoundLeft, plans_after, plans_kept}
 use Rattle.xet_leader.proofs.HonestBlocks.{led_honest}
@@ -146,13 +146,15 @@ step_given g b at es sl to fs l p k d t led asks h =
       in_plan = ap (λ (n : ℕ). slice_get mine.plan.block.blocks n) h.index
           ∙ mine.in_plan;
     } in
+    let answer : IsAnswerData to p k (bare x) d = some_weaker (λ y. IsServedData y p k x d)
+    (λ y. IsServedData y p k (bare x) d) to.heard
+    (λ y s. record { given = s.given; answer = s.answer; passes = s.passes; made = s.made }) h.served in
     record {
       block = x;
       led_at = here;
+      answer = answer;
       data_is = record {
-        tested = inl (some_weaker (λ y. IsServedData y p k x d)
-            (λ y. IsServedData y p k (bare (with_data x d)) d) to.heard
-            (λ y s. record { given = s.given; answer = s.answer; passes = s.passes; made = s.made }) h.served);
+        tested = inl answer;
         sound = λ s o. inr (h.honest s (tells_now s es 0 b.clients at.clients sl.hidden sl.late t.served.lanes o.tell)
             (led_honest g b es sl [] mine.plan a.request.index x plan mine.in_plan s o).holds);
         honest = λ s o c. h.honest s (tells_now s es 0 b.clients at.clients sl.hidden sl.late t.served.lanes o.tell)

@@ -22,10 +22,10 @@ use Rattle.xet_leader.specs.ByNumber.{change_at, only, plan_index}
 use Rattle.xet_leader.specs.Keeping.{Given, given_of, keep_data, keep_in, kept, kept_one}
 use Rattle.xet_leader.specs.KeptBlocks.{kept_in_plan, kept_in_plans, with_data}
 use Rattle.xet_leader.specs.Rounds.{IsLedAt}
-use Rattle.xet_leader.specs.Led.{EachLedBlock, IsLed, IsLedData, IsLedPlan, Led, bare}
+use Rattle.xet_leader.specs.Led.{EachLedBlock, IsAnswerData, IsLed, IsLedData, IsLedPlan, Led, bare}
 use Rattle.xet_leader.proofs.AlikePlans.{IsAlike}
 use Rattle.xet_leader.proofs.ChangedPlans.{change_is_set, only_is, placed}
-use Rattle.xet_leader.proofs.KeptEvents.{IsKeeping, fetched_keeps, led_kept}
+use Rattle.xet_leader.proofs.KeptEvents.{IsKeeping, IsKeptData, fetched_keeps, led_kept}
 use Rattle.xet_leader.proofs.KeptSteps.{kept-append}
 use Rattle.xet_leader.proofs.MoreTold.{tells_more_heard}
 
@@ -36,6 +36,7 @@ pub record IsGivenTo (b : RunTold) (sl : Slack) (ls : List LedPlan) (c : Given) 
   pub block : XorbBlock
   pub led_at : IsLedAt ls c.0 c.1 block
   pub data_is : IsLedData b sl c.0 c.1 (with_data block c.2)
+  pub answer : IsAnswerData sl c.0 c.1 (bare block) c.2
 
 abbrev pub EachGiven : RunTold → Slack → List LedPlan → List Given → Type 0
 EachGiven b sl ls [] = Unit {0}
@@ -130,6 +131,7 @@ given_stays b sl ls e c h =
       led_at = r.led_at;
       data_is = subst
           (λ (x : XorbBlock). IsLedData b sl c.0 c.1 (with_data x c.2)) (sym r.same) h.data_is;
+      answer = subst (λ (x : XorbBlock). IsAnswerData sl c.0 c.1 x c.2) (sym r.same) h.answer;
     }
 
 each_stays : (b : RunTold) (sl : Slack) (ls : List LedPlan) (e : Given) (cs : List Given) → EachGiven b sl ls cs
@@ -213,7 +215,10 @@ led_fetched g b es sl stale lane c l may h led =
     ∙ placed l.plans a.index a.plan led.plans.follow a.at in
     let keeps : IsKeeping a.plan.number c.1 e = subst (λ (n : ℕ). IsKeeping n c.1 e) (sym a.number)
     (fetched_keeps lane c.0 c.1) in
-    let data_of = subst (λ (n : ℕ). IsLedData b sl n c.1 (with_data h.block c.2)) (sym a.number) h.data_is in
+    let data_of : IsKeptData b es e sl a.plan.number c.1 h.block c.2 = record {
+      data_is = subst (λ (n : ℕ). IsLedData b sl n c.1 (with_data h.block c.2)) (sym a.number) h.data_is;
+      fetched = λ f. subst (λ (n : ℕ). IsAnswerData sl n c.1 (bare h.block) c.2) (sym a.number) h.answer;
+    } in
     let to = led_kept g b es e sl sl stale l a.index c.1 a.plan h.block c.2 keeps
     (tells_more_heard sl sl (grew_none sl.heard) refl) a.at a.in_plan data_of led in
     subst (λ (ls : List LedPlan). IsLed g b (es ++ e ∷ []) sl stale (record l { plans = ls }))

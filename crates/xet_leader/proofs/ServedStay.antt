@@ -11,9 +11,11 @@ use Rattle.xet_blocks.specs.declared.reconstruction_terms.xorb_block.XorbBlock.{
 use Rattle.xet_outside.specs.Told.{ClientTold}
 use Rattle.xet_run.specs.declared.event.Event.{Event}
 use Rattle.xet_run.specs.Allowed.{IsMissing}
-use Rattle.xet_run.specs.Events.{Task, is_admit, is_kept, keeps, needs, planned}
+use Rattle.xet_run.specs.declared.event.Event.TheVariants.{Fetched}
+use Rattle.xet_run.specs.Events.{Task, is_admit, is_kept, needs, planned}
 use Rattle.xet_ties.specs.declared.lane_step.LaneStep.{LaneStep}
 use Rattle.xet_ties.specs.declared.lane_step.LaneStep.TheVariants as step
+use Rattle.xet_ties.specs.History.{fetches}
 use Rattle.xet_ties.specs.InCall.{Exchange}
 use Rattle.xet_ties.specs.Lanes.{Ask}
 use Rattle.xet_ties.specs.Saids.{has_bytes}
@@ -22,7 +24,7 @@ use Rattle.xet_ties.specs.steps.Records.{Place, fetched_on, lane_events, wrote_o
 use Rattle.xet_ties.specs.steps.Rounds.{IsHeardData, IsHeardStep, IsMissingAsk, got_of}
 use Rattle.xet_ties.specs.steps.Windows.{AreKept, is_wanted, open_terms}
 use Rattle.xet_ties.specs.Ties.{Slack}
-use Rattle.xet_ties.proofs.CallerLemmas.{wanted_is}
+use Rattle.xet_ties.proofs.CallerLemmas.{count-append, count-more, none_fetched, wanted_is}
 use Rattle.xet_leader.specs.declared.leader.LedPlan.{LedPlan}
 use Rattle.xet_leader.specs.declared.missing_blocks.BlockAt.{BlockAt}
 use Rattle.xet_leader.specs.FetchLists.{Each}
@@ -34,7 +36,6 @@ use Rattle.xet_leader.specs.Plans.{block_in, block_there, find_plan}
 use Rattle.xet_leader.specs.RoundRecords.{expired_events, fetched_events, lanes_events}
 use Rattle.xet_leader.proofs.AwaitedBlocks.{TermOf, all_terms, some_plan}
 use Rattle.xet_leader.proofs.FetchFacts.{is_at, kept_is}
-use Rattle.xet_leader.proofs.LaneEvents.{kept_more}
 use Rattle.xet_leader.proofs.OpenTerms.{open_is, tasks_open}
 use Rattle.xet_leader.proofs.PlanFacts.{each_append, each_weaker}
 use Rattle.xet_leader.proofs.PlanPlaces.{numbered_at}
@@ -74,43 +75,59 @@ lanes_missing es fs bs xs (ss ∷ ls) m h =
 
 -- ---- they are kept
 
-abbrev KeptBy : List Event → Place → Type 0
-KeptBy es c = is_kept es c.0 c.1 ≡ true
+-- the block at this place was fetched
+abbrev pub FetchedBy : List Event → Place → Type 0
+FetchedBy es c = 0 < count_by (fetches c.0 c.1) es
 
-kept_after : (es fs : List Event) (c : Place) → KeptBy fs c → KeptBy (es ++ fs) c
-kept_after es fs c h = list_any-append (keeps c.0 c.1) es fs
-    ∙ or_right (list_any (keeps c.0 c.1) es) (list_any (keeps c.0 c.1) fs) h
+fetched_more : (es fs : List Event) (c : Place) → FetchedBy es c → FetchedBy (es ++ fs) c
+fetched_more es fs c h = let n = count-append (fetches c.0 c.1) es fs in omega (arith, n, h)
 
-lane_kept : (lane : ℕ) (ss : List LaneStep) → Each (KeptBy (fetched_on lane ss)) (got_of ss)
-lane_kept lane [] = tt
-lane_kept lane (step.Served p k d ∷ ss) = (
-  or_left (p == p && k == k) (list_any (keeps p k) (fetched_on lane ss))
-      (and_from (p == p) (k == k) (eq-eqb p p refl) (eq-eqb k k refl)),
-  each_weaker (KeptBy (fetched_on lane ss)) (KeptBy (fetched_on lane (step.Served p k d ∷ ss))) (got_of ss)
-      (λ c h. or_right (p == c.0 && k == c.1) (list_any (keeps c.0 c.1) (fetched_on lane ss)) h) (lane_kept lane ss),
+fetched_after : (es fs : List Event) (c : Place) → FetchedBy fs c → FetchedBy (es ++ fs) c
+fetched_after es fs c h = let n = count-append (fetches c.0 c.1) es fs in omega (arith, n, h)
+
+lane_fetched : (lane : ℕ) (ss : List LaneStep) → Each (FetchedBy (fetched_on lane ss)) (got_of ss)
+lane_fetched lane [] = tt
+lane_fetched lane (step.Served p k d ∷ ss) = (
+  fetched_more (Fetched lane p k ∷ []) (fetched_on lane ss) (p, k) (own_fetch lane p k),
+  each_weaker (FetchedBy (fetched_on lane ss)) (FetchedBy (fetched_on lane (step.Served p k d ∷ ss))) (got_of ss)
+      (λ c h. fetched_after (Fetched lane p k ∷ []) (fetched_on lane ss) c h) (lane_fetched lane ss),
 )
-lane_kept lane (step.Expired p k ∷ ss) = lane_kept lane ss
-lane_kept lane (step.Failed e ∷ ss) = lane_kept lane ss
+  where
+    own_fetch : (lane p k : ℕ) → FetchedBy (Fetched lane p k ∷ []) (p, k)
+    own_fetch lane p k =
+        let same : (p == p && k == k) ≡ true = and_from (p == p) (k == k) (eq-eqb p p refl) (eq-eqb k k refl) in
+        let n = count-more (fetches p k) [] (Fetched lane p k) same in
+        omega (arith, n)
+lane_fetched lane (step.Expired p k ∷ ss) = lane_fetched lane ss
+lane_fetched lane (step.Failed e ∷ ss) = lane_fetched lane ss
 
-lanes_kept : (lane : ℕ) (ls : List (List LaneStep))
-    → Each (KeptBy (lane_events fetched_on lane ls)) (flat_map got_of ls)
-lanes_kept lane [] = tt
-lanes_kept lane (ss ∷ ls) =
+lanes_fetched : (lane : ℕ) (ls : List (List LaneStep))
+    → Each (FetchedBy (lane_events fetched_on lane ls)) (flat_map got_of ls)
+lanes_fetched lane [] = tt
+lanes_fetched lane (ss ∷ ls) =
     let first = fetched_on lane ss in
     let rest = lane_events fetched_on (lane + 1) ls in
-    each_append (KeptBy (first ++ rest)) (got_of ss) (flat_map got_of ls)
-    (each_weaker (KeptBy first) (KeptBy (first ++ rest)) (got_of ss) (λ c h. kept_more first rest c.0 c.1 h)
-    (lane_kept lane ss))
-    (each_weaker (KeptBy rest) (KeptBy (first ++ rest)) (flat_map got_of ls) (λ c h. kept_after first rest c h)
-    (lanes_kept (lane + 1) ls))
+    each_append (FetchedBy (first ++ rest)) (got_of ss) (flat_map got_of ls)
+    (each_weaker (FetchedBy first) (FetchedBy (first ++ rest)) (got_of ss) (λ c h. fetched_more first rest c h)
+    (lane_fetched lane ss))
+    (each_weaker (FetchedBy rest) (FetchedBy (first ++ rest)) (flat_map got_of ls) (λ c h. fetched_after first rest c h)
+    (lanes_fetched (lane + 1) ls))
 
-pub round_kept : (es ws : List Event) (ls : List (List LaneStep))
-    → Each (λ (c : Place). is_kept (es ++ (lanes_events ls ++ ws)) c.0 c.1 ≡ true) (flat_map got_of ls)
-round_kept es ws ls =
-    each_weaker (KeptBy (fetched_events ls)) (KeptBy (es ++ (lanes_events ls ++ ws))) (flat_map got_of ls)
-    (λ c h. kept_after es (lanes_events ls ++ ws) c
-    (kept_more (lanes_events ls) ws c.0 c.1 (kept_more (fetched_events ls) (expired_events ls) c.0 c.1 h)))
-    (lanes_kept 0 ls)
+pub round_fetched : (es ws : List Event) (ls : List (List LaneStep))
+    → Each (FetchedBy (es ++ (lanes_events ls ++ ws))) (flat_map got_of ls)
+round_fetched es ws ls =
+    each_weaker (FetchedBy (fetched_events ls)) (FetchedBy (es ++ (lanes_events ls ++ ws))) (flat_map got_of ls)
+    (λ c h. fetched_after es (lanes_events ls ++ ws) c
+    (fetched_more (lanes_events ls) ws c (fetched_more (fetched_events ls) (expired_events ls) c h)))
+    (lanes_fetched 0 ls)
+
+-- so it is kept
+kept_by : (es : List Event) (c : Place) → FetchedBy es c → is_kept es c.0 c.1 ≡ true
+kept_by es c h = by (is_kept es c.0 c.1) refl
+  where
+    by : (v : Bool) → is_kept es c.0 c.1 ≡ v → is_kept es c.0 c.1 ≡ true
+    by true e = e
+    by false e = let none = none_fetched c.0 c.1 es e in absurd (omega (arith, none, h))
 
 -- ---- their plans are there
 
@@ -231,10 +248,11 @@ served_one g b es fs sl to stale now l k ts rest p q led next passed m kept =
 pub served_places : (g : Setup) (b : RunTold) (es fs : List Event) (sl to : Slack) (stale now : List ℕ) (l k : Led)
     (ts rest : List Task) (places : List BlockAt) → IsLed g b es sl stale l → IsLed g b fs to now k
     → IsPassed es fs l k ts rest → Each (λ (c : Place). IsMissing es c.0 c.1) (places_at places)
-    → Each (λ (c : Place). is_kept fs c.0 c.1 ≡ true) (places_at places)
-    → AreServed k.plans places
+    → Each (FetchedBy fs) (places_at places) → AreServed fs k.plans places
 served_places g b es fs sl to stale now l k ts rest [] led next passed m h = tt
 served_places g b es fs sl to stale now l k ts rest (c ∷ cs) led next passed m h = (
-  served_one g b es fs sl to stale now l k ts rest c.plan c.block led next passed m.0 h.0,
+  served_one g b es fs sl to stale now l k ts rest c.plan c.block led next passed m.0
+      (kept_by fs (c.plan, c.block) h.0),
+  h.0,
   served_places g b es fs sl to stale now l k ts rest cs led next passed m.1 h.1,
 )

@@ -22,7 +22,7 @@ loose_of due stale = record { pending = []; due = due; stale = stale; polls = 0 
 both_lead : (g : Setup) (m : Moment) (cs : List ClientTold) (multi : Bool) (places : List BlockAt) (stale : List ℕ)
     (a b : Reached) (answer : Answer) → g.multirange ≡ multi → m.told.clients ≡ a.client ∷ cs → m.told.cache ≡ a.cache
     → m.events ≡ a.events
-    → AreServed a.led.plans places → BothSettled multi places stale a b answer
+    → AreServed m.events a.led.plans places → BothSettled multi places stale a b answer
     → LeadPart g m (settled_at m cs b) (loose_of (due_of m.events places) stale) no_loose a.led b.led answer
 both_lead g m cs multi places stale a b answer same clients cache events served t =
     let n : Moment = record { told = record m.told { cache = b.cache }; events = m.events } in
@@ -53,7 +53,7 @@ short_at g o m cs a b e clients events is f =
 
 short_leads : (g : Setup) (m : Moment) (cs : List ClientTold) (places : List BlockAt) (stale : List ℕ) (a b : Reached)
     (answer : Answer) → m.told.clients ≡ a.client ∷ cs → m.told.cache ≡ a.cache → m.events ≡ a.events
-    → AreServed a.led.plans places → OfferedShort places a b answer
+    → AreServed m.events a.led.plans places → OfferedShort places a b answer
     → LeadPart g m (settled_at m cs b) (loose_of (due_of m.events places) stale) no_loose a.led b.led answer
 short_leads g m cs places stale a b answer clients cache events served t =
     let first = offer_leads places a.cache b.cache a.led (Err t.error) t.offered g m

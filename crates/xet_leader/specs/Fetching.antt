@@ -26,7 +26,7 @@ pub record IsFetch (ls : List LedPlan) (c : BlockAt) (number : ℕ) (f : Fetch) 
   pub plan : LedPlan
   pub at : slice_get ls (plan_index ls c.plan) ≡ Some plan
   pub of_plan : slice_get plan.block.blocks c.block ≡ Some f.block.now
-  pub request_is : IsRequestOf f.block.now plan.block.urls f.request
+  pub request_is : IsRequestOf f.block.now plan.block.urls (ask_of f).request
   pub numbered : f.number ≡ number
 
 pub record AddsFetch (ls : List LedPlan) (c : BlockAt) (number : ℕ) (before after : List Fetch) : Type 0 where

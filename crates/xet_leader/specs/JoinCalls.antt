@@ -75,7 +75,8 @@ pub record CanJoin {S : Type 0} (told : S → SinkTold) (cs : List ClientTold) (
 pub record JoinLead {S : Type 0} (told : S → SinkTold) (g : Setup) (m n : Moment) (l k : Led) (v w : Sequential S)
     (answer : Result Outcome FileReconstructionError) : Type 0 where
   pub ok : (b : RunTold) → IsSteady told g b m no_loose l v
-      → IfOk answer (λ o. IsSteady told g b n (to_settle n.events o) k w × AreServed k.plans o.served.items)
+      → IfOk answer (λ o. IsSteady told g b n (to_settle n.events o) k w ×
+      AreServed n.events k.plans o.served.items)
   pub err : (b : RunTold) → IsSteady told g b m no_loose l v → IfErr answer (IsFailing g b n)
   -- and no more is left, but less where an admitted term wasn't written
   pub less : (b : RunTold) → IsSteady told g b m no_loose l v → OnOk answer (LeavesLess g m.events n.events l k)

@@ -121,7 +121,8 @@ pub record RoundLead {S : Type 0} (told : S → SinkTold) (g : Setup) (m n : Mom
     (lengths : List ℕ) (l k : Led) (v w : Sequential S) (answer : Result Outcome FileReconstructionError)
     : Type 0 where
   pub ok : (b : RunTold) → IsPrepared told g b m l cs lengths v
-      → IfOk answer (λ o. IsSteady told g b n (to_settle n.events o) k w × AreServed k.plans o.served.items)
+      → IfOk answer (λ o. IsSteady told g b n (to_settle n.events o) k w ×
+      AreServed n.events k.plans o.served.items)
   pub err : (b : RunTold) → IsPrepared told g b m l cs lengths v → IfErr answer (IsFailing g b n)
   -- and no more is left, but less where an admitted term wasn't written
   pub less : (b : RunTold) → IsPrepared told g b m l cs lengths v → OnOk answer (LeavesLess g m.events n.events l k)

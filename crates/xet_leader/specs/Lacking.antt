@@ -1,9 +1,11 @@
 -- The blocks that the open terms of a leader's plans lack.
-use Rattle.std.specs.Prelude.{ℕ, ◌-◌, ◌==◌, ◌&&◌, Bool, false, cond, is_none, nat_lt, List, [], ◌∷◌, ◌++◌, take, drop, length, Option, Some, None, slice_get}
+use Rattle.std.specs.Prelude.{ℕ, ◌≡◌, ◌+◌, ◌-◌, ◌==◌, ◌&&◌, Bool, false, cond, is_none, nat_lt, List, [], ◌∷◌, ◌++◌, take, drop, length, Option, Some, None, slice_get}
 use Rattle.std.specs.List.{flat_map, list_any}
 use Rattle.xet_base.specs.declared.cas_types.FileRange.{FileRange}
 use Rattle.xet_blocks.specs.declared.reconstruction_terms.file_term.FileTerm.{FileTerm}
 use Rattle.xet_blocks.specs.declared.reconstruction_terms.xorb_block.XorbBlock.{XorbBlock}
+use Rattle.xet_run.specs.declared.block_table.BlockTable.{BlockTable}
+use Rattle.xet_run.specs.BlockTables.{kept_in}
 use Rattle.xet_leader.specs.declared.leader.LedPlan.{LedPlan}
 use Rattle.xet_leader.specs.declared.missing_blocks.BlockAt.{BlockAt}
 use Rattle.xet_leader.specs.Led.{Led}
@@ -25,6 +27,10 @@ with_place cs c = cond (lists cs c) cs (cs ++ c ∷ [])
 abbrev pub with_places : List BlockAt → List BlockAt → List BlockAt
 with_places cs [] = cs
 with_places cs (d ∷ ds) = with_places (with_place cs d) ds
+
+-- a table has the places that are listed, with plans that are counted from this number on
+abbrev pub AreListed : ℕ → BlockTable → List BlockAt → Type 0
+AreListed first t cs = (p b : ℕ) → kept_in t p b ≡ lists cs (record { plan = p + first; block = b })
 
 -- ---- terms
 

@@ -18,8 +18,9 @@ use Rattle.xet_run.specs.Events.{expires, is_admit, is_kept, is_stale, plan_coun
 use Rattle.xet_history.specs.TrueHistory.{SomeEndsEarly, planned_term, queries}
 use Rattle.xet_terms.specs.Managers.{IsManager, Manager, scheduled_end}
 use Rattle.xet_terms.specs.Queries.{end_from}
-use Rattle.xet_ties.specs.History.{blocks_in, is_expired, range_at}
-use Rattle.xet_ties.specs.Saids.{IsLookedData, IsPlanAccepted, IsTestedData, planned_of}
+use Rattle.xet_ties.specs.History.{blocks_in, fetches, is_expired, range_at}
+use Rattle.xet_ties.specs.InCall.{SomeOne}
+use Rattle.xet_ties.specs.Saids.{IsLookedData, IsPlanAccepted, IsServedData, IsTestedData, planned_of}
 use Rattle.xet_ties.specs.Setup.{CacheTells, IsOver, RunTold, Setup}
 use Rattle.xet_ties.specs.Ties.{Slack, IsLong}
 use Rattle.xet_leader.specs.declared.leader.Job.{Job}
@@ -89,11 +90,16 @@ pub record IsLedData (b : RunTold) (sl : Slack) (p k : ℕ) (x : XorbBlock) : Ty
       → IfSome x.kept (λ d. IsLookedData sl.looks (bare x) d ⊎ (d ≡ true_data s x))
   pub honest : (s : Store) → IsOver s b.clients → CacheTells s b.cache → IfSome x.kept (λ d. d ≡ true_data s x)
 
--- the block of this number of this plan, whose URL had expired so often
+-- data of bytes that some connection said in answer to the own request of the block of this number of this plan
+abbrev pub IsAnswerData : Slack → ℕ → ℕ → XorbBlock → XorbBlockData → Type 0
+IsAnswerData sl p k b d = SomeOne (λ y. IsServedData y p k b d) sl.heard
+
+-- the block of this number of this plan, whose URL had expired so often; where it was fetched it keeps such data
 pub record IsLedBlock (b : RunTold) (es : List Event) (sl : Slack) (p k tries : ℕ) (x : XorbBlock) : Type 0 where
   pub tries_are : tries ≡ count_by (expires p k) es
   pub kept : is_some x.kept ≡ is_kept es p k
   pub data_is : IsLedData b sl p k x
+  pub fetched : 0 < count_by (fetches p k) es → IfSome x.kept (IsAnswerData sl p k (bare x))
 
 abbrev pub EachLedBlock : RunTold → List Event → Slack → ℕ → ℕ → List ℕ → List XorbBlock → Type 0
 EachLedBlock b es sl p k [] [] = Unit {0}

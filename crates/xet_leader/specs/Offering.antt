@@ -1,5 +1,5 @@
 -- What offering the blocks that lanes served does to the cache and to a run.
-use Rattle.std.specs.Prelude.{ℕ, ◌≡◌, true, List, [], ◌∷◌, take, map, count_by, Option, Some, None, slice_get}
+use Rattle.std.specs.Prelude.{ℕ, ◌≡◌, ◌<◌, true, List, [], ◌∷◌, take, map, count_by, Option, Some, None, slice_get}
 use Rattle.std.specs.Prelude.{Ok, Err, OnOk, IfErr}
 use Rattle.std.specs.Option.{is_some}
 use Rattle.xet_outside.specs.Told.{CacheTold}
@@ -7,6 +7,7 @@ use Rattle.xet_error.specs.declared.error.FileReconstructionError.{FileReconstru
 use Rattle.xet_blocks.specs.declared.reconstruction_terms.xorb_block.XorbBlock.{XorbBlock}
 use Rattle.xet_run.specs.declared.event.Event.{Event}
 use Rattle.xet_parts.specs.Offers.{OfferBlockCall}
+use Rattle.xet_ties.specs.History.{fetches}
 use Rattle.xet_ties.specs.Setup.{Setup}
 use Rattle.xet_ties.specs.Ties.{has_one}
 use Rattle.xet_ties.specs.steps.Rounds.{blocks_at}
@@ -50,18 +51,20 @@ abbrev pub IsServed : Option XorbBlock → Type 0
 IsServed None = ⊥
 IsServed (Some x) = is_some x.kept ≡ true
 
--- so at each of these places
-abbrev pub AreServed : List LedPlan → List BlockAt → Type 0
-AreServed ls [] = Unit {0}
-AreServed ls (a ∷ ps) = IsServed (block_in ls a.plan a.block) × AreServed ls ps
+-- so at each of these places, by a fetch that the history has
+abbrev pub AreServed : List Event → List LedPlan → List BlockAt → Type 0
+AreServed es ls [] = Unit {0}
+AreServed es ls (a ∷ ps) = IsServed (block_in ls a.plan a.block) × (0 < count_by (fetches a.plan a.block) es)
+    × AreServed es ls ps
 
 -- how many of the blocks at these places have one range
 abbrev pub due_of : List Event → List BlockAt → ℕ
 due_of es places = count_by has_one (blocks_at es (map (λ a. (a.plan, a.block)) places))
 
--- over the moment of a run whose cache tells this, where these blocks are due and keep data: none is due after it, or
--- the run is to stop
+-- over the moment of a run whose cache tells this, where these blocks are due, were fetched and keep data: none is due
+-- after it, or the run is to stop
 abbrev pub OfferLeads : List BlockAt → CacheTold → CacheTold → Led → Answer → Type 0
-OfferLeads places c d l answer = (g : Setup) (m : Moment) (o : Loose) → m.told.cache ≡ c → AreServed l.plans places
+OfferLeads places c d l answer = (g : Setup) (m : Moment) (o : Loose) → m.told.cache ≡ c
+    → AreServed m.events l.plans places
     → LeadPart g m (record { told = record m.told { cache = d }; events = m.events })
     (record o { due = due_of m.events places }) (record o { due = 0 }) l l answer

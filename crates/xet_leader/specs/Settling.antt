@@ -39,7 +39,8 @@ SettleTurn multi places stale a b answer = BothSettled multi places stale a b an
 -- these plans are stale: nothing is loose after it, or the run is to stop
 abbrev pub SettleLeads : Bool → List BlockAt → List ℕ → Reached → Reached → Answer → Type 0
 SettleLeads multi places stale a b answer = (g : Setup) (m : Moment) (cs : List ClientTold) → g.multirange ≡ multi
-    → m.told.clients ≡ a.client ∷ cs → m.told.cache ≡ a.cache → m.events ≡ a.events → AreServed a.led.plans places
+    → m.told.clients ≡ a.client ∷ cs → m.told.cache ≡ a.cache → m.events ≡ a.events
+    → AreServed m.events a.led.plans places
     → LeadPart g m
     (record { told = record m.told { clients = b.client ∷ cs; cache = b.cache }; events = b.events })
     (record { pending = []; due = due_of m.events places; stale = stale; polls = 0 }) no_loose a.led b.led answer

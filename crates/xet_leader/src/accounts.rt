@@ -27,6 +27,11 @@ pub(crate) fn record_terms<R: Wait, L: Ledger, P: FetchPolicy>(
 {
     let skip = number.saturating_sub(first_of(&leader.plans));
     let count = leader.admitted.saturating_sub(number);
+    // each term is recorded, its block may be, and the lane that fetches it looks at the state
+    match state.make_room(rt, (count as usize).saturating_mul(3)) {
+        Ok(()) => {}
+        Err(_) => return Err(FileReconstructionError::OutOfMemory),
+    }
     record_from(rt, state, pass, &leader.plans, skip as usize, count)
 }
 

@@ -10,6 +10,7 @@ ghost use Rattle.xet_leader.specs.Looks.{CanRequest};
 use crate::by_number::plan_index;
 use crate::leader::{Leader, LedPlan};
 use crate::missing_blocks::BlockAt;
+use crate::room::list_with_room;
 use std::alloc::Global;
 use std::collections::VecDeque;
 use xet_base::List;
@@ -53,10 +54,10 @@ fn fetches_of<'a>(
     ensures made { IfOk result (AreFetches plans.now.items first places.now) }
     ensures memory { IfErr result (λ e. e ≡ error.OutOfMemory) }
 {
-    let mut made = List::new(alloc);
+    let mut made = list_with_room(alloc, places.len());
     for (place, block) in places.iter().enumerate() {
         let number = first.saturating_add(place as u64);
-        match add_fetch(alloc, plans, number, *block, &mut made) {
+        match add_fetch(plans, number, *block, &mut made) {
             Ok(()) => {}
             Err(error) => return Err(error),
         }
@@ -66,7 +67,6 @@ fn fetches_of<'a>(
 
 /// Adds a fetch of a block.
 fn add_fetch<'a>(
-    alloc: Global,
     plans: &'a VecDeque<LedPlan>,
     number: u64,
     place: BlockAt,
@@ -76,35 +76,23 @@ fn add_fetch<'a>(
     ensures added { OnOk result (AddsFetch plans.now.items place number made.old made.new) }
     ensures memory { IfErr result (λ e. e ≡ error.OutOfMemory) }
 {
-    match fetch_of(alloc, plans, number, place) {
-        Ok(fetch) => match made.push(fetch) {
-            Ok(()) => Ok(()),
-            Err(error) => Err(FileReconstructionError::from(error)),
-        },
-        Err(error) => Err(error),
+    match made.push(fetch_of(plans, number, place)) {
+        Ok(()) => Ok(()),
+        Err(error) => Err(FileReconstructionError::from(error)),
     }
 }
 
 /// The fetch of a block, with this number.
-fn fetch_of<'a>(
-    alloc: Global,
-    plans: &'a VecDeque<LedPlan>,
-    number: u64,
-    place: BlockAt,
-) -> Result<Fetch<'a>>
+fn fetch_of<'a>(plans: &'a VecDeque<LedPlan>, number: u64, place: BlockAt) -> Fetch<'a>
     requires { CanRequest plans.now.items place }
-    ensures made { IfOk result (IsFetch plans.now.items place number) }
-    ensures memory { IfErr result (λ e. e ≡ error.OutOfMemory) }
+    ensures { IsFetch plans.now.items place number result }
 {
     let plan = &plans[plan_index(plans, place.plan)];
     let block = &plan.block.blocks.as_slice()[place.block];
-    match block.request(alloc, &plan.block.urls) {
-        Ok(Some(request)) => Ok(Fetch {
-            number,
-            block,
-            request,
-        }),
-        Ok(None) => unreachable!(),
-        Err(error) => Err(error),
+    let urls = &plan.block.urls;
+    Fetch {
+        number,
+        block,
+        urls,
     }
 }

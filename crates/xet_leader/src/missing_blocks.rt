@@ -1,28 +1,21 @@
 //! The blocks that are to be fetched, or found in the cache.
 ghost use Rattle.std.specs.Prelude.{◌≡◌, ◌-◌, [], IfOk, OnOk, slice_get, take, drop};
-ghost use Rattle.xet_leader.specs.Lacking.{first_of, has_some, is_bare, lacked, lacked_by, lacked_in, lacks, missing_of, with_place, with_places};
+ghost use Rattle.xet_leader.specs.Lacking.{first_of, has_some, is_bare, lacked, lacked_by, lacked_in, lacks, missing_of, with_places};
 
 use crate::leader::{Leader, LedPlan};
+use crate::place_list::PlaceList;
 use std::alloc::Global;
 use std::collections::VecDeque;
-use xet_base::{FileRange, Keyed, KeyedList, OutOfMemory};
+use xet_base::{FileRange, List, OutOfMemory};
 use xet_blocks::{FetchPolicy, FileTerm, XorbBlock};
 
 /// A block of a plan.
-#[derive(Clone, Copy, PartialEq, Eq, PartialOrd, Ord, Debug)]
+#[derive(Clone, Copy, PartialEq, Eq, Debug)]
 pub struct BlockAt {
     /// The plan's number, from 1.
     pub plan: u64,
     /// The block's number in its plan, from 0.
     pub block: usize,
-}
-
-impl Keyed<BlockAt> for BlockAt {
-    ghost key_of = { λ place. place };
-
-    fn key(&self) -> BlockAt {
-        *self
-    }
 }
 
 /// The blocks of the admitted terms that aren't written and have bytes, where these blocks keep nothing: each once, in
@@ -32,7 +25,7 @@ impl Keyed<BlockAt> for BlockAt {
 pub fn missing<P: FetchPolicy>(
     alloc: Global,
     leader: &Leader<P>,
-) -> Result<KeyedList<BlockAt, BlockAt>, OutOfMemory>
+) -> Result<List<BlockAt>, OutOfMemory>
     ensures { IfOk result (λ found. found ≡ missing_of leader.now) }
 {
     let skip = leader.finished.saturating_sub(terms_before(&leader.plans));
@@ -56,10 +49,10 @@ fn lacked_blocks(
     plans: &VecDeque<LedPlan>,
     skip: u64,
     count: u64,
-) -> Result<KeyedList<BlockAt, BlockAt>, OutOfMemory>
+) -> Result<List<BlockAt>, OutOfMemory>
     ensures { IfOk result (λ found. found ≡ with_places [] (lacked skip count plans.now.items)) }
 {
-    let mut found = KeyedList::new(alloc);
+    let mut found = PlaceList::new(alloc, first_number(plans), count as usize);
     let mut ahead = skip;
     let mut left = count;
     let mut at = 0;
@@ -71,12 +64,20 @@ fn lacked_blocks(
         ahead = ahead.saturating_sub(terms);
         at += 1;
     }
-    Ok(found)
+    Ok(found.into_list())
+}
+
+/// The number of the first plan; those of the others follow on it.
+fn first_number(plans: &VecDeque<LedPlan>) -> u64 {
+    match plans.front() {
+        Some(plan) => plan.number,
+        None => 0,
+    }
 }
 
 /// Adds the blocks that some terms of a plan lack: so many terms, after those that are passed over.
 fn add_lacked(
-    found: &mut KeyedList<BlockAt, BlockAt>,
+    found: &mut PlaceList,
     plan: &LedPlan,
     skip: u64,
     count: u64,
@@ -94,11 +95,7 @@ fn add_lacked(
 }
 
 /// Adds the block that a term lacks, if it lacks one.
-fn add_term(
-    found: &mut KeyedList<BlockAt, BlockAt>,
-    plan: &LedPlan,
-    term: FileTerm,
-) -> Result<(), OutOfMemory>
+fn add_term(found: &mut PlaceList, plan: &LedPlan, term: FileTerm) -> Result<(), OutOfMemory>
     ensures { OnOk result (found.new ≡ with_places found.old (lacked_in plan.now term)) }
 {
     if !lacks(plan, term) {
@@ -106,17 +103,7 @@ fn add_term(
     }
     let plan = plan.number;
     let block = term.xorb_block;
-    add_place(found, BlockAt { plan, block })
-}
-
-/// Adds a block, where it isn't listed yet.
-fn add_place(found: &mut KeyedList<BlockAt, BlockAt>, place: BlockAt) -> Result<(), OutOfMemory>
-    ensures { OnOk result (found.new ≡ with_place found.old place) }
-{
-    if found.position(&place).is_some() {
-        return Ok(());
-    }
-    found.push(place)
+    found.add(BlockAt { plan, block })
 }
 
 /// Whether a term has bytes, and its block keeps nothing.

@@ -1,5 +1,5 @@
 -- The ties after a block was offered to the cache.
-use Rattle.std.proofs.Common.{◌≡◌, List, [], ◌∷◌, Option, Some, None, Ok, Err, sym, subst, ◌∙◌, ap, ⊎_elim}
+use Rattle.std.proofs.Common.{◌≡◌, List, [], ◌∷◌, Option, Some, None, Ok, Err, refl, sym, subst, ◌∙◌, ap, ⊎_elim}
 use Rattle.std.specs.Prelude.{All, IfSome, MatchOption, Result}
 use Rattle.std.proofs.lemmas.List.Elements.{All-push}
 use Rattle.xet_base.specs.declared.cas_types.ChunkRange.{ChunkRange}
@@ -17,13 +17,13 @@ use Rattle.xet_ties.specs.steps.Parts.{OfferOneCall, OffersCall, offers_in}
 use Rattle.xet_ties.proofs.CallerLemmas.{offers_none, offers_one}
 use Rattle.xet_parts.specs.Offers.{OfferBlockCall, OffersKept}
 
-kept_offers : (x : XorbBlock) (o : Option XorbBlockData) (m n : CacheTold) → OffersKept x o m n → OffersCall m n (offers_in x o)
-kept_offers x None m n h = subst (λ (c : CacheTold). OffersCall m c 0) (sym h) (offers_none m)
-kept_offers x (Some d) m n h = offers_one x m n (entry_of d) h
+kept_offers : (x : XorbBlock) (o : Option XorbBlockData) (m n : CacheTold) → x.kept ≡ o → OffersKept x o m n → OffersCall m n x (offers_in x o)
+kept_offers x None m n e h = subst (λ (c : CacheTold). OffersCall m c x 0) (sym h) (offers_none x m)
+kept_offers x (Some d) m n e h = offers_one x m n d e h
 
--- a call keeps the ties
+-- a call keeps the ties, where the data that it offers was served
 pub offer_block_ties : (x : XorbBlock) (m n : CacheTold) (answer : Result (Unit {0}) FileReconstructionError) → OfferBlockCall x m n answer → OfferOneCall m n x answer
-offer_block_ties x m n (Ok v) c = record { done = kept_offers x x.kept m n c.offered; kept = tt; memory = tt }
+offer_block_ties x m n (Ok v) c = record { done = kept_offers x x.kept m n refl c.offered; kept = tt; memory = tt }
 offer_block_ties x m n (Err e) c = record { done = tt; kept = c.unoffered; memory = c.memory }
 
 -- ---- the store that the cache tells

@@ -97,7 +97,7 @@ fn planned_terms(
 ) -> std::result::Result<List<PlannedTerm>, OutOfMemory>
     ensures { IfOk result (λ ts. ts ≡ map planned_term terms.now) }
 {
-    let mut planned = List::new(alloc);
+    let mut planned = List::from_vec(Vec::with_capacity(alloc, terms.len())?);
     for term in terms {
         planned.push(PlannedTerm {
             byte_range: term.byte_range,
@@ -116,7 +116,7 @@ fn planned_blocks(
 ) -> std::result::Result<List<PlannedBlock>, OutOfMemory>
     ensures { IfOk result (λ bs. bs ≡ map planned_of blocks.now) }
 {
-    let mut planned = List::new(alloc);
+    let mut planned = List::from_vec(Vec::with_capacity(alloc, blocks.len())?);
     for block in blocks {
         planned.push(PlannedBlock {
             xorb: block.xorb_hash,

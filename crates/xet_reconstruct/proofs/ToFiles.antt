@@ -101,6 +101,9 @@ module _ (g : Setup) (b n : RunTold) (at : SinkTold) (flushed : Option ℕ) (fau
     served = l.served;
     planned = l.planned;
     passed = l.passed;
+    gained = l.gained;
+    offers = l.offers;
+    all_offered = l.all_offered;
     chunks = l.chunks;
     goes_on = l.goes_on;
     cache_later = l.cache_later;

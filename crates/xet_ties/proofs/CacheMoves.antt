@@ -1,5 +1,5 @@
 -- The ties after a step of the cache.
-use Rattle.std.proofs.Common.{◌≡◌, ℕ, ◌+◌, ◌≤◌, ◌==◌, ◌&&◌, Bool, true, false, cond, List, [], ◌∷◌, ◌++◌, length, refl, sym, subst, ◌∙◌, ap, arith, append_assoc, ◌⊎◌, ⊎_elim, Some, None, Option}
+use Rattle.std.proofs.Common.{◌≡◌, ℕ, ◌+◌, ◌==◌, ◌&&◌, Bool, true, false, cond, List, [], ◌∷◌, ◌++◌, length, refl, sym, subst, ◌∙◌, ap, arith, append_assoc, ◌⊎◌, ⊎_elim, Some, None, Option}
 use Rattle.std.specs.Prelude.{All, Contains, IfSome, count_by, option_map}
 use Rattle.std.proofs.lemmas.Bool.{and_parts, eqb-true}
 use Rattle.xet_base.specs.declared.cas_types.ChunkRange.{ChunkRange}
@@ -17,20 +17,22 @@ use Rattle.xet_run.specs.declared.event.Event.TheVariants.{Cached}
 use Rattle.xet_run.specs.declared.event.PlannedBlock.{PlannedBlock}
 use Rattle.xet_run.proofs.CallerLemmas.{count_by-push}
 use Rattle.xet_ties.specs.History.{IsNumberedNext, IsOneCached, IsRenewed, block_at, cached_in, fetched_in, kept_in, telling, IsWithin}
-use Rattle.xet_ties.specs.steps.Moves.{LookStep, PutStep}
+use Rattle.xet_ties.specs.steps.Moves.{LookStep, PutEntry, PutStep}
 use Rattle.xet_ties.specs.Saids.{EventPassed}
 use Rattle.xet_ties.specs.Setup.{IsOver, RunTold, Setup, download_of}
 use Rattle.xet_ties.specs.InCall.{Look, EachGrew, Exchange}
-use Rattle.xet_ties.specs.Ties.{IsEntryOf, Reaches, Slack, Ties, gave, is_look, is_one, is_range, lacks, missed, IsTaken}
+use Rattle.xet_ties.specs.Gains.{GrewBy}
+use Rattle.xet_ties.specs.Ties.{IsEntryOf, Slack, Ties, gave, is_look, is_one, is_range, lacks, missed, IsTaken}
 use Rattle.xet_ties.proofs.Lanes.{served_same}
 use Rattle.xet_ties.proofs.Lates.{expired_same}
-use Rattle.xet_ties.proofs.Pushes.{first_push, limited_same, offered_push, polled_push, reaches_more, recorded_same, stored_same, taken_push, tried_push, true_same, cuts_same, lost_push, starts_same}
+use Rattle.xet_ties.proofs.Pushes.{first_push, limited_same, offered_push, polled_push, grew_by_more, recorded_same, stored_same, taken_push, tried_push, true_same, cuts_same, lost_push, starts_same}
 use Rattle.xet_ties.proofs.Numbers.{heard_push}
 use Rattle.xet_ties.proofs.Told.{if_some}
 use Rattle.xet_ties.proofs.Telling.{each-push, telling-push, telling-same}
 use Rattle.std.proofs.lemmas.List.{append-nil}
 use Rattle.std.proofs.lemmas.List.Elements.{All-push, All-weaker, Contains-append_left}
 use Rattle.xet_ties.proofs.Heard.{grew_none, said_push, tested_grew}
+use Rattle.xet_ties.proofs.Gains.{gained_put, gained_same}
 use Rattle.xet_ties.proofs.EarlyEnds.{ends_same}
 use Rattle.xet_ties.proofs.HeardServed.{heard_served_same}
 
@@ -100,13 +102,13 @@ pub entries_more : (before after : CacheTold) (looks : List Look) (l : Look) →
 entries_more before after looks l e h a = entries_same before after (looks ++ l ∷ []) e (All-push (IsEntryOf before.entries) looks l a h)
 
 -- one more entry, or none
-entries_put : (before after : CacheTold) (looks : List Look) → (after.entries ≡ before.entries) ⊎ ((c : CacheEntry) × Grew before.entries after.entries c) → All (IsEntryOf before.entries) looks → All (IsEntryOf after.entries) looks
-entries_put before after looks h a =
+entries_put : (g : Setup) (xs : List Exchange) (before after : CacheTold) (looks : List Look) → (after.entries ≡ before.entries) ⊎ PutEntry g xs before after → All (IsEntryOf before.entries) looks → All (IsEntryOf after.entries) looks
+entries_put g xs before after looks h a =
     ⊎_elim
     (λ (e : after.entries ≡ before.entries). entries_same before after looks e a)
-    (λ (e : (c : CacheEntry) × Grew before.entries after.entries c).
-    subst (λ (o : Option (List CacheEntry)). All (IsEntryOf o) looks) (sym e.1)
-    (All-weaker (IsEntryOf before.entries) (IsEntryOf (option_map (λ es. es ++ e.0 ∷ []) before.entries)) (λ l k. entry_more before.entries e.0 l k) looks a))
+    (λ (p : PutEntry g xs before after).
+    subst (λ (o : Option (List CacheEntry)). All (IsEntryOf o) looks) (sym p.grew)
+    (All-weaker (IsEntryOf before.entries) (IsEntryOf (option_map (λ es. es ++ p.entry ∷ []) before.entries)) (λ l k. entry_more before.entries p.entry l k) looks a))
     h
 
 -- a look that didn't find the block
@@ -154,7 +156,8 @@ tie_missed g b n es sl to x r given l miss t = record {
         };
   };
   looked_entries = entries_more n.cache to sl.looks (x.xorb, r, given) l.entries l.among t.looked_entries;
-  offered = record { puts = t.offered.puts; offers = subst (λ (o : Option ℕ). Reaches b.cache.offers o t.offered.puts) (sym l.offers) t.offered.offers; cover = t.offered.cover; faults = let f = t.offered.faults in let h = l.faults in omega (arith, f, h) };
+  gained = gained_same g sl.heard b.cache n.cache to l.entries t.gained;
+  offered = record { puts = t.offered.puts; offers = subst (λ (o : Option ℕ). GrewBy b.cache.offers o t.offered.puts) (sym l.offers) t.offered.offers; cover = t.offered.cover; faults = let f = t.offered.faults in let h = l.faults in omega (arith, f, h) };
   polled = t.polled;
   limited = t.limited;
   taken = taken_grew g es sl.heard sl.heard sl.looks ((x.xorb, r, given) ∷ []) sl.ahead b.clients b.cache b.sink n.sink (grew_none sl.heard) t.taken;
@@ -208,7 +211,8 @@ tie_cached g b n es sl to p k x r entry l at t =
             };
       };
       looked_entries = entries_more n.cache to sl.looks (x.xorb, r, Some entry) l.entries l.among t.looked_entries;
-      offered = offered_push es e sl.due sl.due b.cache to (omega arith) (record { puts = t.offered.puts; offers = subst (λ (o : Option ℕ). Reaches b.cache.offers o t.offered.puts) (sym l.offers) t.offered.offers; cover = t.offered.cover; faults = let f = t.offered.faults in let h = l.faults in omega (arith, f, h) });
+      gained = gained_same g sl.heard b.cache n.cache to l.entries t.gained;
+      offered = offered_push es e sl.due sl.due b.cache to (omega arith) (record { puts = t.offered.puts; offers = subst (λ (o : Option ℕ). GrewBy b.cache.offers o t.offered.puts) (sym l.offers) t.offered.offers; cover = t.offered.cover; faults = let f = t.offered.faults in let h = l.faults in omega (arith, f, h) });
       polled = polled_push es e sl.spare sl.spare b.signal n.signal (omega arith) t.polled;
       limited = limited_same es e b.limits n.limits refl t.limited;
       taken = taken_push g es e sl.heard (sl.looks ++ (x.xorb, r, Some entry) ∷ []) sl.ahead sl.ahead b.clients b.cache b.sink n.sink (omega arith) (taken_grew g es sl.heard sl.heard sl.looks ((x.xorb, r, Some entry) ∷ []) sl.ahead b.clients b.cache b.sink n.sink (grew_none sl.heard) t.taken);
@@ -220,7 +224,7 @@ tie_cached g b n es sl to p k x r entry l at t =
     and_yes false = refl
 
 -- an entry was offered
-pub tie_put : (g : Setup) (b n : RunTold) (es : List Event) (sl : Slack) (to : CacheTold) (due : ℕ) → PutStep n.cache to → sl.due ≤ due + 1 → Ties g b n es None sl → Ties g b (record n { cache = to }) es None (record sl { due = due })
+pub tie_put : (g : Setup) (b n : RunTold) (es : List Event) (sl : Slack) (to : CacheTold) (due : ℕ) → PutStep g sl.heard n.cache to → sl.due ≡ due + 1 → Ties g b n es None sl → Ties g b (record n { cache = to }) es None (record sl { due = due })
 tie_put g b n es sl to due p d t = record {
   heard = t.heard;
   true_of = t.true_of;
@@ -243,10 +247,11 @@ tie_put g b n es sl to due p d t = record {
   passed = t.passed;
   one_cached = t.one_cached;
   looked = record { looked = p.looked ∙ t.looked.looked; cover = t.looked.cover };
-  looked_entries = entries_put n.cache to sl.looks p.entries t.looked_entries;
+  looked_entries = entries_put g sl.heard n.cache to sl.looks p.entries t.looked_entries;
+  gained = gained_put g sl.heard b.cache n.cache to p.entries t.gained;
   offered = record {
     puts = t.offered.puts + 1;
-    offers = reaches_more b.cache.offers n.cache.offers to.offers t.offered.puts p.offers t.offered.offers;
+    offers = grew_by_more b.cache.offers n.cache.offers to.offers t.offered.puts p.offers t.offered.offers;
     cover = let c = t.offered.cover in omega (arith, c, d);
     faults = let f = t.offered.faults in let h = p.faults in omega (arith, f, h);
   };

@@ -16,7 +16,10 @@ pub use Rattle.xet_ties.proofs.ClientMoves.{goes_then, tie_query, tie_planned, t
 pub use Rattle.xet_ties.proofs.Recording.{tie_fetched, tie_expired, tie_refreshed, tie_wrote, tie_rest}
 -- the ties after a part of a turn
 pub use Rattle.xet_ties.proofs.PartTies.{poll_ties, stop_ties, look_up_ties, look_short_ties, tie_looked}
-pub use Rattle.xet_ties.proofs.PartTies.{offers_none, offers_more, offers_one, offered_block, offered_more}
+pub use Rattle.xet_ties.proofs.PartTies.{offers_none, offers_one, offered_block}
+-- the entries that a cache gained
+pub use Rattle.xet_ties.proofs.Gains.{gained_none, gained_same, gained_more, served_entry_more}
+pub use Rattle.xet_ties.proofs.ServedChunks.{looks_gained}
 pub use Rattle.xet_ties.proofs.AskTies.{answer_makes, made_true, made_stored, made_within, query_now, first_tells}
 pub use Rattle.xet_ties.proofs.AskTies.{ask_ties, refresh_ties}
 pub use Rattle.xet_ties.proofs.FailedQueries.{ask_short, ask_said, refresh_short, refresh_said}
@@ -31,7 +34,7 @@ pub use Rattle.xet_ties.proofs.Wholes.{tasks_sized, some_sum}
 pub use Rattle.xet_ties.proofs.LaneMore.{step_did, one_more, goes_both}
 pub use Rattle.xet_ties.proofs.LaneJoins.{AreJoined, are_joined, joined_among, served_among, served_apart, fetched_among}
 pub use Rattle.xet_ties.proofs.LaneTies.{tie_lanes_fetched, tie_lanes_expired, fresh-push, fresh-all}
-pub use Rattle.xet_ties.proofs.NewPairs.{none_fetched, new_pairs}
+pub use Rattle.xet_ties.proofs.NewPairs.{none_fetched, fetched_before, new_pairs}
 pub use Rattle.xet_ties.proofs.RoundTies.{round_joined, round_fetched, round_tied}
 pub use Rattle.xet_ties.proofs.RoundShorts.{round_short, written_short}
 pub use Rattle.xet_ties.proofs.RoundData.{ArePaired, are_paired, tells_now}
@@ -45,7 +48,7 @@ pub use Rattle.xet_ties.proofs.Records.{allowed_first, allowed_rest, drop_at, ta
 pub use Rattle.xet_ties.proofs.Records.{SoFar, so_none, so_next, so_more, so_all, so_short, short_at}
 -- what was heard and said
 pub use Rattle.xet_ties.proofs.Heard.{Match, join_match, grew_none, grew_first, grew_join, step_start, step_query, step_join}
-pub use Rattle.xet_ties.proofs.Heard.{FirstEvent, query_answer_more, accepted_more, tested_data_more, tested_grew, zip_weaker}
+pub use Rattle.xet_ties.proofs.Heard.{FirstEvent, query_answer_more, accepted_more, served_more, tested_data_more, tested_grew, zip_weaker}
 pub use Rattle.xet_ties.proofs.SaidTies.{fetch_entry, step_data, SaidBlock, block_said}
 pub use Rattle.xet_ties.proofs.SaidCauses.{accepted_said, step_fails, block_fails, term_fails, plan_fails}
 pub use Rattle.xet_ties.proofs.SaidCauses.{file_missing, refresh_fails}

@@ -19,6 +19,7 @@ use Rattle.xet_ties.specs.Setup.{AllTell, ClientGoesOn, IsOver, RunTold, Setup, 
 use Rattle.xet_ties.specs.Ties.{AllAre, EachUnasked, all_of, is_pair, EachLane, FirstAsked, FirstStarts, IsLane, Slack, Ties, IsLost, IsPlannedEntry, IsNextQuery, EachServed}
 use Rattle.xet_ties.proofs.Lanes.{served_same}
 use Rattle.xet_ties.specs.InCall.{expired_said}
+use Rattle.xet_ties.proofs.Gains.{gained_more}
 use Rattle.xet_ties.proofs.Lates.{expired_join, expired_query, expired_same, joined_late, none_late}
 use Rattle.xet_ties.proofs.Pushes.{first_push, limited_same, looked_push, offered_push, polled_push, recorded_same, taken_push, tried_push, true_push, cuts_push}
 use Rattle.xet_ties.proofs.Numbers.{heard_joined, heard_push, heard_query}
@@ -112,6 +113,7 @@ tie_query g b n es sl to qs all s l t = record {
   one_cached = t.one_cached;
   looked = t.looked;
   looked_entries = t.looked_entries;
+  gained = gained_more g sl.heard (heard_first qs all sl.heard) b.cache n.cache (grew_first qs all sl.heard) t.gained;
   offered = t.offered;
   polled = t.polled;
   limited = t.limited;
@@ -150,6 +152,7 @@ tie_planned g b n es sl spare plan query terms blocks lost polls next within sta
       one_cached = each-push IsOneCached es e t.one_cached tt;
       looked = looked_push es e sl.pending sl.pending sl.looks b.clients b.cache n.cache refl (λ x r. omega arith) t.looked;
       looked_entries = t.looked_entries;
+      gained = t.gained;
       offered = offered_push es e sl.due sl.due b.cache n.cache (omega arith) t.offered;
       polled = polled_push es e sl.spare spare b.signal n.signal (omega (arith, polls)) t.polled;
       limited = limited_same es e b.limits n.limits refl t.limited;
@@ -239,6 +242,7 @@ tie_join g b n es sl to hs alls ks j once planned past no_h no_k t =
       one_cached = t.one_cached;
       looked = t.looked;
       looked_entries = t.looked_entries;
+      gained = gained_more g sl.heard (heard_join hs alls sl.heard) b.cache n.cache (grew_join hs alls sl.heard match) t.gained;
       offered = t.offered;
       polled = t.polled;
       limited = t.limited;

@@ -246,7 +246,7 @@ block_more g xs ys w b = record { plan = b.plan; query = b.query; accepted = acc
 abbrev pub term_more : (g : Setup) (xs ys : List Exchange) → EachGrew xs ys → TermOfPlan g xs → TermOfPlan g ys
 term_more g xs ys w t = record { place = block_more g xs ys w t.place; term = t.term; listed = t.listed; of_term = t.of_term }
 
-served_more : (xs ys : List Exchange) (p k : ℕ) (b : XorbBlock) (d : XorbBlockData) → EachGrew xs ys → SomeOne (λ x. IsServedData x p k b d) xs → SomeOne (λ x. IsServedData x p k b d) ys
+pub served_more : (xs ys : List Exchange) (p k : ℕ) (b : XorbBlock) (d : XorbBlockData) → EachGrew xs ys → SomeOne (λ x. IsServedData x p k b d) xs → SomeOne (λ x. IsServedData x p k b d) ys
 served_more [] ys p k b d w t = absurd t
 served_more (x ∷ xs) [] p k b d w t = absurd w
 served_more (x ∷ xs) (y ∷ ys) p k b d w t =

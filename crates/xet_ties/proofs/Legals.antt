@@ -1,6 +1,6 @@
 -- A run that is tied gives a legal answer.
 use Rattle.std.proofs.Common.{◌≡◌, ℕ, ◌+◌, List, [], ◌∷◌, length, take, refl, sym, subst, ◌∙◌, ap, arith, length-append, Some, None, Option}
-use Rattle.std.specs.Prelude.{All, Ok, Err, Result}
+use Rattle.std.specs.Prelude.{All, count_by, Ok, Err, Result}
 use Rattle.std.specs.List.{concat}
 use Rattle.std.proofs.lemmas.List.{append-nil, take_all, take-append-le}
 use Rattle.std.proofs.lemmas.List.Elements.{All-cons, All-nil, All-weaker}
@@ -13,16 +13,19 @@ use Rattle.xet_error.specs.declared.error.Setting.{Setting}
 use Rattle.xet_run.specs.declared.event.Event.{Event}
 use Rattle.xet_run.specs.Allowed.{IsAllowedHistory}
 use Rattle.xet_ties.specs.Causes.{failing_setting}
-use Rattle.xet_ties.specs.History.{entry_of, IsWithin}
-use Rattle.xet_ties.specs.InCall.{Exchange, Look}
+use Rattle.xet_ties.specs.History.{entry_of, fetched_in, telling, IsWithin}
+use Rattle.xet_ties.specs.InCall.{Exchange, Look, served_of_all}
 use Rattle.xet_ties.specs.Cuts.{FirstCut, Planning}
 use Rattle.xet_ties.specs.Legal.{AllPassed, AllPlanned, CacheGoesOn, EntryPassed, FirstAsks, IsPlannedServed, Legal, SignalGoesOn, TookTested, TookWhole}
 use Rattle.xet_ties.specs.RunCalls.{IsFinished, RunCall, TookAll}
 use Rattle.xet_ties.specs.Saids.{FirstSaid, IsTested}
 use Rattle.xet_ties.specs.Setup.{EachGoesOn, RunTold, Setup}
-use Rattle.xet_ties.specs.Ties.{EachLane, HeardAsked, IsEntryOf, IsPlannedEntry, Slack, Stop, Ties, all_of}
+use Rattle.xet_ties.specs.Ties.{EachLane, HeardAsked, IsEntryOf, IsPlannedEntry, LeavesNothing, Slack, Stop, Ties, all_of, has_one}
 use Rattle.xet_ties.proofs.Asks.{first_asks}
 use Rattle.xet_ties.proofs.FewAsks.{none_few, run_few}
+use Rattle.xet_ties.proofs.Gains.{gained_none}
+use Rattle.xet_ties.proofs.OfferCounts.{served_counted}
+use Rattle.xet_ties.specs.Gains.{OffersFew, one_range}
 use Rattle.xet_ties.proofs.Headline as headline
 use Rattle.xet_ties.proofs.Pairs.{served_once, served_passed, served_planned}
 use Rattle.xet_ties.proofs.Plannings.{PlanningOf, first_pieces, first_plans_all, numbered_at, planning_heard, plans_end, some_pieces}
@@ -34,7 +37,7 @@ use Rattle.xet_outside.proofs.CallerLemmas.{added_none}
 use Rattle.xet_ties.specs.steps.Moves.{no_exchange, no_hidden, no_late}
 use Rattle.xet_ties.proofs.Heard.{exchange_start}
 use Rattle.xet_ties.proofs.HeardServed.{each_heard, heard_served_start}
-use Rattle.xet_ties.proofs.Pushes.{reaches_any, reaches_start}
+use Rattle.xet_ties.proofs.Pushes.{grew_by_any, grew_by_none, reaches_any, reaches_start}
 use Rattle.xet_ties.proofs.Starts.{first_start, served_start}
 use Rattle.xet_ties.proofs.EarlyEnds.{cuts_none}
 
@@ -56,7 +59,27 @@ signal_goes_on : (g : Setup) (b n : RunTold) (es : List Event) (stop : Stop) (sl
 signal_goes_on g b n es stop sl t = record { asks = reaches_any b.signal.asks n.signal.asks t.polled.polls t.polled.asks; yes = t.polled.later }
 
 cache_goes_on : (g : Setup) (b n : RunTold) (es : List Event) (stop : Stop) (sl : Slack) → Ties g b n es stop sl → CacheGoesOn b.cache n.cache
-cache_goes_on g b n es stop sl t = record { offers = reaches_any b.cache.offers n.cache.offers t.offered.puts t.offered.offers; faults = t.offered.faults }
+cache_goes_on g b n es stop sl t = record { offers = grew_by_any b.cache.offers n.cache.offers t.offered.puts t.offered.offers; faults = t.offered.faults }
+
+-- ---- offers
+
+fetched_served : (g : Setup) (b n : RunTold) (es : List Event) (stop : Stop) (sl : Slack) → Ties g b n es stop sl → count_by one_range (served_of_all sl.heard) ≡ count_by has_one (telling fetched_in [] es) + count_by one_range (all_of sl.hidden)
+fetched_served g b n es stop sl t = served_counted es b.clients n.clients sl.heard sl.hidden t.heard t.heard_served t.served.on_lanes
+
+abbrev offers_few : (g : Setup) (b n : RunTold) (es : List Event) (stop : Stop) (sl : Slack) (t : Ties g b n es stop sl) → OffersFew sl.heard b.cache n.cache
+offers_few g b n es stop sl t = record {
+  puts = t.offered.puts;
+  offers = t.offered.offers;
+  few = let all = fetched_served g b n es stop sl t in let c = t.offered.cover in omega (arith, all, c);
+}
+
+offers_all : (g : Setup) (b n : RunTold) (es : List Event) (sl : Slack) (t : Ties g b n es None sl) → LeavesNothing sl → t.offered.puts ≡ count_by one_range (served_of_all sl.heard)
+offers_all g b n es sl t left =
+    let all = fetched_served g b n es None sl t in
+    let c = t.offered.cover in
+    let due = left.due in
+    let hidden = ap (λ (l : List Served). count_by one_range l) left.hidden in
+    omega (arith, all, c, due, hidden)
 
 -- ---- tested bytes
 
@@ -179,6 +202,9 @@ legal_refused g b x h = record {
   served = served_once [] b.clients b.clients (no_exchange b.clients) (no_hidden b.clients) (no_late b.clients) (exchange_start b.clients) (heard_served_start 0 b.clients) (served_start b.clients);
   planned = told_nothing g b.clients;
   passed = tt;
+  gained = gained_none g (no_exchange b.clients) b.cache;
+  offers = record { puts = 0; offers = grew_by_none b.cache.offers; few = omega arith };
+  all_offered = tt;
   chunks = λ s o e. tt;
   past = refl;
   goes_on = stays b.clients;
@@ -215,6 +241,9 @@ legal_ran g b n es (Ok k) h a r =
       served = served_once es b.clients n.clients t.slack.heard t.slack.hidden t.slack.late t.ties.heard t.ties.heard_served t.ties.served;
       planned = planned_heard g b n es None t.slack t.ties;
       passed = passed_heard g b n es t.slack t.ties (t.left.none refl).hidden;
+      gained = t.ties.gained;
+      offers = offers_few g b n es None t.slack t.ties;
+      all_offered = offers_all g b n es t.slack t.ties (t.left.none refl);
       chunks = λ s o e. chunks_heard g b n es k t.slack a t.ties none r.finished s o e;
       past = t.ties.served.past;
       goes_on = goes_on es 0 b.clients n.clients t.slack.hidden t.slack.late t.ties.served.lanes;
@@ -248,6 +277,9 @@ legal_ran g b n es (Err e) h a r =
       served = served_once es b.clients n.clients t.slack.heard t.slack.hidden t.slack.late t.ties.heard t.ties.heard_served t.ties.served;
       planned = planned_heard g b n es (Some e) t.slack t.ties;
       passed = tt;
+      gained = t.ties.gained;
+      offers = offers_few g b n es (Some e) t.slack t.ties;
+      all_offered = tt;
       chunks = λ s o i. tt;
       past = t.ties.served.past;
       goes_on = goes_on es 0 b.clients n.clients t.slack.hidden t.slack.late t.ties.served.lanes;

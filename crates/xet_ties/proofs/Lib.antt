@@ -10,6 +10,7 @@ mod FewAsks
 mod FileCauses
 mod FirstCauses
 mod FailedQueries
+mod Gains
 mod Headline
 mod Heard
 mod HeardServed
@@ -26,6 +27,7 @@ mod Moves
 mod NewPairs
 mod NextPlaces
 mod Numbers
+mod OfferCounts
 mod Pairs
 mod PartTies
 mod PastEnds

@@ -14,6 +14,7 @@ use Rattle.xet_history.specs.Laws.{IsPrefix}
 use Rattle.xet_history.specs.TrueHistory.{pieces}
 use Rattle.xet_run.proofs.CallerLemmas.{error-push, flat-push}
 use Rattle.xet_ties.specs.History.{IsNumberedNext, IsOneCached, IsRenewed, IsWithin, asked_in, limit_in, limits_of, round_in}
+use Rattle.xet_ties.proofs.Gains.{gained_as}
 use Rattle.xet_ties.specs.InCall.{EachExchange, Exchange, Look}
 use Rattle.xet_ties.specs.Saids.{EventPassed, FirstRenewed, FirstSaid, IsTested}
 use Rattle.xet_ties.proofs.Heard.{said_push}
@@ -55,6 +56,7 @@ tie_event g b n es e sl to f t = record {
   one_cached = each-push IsOneCached es e t.one_cached f.one_cached;
   looked = subst (λ (l : List Look). IsLooked (es ++ e ∷ []) to.pending l b.clients b.cache n.cache) (sym f.looks) (looked_push es e sl.pending to.pending sl.looks b.clients b.cache n.cache f.cached f.pending t.looked);
   looked_entries = subst (λ (l : List Look). All (IsEntryOf n.cache.entries) l) (sym f.looks) t.looked_entries;
+  gained = gained_as g sl.heard to.heard b.cache n.cache (sym f.heard) t.gained;
   offered = offered_push es e sl.due to.due b.cache n.cache f.due t.offered;
   polled = polled_push es e sl.spare to.spare b.signal n.signal (as_is (cond (is_plan e) 1 0 + length (round_in es e) + to.spare) (ap (λ (c : Bool). cond c 1 0 + length (round_in es e) + to.spare) f.plan)) t.polled;
   limited = limited_same es e b.limits n.limits f.limit t.limited;
@@ -92,6 +94,7 @@ tie_poll g b n es sl to a t = record {
   one_cached = t.one_cached;
   looked = t.looked;
   looked_entries = t.looked_entries;
+  gained = t.gained;
   offered = t.offered;
   polled = record {
     polls = t.polled.polls + 1;
@@ -157,6 +160,7 @@ tie_limit g b n es sl to l c t = record {
   one_cached = t.one_cached;
   looked = t.looked;
   looked_entries = t.looked_entries;
+  gained = t.gained;
   offered = t.offered;
   polled = t.polled;
   limited = record {
@@ -200,6 +204,7 @@ tie_admit g b n es sl to l c t =
       one_cached = each-push IsOneCached es e t.one_cached tt;
       looked = looked_push es e sl.pending sl.pending sl.looks b.clients b.cache n.cache refl (λ x r. omega arith) t.looked;
       looked_entries = t.looked_entries;
+      gained = t.gained;
       offered = offered_push es e sl.due sl.due b.cache n.cache (omega arith) t.offered;
       polled = polled_push es e sl.spare sl.spare b.signal n.signal (omega arith) t.polled;
       limited = record {
@@ -252,6 +257,7 @@ tie_window g b n es sl to bytes took faults link t p q = record {
   one_cached = t.one_cached;
   looked = t.looked;
   looked_entries = t.looked_entries;
+  gained = t.gained;
   offered = t.offered;
   polled = t.polled;
   limited = t.limited;
@@ -306,6 +312,7 @@ tie_fail g b n es sl x spent t =
       one_cached = each-push IsOneCached es e t.one_cached tt;
       looked = looked_push es e sl.pending sl.pending sl.looks b.clients b.cache n.cache refl (λ y r. omega arith) t.looked;
       looked_entries = t.looked_entries;
+      gained = t.gained;
       offered = offered_push es e sl.due sl.due b.cache n.cache (omega arith) t.offered;
       polled = polled_push es e sl.spare sl.spare b.signal n.signal (omega arith) t.polled;
       limited = limited_same es e b.limits n.limits refl t.limited;
@@ -342,6 +349,7 @@ tie_short g b n es sl t = record {
   one_cached = t.one_cached;
   looked = t.looked;
   looked_entries = t.looked_entries;
+  gained = t.gained;
   offered = t.offered;
   polled = t.polled;
   limited = t.limited;

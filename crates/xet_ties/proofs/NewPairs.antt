@@ -1,5 +1,5 @@
 -- The fetches of missing blocks, of which no two are of one, are of new pairs.
-use Rattle.std.proofs.Common.{◌≡◌, ◌⊎◌, ℕ, ◌+◌, ◌≤◌, ◌==◌, ◌||◌, Bool, true, false, cond, List, [], ◌∷◌, refl, subst, ap, arith, inl, inr, ⊎_elim}
+use Rattle.std.proofs.Common.{◌≡◌, ◌⊎◌, ℕ, ◌+◌, ◌<◌, ◌≤◌, ◌==◌, ◌||◌, Bool, true, false, cond, List, [], ◌∷◌, ◌++◌, refl, subst, ap, arith, inl, inr, ⊎_elim}
 use Rattle.std.specs.Prelude.{count_by, map}
 use Rattle.std.specs.List.{list_any}
 use Rattle.std.proofs.lemmas.Bool.{and_parts, eqb-true}
@@ -11,6 +11,7 @@ use Rattle.xet_ties.specs.Lanes.{Ask}
 use Rattle.xet_ties.specs.steps.Records.{asks_for, AreUnkept}
 use Rattle.xet_ties.specs.History.{fetches}
 use Rattle.xet_ties.specs.Ties.{is_pair}
+use Rattle.xet_ties.proofs.Telling.{count-same}
 
 fetch_keeps : (p k : ℕ) (e : Event) → keeps p k e ≡ false → fetches p k e ≡ false
 fetch_keeps p k (Planned plan query terms blocks) h = refl
@@ -36,6 +37,10 @@ none_fetched p k (e ∷ es) h =
     let c = count_by-cons (fetches p k) e es in
     let z = ap {B = ℕ} (λ (v : Bool). cond v 1 0) (fetch_keeps p k e o.0) in
     omega (arith, r, c, z)
+
+-- a block that an event doesn't keep was fetched before it, where it was
+pub fetched_before : (es : List Event) (e : Event) (p k : ℕ) → keeps p k e ≡ false → 0 < count_by (fetches p k) (es ++ e ∷ []) → 0 < count_by (fetches p k) es
+fetched_before es e p k off h = let c = count-same (fetches p k) es e (fetch_keeps p k e off) in omega (arith, c, h)
 
 among : (es : List Event) (fs : List Ask) (p k : ℕ) → AreUnkept es fs → (count_by (is_pair p k) (map asks_for fs) ≡ 0) ⊎ (is_kept es p k ≡ false)
 among es [] p k u = inl refl

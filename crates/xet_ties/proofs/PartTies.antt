@@ -1,6 +1,6 @@
 -- The ties after a part of a turn that touches one object.
-use Rattle.std.proofs.Common.{inl, inr, ◌≡◌, ℕ, ◌+◌, ◌-◌, ◌≤◌, ◌^◌, ◌==◌, ◌&&◌, min, Bool, true, false, not, cond, List, [], ◌∷◌, ◌++◌, length, take, ◌<◌, refl, sym, subst, ◌∙◌, ap, arith, ⊎_elim, Some, None, Option}
-use Rattle.std.specs.Prelude.{count_by, get_or, map, nat_eq, option_map, Ok}
+use Rattle.std.proofs.Common.{inl, inr, ◌≡◌, ℕ, ◌+◌, ◌-◌, ◌≤◌, ◌^◌, ◌==◌, ◌&&◌, min, Bool, true, false, not, cond, List, [], ◌∷◌, ◌++◌, length, refl, sym, subst, ◌∙◌, ap, arith, ⊎_elim, Some, None, Option}
+use Rattle.std.specs.Prelude.{IfSome, count_by, nat_eq, option_map, Ok, ◌⊎◌}
 use Rattle.std.proofs.lemmas.Bool.{and_parts, eqb-true}
 use Rattle.xet_base.specs.declared.cas_types.ChunkRange.{ChunkRange}
 use Rattle.xet_base.specs.declared.merklehash.MerkleHash.{MerkleHash}
@@ -17,16 +17,17 @@ use Rattle.xet_run.specs.declared.event.Event.{Event}
 use Rattle.xet_run.specs.declared.event.PlannedBlock.{PlannedBlock}
 use Rattle.xet_run.proofs.CallerLemmas.{count_by-push}
 use Rattle.xet_ties.specs.History.{block_at}
-use Rattle.xet_ties.specs.steps.Moves.{LookStep}
-use Rattle.xet_ties.specs.steps.Parts.{FoundBlock, LookedShort, LookedUp, OfferOneCall, OffersCall, PollCall, offers_in, offers_of, total, looks_after, pending_after}
+use Rattle.xet_ties.specs.Gains.{GrewBy, IsOfferOf, MayOffer}
+use Rattle.xet_ties.specs.steps.Moves.{LookStep, PutEntry}
+use Rattle.xet_ties.specs.steps.Parts.{FoundBlock, LookedShort, LookedUp, OfferOneCall, OffersCall, PollCall, offers_in, looks_after, pending_after}
 use Rattle.xet_ties.specs.Saids.{planned_of}
 use Rattle.xet_ties.specs.Setup.{IsOver, RunTold, Setup}
-use Rattle.xet_ties.specs.Ties.{IsEntryOf, Reaches, Slack, Ties, gave, has_one, is_look, is_one, is_range, lacks, missed, same_bytes}
+use Rattle.xet_ties.specs.Ties.{IsEntryOf, Slack, Ties, gave, has_one, is_look, is_one, is_range, lacks, missed, same_bytes}
 use Rattle.xet_ties.proofs.CacheMoves.{entries_more, entries_same, tie_cached, tie_missed, tie_put, looked_more, taken_grew}
+use Rattle.xet_ties.proofs.Gains.{gained_same}
 use Rattle.xet_ties.proofs.Moves.{tie_poll}
 use Rattle.xet_ties.proofs.Pushes.{reaches_more}
 use Rattle.xet_ties.proofs.Recording.{tie_rest}
-use Rattle.xet_ties.proofs.Records.{take_at}
 use lib.Pointwise.{pointwise}
 use Rattle.std.proofs.lemmas.List.{append-nil}
 use Rattle.xet_ties.specs.InCall.{Look}
@@ -64,6 +65,7 @@ stop_ties g b at es sl m n is c t =
         one_cached = t.one_cached;
         looked = t.looked;
         looked_entries = t.looked_entries;
+        gained = t.gained;
         offered = t.offered;
         polled = record {
           polls = t.polled.polls + 1;
@@ -154,7 +156,8 @@ tie_looked g b n es sl to x r given l t = record {
         };
   };
   looked_entries = entries_more n.cache to sl.looks (x.xorb, r, given) l.entries l.among t.looked_entries;
-  offered = record { puts = t.offered.puts; offers = subst (λ (o : Option ℕ). Reaches b.cache.offers o t.offered.puts) (sym l.offers) t.offered.offers; cover = t.offered.cover; faults = let f = t.offered.faults in let h = l.faults in omega (arith, f, h) };
+  gained = gained_same g sl.heard b.cache n.cache to l.entries t.gained;
+  offered = record { puts = t.offered.puts; offers = subst (λ (o : Option ℕ). GrewBy b.cache.offers o t.offered.puts) (sym l.offers) t.offered.offers; cover = t.offered.cover; faults = let f = t.offered.faults in let h = l.faults in omega (arith, f, h) };
   polled = t.polled;
   limited = t.limited;
   taken = taken_grew g es sl.heard sl.heard sl.looks ((x.xorb, r, given) ∷ []) sl.ahead b.clients b.cache b.sink n.sink (grew_none sl.heard) t.taken;
@@ -186,7 +189,8 @@ tie_cache_same g b n es sl to looked offers entries faults t = record {
   one_cached = t.one_cached;
   looked = record { looked = looked ∙ t.looked.looked; cover = t.looked.cover };
   looked_entries = entries_same n.cache to sl.looks entries t.looked_entries;
-  offered = record { puts = t.offered.puts; offers = subst (λ (o : Option ℕ). Reaches b.cache.offers o t.offered.puts) (sym offers) t.offered.offers; cover = t.offered.cover; faults = let f = t.offered.faults in omega (arith, f, faults) };
+  gained = gained_same g sl.heard b.cache n.cache to entries t.gained;
+  offered = record { puts = t.offered.puts; offers = subst (λ (o : Option ℕ). GrewBy b.cache.offers o t.offered.puts) (sym offers) t.offered.offers; cover = t.offered.cover; faults = let f = t.offered.faults in omega (arith, f, faults) };
   polled = t.polled;
   limited = t.limited;
   taken = t.taken;
@@ -283,10 +287,12 @@ look_short_ties g b at es fs sl m n x is l t = by_ranges x.chunk_ranges refl l.l
 
 -- ---- offers
 
-pub offers_none : (m : CacheTold) → OffersCall m m 0
-offers_none m = record { ties = λ g b at es sl due is d t. let h : sl.due ≤ due + 0 = d in subst (λ (c : CacheTold). Ties g b (record at { cache = c }) es None (record sl { due = due })) is (less g b at es sl due (omega (arith, h)) t) }
+pub offers_none : (x : XorbBlock) (m : CacheTold) → OffersCall m m x 0
+offers_none x m g b at es sl due is d may t =
+    let h : sl.due ≡ due + 0 = d in
+    subst (λ (c : CacheTold). Ties g b (record at { cache = c }) es None (record sl { due = due })) is (less g b at es sl due (omega (arith, h)) t)
   where
-    less : (g : Setup) (b at : RunTold) (es : List Event) (sl : Slack) (due : ℕ) → sl.due ≤ due → Ties g b at es None sl → Ties g b at es None (record sl { due = due })
+    less : (g : Setup) (b at : RunTold) (es : List Event) (sl : Slack) (due : ℕ) → sl.due ≡ due → Ties g b at es None sl → Ties g b at es None (record sl { due = due })
     less g b at es sl due d t = record {
       heard = t.heard;
       true_of = t.true_of;
@@ -310,6 +316,7 @@ offers_none m = record { ties = λ g b at es sl due is d t. let h : sl.due ≤ d
       one_cached = t.one_cached;
       looked = t.looked;
       looked_entries = t.looked_entries;
+      gained = t.gained;
       offered = record { puts = t.offered.puts; offers = t.offered.offers; cover = let c = t.offered.cover in omega (arith, c, d); faults = t.offered.faults };
       polled = t.polled;
       limited = t.limited;
@@ -317,39 +324,39 @@ offers_none m = record { ties = λ g b at es sl due is d t. let h : sl.due ≤ d
       recorded = t.recorded;
     }
 
--- one after others
-pub offers_more : (m n k : CacheTold) (i j : ℕ) → OffersCall m n i → OffersCall n k j → OffersCall m k (i + j)
-offers_more m n k i j a c = record {
-  ties = λ g b at es sl due is d t. c.ties g b (record at { cache = n }) es (record sl { due = due + j }) due refl (omega arith) (a.ties g b at es sl (due + j) is (omega (arith, d)) t);
-}
-
--- an entry of a block was offered
-pub offers_one : (x : XorbBlock) (m n : CacheTold) (e : BlockBytes) → IsOffered x x.chunk_ranges m n e → OffersCall m n (cond (has_one (planned_of x)) 1 0)
-offers_one x m n e o = by_ranges x.chunk_ranges refl
+-- the data that a block keeps was offered
+pub offers_one : (x : XorbBlock) (m n : CacheTold) (d : XorbBlockData) → x.kept ≡ Some d → IsOffered x x.chunk_ranges m n (entry_of d) → OffersCall m n x (cond (has_one (planned_of x)) 1 0)
+offers_one x m n d kept o = by_ranges x.chunk_ranges refl
   where
-    none : n ≡ m → OffersCall m n 0
-    none same = subst (λ (c : CacheTold). OffersCall m c 0) (sym same) (offers_none m)
+    none : n ≡ m → OffersCall m n x 0
+    none same = subst (λ (c : CacheTold). OffersCall m c x 0) (sym same) (offers_none x m)
 
-    by_ranges : (rs : List ChunkRange) → x.chunk_ranges ≡ rs → OffersCall m n (cond (nat_eq (length x.chunk_ranges) 1) 1 0)
-    by_ranges [] h = subst (λ (rs : List ChunkRange). OffersCall m n (cond (nat_eq (length rs) 1) 1 0)) (sym h) (none (subst (λ (rs : List ChunkRange). IsOffered x rs m n e) h o))
-    by_ranges (r ∷ []) h =
-        let q : IsOffered x (r ∷ []) m n e = subst (λ (rs : List ChunkRange). IsOffered x rs m n e) h o in
-        subst (λ (rs : List ChunkRange). OffersCall m n (cond (nat_eq (length rs) 1) 1 0)) (sym h)
-        (record {
-          ties = λ g b at es sl due is d t. tie_put g b at es sl n due (record {
-            looked = q.1 ∙ ap (λ (c : CacheTold). c.looked) (sym is);
-            offers = q.2 ∙ ap (λ (c : CacheTold). option_map (λ i. min (i + 1) (2 ^ 64 - 1)) c.offers) (sym is);
-            entries =
-                ⊎_elim
-                (λ (v : n.entries ≡ m.entries). inl (v ∙ ap (λ (c : CacheTold). c.entries) (sym is)))
-                (λ (v : Grew m.entries n.entries (x.xorb_hash, r, e)). inr ((x.xorb_hash, r, e), subst (λ (c : CacheTold). Grew c.entries n.entries (x.xorb_hash, r, e)) (sym is) v))
-                q.0;
-            faults = subst (λ (c : CacheTold). c.faults ≤ n.faults) (sym is) q.3;
-          }) d t;
-        })
+    -- the entry that was put
+    entry : (g : Setup) (at : RunTold) (sl : Slack) (r : ChunkRange) → x.chunk_ranges ≡ r ∷ [] → at.cache ≡ m → MayOffer g sl.heard x → (n.entries ≡ m.entries) ⊎ Grew m.entries n.entries (x.xorb_hash, r, entry_of d) → (n.entries ≡ at.cache.entries) ⊎ PutEntry g sl.heard at.cache n
+    entry g at sl r h is may k =
+        ⊎_elim
+        (λ (v : n.entries ≡ m.entries). inl (v ∙ ap (λ (c : CacheTold). c.entries) (sym is)))
+        (λ (v : Grew m.entries n.entries (x.xorb_hash, r, entry_of d)). inr (record {
+          entry = (x.xorb_hash, r, entry_of d);
+          grew = subst (λ (c : CacheTold). Grew c.entries n.entries (x.xorb_hash, r, entry_of d)) (sym is) v;
+          served = subst (λ (y : Option XorbBlockData). IfSome y (λ z. (q : ChunkRange) → x.chunk_ranges ≡ q ∷ [] → IsOfferOf g sl.heard x q z)) kept may r h;
+        }))
+        k
+
+    one : (r : ChunkRange) → x.chunk_ranges ≡ r ∷ [] → IsOffered x (r ∷ []) m n (entry_of d) → OffersCall m n x 1
+    one r h q g b at es sl due is k may t = tie_put g b at es sl n due (record {
+      looked = q.1 ∙ ap (λ (c : CacheTold). c.looked) (sym is);
+      offers = q.2 ∙ ap (λ (c : CacheTold). option_map (λ i. min (i + 1) (2 ^ 64 - 1)) c.offers) (sym is);
+      entries = entry g at sl r h is may q.0;
+      faults = subst (λ (c : CacheTold). c.faults ≤ n.faults) (sym is) q.3;
+    }) k t
+
+    by_ranges : (rs : List ChunkRange) → x.chunk_ranges ≡ rs → OffersCall m n x (cond (nat_eq (length x.chunk_ranges) 1) 1 0)
+    by_ranges [] h = subst (λ (rs : List ChunkRange). OffersCall m n x (cond (nat_eq (length rs) 1) 1 0)) (sym h) (none (subst (λ (rs : List ChunkRange). IsOffered x rs m n (entry_of d)) h o))
+    by_ranges (r ∷ []) h = subst (λ (rs : List ChunkRange). OffersCall m n x (cond (nat_eq (length rs) 1) 1 0)) (sym h) (one r h (subst (λ (rs : List ChunkRange). IsOffered x rs m n (entry_of d)) h o))
     by_ranges (r ∷ s ∷ rs) h =
         let many : cond {A = ℕ} (nat_eq (length x.chunk_ranges) 1) 1 0 ≡ 0 = (let k : length x.chunk_ranges ≡ length rs + 2 = ap (λ (l : List ChunkRange). length l) h ∙ omega arith in off (length x.chunk_ranges) (length rs) k) in
-        subst (λ (c : ℕ). OffersCall m n c) (sym many) (none (subst (λ (ss : List ChunkRange). IsOffered x ss m n e) h o))
+        subst (λ (c : ℕ). OffersCall m n x c) (sym many) (none (subst (λ (ss : List ChunkRange). IsOffered x ss m n (entry_of d)) h o))
       where
         off : (a c : ℕ) → a ≡ c + 2 → cond {A = ℕ} (nat_eq a 1) 1 0 ≡ 0
         off a c k = by (a == 1) refl
@@ -360,21 +367,4 @@ offers_one x m n e o = by_ranges x.chunk_ranges refl
 
 -- a block with its data was offered
 pub offered_block : (x : XorbBlock) (m n : CacheTold) (d : XorbBlockData) → x.kept ≡ Some d → IsOffered x x.chunk_ranges m n (entry_of d) → OfferOneCall m n x (Ok tt)
-offered_block x m n d e o = record { done = subst (λ (k : Option XorbBlockData). OffersCall m n (offers_in x k)) (sym e) (offers_one x m n (entry_of d) o); kept = tt; memory = tt }
-
-total_append : (xs ys : List ℕ) → total (xs ++ ys) ≡ total xs + total ys
-total_append [] ys = omega arith
-total_append (x ∷ xs) ys = let r = total_append xs ys in omega (arith, r)
-
-map_append : (xs ys : List XorbBlock) → map offers_of (xs ++ ys) ≡ map offers_of xs ++ map offers_of ys
-map_append [] ys = refl
-map_append (x ∷ xs) ys = ap (λ l. offers_of x ∷ l) (map_append xs ys)
-
--- and then one more
-pub offered_more : (xs : List XorbBlock) (k : ℕ) (x : XorbBlock) (m n to : CacheTold) → k < length xs → x ≡ get_or xs k x → OffersCall m n (total (map offers_of (take k xs))) → OfferOneCall n to x (Ok tt) → OffersCall m to (total (map offers_of (take (k + 1) xs)))
-offered_more xs k x m n to h at a o =
-    let e : total (map offers_of (take (k + 1) xs)) ≡ total (map offers_of (take k xs)) + offers_of x =
-    (let t = ap (λ l. total (map offers_of l)) (take_at xs k x h) ∙ ap total (map_append (take k xs) (get_or xs k x ∷ [])) ∙ total_append (map offers_of (take k xs)) (map offers_of (get_or xs k x ∷ [])) in
-    let u : offers_of (get_or xs k x) ≡ offers_of x = ap offers_of (sym at) in
-    omega (arith, t, u)) in
-    subst (λ (c : ℕ). OffersCall m to c) (sym e) (offers_more m n to (total (map offers_of (take k xs))) (offers_of x) a o.done)
+offered_block x m n d e o = record { done = subst (λ (k : Option XorbBlockData). OffersCall m n x (offers_in x k)) (sym e) (offers_one x m n d e o); kept = tt; memory = tt }

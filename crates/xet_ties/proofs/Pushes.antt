@@ -26,6 +26,7 @@ use Rattle.xet_ties.specs.History.{asked_by, asked_in, cached_in, fetched_in, ke
 use Rattle.xet_ties.specs.InCall.{Exchange, Look}
 use Rattle.xet_ties.specs.Saids.{IsTaskPiece, IsTested, has_bytes, some_of}
 use Rattle.xet_ties.specs.Setup.{AllTell, Setup}
+use Rattle.xet_ties.specs.Gains.{GrewBy}
 use Rattle.xet_ties.specs.Ties.{AllAre, CutsRange, FirstAsked, FirstStarts, IsLost, IsAmong, IsAsked, IsLimited, IsLooked, IsOffered, IsPolled, IsRecorded, IsTaken, IsTried, Reaches, has_one, is_one, IsNextQuery, AllWithin}
 use Rattle.xet_ties.proofs.Telling.{count-append, count-same, range_at-push, telling-push}
 use Rattle.xet_ties.proofs.EarlyEnds.{goes_same}
@@ -152,7 +153,7 @@ looked_push es e pending rest looks bs b n none h t = record {
       };
 }
 
-pub offered_push : (es : List Event) (e : Event) (due more : ℕ) (b n : CacheTold) → due + count_by has_one (fetched_in es e) ≤ more → IsOffered es due b n → IsOffered (es ++ e ∷ []) more b n
+pub offered_push : (es : List Event) (e : Event) (due more : ℕ) (b n : CacheTold) → due + count_by has_one (fetched_in es e) ≡ more → IsOffered es due b n → IsOffered (es ++ e ∷ []) more b n
 offered_push es e due more b n h t =
     let f = ap (λ (l : List PlannedBlock). count_by has_one l) (telling-push fetched_in es e) ∙ count-append has_one (telling fetched_in [] es) (fetched_in es e) in
     record { puts = t.puts; offers = t.offers; cover = let c = t.cover in omega (arith, c, f, h); faults = t.faults }
@@ -228,6 +229,27 @@ reaches_more (Some k) (Some j) n p c h = subst (λ (o : Option ℕ). Reaches (So
 
 least_min : (most k p j : ℕ) → min (k + p) most ≤ j → min (k + 0) most ≤ j
 least_min most k p j h = omega (arith, h)
+
+pub grew_by_more : (b m n : Option ℕ) (p : ℕ) → Counted m n → GrewBy b m p → GrewBy b n (p + 1)
+grew_by_more None m n p c h = tt
+grew_by_more (Some k) None n p c h = absurd h
+grew_by_more (Some k) (Some j) n p c h =
+    subst (λ (o : Option ℕ). GrewBy (Some k) o (p + 1)) (sym c) (raised h.0, within h.1)
+  where
+    raised : min (k + p) (2 ^ 64 - 1) ≤ j → min (k + (p + 1)) (2 ^ 64 - 1) ≤ min (j + 1) (2 ^ 64 - 1)
+    raised h = omega arith
+
+    within : j ≤ k + p → min (j + 1) (2 ^ 64 - 1) ≤ k + (p + 1)
+    within h = omega (arith, h)
+
+pub grew_by_none : (b : Option ℕ) → GrewBy b b 0
+grew_by_none None = tt
+grew_by_none (Some k) = (omega arith, omega arith)
+
+pub grew_by_any : (b n : Option ℕ) (p : ℕ) → GrewBy b n p → Reaches b n 0
+grew_by_any None n p h = tt
+grew_by_any (Some k) None p h = absurd h
+grew_by_any (Some k) (Some j) p h = least_min (2 ^ 64 - 1) k p j h.0
 
 -- a count that has grown doesn't fall
 pub reaches_any : (b n : Option ℕ) (p : ℕ) → Reaches b n p → Reaches b n 0

@@ -199,6 +199,7 @@ tie_rest g b n es sl rest spare fewer less t = record {
         record { kept = omega (arith, c0, f); cached = c.cached; honest = λ s o. let c2 = c.honest s o in omega (arith, c2, f) };
   };
   looked_entries = t.looked_entries;
+  gained = t.gained;
   offered = t.offered;
   polled = record { polls = t.polled.polls; asks = t.polled.asks; cover = let c = t.polled.cover in omega (arith, c, less); later = t.polled.later };
   limited = t.limited;

@@ -25,7 +25,7 @@ use Rattle.xet_ties.specs.Ties.{AllAre, all_of, is_pair, EachLane, EachUnasked, 
 use Rattle.xet_ties.proofs.Lanes.{served_same}
 use Rattle.xet_ties.proofs.Lates.{expired_same, expired_start}
 use Rattle.xet_ties.proofs.Moves.{tie_fail, tie_admit, tie_limit}
-use Rattle.xet_ties.proofs.Pushes.{first_push, limited_same, looked_push, offered_push, polled_push, reaches_start, starts_same, stored_same, taken_push, true_same, cuts_same, lost_push}
+use Rattle.xet_ties.proofs.Pushes.{first_push, limited_same, looked_push, offered_push, polled_push, grew_by_none, reaches_start, starts_same, stored_same, taken_push, true_same, cuts_same, lost_push}
 use Rattle.xet_ties.proofs.Numbers.{heard_push}
 use Rattle.xet_ties.proofs.Telling.{count-same, each-push}
 use Rattle.xet_error.specs.declared.error.FileReconstructionError.TheVariants as error
@@ -34,6 +34,7 @@ use Rattle.xet_ties.specs.Saids.{EventPassed, FirstSaid, IsEventSaid, IsUnasked}
 use Rattle.xet_ties.specs.steps.Parts.{AdmitsCall, stop_event}
 use Rattle.xet_ties.proofs.Heard.{exchange_start, said_push}
 use Rattle.xet_ties.proofs.Renewed.{renewed_start}
+use Rattle.xet_ties.proofs.Gains.{gained_none}
 use Rattle.xet_ties.proofs.EarlyEnds.{ends_same, cuts_none}
 use Rattle.xet_ties.proofs.HeardServed.{heard_served_same, heard_served_start}
 
@@ -109,7 +110,8 @@ tie_start g b h = record {
   one_cached = tt;
   looked = record { looked = same_list b.cache.looked; cover = λ x r. record { kept = omega arith; cached = omega arith; honest = λ s o. omega arith } };
   looked_entries = All-nil (IsEntryOf b.cache.entries);
-  offered = record { puts = 0; offers = reaches_start b.cache.offers; cover = omega arith; faults = omega arith };
+  gained = gained_none g (no_exchange b.clients) b.cache;
+  offered = record { puts = 0; offers = grew_by_none b.cache.offers; cover = omega arith; faults = omega arith };
   polled = record { polls = 0; asks = reaches_start b.signal.asks; cover = omega arith; later = omega arith };
   limited = record { answers = []; listed = same_list b.limits.limits; among = tt; fixed = none_are b.limits.fixed; same = refl; within = none_are b.limits.most; same_most = refl };
   taken = record { taken = []; took = same_list b.sink.took; counted = refl; pieces = λ s o c. record { rest = []; joined = refl }; tested = record { pieces = []; each = tt; from = record { rest = []; joined = refl } }; faults = omega arith; link = refl };
@@ -151,6 +153,7 @@ tie_cancel g b n es sl t =
       one_cached = each-push IsOneCached es e t.one_cached tt;
       looked = looked_push es e sl.pending sl.pending sl.looks b.clients b.cache n.cache refl (λ y r. omega arith) t.looked;
       looked_entries = t.looked_entries;
+      gained = t.gained;
       offered = offered_push es e sl.due sl.due b.cache n.cache (omega arith) t.offered;
       polled = polled_push es e sl.spare sl.spare b.signal n.signal (omega arith) t.polled;
       limited = limited_same es e b.limits n.limits refl t.limited;
@@ -208,6 +211,7 @@ tie_flush g b n es sl to took faults link t = record {
   one_cached = t.one_cached;
   looked = t.looked;
   looked_entries = t.looked_entries;
+  gained = t.gained;
   offered = t.offered;
   polled = t.polled;
   limited = t.limited;

@@ -98,12 +98,12 @@ FinishedIsWhole = (g : Setup) (before after : RunTold) (es : List Event) (k : �
     → Ties g before after es None slack → slack.ahead ≡ 0 → IsFinished g es k
     → TookAll g es slack before.sink after.sink k
 
--- over one valid store, where the cache has no entries afterwards, each chunk with a byte in the window lies in a block
+-- over one valid store, where the cache had no entries before, each chunk with a byte in the window lies in a block
 -- that was served
 abbrev pub FinishedServesChunks : Type 0
 FinishedServesChunks = (g : Setup) (before after : RunTold) (es : List Event) (k : ℕ) (slack : Slack)
     → IsAllowedHistory es → Ties g before after es None slack → slack.ahead ≡ 0 → IsFinished g es k
-    → (s : Store) → IsOver s before.clients → after.cache.entries ≡ Some []
+    → (s : Store) → IsOver s before.clients → before.cache.entries ≡ Some []
     → AllServed s g.file g.range (served_of_all slack.heard)
 
 -- where a block has as many Expired events as tries, the expired answers of all connections grew by so many

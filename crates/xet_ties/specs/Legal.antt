@@ -11,6 +11,7 @@ use Rattle.xet_error.specs.declared.error.Setting.{Setting}
 use Rattle.xet_blocks.specs.ServedChunks.{AllServed}
 use Rattle.xet_ties.specs.Causes.{Cause, expired_answers, failing_setting}
 use Rattle.xet_ties.specs.Cuts.{AskedCut, IsNumbered, IsSaidPiece, Planning, PlansAll, some_said}
+use Rattle.xet_ties.specs.Gains.{GainedServed, OffersFew, one_range}
 use Rattle.xet_ties.specs.History.{entry_of}
 use Rattle.xet_ties.specs.InCall.{EachExchange, Exchange, Look, answers_of, new_in, served_of_all}
 use Rattle.xet_ties.specs.RunCalls.{DidNothing}
@@ -200,9 +201,15 @@ pub record Legal (g : Setup) (before after : RunTold) (answer : Result ℕ FileR
   pub planned : AllPlanned g heard.list
   -- and on Ok the answer to it passes the block's tests, whether or not its data came of that
   pub passed : OnOk answer (AllPassed g heard.list)
-  -- on Ok over connections that tell one valid store and a cache that has no entries afterwards, each chunk of the file
+  -- whatever store is told and whatever the answer, a cache lost no entry, and those that it gained are of such blocks,
+  -- with data of the answers to their own requests
+  pub gained : GainedServed g heard.list before.cache after.cache
+  -- it was offered one entry at most for each served block of one range, and on Ok one for each
+  pub offers : OffersFew heard.list before.cache after.cache
+  pub all_offered : OnOk answer (offers.puts ≡ count_by one_range (served_of_all heard.list))
+  -- on Ok over connections that tell one valid store and a cache that had no entries before, each chunk of the file
   -- with a byte in the window lies in a served block
-  pub chunks : (s : Store) → IsOver s before.clients → after.cache.entries ≡ Some []
+  pub chunks : (s : Store) → IsOver s before.clients → before.cache.entries ≡ Some []
       → OnOk answer (AllServed s g.file g.range (served_of_all heard.list))
   -- connections past the first 65,536 are as before
   pub past : drop most_lanes after.clients ≡ drop most_lanes before.clients

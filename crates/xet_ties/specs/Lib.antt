@@ -1,5 +1,6 @@
 pub mod Causes
 pub mod Cuts
+pub mod Gains
 pub mod History
 pub mod InCall
 pub mod Lanes

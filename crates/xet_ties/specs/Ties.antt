@@ -21,6 +21,7 @@ use Rattle.xet_run.specs.Events.{Task, expires, first_error, is_stale, plan_coun
 use Rattle.xet_history.specs.Laws.{IsPrefix}
 use Rattle.xet_history.specs.Queries.{CutFrom}
 use Rattle.xet_history.specs.TrueHistory.{EndsEarly, IsTrueHistory, SomeEndsEarly, pieces, queries}
+use Rattle.xet_ties.specs.Gains.{GainedServed, GrewBy}
 use Rattle.xet_ties.specs.History.{EachAfter, IsNumberedNext, IsOnLane, IsOneCached, IsRenewed, IsWithin, asked_by, block_at, cached_in, entry_of, expired_by, fetched_in, fetches, kept_in, limits_of, range_at, served_by, telling, round_count}
 use Rattle.xet_ties.specs.InCall.{EachExchange, Exchange, Look, expired_said}
 use Rattle.xet_ties.specs.Saids.{EventPassed, FirstRenewed, FirstSaid, IsTested}
@@ -228,12 +229,12 @@ Reaches None after more = Unit {0}
 Reaches (Some k) None more = ⊥
 Reaches (Some k) (Some n) more = min (k + more) (2 ^ 64 - 1) ≤ n
 
--- so many entries were offered, as many at least as blocks of one range were fetched, but for those that are still to
--- be offered
+-- so many entries were offered, as many as blocks of one range were fetched, but for those that are still to be
+-- offered
 pub record IsOffered (es : List Event) (due : ℕ) (before after : CacheTold) : Type 0 where
   pub puts : ℕ
-  pub offers : Reaches before.offers after.offers puts
-  pub cover : count_by has_one (telling fetched_in [] es) ≤ puts + due
+  pub offers : GrewBy before.offers after.offers puts
+  pub cover : count_by has_one (telling fetched_in [] es) ≡ puts + due
   pub faults : before.faults ≤ after.faults
 
 -- ---- signal and limits
@@ -332,6 +333,8 @@ pub record Ties (g : Setup) (before after : RunTold) (es : List Event) (stop : S
   pub looked : IsLooked es slack.pending slack.looks before.clients before.cache after.cache
   pub looked_entries : All (IsEntryOf after.cache.entries) slack.looks
   pub offered : IsOffered es slack.due before.cache after.cache
+  -- whatever store is told or not, a cache gained entries of blocks that were served in this call, and lost none
+  pub gained : GainedServed g slack.heard before.cache after.cache
   pub polled : IsPolled es slack.spare before.signal after.signal
   pub limited : IsLimited es before.limits after.limits
   pub taken : IsTaken g es slack.heard slack.looks slack.ahead before.clients before.cache before.sink after.sink

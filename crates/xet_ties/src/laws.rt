@@ -10,7 +10,8 @@ pub fn starts_and_stops()
 /// A run whose history is allowed and that is tied gives a legal answer: over one valid store and a cache that tells
 /// it the window exactly, and over any connections and any cache no block of a plan served twice, each served block
 /// one of a plan that was said and passes its tests, under its plan's number, short queries that, but for refreshes,
-/// cut the range, and on Ok the tested bytes of all terms up to an end.
+/// cut the range, on Ok the tested bytes of all terms up to an end, and a cache that gained nothing but entries of
+/// served blocks.
 pub fn runs_are_legal()
     ensures { RunsAreLegal }
 {}
@@ -26,8 +27,8 @@ pub fn ties_are_told()
 {}
 
 /// A tied run that is finished took exactly the window over one valid store and a cache that tells it, and over any
-/// connections the tested pieces of all planned terms. Where the cache has no entries afterwards, each chunk with a
-/// byte in the window lies in a served block.
+/// connections the tested pieces of all planned terms. Where the cache had no entries before, each chunk with a byte
+/// in the window lies in a served block.
 pub fn finished_is_exact()
     ensures exact { FinishedIsExact }
     ensures whole { FinishedIsWhole }
@@ -94,7 +95,7 @@ pub fn failed_queries_are_tied()
     ensures refresh_said { RefreshesSaid }
 {}
 
-/// After the cache was asked for a block, or offered one, it is tied.
+/// After the cache was asked for a block, or offered one whose data was served, it is tied.
 pub fn looks_are_tied()
     ensures look { LooksTied }
     ensures short { ShortLooksTied }

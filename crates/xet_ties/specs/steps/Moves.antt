@@ -12,6 +12,7 @@ use Rattle.xet_run.specs.declared.event.Event.{Event}
 use Rattle.xet_run.specs.declared.event.PlannedBlock.{PlannedBlock}
 use Rattle.xet_run.specs.Events.{error_in, expires, is_plan, taken_in, tasks_in}
 use Rattle.xet_history.specs.TrueHistory.{IsTrueEvent, queries_in}
+use Rattle.xet_ties.specs.Gains.{IsServedEntry}
 use Rattle.xet_ties.specs.History.{IsOneCached, IsRenewed, IsWithin, asked_in, cached_in, fetched_in, limit_in, round_in}
 use Rattle.xet_ties.specs.InCall.{Exchange, expired_said}
 use Rattle.xet_ties.specs.Saids.{EventPassed, FirstRenewed, IsEventSaid}
@@ -52,11 +53,17 @@ pub record LookStep (before after : CacheTold) (x : PlannedBlock) (r : ChunkRang
   pub among : IsEntryOf before.entries (x.xorb, r, given)
   pub faults : before.faults ≤ after.faults
 
--- a put
-pub record PutStep (before after : CacheTold) : Type 0 where
+-- the entry of a served block was added
+pub record PutEntry (g : Setup) (xs : List Exchange) (before after : CacheTold) : Type 0 where
+  pub entry : CacheEntry
+  pub grew : Grew before.entries after.entries entry
+  pub served : IsServedEntry g xs entry
+
+-- a put of such an entry
+pub record PutStep (g : Setup) (xs : List Exchange) (before after : CacheTold) : Type 0 where
   pub looked : after.looked ≡ before.looked
   pub offers : Counted before.offers after.offers
-  pub entries : (after.entries ≡ before.entries) ⊎ ((e : CacheEntry) × Grew before.entries after.entries e)
+  pub entries : (after.entries ≡ before.entries) ⊎ PutEntry g xs before after
   pub faults : before.faults ≤ after.faults
 
 -- ---- events
@@ -84,7 +91,7 @@ pub record Fits (g : Setup) (es : List Event) (e : Event) (sl to : Slack) : Type
   pub cached : cached_in es e ≡ []
   pub pending : (x : MerkleHash) (r : ChunkRange) → count_by (is_one x r) (fetched_in es e)
       + count_by (is_one x r) to.pending ≤ count_by (is_one x r) sl.pending
-  pub due : sl.due + count_by has_one (fetched_in es e) ≤ to.due
+  pub due : sl.due + count_by has_one (fetched_in es e) ≡ to.due
   pub spare : length (round_in es e) + to.spare ≤ sl.spare
   pub limit : limit_in e ≡ []
   pub ahead : sl.ahead ≡ taken_in e + to.ahead

@@ -1,5 +1,5 @@
 -- What the parts of a turn that touch one object do, over any moment of a run.
-use Rattle.std.specs.Prelude.{ℕ, ◌≡◌, ◌+◌, ◌≤◌, false, true, cond, List, [], ◌∷◌, ◌++◌, map, Option, Some, None, Result, OnOk, OnErr, IfErr}
+use Rattle.std.specs.Prelude.{ℕ, ◌≡◌, ◌+◌, false, true, cond, List, [], ◌∷◌, ◌++◌, map, Option, Some, None, Result, OnOk, OnErr, IfErr}
 use Rattle.xet_base.specs.declared.cas_types.ChunkRange.{ChunkRange}
 use Rattle.xet_base.specs.declared.cas_types.FileRange.{FileRange}
 use Rattle.xet_base.specs.declared.unique_id.UniqueId.{UniqueId}
@@ -26,6 +26,7 @@ use Rattle.xet_run.specs.declared.event.PlannedTerm.{PlannedTerm}
 use Rattle.xet_run.specs.Budgets.{LimitTold}
 use Rattle.xet_run.specs.Events.{plan_count}
 use Rattle.xet_history.specs.TrueHistory.{planned_term}
+use Rattle.xet_ties.specs.Gains.{MayOffer}
 use Rattle.xet_ties.specs.InCall.{Look}
 use Rattle.xet_ties.specs.Saids.{IsQueryAnswer, planned_of}
 use Rattle.xet_ties.specs.Setup.{RunTold, Setup}
@@ -139,12 +140,6 @@ stop_event e = Fail e
 
 -- ---- offers
 
--- entries of so many blocks of one range were offered
-pub record OffersCall (before after : CacheTold) (count : ℕ) : Type 0 where
-  pub ties : (g : Setup) (b at : RunTold) (es : List Event) (sl : Slack) (due : ℕ) → at.cache ≡ before
-      → sl.due ≤ due + count → Ties g b at es None sl
-      → Ties g b (record at { cache = after }) es None (record sl { due = due })
-
 abbrev pub total : List ℕ → ℕ
 total [] = 0
 total (n ∷ ns) = n + total ns
@@ -158,16 +153,15 @@ offers_in x (Some d) = cond (has_one (planned_of x)) 1 0
 abbrev pub offers_of : XorbBlock → ℕ
 offers_of x = offers_in x x.kept
 
+-- what a block keeps was offered, so many entries: that is tied where its data was served
+abbrev pub OffersCall : CacheTold → CacheTold → XorbBlock → ℕ → Type 0
+OffersCall before after x count = (g : Setup) (b at : RunTold) (es : List Event) (sl : Slack) (due : ℕ)
+    → at.cache ≡ before → sl.due ≡ due + count → MayOffer g sl.heard x → Ties g b at es None sl
+    → Ties g b (record at { cache = after }) es None (record sl { due = due })
+
 -- one block was offered; for want of memory the cache is as before
 pub record OfferOneCall (before after : CacheTold) (x : XorbBlock)
     (answer : Result (Unit {0}) FileReconstructionError) : Type 0 where
-  pub done : OnOk answer (OffersCall before after (offers_of x))
+  pub done : OnOk answer (OffersCall before after x (offers_of x))
   pub kept : OnErr answer (after ≡ before)
-  pub memory : IfErr answer (λ e. e ≡ error.OutOfMemory)
-
--- the entries of all blocks with data were offered; for want of memory those of some
-pub record OfferAllCall (before after : CacheTold) (xs : List XorbBlock)
-    (answer : Result (Unit {0}) FileReconstructionError) : Type 0 where
-  pub all : OnOk answer (OffersCall before after (total (map offers_of xs)))
-  pub some : OnErr answer ((k : ℕ) × OffersCall before after k)
   pub memory : IfErr answer (λ e. e ≡ error.OutOfMemory)

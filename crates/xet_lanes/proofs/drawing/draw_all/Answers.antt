@@ -1,6 +1,6 @@
 use Rattle.std.proofs.Common.{rules, ◌<◌, length}
 use Rattle.xet_claims.specs.ClaimPasses.{pass_view}
-use Rattle.xet_lanes.proofs.Draws.{asks_at, drawing_goes_on, drawing_last, drawing_refused, drawing_starts, drawing_step, drew_and_halted, drew_one, get_at, over_ended, over_stops, refused_last, step_last}
+use Rattle.xet_lanes.proofs.Draws.{drawing_goes_on, drawing_last, drawing_refused, drawing_starts, drawing_step, drew_and_halted, drew_one, get_at, over_ended, over_stops, refused_last, step_last}
 use Rattle.xet_lanes.proofs.drawing.draw_all.Goals as goal
 
 pub loop-init : goal.loop-init
@@ -23,11 +23,6 @@ pub returns-in-Over-clause-stops : goal.returns-in-Over-clause-stops
 returns-in-Over-clause-stops g c =
     over_stops _ _ _ (pass_view c.loop.claim) (pass_view c.next_number.new.claim) _ c.loop.invariant.drawing
 
-pub fetch-made-requires-clause-asks : goal.fetch-made-requires-clause-asks
-fetch-made-requires-clause-asks g c =
-    let below : c.in-Number.number < length c.args.shared.now.fetches.now = search rules in
-    asks_at _ _ _ c.requires.asks below
-
 pub returns-in-Over-clause-last : goal.returns-in-Over-clause-last
 returns-in-Over-clause-last g c = drawing_last _ _ _ _ _ c.loop.invariant.drawing
 
@@ -43,11 +38,11 @@ returns-then-is_err-clause-drew g c =
     drawing_refused _ _ _ _ _ _ c.in-Number.number _ _ _ _ c.loop.invariant.drawing
     (drew_and_halted (pass_view c.loop.claim) (pass_view c.next_number.new.claim) _ _ c.in-Number.ensures.next.1
     c.stop_short-then-is_err.ensures.stopped)
-    (get_at _ _ c.index-shared-number.result below) c.fetch-made.ensures.call (search rules)
+    (get_at _ _ c.index-shared-number.result below) c.make-made.ensures.call (search rules)
 
 pub returns-then-is_err-clause-last : goal.returns-then-is_err-clause-last
 returns-then-is_err-clause-last g c =
-    refused_last _ _ _ _ _ _ _ _ _ c.loop.invariant.drawing c.fetch-made.ensures.call (search rules)
+    refused_last _ _ _ _ _ _ _ _ _ c.loop.invariant.drawing c.make-made.ensures.call (search rules)
 
 pub returns-in-Some-clause-drew : goal.returns-in-Some-clause-drew
 returns-in-Some-clause-drew g c =
@@ -55,19 +50,19 @@ returns-in-Some-clause-drew g c =
     let s = drawing_step _ _ _ _ _ _ c.in-Number.number _ _ _ _ c.loop.invariant.drawing
     (drew_and_halted (pass_view c.loop.claim) (pass_view c.next_number.new.claim) _ _ c.in-Number.ensures.next.1
     c.stop_others.ensures.stopped)
-    (get_at _ _ c.index-shared-number.result below) c.fetch-made.ensures.call (search rules) in
+    (get_at _ _ c.index-shared-number.result below) c.make-made.ensures.call (search rules) in
     record { made = s.made; at = s.at; did = s.did }
 
 pub returns-in-Some-clause-last : goal.returns-in-Some-clause-last
 returns-in-Some-clause-last g c =
-    step_last _ _ _ _ _ _ _ _ _ c.loop.invariant.drawing c.fetch-made.ensures.call (search rules)
+    step_last _ _ _ _ _ _ _ _ _ c.loop.invariant.drawing c.make-made.ensures.call (search rules)
 
 pub loop-preserved : goal.loop-preserved
 loop-preserved g c =
     let below : c.in-Number.number < length c.args.shared.now.fetches.now = search rules in
     let s = drawing_step _ _ _ _ _ _ c.in-Number.number _ _ _ _ c.loop.invariant.drawing
     (drew_one (pass_view c.loop.claim) (pass_view c.next_number.new.claim) _ c.in-Number.ensures.next.1)
-    (get_at _ _ c.index-shared-number.result below) c.fetch-made.ensures.call (search rules) in
+    (get_at _ _ c.index-shared-number.result below) c.make-made.ensures.call (search rules) in
     record {
       same = search rules;
       of = c.next_number.ensures.of;

@@ -1,4 +1,4 @@
-use Rattle.std.proofs.Common.{rules, arith, inl, inr}
+use Rattle.std.proofs.Common.{rules, arith, inl, inr, ◌∙◌}
 use Rattle.xet_leader.proofs.LackedBlocks.{lacked_end, lacked_next}
 use Rattle.xet_leader.proofs.missing_blocks.lacked_blocks.Goals as goal
 use Rattle.xet_leader.proofs.missing_blocks.lacked_blocks.Goals.{then-loop-at-test+else-left-gt0, else-loop-at-test}
@@ -11,7 +11,7 @@ loop-at-preserved c =
 
 pub returns : goal.returns
 returns c =
-    elim c.loop-at-test.branch [
+    c.into_list.ensures ∙ elim c.loop-at-test.branch [
       | then-loop-at-test+else-left-gt0 w ↦ lacked_end c.args.plans.now.items c.loop-at.at c.loop-at.ahead
           c.loop-at.left c.loop-at.found _ (inr (omega arith)) c.loop-at.invariant
       | else-loop-at-test w ↦ lacked_end c.args.plans.now.items c.loop-at.at c.loop-at.ahead c.loop-at.left
