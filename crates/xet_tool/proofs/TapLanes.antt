@@ -26,7 +26,8 @@ use Rattle.xet_reconstruct.specs.Laws.{HonestAnswersPass}
 use Rattle.xet_ties.specs.Causes.{expired_answers}
 use Rattle.xet_ties.specs.Causes as causes
 use Rattle.xet_ties.specs.InCall.{Exchange, Look, EachExchange, all_exchanges, exchange_of, expired_said, joined, new_in, served_of_all, with_exchange}
-use Rattle.xet_ties.proofs.CallerLemmas.{if_some, told_new}
+use Rattle.xet_ties.proofs.CallerLemmas.{all_told, if_some, looks_gained, told_new}
+use Rattle.xet_ties.specs.Gains.{GaveServed}
 use Rattle.xet_ties.specs.Ties.{IsEntryOf}
 use Rattle.xet_ties.specs.Legal.{Legal}
 use Rattle.xet_ties.specs.Setup.{AllTell, CacheTells, EachGoesOn}
@@ -187,8 +188,8 @@ module _ (s : Store) where
 pub record BehindLanes (s : Store) (q : Wanted) (ts us : List TapTold) (k l : CacheTold) (b n : SinkTold)
     (answer : Result ℕ FileReconstructionError) : Type 0 where
   pub all : BehindAll s q (All (λ t. t.honest ≡ true) ts) k b n answer
-  pub chunks : All (λ t. t.honest ≡ true) ts → l.entries ≡ Some [] → OnOk answer (IfSome (all_passed ts us) (AllServed s q.file q.range))
-  pub any : (q.options.cache ≡ false → l.entries ≡ Some [])
+  pub chunks : All (λ t. t.honest ≡ true) ts → k.entries ≡ Some [] → OnOk answer (IfSome (all_passed ts us) (AllServed s q.file q.range))
+  pub any : k.entries ≡ Some [] → (q.options.cache ≡ false → l.entries ≡ Some [])
       → Wrote (λ status bytes. IfSome (all_passages ts us) (λ ps. MadeOf s q ps status bytes)) b n (status_of_answer answer) (result_ok answer)
   pub honest : map (λ t. t.honest) us ≡ map (λ t. t.honest) ts
 
@@ -212,7 +213,7 @@ behind_lanes : (pass : HonestAnswersPass) (s : Store) (valid : IsValid s) (q : W
 behind_lanes pass s valid q lanes k l b n answer same h = record {
   all = behind_all s valid q (All (λ (t : TapTold). t.honest ≡ true) (taps_before s lanes)) (befores s lanes) (afters s lanes) k l b n (tell s lanes) (calm s lanes) same answer h;
   chunks = λ honest none. on_ok answer (h.chunks s (record { tell = tell s lanes honest; valid = valid }) none);
-  any = λ none. by (λ plain. none_given h.looks.list l.entries (none plain) h.looks.given) (all_passages (taps_before s lanes) (taps_after s lanes)) refl;
+  any = λ empty none. by empty (λ plain. none_given h.looks.list l.entries (none plain) h.looks.given) (all_passages (taps_before s lanes) (taps_after s lanes)) refl;
   honest = honest s lanes;
 }
   where
@@ -222,16 +223,18 @@ behind_lanes pass s valid q lanes k l b n answer same h = record {
         (λ es e. subst (AllServed s q.file q.range) (sym e) w) (served s lanes h.heard.list h.heard.told)
     on_ok (Err e) w = tt
 
-    by : GaveNothing q h.looks.list → (o : Option (List Passage)) → all_passages (taps_before s lanes) (taps_after s lanes) ≡ o → Wrote (λ status bytes. IfSome (all_passages (taps_before s lanes) (taps_after s lanes)) (λ ps. MadeOf s q ps status bytes)) b n (status_of_answer answer) (result_ok answer)
-    by nothing None e = inr (λ status bytes. rw e tt)
-    by nothing (Some ps) e =
+    by : k.entries ≡ Some [] → GaveNothing q h.looks.list → (o : Option (List Passage)) → all_passages (taps_before s lanes) (taps_after s lanes) ≡ o → Wrote (λ status bytes. IfSome (all_passages (taps_before s lanes) (taps_after s lanes)) (λ ps. MadeOf s q ps status bytes)) b n (status_of_answer answer) (result_ok answer)
+    by empty nothing None e = inr (λ status bytes. rw e tt)
+    by empty nothing (Some ps) e =
         let sides = have_sides s lanes ps e in
+        let heard : sides.xs ≡ h.heard.list = subst (λ (o : Option (List Exchange)). IfSome o (λ ys. ys ≡ h.heard.list)) sides.is (all_told (befores s lanes) (afters s lanes) h.heard.list h.heard.told) in
+        let given : GaveServed (setup_of q) sides.xs h.looks.list = rw heard (looks_gained (setup_of q) h.heard.list k l h.looks.list empty h.gained h.looks.given) in
         let m = made pass s valid q (befores s lanes) (afters s lanes) k l b n same sides.xs sides.is sides.first sides.unexpired answer h in
         inl (record {
           bytes = m.0;
           took = m.1;
           total = m.2;
-          from = rw e (record { xs = sides.xs; passed = sides.passed; looks = h.looks.list; looked = nothing; made = m.3 });
+          from = rw e (record { xs = sides.xs; passed = sides.passed; looks = h.looks.list; looked = nothing; given = given; made = m.3 });
         })
 
 -- ---- want of memory before it
@@ -255,7 +258,7 @@ pub unbehind : (s : Store) (q : Wanted) (ts : List TapTold) (k : CacheTold) (b :
 unbehind s q ts k b = record {
   all = behind_none s q (LanesHonest q ts) k b;
   chunks = λ honest none. tt;
-  any = λ none. by (all_passages (lane_taps q ts) (lane_taps q ts)) refl;
+  any = λ empty none. by (all_passages (lane_taps q ts) (lane_taps q ts)) refl;
   go_on = record { honest = refl; past = refl };
 }
   where
@@ -263,7 +266,7 @@ unbehind s q ts k b = record {
     by None e = inr (λ status bytes. rw e tt)
     by (Some ps) e =
         let sides = none_passed (lane_taps q ts) ps e s in
-        inl (record { bytes = []; took = took_same b.took; total = tt; from = rw e (record { xs = sides.0; passed = sides.1; looks = []; looked = λ plain. refl; made = inl refl }) })
+        inl (record { bytes = []; took = took_same b.took; total = tt; from = rw e (record { xs = sides.0; passed = sides.1; looks = []; looked = λ plain. refl; given = All-nil _; made = inl refl }) })
 
 -- ---- connections that own their taps
 
@@ -382,9 +385,9 @@ tapped s q ts us k l b n a h empty none = record {
   prefix = λ honest. h.all.prefix honest tells;
   cause = h.all.cause;
   settings = h.all.settings;
-  chunks = λ honest. by_answer a (λ plain. h.chunks honest (none plain));
+  chunks = λ honest. by_answer a (h.chunks honest empty);
   counts = h.all.counts;
-  any = h.any none;
+  any = h.any empty none;
   go_on = h.go_on;
   faults = h.all.faults;
   link = h.all.link;
@@ -393,6 +396,6 @@ tapped s q ts us k l b n a h empty none = record {
     tells : CacheTells s k
     tells = rw empty (All-nil _)
 
-    by_answer : (a : Result ℕ FileReconstructionError) → (q.options.cache ≡ false → OnOk a (IfSome (all_passed (lane_taps q ts) (lane_taps q us)) (AllServed s q.file q.range))) → OnOk a (AllPassed s q ts us)
+    by_answer : (a : Result ℕ FileReconstructionError) → OnOk a (IfSome (all_passed (lane_taps q ts) (lane_taps q us)) (AllServed s q.file q.range)) → OnOk a (AllPassed s q ts us)
     by_answer (Ok m) h = h
     by_answer (Err e) h = tt

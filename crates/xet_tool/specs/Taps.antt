@@ -12,6 +12,7 @@ use Rattle.xet_error.specs.declared.error.Setting.{Setting}
 use Rattle.xet_error.specs.Errors.{corruption_number}
 use Rattle.xet_ties.specs.Causes.{BlockFails, TermFails}
 use Rattle.xet_ties.specs.Cuts.{IsSaidPiece, Planning, PlansAll, some_said}
+use Rattle.xet_ties.specs.Gains.{GaveServed}
 use Rattle.xet_ties.specs.InCall.{Exchange, Look, joined, new_in}
 use Rattle.xet_ties.specs.Setup.{Setup}
 use Rattle.xet_tool.specs.declared.commands.get.wanted.Wanted.{Wanted}
@@ -131,6 +132,8 @@ pub record MadeOf (store : Store) (wanted : Wanted) (passages : List Passage) (s
   pub passed : AllZip (IsPassed store) passages xs
   pub looks : List Look
   pub looked : GaveNothing wanted looks
+  -- the data of each entry that a look gave was handed on in this run, in answer to the request of a block of the plans
+  pub given : GaveServed (setup_of wanted) xs looks
   pub made : IsMade store wanted xs looks status bytes
 
 -- the same, of the blocks that passed the taps of the lanes in a call, where each of these tells it

@@ -36,11 +36,10 @@ pub record IsPrinted (store : Store) (wanted : Wanted) (before after : SinkTold)
   pub took : Took before.took after.took (done_text store wanted)
 
 -- and each chunk of the file that has a byte in the range passed one of the taps in this call, where each tells what
--- passed and there is no cache
+-- passed
 pub record IsGot (store : Store) (wanted : Wanted) (before after : Told) : Type 0 where
   pub printed : IsPrinted store wanted before.sink after.sink
-  pub passed : wanted.options.cache ≡ false
-      → IfSome (all_passed (lane_taps wanted before.taps) (lane_taps wanted after.taps))
+  pub passed : IfSome (all_passed (lane_taps wanted before.taps) (lane_taps wanted after.taps))
       (AllServed store wanted.file wanted.range)
 
 -- a store without the file

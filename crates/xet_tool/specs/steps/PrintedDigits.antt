@@ -74,10 +74,9 @@ pub record TookMade (P : Status → List ℕ → Type 0) (b n : SinkTold) (statu
 abbrev pub Wrote : (Status → List ℕ → Type 0) → SinkTold → SinkTold → Status → Option ℕ → Type 0
 Wrote P b n status count = TookMade P b n status count ⊎ ((status : Status) (bytes : List ℕ) → P status bytes)
 
--- each chunk with a byte in the window passed a tap, where there is no cache
+-- each chunk with a byte in the window passed a tap
 abbrev pub AllPassed : Store → Wanted → List TapTold → List TapTold → Type 0
-AllPassed s q ts us = q.options.cache ≡ false
-    → IfSome (all_passed (lane_taps q ts) (lane_taps q us)) (AllServed s q.file q.range)
+AllPassed s q ts us = IfSome (all_passed (lane_taps q ts) (lane_taps q us)) (AllServed s q.file q.range)
 
 -- a run over connections to a valid store behind taps
 pub record Tapped (s : Store) (q : Wanted) (ts us : List TapTold) (b n : SinkTold)

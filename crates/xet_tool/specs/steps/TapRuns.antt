@@ -31,12 +31,13 @@ pub record BehindAll (s : Store) (q : Wanted) (H : Type 0) (k : CacheTold) (b n 
   pub faults : b.faults ≤ n.faults
   pub link : n.link ≡ b.link
 
--- a run over as many connections as are wanted, with a cache
+-- a run over as many connections as are wanted, with a cache; of one that had no entries before it says what passed the
+-- taps
 pub record BehindTaps (s : Store) (q : Wanted) (ts us : List TapTold) (k l : CacheTold) (b n : SinkTold)
     (answer : Result ℕ FileReconstructionError) : Type 0 where
   pub all : BehindAll s q (LanesHonest q ts) k b n answer
-  pub chunks : LanesHonest q ts → l.entries ≡ Some []
+  pub chunks : LanesHonest q ts → k.entries ≡ Some []
       → OnOk answer (IfSome (all_passed (lane_taps q ts) (lane_taps q us)) (AllServed s q.file q.range))
-  pub any : (q.options.cache ≡ false → l.entries ≡ Some [])
+  pub any : k.entries ≡ Some [] → (q.options.cache ≡ false → l.entries ≡ Some [])
       → Wrote (FromTaps s q ts us) b n (status_of_answer answer) (result_ok answer)
   pub go_on : TapsGoOn q ts us
