@@ -1,5 +1,5 @@
-//! A gate and a writer that wait for each other.
-use std::sync::atomic::{AtomicBool, Ordering};
+//! A fetch and a write, and some fetches, that wait for one another.
+use std::sync::atomic::{AtomicBool, AtomicU64, Ordering};
 use std::thread::yield_now;
 use xet_outside::{Sink, SinkError};
 use xet_reconstruct::Gate;
@@ -46,6 +46,45 @@ impl Gate for Meeting {
         if number == 1 {
             self.meet(&self.fetch, &self.write);
         }
+    }
+
+    fn after(&self, _number: u64) {}
+}
+
+/// So many fetches wait for one another.
+#[derive(Drop)]
+pub(crate) struct Crowd {
+    count: u64,
+    begun: AtomicU64,
+    gave_up: AtomicBool,
+}
+
+impl Crowd {
+    pub(crate) fn new(count: u64) -> Crowd {
+        Crowd {
+            count,
+            begun: AtomicU64::new(0),
+            gave_up: AtomicBool::new(false),
+        }
+    }
+
+    /// Whether all of them met.
+    pub(crate) fn met(&self) -> bool {
+        self.begun.load(Ordering::SeqCst) == self.count && !self.gave_up.load(Ordering::SeqCst)
+    }
+}
+
+impl Gate for Crowd {
+    fn before(&self, _number: u64) {
+        self.begun.fetch_add(1, Ordering::SeqCst);
+        for _ in 0..LOOKS {
+            let met = self.begun.load(Ordering::SeqCst) >= self.count;
+            if met || self.gave_up.load(Ordering::SeqCst) {
+                return;
+            }
+            yield_now();
+        }
+        self.gave_up.store(true, Ordering::SeqCst);
     }
 
     fn after(&self, _number: u64) {}

@@ -5,6 +5,14 @@
 #[cfg(test)]
 mod beside;
 #[cfg(test)]
+mod fakes;
+#[cfg(test)]
+mod faults;
+#[cfg(test)]
+mod lies;
+#[cfg(test)]
+mod meter;
+#[cfg(test)]
 mod row;
 #[cfg(test)]
 mod runs;

@@ -1,41 +1,20 @@
 //! What runs answer and write.
-use crate::beside::{Meeting, Waiting};
-use crate::row::{Row, client, run_row, wanted, whole};
+use crate::beside::{Crowd, Meeting, Waiting};
+use crate::row::{ALL, REPEATS, Row, by_four, check, run_gated, wanted, whole};
 use std::alloc::Global;
-use std::process::Abort;
 use std::sync::{Arc, Wait};
 use std::test::Fail;
 use std::thread::Threads;
 use xet_base::{FileRange, MerkleHash};
-use xet_error::{Corruption, FileReconstructionError, Result, Setting};
+use xet_error::{FileReconstructionError, Result, Setting};
 use xet_outside::{NeverCancel, NoCache};
 use xet_progress::ItemProgressUpdater;
 use xet_reconstruct::OpenGate;
-use xet_run::{BookView, BudgetBook, BudgetSettings, Event, FixedBudget, RunCore, ScriptBudget};
+use xet_run::{BookView, BudgetBook, BudgetSettings, Event, RunCore, ScriptBudget};
 use xet_sinks::{MemFile, VecSink};
 use xet_store::MemClient;
 use xet_store::worked::{FILE_OF_ALL, FILE_OF_NOTHING, FILE_OF_REPEATS, worked_store};
 use xet_terms::ReconstructionConfig;
-
-const ALL: &str = "Hello, world!";
-
-const REPEATS: &str = "world!HelloHello, world";
-
-/// A row, its answer, and what the writer took.
-type Case<'a> = (Row<'a>, Result<u64>, &'static str);
-
-fn check<R: Threads + Wait + Sync + Abort>(
-    rt: &R,
-    alloc: Global,
-    cases: &[Case<'_>],
-) -> std::result::Result<(), Fail> {
-    for (number, (row, answer, taken)) in cases.iter().enumerate() {
-        let ended = run_row(rt, alloc, row)?;
-        assert_eq!(rt; ended.answer, *answer, "row {number}");
-        assert!(rt; ended.sink.taken() == taken.as_bytes(), "row {number}");
-    }
-    Ok(())
-}
 
 #[test]
 fn rows_that_write(rt: HostRuntime) -> std::result::Result<(), Fail> {
@@ -60,6 +39,7 @@ fn rows_that_write(rt: HostRuntime) -> std::result::Result<(), Fail> {
             download_buffer_size: 0,
             ..config
         },
+        lanes: &[".", ".", "."],
         ..repeats
     };
     let vectored = Row {
@@ -69,41 +49,29 @@ fn rows_that_write(rt: HostRuntime) -> std::result::Result<(), Fail> {
         },
         ..repeats
     };
-    let three = Row {
-        lanes: &[".", ".", "."],
-        ..no_budget
-    };
     let sixty_four = Row {
         lanes: &many,
         ..vectored
     };
-    let one_byte = Row {
-        sink: "1111111111111",
-        ..all
-    };
     let cached = Row {
         lanes: &[".f"],
+        cached_offsets: &[0, 5, 7, 12],
         cached: ALL,
         ..all
     };
-    let lying = Row {
-        cached: "Hello, worl!",
-        ..all
-    };
-    let short = Row {
-        cached: "Hello, worl!",
-        offsets: [0, 5, 7, 11],
-        ..all
-    };
-    let expired = Row {
-        config: ReconstructionConfig { tries: 2, ..config },
-        lanes: &[".x"],
-        ..all
-    };
-    let empty_term = Row {
+    let empty_first = Row {
         range: FileRange::new(0, 5),
         lanes: &["p.f"],
+        offset: 6,
+        terms: &[(2, 4, 6), (0, 1, 5)],
+        ranges: &[(2, 4), (0, 1)],
         ..all
+    };
+    let empty_last = Row {
+        offset: 0,
+        terms: &[(0, 1, 5), (1, 2, 0), (2, 3, 2)],
+        ranges: &[(0, 1), (1, 2), (2, 3)],
+        ..empty_first
     };
     let nothing = whole(FILE_OF_NOTHING);
     let reversed = Row {
@@ -117,14 +85,10 @@ fn rows_that_write(rt: HostRuntime) -> std::result::Result<(), Fail> {
         (two_queries, Ok(13), ALL),
         (no_budget, Ok(23), REPEATS),
         (vectored, Ok(23), REPEATS),
-        (three, Ok(23), REPEATS),
         (sixty_four, Ok(23), REPEATS),
-        (one_byte, Ok(13), ALL),
         (cached, Ok(13), ALL),
-        (lying, Ok(13), ALL),
-        (short, Ok(13), ALL),
-        (expired, Ok(13), ALL),
-        (empty_term, Ok(5), "Hello"),
+        (empty_first, Ok(5), "Hello"),
+        (empty_last, Ok(5), "Hello"),
         (nothing, Ok(0), ""),
         (reversed, Ok(0), ""),
     ];
@@ -156,53 +120,13 @@ fn rows_that_fail(rt: HostRuntime) -> std::result::Result<(), Fail> {
         ..all
     };
     let unknown = whole(MerkleHash([0xff; 32]));
-    let plan_fails = Row {
-        lanes: &["f"],
-        ..all
-    };
-    let block_fails = Row {
-        lanes: &[".f", "f", "f"],
-        ..all
-    };
-    let spent = Row {
-        config: ReconstructionConfig { tries: 2, ..config },
-        lanes: &[".x.x"],
-        ..all
-    };
-    let cancelled = Row {
-        config: ReconstructionConfig {
-            min_reconstruction_fetch_size: 4,
-            ..config
-        },
-        signal: "ny",
-        ..all
-    };
-    let sink_fails = Row { sink: "11f", ..all };
-    let corrupted = Row {
-        lanes: &[".s"],
-        ..all
-    };
     let setting = |setting| Err(FileReconstructionError::ConfigurationError(setting));
-    let count = Corruption::OffsetCount {
-        expected: 4,
-        actual: 3,
-    };
     let cases = [
         (none, setting(Setting::NoConnection), ""),
         (no_tries, setting(Setting::NoTries), ""),
         (least_zero, setting(Setting::LeastZero), ""),
         (greatest_below, setting(Setting::GreatestBelowLeast), ""),
         (unknown, Err(FileReconstructionError::FileNotFound), ""),
-        (plan_fails, Err(FileReconstructionError::ClientError), ""),
-        (block_fails, Err(FileReconstructionError::ClientError), ""),
-        (spent, Err(FileReconstructionError::UrlExpired), ""),
-        (cancelled, Err(FileReconstructionError::Cancelled), ""),
-        (sink_fails, Err(FileReconstructionError::IoError), "He"),
-        (
-            corrupted,
-            Err(FileReconstructionError::CorruptedReconstruction(count)),
-            "",
-        ),
     ];
     check(&rt, rt.alloc(), &cases)
 }
@@ -292,7 +216,7 @@ fn limits<R: Threads + Wait + Sync>(
     alloc: Global,
 ) -> std::result::Result<(Result<u64>, Vec<u64>), Fail> {
     let store = worked_store(alloc)?;
-    let mut clients = [client(alloc, &store, "")?];
+    let mut clients = [MemClient::new(alloc, &store)];
     let mut core = RunCore::new(alloc);
     let mut budget = ScriptBudget::new(vec![in alloc; 0u64, 0, 0]?);
     let answer = wanted(&whole(FILE_OF_REPEATS)).run(
@@ -353,41 +277,36 @@ fn budgets(rt: HostRuntime) -> std::result::Result<(), Fail> {
 }
 
 // A run whose second fetch waits for its first write, and that for the fetch.
-fn beside<R: Threads + Wait + Sync>(
-    rt: &R,
-    alloc: Global,
-    meeting: &Meeting,
-) -> std::result::Result<(Result<u64>, u64), Fail> {
-    let store = worked_store(alloc)?;
-    let mut clients = [MemClient::new(alloc, &store)];
-    let row = Row {
-        config: ReconstructionConfig {
-            min_reconstruction_fetch_size: 4,
-            max_reconstruction_fetch_size: 8,
-            ..ReconstructionConfig::new()
-        },
-        ..whole(FILE_OF_ALL)
-    };
-    let mut sink = Waiting { meeting, taken: 0 };
-    let answer = wanted(&row).run(
-        rt,
-        alloc,
-        &mut RunCore::new(alloc),
-        &mut FixedBudget { limit: 13 },
-        meeting,
-        &mut clients,
-        &mut NoCache,
-        &mut NeverCancel,
-        &mut sink,
-    );
-    Ok((answer, sink.taken))
-}
-
 #[test]
 fn a_write_runs_beside_a_fetch(rt: HostRuntime) -> std::result::Result<(), Fail> {
     let meeting = Meeting::new();
-    let (answer, taken) = beside(&rt, rt.alloc(), &meeting)?;
-    assert_eq!(rt; (answer, taken), (Ok(13), 13));
+    let mut sink = Waiting {
+        meeting: &meeting,
+        taken: 0,
+    };
+    let row = by_four(&whole(FILE_OF_ALL));
+    let (answer, _) = run_gated(&rt, rt.alloc(), &row, 13, &meeting, &mut sink)?;
+    assert_eq!(rt; (answer, sink.taken), (Ok(13), 13));
     assert!(rt; meeting.met(), "one gave up waiting for the other");
+    Ok(())
+}
+
+/// Each connection serves something where the fetches wait for one another.
+#[test]
+fn three_fetches_run_side_by_side(rt: HostRuntime) -> std::result::Result<(), Fail> {
+    let alloc = rt.alloc();
+    let crowd = Crowd::new(3);
+    let mut sink = VecSink::new(alloc);
+    let row = Row {
+        lanes: &["p", ".", "."],
+        terms: &[(0, 1, 5), (1, 2, 2), (2, 3, 5)],
+        ranges: &[(0, 1), (1, 2), (2, 3)],
+        ..whole(FILE_OF_ALL)
+    };
+    let (answer, blocks) = run_gated(&rt, alloc, &row, 12, &crowd, &mut sink)?;
+    assert_eq!(rt; answer, Ok(12));
+    assert!(rt; sink.taken() == "Hello, world".as_bytes());
+    assert!(rt; blocks.as_slice() == [1, 1, 1].as_slice());
+    assert!(rt; crowd.met(), "one gave up waiting for the others");
     Ok(())
 }
