@@ -1,6 +1,6 @@
 -- The exits of a file's end.
-use Rattle.std.proofs.Common.{◌≡◌, ℕ, ◌<◌, ◌≤◌, ◌⊎◌, inl, inr, false, List, [], ◌∷◌, ◌++◌, refl, sym, ◌∙◌, ap, subst}
-use Rattle.std.specs.Prelude.{All, Contains, Option, None, Some, Result, Ok, Err, is_some}
+use Rattle.std.proofs.Common.{◌≡◌, ℕ, ◌<◌, ◌≤◌, ◌⊎◌, inl, inr, false, List, [], ◌∷◌, refl, sym, ◌∙◌, ap, subst}
+use Rattle.std.specs.Prelude.{All, Contains, Option, None, Some, Result, Ok, Err, OnOk, is_some}
 use Rattle.std.proofs.lemmas.Bool.{false≢true}
 use Rattle.std.proofs.lemmas.List.Elements.{All-weaker, Contains-append_left}
 use Rattle.xet_base.specs.declared.merklehash.MerkleHash.{MerkleHash}
@@ -14,7 +14,7 @@ use Rattle.xet_upload.specs.declared.metrics.DeduplicationMetrics.{Deduplication
 use Rattle.xet_session.specs.Calls.{Backs, CountsSent, Cut, CutPut, CutStill, CutStopped, Keeps, KeepsFailed, WasPut, without_waiting}
 use Rattle.xet_session.specs.Completions.{FitTogether, TakesFile, waiting_bytes, with_file_counts, with_waiting}
 use Rattle.xet_session.specs.Sessions.{HasListed, IsListed, SessionTold, known_of, waiting_names}
-use Rattle.xet_session.proofs.Ends.{backs-kept, ordered-grown}
+use Rattle.xet_session.proofs.Ends.{backs-kept, ordered-grown, says-none}
 use Rattle.xet_session.proofs.Keeping.{keeps-both, keeps-counted, keeps-refl, keeps-still}
 use Rattle.xet_session.proofs.Listing.{names-merged}
 
@@ -76,6 +76,11 @@ keeps-waiting b w = keeps-still b (with_waiting b w) refl refl refl refl refl re
 counts-none : (b n : SessionTold) → n.metrics ≡ b.metrics → CountsSent b n
 counts-none b n e = e ∙ sym (ap (λ (m : DeduplicationMetrics). record b.metrics { xorb_bytes_uploaded = m.xorb_bytes_uploaded }) e)
 
+-- a cut that answers Ok had no failure before it, and has none after it
+cut-unfailed : (b m : SessionTold) (now : ℕ) (answer : Result (Unit {0}) DataError) → Cut b m now answer → OnOk answer (m.failed ≡ b.failed)
+cut-unfailed b m now (Ok u) k = k.unfailed ∙ sym (unfailed b m k.keeps.failed k.unfailed)
+cut-unfailed b m now (Err e) k = tt
+
 -- both fit
 pub took-joined : (b n : SessionTold) (w : Waiting) (now : ℕ) → FitTogether b.thresholds b.waiting w → n ≡ with_waiting b (merged b.waiting w) → TakesFile b n w now (Ok tt)
 took-joined b n w now fits e =
@@ -85,6 +90,8 @@ took-joined b n w now fits e =
       listed = λ a l f. record { finished = l.finished; waiting = names-merged b.listed b.waiting w l.waiting a; put = l.put };
       exits = inl (record { fits = fits; ok = refl; err = tt });
       counts = refl;
+      unfailed = refl;
+      said = λ none. says-none (with_waiting b (merged b.waiting w)) (Ok tt) none;
       why = tt;
     })
 
@@ -94,6 +101,8 @@ took-unjoined b n w now e fits is why = record {
   listed = λ a l f. subst (λ (z : SessionTold). IsListed z) (sym is) l;
   exits = inl (record { fits = fits; ok = tt; err = is });
   counts = counts-none b n (ap (λ (z : SessionTold). z.metrics) is);
+  unfailed = tt;
+  said = λ none. says-none n (Err e) (ap (λ (z : SessionTold). z.failed) is ∙ none);
   why = inl (inl (inl why));
 }
 
@@ -111,6 +120,8 @@ took-cut b a m n w v now answer passes larger before k same is =
           record { finished = after.finished; waiting = all-lists b m (cut-lists (with_waiting b w) m now answer cut) (waiting_names b.waiting.files) l.waiting; put = after.put };
       exits = inr (inl (record { passes = passes; larger = larger; middle = m; cut = cut; same = refl }));
       counts = cut.counts;
+      unfailed = cut-unfailed (with_waiting b w) m now answer cut;
+      said = λ none. cut.said;
       why = cut.why;
     })
 
@@ -125,6 +136,8 @@ took-after b m n w now u passes larger cut same =
           record { finished = after.finished; waiting = all-lists b m (cut-lists b m now (Ok u) cut) (waiting_names w.files) a; put = after.put };
       exits = inr (inr (record { passes = passes; larger = larger; middle = m; cut = cut; ok = refl; err = tt }));
       counts = cut.counts;
+      unfailed = cut-unfailed b m now (Ok u) cut;
+      said = λ none. cut.said;
       why = tt;
     })
 
@@ -135,6 +148,8 @@ took-uncut b n w now e passes larger cut = record {
   listed = λ a l f. cut.listed l f;
   exits = inr (inr (record { passes = passes; larger = larger; middle = n; cut = cut; ok = tt; err = refl }));
   counts = cut.counts;
+  unfailed = tt;
+  said = λ none. cut.said;
   why = cut.why;
 }
 

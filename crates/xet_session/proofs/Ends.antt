@@ -16,10 +16,10 @@ use Rattle.xet_outside.specs.Told.{Rose}
 use Rattle.xet_uploader.specs.declared.uploader.Put.{Put}
 use Rattle.xet_uploader.specs.declared.uploader.Put.TheVariants as put
 use Rattle.xet_uploader.specs.Uploads.{UploaderTold}
-use Rattle.xet_shards.specs.Shards.{no_records}
+use Rattle.xet_shards.specs.Shards.{ShardsTold, no_records}
 use Rattle.xet_shard_interface.specs.Fillings.{shards_in}
 use Rattle.xet_shard_interface.specs.Interfaces.{InterfaceTold, LaterFaults, ListsFiles, StoreFails, StoresTell, known_told, known_xorbs, records_of, resumed_records}
-use Rattle.xet_shard_interface.specs.Puts.{all_with_shards, FailsSo, UploadFails, Uploads, forgotten, puts_of, shards_of, sizes, with_puts, with_shards}
+use Rattle.xet_shard_interface.specs.Puts.{all_with_shards, FailsSo, Forgot, StopsAtFailure, UploadFails, Uploads, forgotten, puts_of, shards_of, sizes, with_puts, with_shards}
 use Rattle.xet_shard_interface.specs.declared.shard_interface.ShardRules.{ShardRules}
 use Rattle.xet_shard_interface.proofs.CallerLemmas.{files-in, files_of, in-shard, log-grown, names-take, ordered-shards}
 use Rattle.xet_upload.specs.DataErrors.{of_client_error}
@@ -124,7 +124,7 @@ uploads-tell u v b n x z a h puts t = (
 -- ---- the exits
 
 -- no failure is kept
-says-none : {A : Type 0} (n : SessionTold) (answer : Result A DataError) → n.failed ≡ None → Says n answer
+pub says-none : {A : Type 0} (n : SessionTold) (answer : Result A DataError) → n.failed ≡ None → Says n answer
 says-none n answer none e q = absurd (false≢true (ap (λ (o : Option ClientError). is_some o) (sym none ∙ q)))
 
 -- a failure that is kept is answered, by an answer of another kind too
@@ -151,6 +151,7 @@ finalizes-again b now e = record {
   quiet = λ f. refl;
   queries = queries-same b b refl;
   failed = failed-same b b refl refl;
+  steady = λ q. refl;
   stores = later-same b.shards b.shards refl;
   again = λ f. (refl, refl);
   said = λ f. absurd (false≢true (sym f ∙ e));
@@ -211,6 +212,7 @@ module _ (b n1 : SessionTold) (now : ℕ) (first : b.finalized ≡ false) where
     quiet = c.keeps.quiet;
     queries = record { asked = c.keeps.queries.asked; answered = c.keeps.queries.answered };
     failed = failed-so n1 refl refl c.keeps.failed;
+    steady = c.keeps.steady;
     stores = c.keeps.stores;
     again = never;
     said = λ f. says-err n1 e c.said;
@@ -235,6 +237,18 @@ module _ (b n1 : SessionTold) (now : ℕ) (first : b.finalized ≡ false) where
     unrefused : {P : Type 0} (e : ClientError) → b.failed ≡ Some e → P
     unrefused e q = absurd (let f = cut.refused e q in cc)
 
+    -- no failure was kept before
+    none-before : b.failed ≡ None
+    none-before = go b.failed refl
+      where
+        go : (o : Option ClientError) → b.failed ≡ o → b.failed ≡ None
+        go None e = e
+        go (Some f) e = unrefused f e
+
+    -- no put failed in the cut
+    stayed1 : n1.uploader.faults ≡ b.uploader.faults
+    stayed1 = cut.keeps.steady (inl (unfailed1 ∙ sym none-before))
+
     -- the records could not be added
     pub finalizes-added : {A : Type 0} (e : DataError) → AddedFinished n1 n2 (Err e) → Finalizes {A = A} b n2 now (Err e)
     finalizes-added {A = A} e a =
@@ -250,11 +264,13 @@ module _ (b n1 : SessionTold) (now : ℕ) (first : b.finalized ≡ false) where
             cached = ap (λ (i : InterfaceTold). i.cache.records) a.stores ∙ cache-none n1.shards.cache.records;
             fewer = omega arith;
             close = omega arith;
+            unput = inl (ap (λ (z : SessionTold). z.failed) same);
           };
           recorded = tt;
-          records = inl a.kept;
+          records = inl (same ∙ ap (λ (i : InterfaceTold). record n1 { shards = i }) a.stores, a.kept);
           dry = λ d. a.known;
           resumed = inl (ap (λ (i : InterfaceTold). resumed_records i.resumed) a.stores);
+          forgot = λ d. tt;
         } in
         let log : log_of n2 ≡ log_of n1 = ap log_of same in
         let m = ap (λ (z : SessionTold). z.metrics.xorb_bytes_uploaded) same in
@@ -275,6 +291,7 @@ module _ (b n1 : SessionTold) (now : ℕ) (first : b.finalized ≡ false) where
           queries = queries-so n2 (ap (λ (z : SessionTold). z.uploader) same);
           said = λ f. says-none n2 (Err e) (ap (λ (z : SessionTold). z.failed) same ∙ unfailed1);
           failed = failed-so n2 (ap (λ (z : SessionTold). z.failed) same) (ap (λ (z : SessionTold). z.uploader) same) cut.keeps.failed;
+          steady = λ q. ap (λ (z : SessionTold). z.uploader.faults) same ∙ stayed1;
           stores = later-both b.shards n1.shards n2.shards cut.keeps.stores a.faults;
           again = never;
           refused = λ f g q. unrefused g q;
@@ -368,6 +385,9 @@ module _ (b n1 : SessionTold) (now : ℕ) (first : b.finalized ≡ false) where
       faults : b.uploader.faults ≤ n2.uploader.faults
       faults = subst (λ (w : UploaderTold). b.uploader.faults ≤ w.faults) (sym (ap (λ (s : SessionTold). s.uploader) a.same)) cut.keeps.failed.faults
 
+      steady-end : n.uploader.faults ≡ n2.uploader.faults → z.uploader.faults ≡ b.uploader.faults
+      steady-end e = ap (λ (w : UploaderTold). w.faults) uploader ∙ e ∙ ap (λ (s : SessionTold). s.uploader.faults) a.same ∙ stayed1
+
       failed-end : ((n.failed ≡ n2.failed) ⊎ (n.failed ≡ Some client_error.Failed → Rose n2.uploader.faults n.uploader.faults)) → KeepsFailed b z
       failed-end m =
           let P : UploaderTold → Type 0 = λ w. (b.failed ≡ Some client_error.Failed) ⊎ Rose b.uploader.faults w.faults in
@@ -458,7 +478,18 @@ module _ (b n1 : SessionTold) (now : ℕ) (first : b.finalized ≡ false) where
                 ∙ ap (λ (ss : List ShardRecord). all_with_shards n1.shards.cache.records (take l ss)) shards-same;
             fewer = p.uploads.fewer;
             close = p.uploads.close;
+            unput =
+                let stops = subst (λ (ss : List ShardRecord). StopsAtFailure n2.failed n.failed k l ss) shards-same (p.uploads.unput t2.shards.session) in
+                subst (λ (o : Option ClientError). StopsAtFailure n1.failed o k l (shards_of z.shards)) (sym (ap (λ (s : SessionTold). s.failed) ends))
+                (subst (λ (o : Option ClientError). StopsAtFailure o n.failed k l (shards_of z.shards)) (ap (λ (s : SessionTold). s.failed) a.same) stops);
           }
+
+      -- the resumed records were forgotten, or their store failed
+      forgot-end : (k : ℕ) → answer ≡ Ok k → n1.shards.rules.dry_run ≡ false → Forgot n1.shards.resumed z.shards.resumed
+      forgot-end k is d =
+          let done = subst (λ (r : Result ℕ DataError). OnOk r (Forgot n2.shards.resumed n.shards.resumed)) is (p.uploads.forgot (ap (λ (r : ShardRules). r.dry_run) a.rules ∙ d)) in
+          subst (λ (o : Option ShardsTold). Forgot n1.shards.resumed o) (sym (ap (λ (s : SessionTold). s.shards.resumed) ends))
+          (subst (λ (o : Option ShardsTold). Forgot o n.shards.resumed) (ap (λ (i : InterfaceTold). i.resumed) a.stores) done)
 
       -- all was put
       finalizes-ok : {A : Type 0} (m : A) (k : ℕ) → answer ≡ Ok k → Finalizes b z now (Ok m)
@@ -473,6 +504,7 @@ module _ (b n1 : SessionTold) (now : ℕ) (first : b.finalized ≡ false) where
             records = inr (session-same ∙ a.recorded);
             dry = known-dry;
             resumed = resumed-so p.uploads.resumed all;
+            forgot = forgot-end k is;
           } in
           let same : n.failed ≡ n2.failed = subst (λ (r : Result ℕ DataError). OnOk r (n.failed ≡ n2.failed)) is p.uploads.failure.ok in
           record {
@@ -490,6 +522,7 @@ module _ (b n1 : SessionTold) (now : ℕ) (first : b.finalized ≡ false) where
             queries = queries;
             said = λ f. says-none z (Ok m) (ap (λ (s : SessionTold). s.failed) ends ∙ same ∙ failed2);
             failed = failed-end (inl same);
+            steady = λ q. steady-end (subst (λ (r : Result ℕ DataError). OnOk r (n.uploader.faults ≡ n2.uploader.faults)) is p.uploads.failure.unfailed);
             stores = stores;
             again = never;
             refused = λ f g q. unrefused g q;
@@ -513,6 +546,7 @@ module _ (b n1 : SessionTold) (now : ℕ) (first : b.finalized ≡ false) where
         queries = queries;
         said = λ f. says so;
         failed = failed-end (kept so);
+        steady = λ q. steady-end (stayed so (subst (λ (o : Option ClientError). (o ≡ b.failed) ⊎ (o ≡ Some client_error.OutOfMemory)) failed-same-end q));
         stores = stores;
         again = never;
         refused = λ f g q. unrefused g q;
@@ -531,6 +565,7 @@ module _ (b n1 : SessionTold) (now : ℕ) (first : b.finalized ≡ false) where
                 records = inr (session-same ∙ a.recorded);
                 dry = known-dry;
                 resumed = inl (ap (λ (s : SessionTold). resumed_records s.shards.resumed) ends ∙ unforgotten ∙ resumed2);
+                forgot = λ d. tt;
               }
 
           so : FailsSo n2.uploader n.uploader n2.failed n.failed (UploadFails n2.shards n.shards) e
@@ -547,6 +582,11 @@ module _ (b n1 : SessionTold) (now : ℕ) (first : b.finalized ≡ false) where
           says (inl q) = says-none z (Err e) (failed-same-end ∙ q.0 ∙ failed2)
           says (inr f) = λ g h. let both : Some f.error ≡ Some g = sym f.kept ∙ sym failed-same-end ∙ h in let one : f.error ≡ g = cc in ap (λ (x : DataError). Err x) (f.told ∙ ap of_client_error one)
 
+          stayed : FailsSo n2.uploader n.uploader n2.failed n.failed (UploadFails n2.shards n.shards) e → (n.failed ≡ b.failed) ⊎ (n.failed ≡ Some client_error.OutOfMemory) → n.uploader.faults ≡ n2.uploader.faults
+          stayed (inl q) r = q.1
+          stayed (inr f) (inl r) = absurd (false≢true (ap (λ (o : Option ClientError). is_some o) (sym none-before ∙ sym r ∙ f.kept)))
+          stayed (inr f) (inr r) = f.memory (let both : Some f.error ≡ Some client_error.OutOfMemory = sym f.kept ∙ r in cc)
+
           shards : z.shards ≡ n.shards
           shards = ap (λ (s : SessionTold). s.shards) ends
 
@@ -555,7 +595,7 @@ module _ (b n1 : SessionTold) (now : ℕ) (first : b.finalized ≡ false) where
           store (inr q) = inr (inr (inl q))
 
           why : FailsSo n2.uploader n.uploader n2.failed n.failed (UploadFails n2.shards n.shards) e → PutsFail b z e
-          why (inl q) = inl (stores-later b.shards n2.shards z.shards e (later-both b.shards n1.shards n2.shards cut.keeps.stores a.faults) (subst (λ (i : InterfaceTold). StoresFail n2.shards i e) (sym shards) (store q.1)))
+          why (inl q) = inl (stores-later b.shards n2.shards z.shards e (later-both b.shards n1.shards n2.shards cut.keeps.stores a.faults) (subst (λ (i : InterfaceTold). StoresFail n2.shards i e) (sym shards) (store q.2)))
           why (inr f) = inr (f.error, ap (λ (s : SessionTold). s.failed) ends ∙ f.kept, f.told)
 
     module _ (v : Unit {0}) (a : AddedFinished n1 n2 (Ok v)) (n : SessionTold) where
@@ -603,6 +643,7 @@ retold {A = A} {B = B} b n now e k = record {
   quiet = k.quiet;
   queries = k.queries;
   failed = k.failed;
+  steady = k.steady;
   stores = k.stores;
   again = λ f. let h = (k.again f).0 in let d : e ≡ finalized_error = cc in (ap (λ (x : DataError). Err x) d, (k.again f).1);
   said = λ f. says-err n e (k.said f);
@@ -612,7 +653,7 @@ retold {A = A} {B = B} b n now e k = record {
   where
     go : EndsUncut {A = A} b n now (Err e) ⊎ EndsSo {A = A} b n now (Err e) → EndsUncut {A = B} b n now (Err e) ⊎ EndsSo {A = B} b n now (Err e)
     go (inl (d, is, c)) = inl (d, ap (λ (x : DataError). Err x) (let h : Err e ≡ Err d = is in cc), c)
-    go (inr (m, c, s)) = inr (m, c, record { same = s.same; stores = s.stores; all = tt; some = s.some; recorded = tt; records = s.records; dry = s.dry; resumed = s.resumed })
+    go (inr (m, c, s)) = inr (m, c, record { same = s.same; stores = s.stores; all = tt; some = s.some; recorded = tt; records = s.records; dry = s.dry; resumed = s.resumed; forgot = λ d. tt })
 
 -- the same end, of an answer of another kind
 pub retold-ok : {A B : Type 0} (b n : SessionTold) (now : ℕ) (x : A) (y : B) → Finalizes b n now (Ok x) → Finalizes b n now (Ok y)
@@ -630,6 +671,7 @@ retold-ok {A = A} {B = B} b n now x y k = record {
   quiet = k.quiet;
   queries = k.queries;
   failed = k.failed;
+  steady = k.steady;
   stores = k.stores;
   again = λ f. let e = (k.again f).0 in absurd cc;
   said = λ f. says-none n (Ok y) k.unfailed;
@@ -639,7 +681,7 @@ retold-ok {A = A} {B = B} b n now x y k = record {
   where
     go : EndsUncut b n now (Ok x) ⊎ EndsSo b n now (Ok x) → EndsUncut b n now (Ok y) ⊎ EndsSo b n now (Ok y)
     go (inl (d, is, c)) = absurd (let h : Ok x ≡ Err d = is in cc)
-    go (inr (m, c, s)) = inr (m, c, record { same = s.same; stores = s.stores; all = s.all; some = s.some; recorded = s.recorded; records = s.records; dry = s.dry; resumed = s.resumed })
+    go (inr (m, c, s)) = inr (m, c, record { same = s.same; stores = s.stores; all = s.all; some = s.some; recorded = s.recorded; records = s.records; dry = s.dry; resumed = s.resumed; forgot = s.forgot })
 
 -- ---- the file records after the end
 
@@ -708,6 +750,7 @@ module _ (b m n : SessionTold) (now : ℕ) (x : DeduplicationMetrics) (k : Final
       records = inr (l.records ∙ s.recorded);
       dry = λ d. ap known_told l.same ∙ s.dry d;
       resumed = resumed s.resumed;
+      forgot = λ d. on_ok said (subst (λ (o : Option ShardsTold). Forgot c.shards.resumed o) (sym (ap (λ (i : InterfaceTold). i.resumed) l.same)) (s.forgot d));
     },
   )
     where
@@ -729,6 +772,9 @@ module _ (b m n : SessionTold) (now : ℕ) (x : DeduplicationMetrics) (k : Final
         cached = cache-listed ∙ h.cached ∙ ap (λ (ss : List ShardRecord). all_with_shards c.shards.cache.records (take h.kept ss)) shards-listed;
         fewer = h.fewer;
         close = h.close;
+        unput =
+            subst (λ (ss : List ShardRecord). StopsAtFailure c.failed n.failed h.count h.kept ss) shards-listed
+            (subst (λ (o : Option ClientError). StopsAtFailure c.failed o h.count h.kept (shards_of m.shards)) (sym (ap (λ (z : SessionTold). z.failed) same)) h.unput);
       }
 
       all : AllPut c n
@@ -765,6 +811,7 @@ module _ (b m n : SessionTold) (now : ℕ) (x : DeduplicationMetrics) (k : Final
         queries = record { asked = ap (λ (z : SessionTold). z.uploader.asked) same ∙ k.queries.asked; answered = ap (λ (z : SessionTold). z.uploader.answered) same ∙ k.queries.answered };
         said = λ f. says-none n said (ap (λ (z : SessionTold). z.failed) same ∙ k.unfailed);
         failed = failed-listed;
+        steady = λ q. ap (λ (z : SessionTold). z.uploader.faults) same ∙ k.steady (subst (λ (o : Option ClientError). (o ≡ b.failed) ⊎ (o ≡ Some client_error.OutOfMemory)) (ap (λ (z : SessionTold). z.failed) same) q);
         stores = later-both b.shards m.shards n.shards k.stores stores-listed;
         again = λ f. absurd (never f);
         refused = λ f e q. absurd (kept e q);

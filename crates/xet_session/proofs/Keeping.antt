@@ -26,7 +26,7 @@ use Rattle.xet_upload.specs.Orders.{IsBacked, IsThere, names_of}
 use Rattle.xet_upload.specs.declared.data_error.DataError.{DataError}
 use Rattle.xet_upload.specs.declared.metrics.DeduplicationMetrics.{DeduplicationMetrics}
 use Rattle.xet_upload.proofs.CallerLemmas.{backed-more, put-there}
-use Rattle.xet_session.specs.Calls.{GrewByXorbs, Keeps, KeepsFailed, NoQueries, PutsFail, StoresFail, one_xorb, xorb_bytes}
+use Rattle.xet_session.specs.Calls.{FaultsStay, GrewByXorbs, Keeps, KeepsFailed, NoQueries, PutsFail, StoresFail, one_xorb, xorb_bytes}
 use Rattle.xet_session.specs.Sessions.{SessionTold, Stands, Tells, known_of, log_of}
 use Rattle.xet_session.specs.steps.SessionSteps.{MaybeAdded, PutRaw, with_sent}
 use Rattle.xet_session.proofs.Recording.{IsRecorded}
@@ -79,6 +79,36 @@ failed-same b n e u = record {
   faults = subst (λ (v : UploaderTold). b.uploader.faults ≤ v.faults) (sym u) (omega arith);
 }
 
+pub steady-same : (b n : SessionTold) → n.uploader ≡ b.uploader → FaultsStay b n
+steady-same b n u q = ap (λ (v : UploaderTold). v.faults) u
+
+-- faults that stay in two calls stay in both
+steady-both : (b m n : SessionTold) → KeepsFailed b m → KeepsFailed m n → FaultsStay b m → FaultsStay m n → FaultsStay b n
+steady-both b m n h k x y q = go m.failed refl
+  where
+    some-at : (t : SessionTold) (f : ClientError) → t.failed ≡ Some f → is_some t.failed ≡ true
+    some-at t f e = ap (λ (z : Option ClientError). is_some z) e
+
+    before : (o : Option ClientError) → b.failed ≡ o → m.failed ≡ None → m.failed ≡ b.failed
+    before None e none = none ∙ sym e
+    before (Some f) e none = h.stays (some-at b f e)
+
+    go : (o : Option ClientError) → m.failed ≡ o → n.uploader.faults ≡ b.uploader.faults
+    go None none =
+        let same = before b.failed refl none in
+        y (or-memory same q) ∙ x (inl same)
+      where
+        or-memory : m.failed ≡ b.failed → (n.failed ≡ b.failed) ⊎ (n.failed ≡ Some client_error.OutOfMemory) → (n.failed ≡ m.failed) ⊎ (n.failed ≡ Some client_error.OutOfMemory)
+        or-memory same (inl e) = inl (e ∙ sym same)
+        or-memory same (inr e) = inr e
+    go (Some f) e =
+        let same = k.stays (some-at m f e) in
+        y (inl same) ∙ x (at same q)
+      where
+        at : n.failed ≡ m.failed → (n.failed ≡ b.failed) ⊎ (n.failed ≡ Some client_error.OutOfMemory) → (m.failed ≡ b.failed) ⊎ (m.failed ≡ Some client_error.OutOfMemory)
+        at same (inl g) = inl (sym same ∙ g)
+        at same (inr g) = inr (sym same ∙ g)
+
 pub queries-same : (b n : SessionTold) → n.uploader ≡ b.uploader → NoQueries b n
 queries-same b n u = record { asked = ap (λ (v : UploaderTold). v.asked) u; answered = ap (λ (v : UploaderTold). v.answered) u }
 
@@ -124,6 +154,7 @@ keeps-counted b n u i l m f z = record {
   quiet = λ q. ap puts_of u;
   queries = queries-same b n u;
   failed = failed-same b n f u;
+  steady = steady-same b n u;
   stores = later-same b.shards n.shards i;
   finalized = z;
 }
@@ -163,6 +194,7 @@ keeps-both b m n h k = record {
   quiet = λ f. k.quiet (ap (λ (o : Option ClientError). is_some o) (h.failed.stays f) ∙ f) ∙ h.quiet f;
   queries = record { asked = k.queries.asked ∙ h.queries.asked; answered = k.queries.answered ∙ h.queries.answered };
   failed = failed-both b m n h.failed k.failed;
+  steady = steady-both b m n h.failed k.failed h.steady k.steady;
   stores = later-both b.shards m.shards n.shards h.stores k.stores;
   finalized = k.finalized ∙ h.finalized;
 }
@@ -196,6 +228,7 @@ keeps-put b n x u r =
       quiet = λ f. never-kept b.failed r.unfailed f;
       queries = r.queries;
       failed = record { stays = λ f. never-kept b.failed r.unfailed f; met = λ q. inl (sym (ap (λ (z : SessionTold). z.failed) is) ∙ q); faults = r.faults };
+      steady = λ q. r.steady;
       stores = later-same b.shards n.shards (ap (λ (z : SessionTold). z.shards) is);
       finalized = ap (λ (z : SessionTold). z.finalized) is;
     }
@@ -216,12 +249,17 @@ keeps-unput b n x e r =
       quiet = λ f. log;
       queries = r.queries;
       failed = record { stays = λ f. never-kept b.failed r.unfailed f; met = λ q. inr (rose r.failed q); faults = r.faults };
+      steady = λ q. stayed r.failed q;
       stores = later-same b.shards n.shards (ap (λ (z : SessionTold). z.shards) is);
       finalized = ap (λ (z : SessionTold). z.finalized) is;
     }
   where
     rose : PutFailed b.uploader n.uploader n.failed e → n.failed ≡ Some client_error.Failed → Rose b.uploader.faults n.uploader.faults
     rose p q = p.rose (let both : Some p.error ≡ Some client_error.Failed = sym p.kept ∙ q in cc)
+
+    stayed : PutFailed b.uploader n.uploader n.failed e → (n.failed ≡ b.failed) ⊎ (n.failed ≡ Some client_error.OutOfMemory) → n.uploader.faults ≡ b.uploader.faults
+    stayed p (inl q) = never-kept n.failed (q ∙ r.unfailed) (ap (λ (z : Option ClientError). is_some z) p.kept)
+    stayed p (inr q) = p.memory (let both : Some p.error ≡ Some client_error.OutOfMemory = sym p.kept ∙ q in cc)
 
 -- the uploader refused it
 pub put-refused : (b n : SessionTold) (x : Xorb) (e : DataError) (f : ClientError) → PutXorbCall b.uploader n.uploader x (Err f) → n ≡ record b { uploader = n.uploader; failed = Some f } → b.failed ≡ None → e ≡ of_client_error f → PutRaw b n x (Err e)
@@ -240,7 +278,8 @@ put-refused b n x e f c is none told =
       unput = ap (λ (o : Option (List Put)). unwrap_or o []) refused;
       unfailed = none;
       faults = c.faults;
-      failed = record { error = f; kept = kept; told = told; rose = λ q. c.failed (ap (λ (g : ClientError). Err g) q) };
+      steady = tt;
+      failed = record { error = f; kept = kept; told = told; rose = λ q. c.failed (ap (λ (g : ClientError). Err g) q); memory = λ q. c.memory (ap (λ (g : ClientError). Err g) q) };
     }
 
 pub put-why : (b n : SessionTold) (x : Xorb) (e : DataError) → PutRaw b n x (Err e) → PutsFail b n e
@@ -272,6 +311,7 @@ keeps-added b n x h answer is a there was-put describes =
       quiet = λ f. log;
       queries = queries-same b n u;
       failed = failed-same b n (ap (λ (z : SessionTold). z.failed) is) u;
+      steady = steady-same b n u;
       stores = a.stores;
       finalized = ap (λ (z : SessionTold). z.finalized) is;
     }

@@ -20,7 +20,7 @@ use Rattle.xet_upload.specs.declared.data_error.DataError.TheVariants as data_er
 use Rattle.xet_session.specs.Calls.{Keeps, Queries}
 use Rattle.xet_session.specs.Sessions.{IsListed, SessionTold, Stands, Tells, known_of, log_of}
 use Rattle.xet_session.specs.steps.SessionSteps.{OnList}
-use Rattle.xet_session.proofs.Keeping.{failed-same, keeps-refl, later-same, none-put, queries-same, stands-at}
+use Rattle.xet_session.proofs.Keeping.{failed-same, keeps-refl, later-same, none-put, queries-same, stands-at, steady-same}
 use Rattle.xet_session.specs.Sounds.{searched}
 use Rattle.xet_session.proofs.Sounding.{sound-same}
 use Rattle.xet_session.proofs.Listing.{listed-more}
@@ -118,6 +118,7 @@ module _ (b n : SessionTold) (extra : List MerkleHash) (looks : Looks b.shards n
     quiet = λ f. ap puts_of uploader;
     queries = queries-same b n uploader;
     failed = failed-same b n (ap (λ (z : SessionTold). z.failed) is) uploader;
+    steady = steady-same b n uploader;
     stores = later;
     finalized = ap (λ (z : SessionTold). z.finalized) is;
   }
@@ -152,6 +153,7 @@ module _ (b : SessionTold) (hs : List MerkleHash) where
     faults = later-same b.shards b.shards refl;
     why = inr (inl (inl refl));
     order = λ t. inl refl;
+    asks = λ t. record { session = λ h. refl; cache = λ h. refl };
   }
 
   -- room for the list was refused

@@ -1,10 +1,9 @@
 -- What a session's tracker accepts and refuses.
-use Rattle.std.proofs.Common.{◌≡◌, ℕ, ◌+◌, ◌-◌, ◌^◌, ◌<◌, ◌⊎◌, inl, inr, Bool, true, false, zero, suc, List, [], ◌∷◌, ◌++◌, length, take, refl, sym, ◌∙◌, ap, subst, arith}
-use Rattle.std.specs.Prelude.{Contains, Option, Some, None, cond, find, is_some, option_map, Result, Ok, Err, IfOk, IfErr}
+use Rattle.std.proofs.Common.{◌≡◌, ℕ, ◌<◌, ◌⊎◌, inl, inr, Bool, true, false, zero, suc, List, [], ◌∷◌, ◌++◌, length, take, refl, sym, ◌∙◌, ap, subst, arith}
+use Rattle.std.specs.Prelude.{Contains, Option, Some, None, cond, find, is_some, option_map, Result, Ok, Err, IfErr}
 use Rattle.std.proofs.lemmas.Bool.{false≢true}
 use Rattle.std.proofs.lemmas.List.{append-nil, append_assoc, length-append}
 use Rattle.xet_base.specs.declared.invalid.Invalid.{Invalid}
-use Rattle.xet_base.specs.declared.item_id.UniqueID.{UniqueID}
 use Rattle.xet_base.specs.declared.merklehash.MerkleHash.{MerkleHash}
 use Rattle.xet_base.specs.declared.mdb_shard.Xorb.{Xorb}
 use Rattle.xet_outside.specs.declared.client.ClientError.{ClientError}
@@ -12,19 +11,19 @@ use Rattle.xet_outside.specs.declared.client.ClientError.TheVariants as client_e
 use Rattle.xet_base.specs.Hashes.{hash_eq}
 use Rattle.xet_base.proofs.CallerLemmas.{eq-hash_eq}
 use Rattle.xet_progress.specs.Accepted.{CallOf, Refused, completion_test, or_else, refusal_of}
-use Rattle.xet_progress.specs.Counts.{new_xorb, registrations, sizes}
+use Rattle.xet_progress.specs.Counts.{new_xorb, registrations}
 use Rattle.xet_progress.specs.declared.error.ProgressError.{ProgressError}
 use Rattle.xet_progress.specs.declared.error.ProgressError.TheVariants as progress_error
 use Rattle.xet_progress.specs.declared.step.FileXorbDependency.{FileXorbDependency}
 use Rattle.xet_progress.specs.declared.step.TrackerStep.{TrackerStep}
-use Rattle.xet_progress.specs.declared.step.TrackerStep.TheVariants.{RegisterDependencies, RegisterNewFile, RegisterNewXorb, RegisterXorbUploadCompletion}
+use Rattle.xet_progress.specs.declared.step.TrackerStep.TheVariants.{RegisterDependencies, RegisterNewXorb, RegisterXorbUploadCompletion}
 use Rattle.xet_shard_interface.specs.Interfaces.{StoreFails, resumed_faults}
 use Rattle.xet_upload.specs.DataErrors.{of_client_error, of_progress_error}
 use Rattle.xet_upload.specs.declared.data_error.DataError.{DataError}
 use Rattle.xet_upload.specs.declared.data_error.DataError.TheVariants as data_error
 use Rattle.xet_session.specs.Calls.{PutsFail, finalized_error, xorb_bytes}
 use Rattle.xet_session.specs.Sessions.{SessionTold}
-use Rattle.xet_session.specs.Trackings.{CalledSome, CountsPut, IsRefusal, StartsFile, Tracks, TracksXorb, all_xorb_calls, first_refusal, ids_used_up, with_call, with_calls, xorb_calls}
+use Rattle.xet_session.specs.Trackings.{CalledSome, CountsPut, IsRefusal, Tracks, TracksXorb, all_xorb_calls, first_refusal, with_call, with_calls, xorb_calls}
 use Rattle.xet_session.specs.steps.SessionSteps.{GivenCounted, PutCounted}
 use Rattle.xet_session.specs.steps.HashLists.{has}
 use Rattle.xet_session.proofs.Hashes.{contains-has, has-contains}
@@ -382,41 +381,3 @@ module _ (b n : SessionTold) (told after : List TrackerStep) (x : Xorb) where
         go : ((n.registered ≡ b.registered ++ x.hash ∷ []) × CountsPut {A = Unit {0}} told after x.hash (Err e)) ⊎ ((n.registered ≡ b.registered) × (is_some n.failed ≡ true) × (after ≡ told)) → GivenCounted b n told after x (Err e)
         go (inl q) = record { ok = tt; unput = λ r. not-longer b.registered x.hash (sym r ∙ q.0); put = λ r. counts-err told after x.hash e q.1; failed = λ low r. not-longer b.registered x.hash (sym r ∙ q.0) }
         go (inr q) = record { ok = tt; unput = λ r. q.2; put = λ r. not-longer b.registered x.hash (sym q.0 ∙ r); failed = λ low r. q.1 }
-
--- ---- files
-
-module _ (before after : List TrackerStep) (id next_id : ℕ) (f : Bool) (size : Option ℕ) where
-  -- the session is finalized
-  pub starts-finalized : f ≡ true → after ≡ before → next_id ≡ id → StartsFile before after id next_id f size (Err finalized_error)
-  starts-finalized e same ids = record {
-    finalized = λ q. (refl, same, ids);
-    used_up = λ q. absurd (false≢true (sym q ∙ e));
-    tracks = λ q. absurd (false≢true (sym q ∙ e));
-    id = tt;
-    number = tt;
-  }
-
-  -- no id is left
-  pub starts-used : f ≡ false → after ≡ before → id ≡ 2 ^ 64 - 1 → StartsFile before after id next_id f size (Err ids_used_up)
-  starts-used e same used = record {
-    finalized = λ q. absurd (false≢true (sym e ∙ q));
-    used_up = λ q u. (refl, same);
-    tracks = λ q u. absurd (u used);
-    id = tt;
-    number = tt;
-  }
-
-  -- the tracker was asked
-  pub starts-begun : (answer : Result (UniqueID × ℕ) DataError) → (u : UniqueID) → f ≡ false → (id ≡ 2 ^ 64 - 1 → ⊥) → u ≡ record { 0 = id } → next_id ≡ id + 1 → Tracks before after (RegisterNewFile size ∷ []) answer
-      → IfOk answer (λ r. r.0 ≡ u) → IfOk answer (λ r. r.1 ≡ length (sizes before)) → StartsFile before after id next_id f size answer
-  starts-begun answer u e left is next tracks has number = record {
-    finalized = λ q. absurd (false≢true (sym e ∙ q));
-    used_up = λ q used. absurd (left used);
-    tracks = λ q low. tracks;
-    id = go answer has;
-    number = number;
-  }
-    where
-      go : (r : Result (UniqueID × ℕ) DataError) → IfOk r (λ p. p.0 ≡ u) → IfOk r (λ p. (p.0 ≡ record { 0 = id }) × (next_id ≡ id + 1))
-      go (Ok p) h = (h ∙ is, next)
-      go (Err x) h = tt

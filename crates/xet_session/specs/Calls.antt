@@ -20,7 +20,7 @@ use Rattle.xet_uploader.specs.Uploads.{UploaderTold}
 use Rattle.xet_shards.specs.Runs.{IsRun}
 use Rattle.xet_shards.specs.Shards.{ShardsTold, with_records}
 use Rattle.xet_shard_interface.specs.Interfaces.{AddsRecords, FailsInOrder, InterfaceTold, LaterFaults, SearchFails, SearchTells, Searches, StagesXorb, StoreFails, found_in, known_told, records_of, resumed_faults, resumed_records}
-use Rattle.xet_shard_interface.specs.Puts.{all_with_shards, forgotten, shards_of, sizes}
+use Rattle.xet_shard_interface.specs.Puts.{Forgot, StopsAtFailure, all_with_shards, forgotten, shards_of, sizes}
 use Rattle.xet_upload.specs.DataErrors.{of_client_error}
 use Rattle.xet_upload.specs.Metrics.{no_counts}
 use Rattle.xet_upload.specs.Orders.{IsOrdered}
@@ -74,6 +74,11 @@ pub record KeepsFailed (b n : SessionTold) : Type 0 where
       → (b.failed ≡ Some client_error.Failed) ⊎ Rose b.uploader.faults n.uploader.faults
   pub faults : b.uploader.faults ≤ n.uploader.faults
 
+-- the uploader's faults stay, but where a put that failed is kept in this call
+abbrev pub FaultsStay : SessionTold → SessionTold → Type 0
+FaultsStay b n = (n.failed ≡ b.failed) ⊎ (n.failed ≡ Some client_error.OutOfMemory)
+    → n.uploader.faults ≡ b.uploader.faults
+
 -- a put that failed, and is kept, is answered as the uploader answered it
 abbrev pub Says : {A : Type 0} → SessionTold → Result A DataError → Type 0
 Says n answer = (e : ClientError) → n.failed ≡ Some e → answer ≡ Err (of_client_error e)
@@ -108,6 +113,7 @@ pub record Keeps (b n : SessionTold) : Type 0 where
   pub quiet : is_some b.failed ≡ true → log_of n ≡ log_of b
   pub queries : NoQueries b n
   pub failed : KeepsFailed b n
+  pub steady : FaultsStay b n
   pub stores : LaterFaults b.shards n.shards
   pub finalized : n.finalized ≡ b.finalized
 
@@ -314,7 +320,7 @@ AllPut m n = Tells m → m.shards.rules.dry_run ≡ false
     × (n.shards.cache.records ≡ all_with_shards m.shards.cache.records (shards_of n.shards))
 
 -- the first `count` of the shards are in the log, and the first `kept` of these in the cache, which are all but the
--- last at least
+-- last at least; where a put failed some are left, and nothing came after it
 pub record SomePut (m n : SessionTold) : Type 0 where
   pub count : ℕ
   pub kept : ℕ
@@ -322,10 +328,16 @@ pub record SomePut (m n : SessionTold) : Type 0 where
   pub cached : n.shards.cache.records ≡ all_with_shards m.shards.cache.records (take kept (shards_of n.shards))
   pub fewer : kept ≤ count
   pub close : count ≤ kept + 1
+  pub unput : StopsAtFailure m.failed n.failed count kept (shards_of n.shards)
 
 -- the records of the finished files, alone
 abbrev pub finished_records : SessionTold → ShardRecord
 finished_records m = record { xorbs = []; files = m.finished }
+
+-- the session's records are as they were, and nothing changed but their store
+abbrev pub Unadded : SessionTold → SessionTold → Type 0
+Unadded m n = (n ≡ record m { shards = record m.shards { session = n.shards.session } })
+    × (n.shards.session.records ≡ m.shards.session.records)
 
 -- the end after the cut: the finished files' records came behind those of the session, and then all were put as
 -- shards; an error leaves the rest undone from where it came, and the resumed records are forgotten only where all was
@@ -341,11 +353,12 @@ pub record EndsCut {A : Type 0} (m n : SessionTold) (answer : Result A DataError
   pub some : Tells m → SomePut m n
   pub recorded : OnOk answer (n.shards.session.records
       ≡ option_map (λ r. with_records r (finished_records m)) m.shards.session.records)
-  pub records : (n.shards.session.records ≡ m.shards.session.records) ⊎ (n.shards.session.records
+  pub records : Unadded m n ⊎ (n.shards.session.records
       ≡ option_map (λ r. with_records r (finished_records m)) m.shards.session.records)
   pub dry : m.shards.rules.dry_run ≡ true → known_told n.shards ≡ known_told m.shards
   pub resumed : (resumed_records n.shards.resumed ≡ resumed_records m.shards.resumed)
       ⊎ ((resumed_records n.shards.resumed ≡ forgotten (resumed_records m.shards.resumed)) × AllPut m n)
+  pub forgot : m.shards.rules.dry_run ≡ false → OnOk answer (Forgot m.shards.resumed n.shards.resumed)
 
 -- the session is finalized
 abbrev pub as_finalized : SessionTold → SessionTold
@@ -377,6 +390,7 @@ pub record Finalizes {A : Type 0} (b n : SessionTold) (now : ℕ) (answer : Resu
   pub quiet : is_some b.failed ≡ true → log_of n ≡ log_of b
   pub queries : NoQueries b n
   pub failed : KeepsFailed b n
+  pub steady : FaultsStay b n
   pub stores : LaterFaults b.shards n.shards
   pub again : b.finalized ≡ true → (answer ≡ Err finalized_error) × (n ≡ b)
   pub said : b.finalized ≡ false → Says n answer

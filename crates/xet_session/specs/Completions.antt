@@ -1,5 +1,5 @@
 -- The end of a file: its data joins what waits, or one of both is cut.
-use Rattle.std.specs.Prelude.{ℕ, ◌≡◌, ◌+◌, ◌<◌, ◌≤◌, ◌⊎◌, length, All, Contains, None, Result, Ok, IfErr, OnOk, OnErr}
+use Rattle.std.specs.Prelude.{ℕ, ◌≡◌, ◌+◌, ◌<◌, ◌≤◌, ◌⊎◌, length, All, Contains, None, Result, IfErr, OnOk, OnErr}
 use Rattle.std.specs.List.{concat}
 use Rattle.xet_pointer.specs.declared.translator_config.TranslatorConfig.{TranslatorConfig}
 use Rattle.xet_upload.specs.Metrics.{both}
@@ -7,7 +7,7 @@ use Rattle.xet_upload.specs.Waitings.{IsWithin, Waiting, merged}
 use Rattle.xet_upload.specs.declared.data_error.DataError.{DataError}
 use Rattle.xet_upload.specs.declared.metrics.DeduplicationMetrics.{DeduplicationMetrics}
 use Rattle.xet_session.specs.declared.cut_thresholds.CutThresholds.{CutThresholds}
-use Rattle.xet_session.specs.Calls.{CountsSent, Cut, Keeps, PutsFail}
+use Rattle.xet_session.specs.Calls.{CountsSent, Cut, Keeps, PutsFail, Says}
 use Rattle.xet_session.specs.Sessions.{IsListed, SessionTold, waiting_names}
 
 -- the thresholds of the settings
@@ -68,4 +68,6 @@ pub record TakesFile (b n : SessionTold) (w : Waiting) (now : ℕ)
   pub listed : All (Contains b.listed) (waiting_names w.files) → IsListed b → n.failed ≡ None → IsListed n
   pub exits : Joins b n w answer ⊎ CutsFile b n w now answer ⊎ CutsWaiting b n w now answer
   pub counts : CountsSent b n
+  pub unfailed : OnOk answer (n.failed ≡ b.failed)
+  pub said : b.failed ≡ None → Says n answer
   pub why : IfErr answer (PutsFail b n)

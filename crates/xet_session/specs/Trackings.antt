@@ -137,11 +137,14 @@ pub record TracksFile (b n : SessionTold) (w : Waiting) (before after : List Tra
 abbrev pub ids_used_up : DataError
 ids_used_up = data_error.InvalidOperation invalid.IdsUsedUp
 
--- a file was begun: it has the next id, and the number that the tracker gives it
+-- a file was begun: it has the next id, and the number that the tracker gives it; an id is drawn at each exit, but
+-- where the session is finalized or none is left
 pub record StartsFile (before after : List TrackerStep) (next_id later_id : ℕ) (ended : Bool) (size : Option ℕ)
     (answer : Result (UniqueID × ℕ) DataError) : Type 0 where
   pub finalized : ended ≡ true → (answer ≡ Err finalized_error) × (after ≡ before) × (later_id ≡ next_id)
   pub used_up : ended ≡ false → next_id ≡ 2 ^ 64 - 1 → (answer ≡ Err ids_used_up) × (after ≡ before)
   pub tracks : ended ≡ false → (next_id ≡ 2 ^ 64 - 1 → ⊥) → Tracks before after (RegisterNewFile size ∷ []) answer
   pub id : IfOk answer (λ r. (r.0 ≡ record { 0 = next_id }) × (later_id ≡ next_id + 1))
+  pub drawn : ended ≡ false → (next_id ≡ 2 ^ 64 - 1 → ⊥) → later_id ≡ next_id + 1
+  pub undrawn : next_id ≡ 2 ^ 64 - 1 → later_id ≡ next_id
   pub number : IfOk answer (λ r. r.1 ≡ length (sizes before))

@@ -3,8 +3,9 @@ use crate::made::{Session, code, config, raw, session, stores, uploader};
 use std::alloc::Global;
 use std::sync::Wait;
 use std::test::Fail;
-use xet_base::{IdSource, OutOfMemory};
+use xet_base::{IdSource, MerkleHash, OutOfMemory};
 use xet_session::FileUploadSession;
+use xet_upload::DeduplicationMetrics;
 use xet_uploader::Put;
 
 /// Puts a xorb of one chunk: 0 where it is new, 9 where it was put before, and else the error's number.
@@ -155,5 +156,51 @@ fn a_dry_run_puts_no_records_and_answers_their_size(rt: HostRuntime) -> Result<(
     assert_eq!(rt; register(&rt, alloc, &mut session, "Hello"), 0);
     assert_eq!(rt; end_with_report(&rt, alloc, &mut session), [72, 5, 5]);
     assert_eq!(rt; puts(session), 1);
+    Ok(())
+}
+
+/// 1 where the session is finalized, and 1 where the xorb of `Hello` is on its list.
+fn says(session: &Session) -> [u8; 2] {
+    let xorb = MerkleHash::from_hex(
+        "76374a899e7b264402cc6e607df685c0f5cff2ff746d304d6dedb7e25afbd1b1",
+    ).unwrap_or(MerkleHash([0; 32]));
+    [
+        u8::from(session.is_finalized()),
+        u8::from(session.lists(&xorb)),
+    ]
+}
+
+/// Counts a file of so many bytes, of which 2 are new, with 9 bytes of xorbs, which are not counted.
+fn count(session: &mut Session, bytes: u64) {
+    let mut counts = DeduplicationMetrics::new();
+    counts.total_bytes = bytes;
+    counts.new_bytes = 2;
+    counts.xorb_bytes_uploaded = 9;
+    session.merge_file_metrics(&counts);
+}
+
+/// Ends the session, and answers the bytes of its files, of new chunks and of xorbs.
+fn end_with_counts<W: Wait>(rt: &W, alloc: Global, session: &mut Session) -> [u64; 3] {
+    match session.finalize(rt, alloc, 0) {
+        Ok(counts) => [
+            counts.total_bytes,
+            counts.new_bytes,
+            counts.xorb_bytes_uploaded,
+        ],
+        Err(_) => [0; 3],
+    }
+}
+
+#[test]
+fn says_what_it_lists_and_counts(rt: HostRuntime) -> Result<(), Fail> {
+    let alloc = rt.alloc();
+    let mut session = session(alloc, &[])?;
+    assert_eq!(rt; says(&session), [0, 0]);
+    assert_eq!(rt; register(&rt, alloc, &mut session, "Hello"), 0);
+    assert_eq!(rt; says(&session), [0, 1]);
+    count(&mut session, 7);
+    count(&mut session, u64::MAX);
+    assert_eq!(rt; end_with_counts(&rt, alloc, &mut session), [u64::MAX, 4, 5]);
+    assert_eq!(rt; says(&session), [1, 1]);
     Ok(())
 }

@@ -9,10 +9,10 @@ use Rattle.xet_outside.specs.declared.client.ClientError.{ClientError}
 use Rattle.xet_uploader.specs.declared.uploader.Put.{Put}
 use Rattle.xet_uploader.specs.declared.uploader.Put.TheVariants as put
 use Rattle.xet_uploader.specs.Uploads.{UploaderTold}
-use Rattle.xet_shards.specs.Shards.{with_records}
+use Rattle.xet_shards.specs.Shards.{ShardsTold, with_records}
 use Rattle.xet_upload.specs.declared.data_error.DataError.{DataError}
 use Rattle.xet_shard_interface.specs.Interfaces.{InterfaceTold, StoreFails, resumed_faults, resumed_records}
-use Rattle.xet_shard_interface.specs.Puts.{with_shards, with_puts, all_with_shards, forgotten, PutFailed, Fails, FailsSo, PutsShard, PutsShards, Forgets, MakesShards, UploadFails, Uploads, shards_of, sizes}
+use Rattle.xet_shard_interface.specs.Puts.{with_shards, with_puts, all_with_shards, forgotten, PutFailed, Fails, FailsSo, PutsShard, PutsShards, Forgets, Forgot, MakesShards, StopsAtFailure, UploadFails, Uploads, shards_of, sizes}
 
 with_shards-push : (r : ShardRecord) (ss : List ShardRecord) (s : ShardRecord) → with_shards r (ss ++ s ∷ []) ≡ with_records (with_shards r ss) s
 with_shards-push r [] s = refl
@@ -37,10 +37,10 @@ cache-none (Some r) = refl
 -- ---- failures
 
 failure-none : {A : Type 0} (u : UploaderTold) (x : Option ClientError) (O : DataError → Type 0) (w : A) → Fails u u x x O (Ok w)
-failure-none u x O w = record { ok = refl; err = tt; faults = omega arith }
+failure-none u x O w = record { ok = refl; unfailed = refl; err = tt; faults = omega arith }
 
-failed-later : (u m v : UploaderTold) (z : Option ClientError) (e : DataError) → u.faults ≤ m.faults → PutFailed m v z e → PutFailed u v z e
-failed-later u m v z e low p = record { error = p.error; kept = p.kept; told = p.told; rose = λ q. omega (arith, low, p.rose q) }
+failed-later : (u m v : UploaderTold) (z : Option ClientError) (e : DataError) → m.faults ≡ u.faults → PutFailed m v z e → PutFailed u v z e
+failed-later u m v z e same p = record { error = p.error; kept = p.kept; told = p.told; rose = λ q. omega (arith, same, p.rose q); memory = λ q. p.memory q ∙ same }
 
 pub store-later : (a b c : ℕ) (e : DataError) → a ≤ b → StoreFails b c e → StoreFails a c e
 store-later a b c e low (inl q) = inl q
@@ -48,15 +48,19 @@ store-later a b c e low (inr q) = inr (q.0, omega (arith, low, q.1))
 
 module _ (u m v : UploaderTold) (x y z : Option ClientError) (w : Unit {0}) (O P Q : DataError → Type 0) (less : (e : DataError) → P e → O e) (h : Fails u m x y Q (Ok w)) where
   so : (e : DataError) → FailsSo m v y z P e → FailsSo u v x z O e
-  so e (inl q) = inl (q.0 ∙ h.ok, less e q.1)
-  so e (inr f) = inr (failed-later u m v z e h.faults f)
+  so e (inl q) = inl (q.0 ∙ h.ok, q.1 ∙ h.unfailed, less e q.2)
+  so e (inr f) = inr (failed-later u m v z e h.unfailed f)
 
   failure-both : (a : Result (Unit {0}) DataError) → Fails m v y z P a → Fails u v x z O a
-  failure-both a p = record { ok = okay a p.ok; err = IfErr-weaker a (FailsSo m v y z P) (FailsSo u v x z O) so p.err; faults = omega (arith, h.faults, p.faults) }
+  failure-both a p = record { ok = okay a p.ok; unfailed = stayed a p.unfailed; err = IfErr-weaker a (FailsSo m v y z P) (FailsSo u v x z O) so p.err; faults = omega (arith, h.faults, p.faults) }
     where
       okay : (r : Result (Unit {0}) DataError) → OnOk r (z ≡ y) → OnOk r (z ≡ x)
       okay (Ok k) q = q ∙ h.ok
       okay (Err e) q = tt
+
+      stayed : (r : Result (Unit {0}) DataError) → OnOk r (v.faults ≡ m.faults) → OnOk r (v.faults ≡ u.faults)
+      stayed (Ok k) q = q ∙ h.unfailed
+      stayed (Err e) q = tt
 
 pub puts-none : (u : UploaderTold) (b : InterfaceTold) (x : Option ClientError) → PutsShards u u b b x x [] (Ok tt)
 puts-none u b x = record {
@@ -68,6 +72,7 @@ puts-none u b x = record {
   fewer = omega arith;
   close = omega arith;
   cached = cache-none b.cache.records;
+  unput = inl refl;
   asked = refl;
   answered = refl;
   failure = failure-none u x (StoreFails b.cache.faults b.cache.faults) tt;
@@ -108,20 +113,22 @@ module _ (u m v : UploaderTold) (b c n : InterfaceTold) (x y z : Option ClientEr
           fewer = omega arith;
           close = omega arith;
           cached = cached ∙ ap (all_with_shards b.cache.records) (sym all);
+          unput = inl (p.failure.ok ∙ h.failure.ok);
           asked = p.asked ∙ h.asked;
           answered = p.answered ∙ h.answered;
-          failure = record { ok = p.failure.ok ∙ h.failure.ok; err = tt; faults = omega (arith, h.failure.faults, p.failure.faults) };
+          failure = record { ok = p.failure.ok ∙ h.failure.ok; unfailed = p.failure.unfailed ∙ h.failure.unfailed; err = tt; faults = omega (arith, h.failure.faults, p.failure.faults) };
           cache = omega (arith, h.cache, p.cache);
         }
 
     pub puts-stopped : (e : DataError) → PutsShard m v c n y z s (Err e) → PutsShards u v b n x z ss (Err e)
-    puts-stopped e p = go p.err.1
+    puts-stopped e p = stopped p.unput p.err.1
       where
         failure : Fails {A = Unit {0}} u v x z (StoreFails b.cache.faults n.cache.faults) (Err e)
         failure = failure-both u m v x y z w (StoreFails b.cache.faults n.cache.faults) (StoreFails c.cache.faults n.cache.faults) (StoreFails b.cache.faults c.cache.faults) (λ f q. store-later b.cache.faults c.cache.faults n.cache.faults f h.cache q) h.failure (Err e) p.failure
 
-        go : (v.puts ≡ m.puts) ⊎ (v.puts ≡ with_puts m.puts (s ∷ [])) → PutsShards u v b n x z ss (Err e)
-        go (inl q) = record {
+        -- the shard is not in the log
+        unput : v.puts ≡ m.puts → PutsShards u v b n x z ss (Err e)
+        unput q = record {
           same = whole p.same;
           ok = tt;
           count = i;
@@ -130,12 +137,16 @@ module _ (u m v : UploaderTold) (b c n : InterfaceTold) (x y z : Option ClientEr
           fewer = omega arith;
           close = omega arith;
           cached = p.err.0 ∙ h.ok.1;
+          unput = inr (refl, low);
           asked = p.asked ∙ h.asked;
           answered = p.answered ∙ h.answered;
           failure = failure;
           cache = omega (arith, h.cache, p.cache);
         }
-        go (inr q) = record {
+
+        -- the shard is in the log, and the cache failed
+        unkept : z ≡ y → v.puts ≡ with_puts m.puts (s ∷ []) → PutsShards u v b n x z ss (Err e)
+        unkept f q = record {
           same = whole p.same;
           ok = tt;
           count = i + 1;
@@ -144,11 +155,17 @@ module _ (u m v : UploaderTold) (b c n : InterfaceTold) (x y z : Option ClientEr
           fewer = omega arith;
           close = omega arith;
           cached = p.err.0 ∙ h.ok.1;
+          unput = inl (f ∙ h.failure.ok);
           asked = p.asked ∙ h.asked;
           answered = p.answered ∙ h.answered;
           failure = failure;
           cache = omega (arith, h.cache, p.cache);
         }
+
+        stopped : (z ≡ y) ⊎ (v.puts ≡ m.puts) → (v.puts ≡ m.puts) ⊎ (v.puts ≡ with_puts m.puts (s ∷ [])) → PutsShards u v b n x z ss (Err e)
+        stopped (inr q) r = unput q
+        stopped (inl f) (inl q) = unput q
+        stopped (inl f) (inr q) = unkept f q
 
 -- ---- all records of the session
 
@@ -169,12 +186,14 @@ uploads-refused u b n x e m =
       fewer = omega arith;
       close = omega arith;
       cached = λ s. cache-none b.cache.records;
+      unput = λ s. inl refl;
       resumed = inl refl;
       unforgotten = refl;
+      forgot = λ d. tt;
       asked = refl;
       answered = refl;
       faults = record { resumed = omega arith; session = m.faults; cache = omega arith; staging = omega arith };
-      failure = record { ok = tt; err = inl (refl, inl m.why); faults = omega arith };
+      failure = record { ok = tt; unfailed = tt; err = inl (refl, refl, inl m.why); faults = omega arith };
     })
 
 module _ (u : UploaderTold) (b c : InterfaceTold) (x : Option ClientError) (ss : List ShardRecord) (m : MakesShards b c (Ok ss)) where
@@ -198,8 +217,10 @@ module _ (u : UploaderTold) (b c : InterfaceTold) (x : Option ClientError) (ss :
         fewer = omega arith;
         close = omega arith;
         cached = λ s. cache-none b.cache.records;
+        unput = λ s. inl refl;
         resumed = inl refl;
         unforgotten = tt;
+        forgot = λ q. absurd (false≢true (sym q ∙ sym rules-same ∙ d));
         asked = refl;
         answered = refl;
         faults = record { resumed = omega arith; session = m.faults; cache = omega arith; staging = omega arith };
@@ -209,6 +230,9 @@ module _ (u : UploaderTold) (b c : InterfaceTold) (x : Option ClientError) (ss :
   module _ (v : UploaderTold) (z : Option ClientError) (d n : InterfaceTold) (live : c.rules.dry_run ≡ false) where
     joined : d ≡ record c { cache = d.cache } → n ≡ record d { resumed = n.resumed } → n ≡ record b { resumed = n.resumed; session = c.session; cache = d.cache }
     joined p q = q ∙ ap (λ (j : InterfaceTold). record j { resumed = n.resumed }) p ∙ ap (λ (j : InterfaceTold). record j { resumed = n.resumed; cache = d.cache }) m.same
+
+    resumed-is : d ≡ record c { cache = d.cache } → d.resumed ≡ b.resumed
+    resumed-is p = ap (λ (j : InterfaceTold). j.resumed) p ∙ ap (λ (j : InterfaceTold). j.resumed) m.same
 
     resumed-same : d ≡ record c { cache = d.cache } → resumed_records d.resumed ≡ resumed_records b.resumed
     resumed-same p = ap (λ (j : InterfaceTold). resumed_records j.resumed) p ∙ ap (λ (j : InterfaceTold). resumed_records j.resumed) m.same
@@ -230,9 +254,9 @@ module _ (u : UploaderTold) (b c : InterfaceTold) (x : Option ClientError) (ss :
         → (IsSome b.session.records → OnOk said (v.puts ≡ with_puts u.puts (shards_of b)))
         → (IsSome b.session.records → OnOk said (d.cache.records ≡ all_with_shards c.cache.records (shards_of b)))
         → (IsSome b.session.records → IfOk said (λ k. k ≡ sizes (shards_of b)))
-        → OnErr said (n ≡ d)
+        → OnErr said (n ≡ d) → OnOk said (Forgot d.resumed n.resumed)
         → Fails u v x z (StoreFails c.cache.faults d.cache.faults) said → Uploads u v b n x z said
-    done answer said p f ok learned sum kept failure =
+    done answer said p f ok learned sum kept forgot failure =
         let e = joined p.same f.same in
         let cached : n.cache ≡ d.cache = ap (λ (j : InterfaceTold). j.cache) e in
         record {
@@ -250,11 +274,13 @@ module _ (u : UploaderTold) (b c : InterfaceTold) (x : Option ClientError) (ss :
           cached = λ s.
               ap (λ (j : InterfaceTold). j.cache.records) e ∙ p.cached ∙ ap (λ (o : Option ShardRecord). all_with_shards o (take p.kept ss)) cache-same
               ∙ ap (λ (ts : List ShardRecord). all_with_shards b.cache.records (take p.kept ts)) (m.shards s);
+          unput = λ s. subst (λ (ts : List ShardRecord). StopsAtFailure x z p.count p.kept ts) (m.shards s) p.unput;
           resumed = lost (resumed-same p.same) f.resumed;
           unforgotten = unforgotten said p.same kept;
+          forgot = λ q. subst (λ (o : Option ShardsTold). OnOk said (Forgot o n.resumed)) (resumed-is p.same) forgot;
           asked = p.asked;
           answered = p.answered;
-          failure = record { ok = failure.ok; err = IfErr-weaker said (FailsSo u v x z (StoreFails c.cache.faults d.cache.faults)) (FailsSo u v x z (UploadFails b n)) (so-too e) failure.err; faults = failure.faults };
+          failure = record { ok = failure.ok; unfailed = failure.unfailed; err = IfErr-weaker said (FailsSo u v x z (StoreFails c.cache.faults d.cache.faults)) (FailsSo u v x z (UploadFails b n)) (so-too e) failure.err; faults = failure.faults };
           faults = record {
             resumed = subst (λ (j : ℕ). j ≤ resumed_faults n.resumed) (ap (λ (j : InterfaceTold). resumed_faults j.resumed) p.same ∙ ap (λ (j : InterfaceTold). resumed_faults j.resumed) m.same) f.faults;
             session = subst (λ (j : InterfaceTold). b.session.faults ≤ j.session.faults) (sym e) m.faults;
@@ -265,7 +291,7 @@ module _ (u : UploaderTold) (b c : InterfaceTold) (x : Option ClientError) (ss :
       where
         so-too : n ≡ record b { resumed = n.resumed; session = c.session; cache = d.cache } → (g : DataError) → FailsSo u v x z (StoreFails c.cache.faults d.cache.faults) g → FailsSo u v x z (UploadFails b n) g
         so-too e g (inr q) = inr q
-        so-too e g (inl q) = inl (q.0, inr (subst (λ (j : ℕ). StoreFails j n.cache.faults g) cache-faults (subst (λ (j : ℕ). StoreFails c.cache.faults j g) (sym (ap (λ (j : InterfaceTold). j.cache.faults) e)) q.1)))
+        so-too e g (inl q) = inl (q.0, q.1, inr (subst (λ (j : ℕ). StoreFails j n.cache.faults g) cache-faults (subst (λ (j : ℕ). StoreFails c.cache.faults j g) (sym (ap (λ (j : InterfaceTold). j.cache.faults) e)) q.2)))
 
         unforgotten : (r : Result ℕ DataError) → d ≡ record c { cache = d.cache } → OnErr r (n ≡ d) → OnErr r (resumed_records n.resumed ≡ resumed_records b.resumed)
         unforgotten (Ok k) q is = tt
@@ -275,14 +301,14 @@ module _ (u : UploaderTold) (b c : InterfaceTold) (x : Option ClientError) (ss :
         later (Ok k) e h = ap (λ j. j.records) e ∙ h ∙ ap (λ (o : Option ShardRecord). all_with_shards o (shards_of b)) cache-same
         later (Err g) e h = tt
 
-    pub uploads-done : (k : ℕ) (w : Unit {0}) → k ≡ sizes ss → PutsShards u v c d x z ss (Ok w) → Forgets d n → Uploads u v b n x z (Ok k)
-    uploads-done k w e p f =
+    pub uploads-done : (k : ℕ) (w : Unit {0}) → k ≡ sizes ss → PutsShards u v c d x z ss (Ok w) → Forgets d n → Forgot d.resumed n.resumed → Uploads u v b n x z (Ok k)
+    uploads-done k w e p f forgot =
         let ok = p.ok in
         done (Ok w) (Ok k) p f (λ s. ok.0 ∙ ap (with_puts u.puts) (m.shards s)) (λ s. ok.1 ∙ ap (all_with_shards c.cache.records) (m.shards s))
-        (λ s. e ∙ ap sizes (m.shards s)) tt (record { ok = p.failure.ok; err = tt; faults = p.failure.faults })
+        (λ s. e ∙ ap sizes (m.shards s)) tt forgot (record { ok = p.failure.ok; unfailed = p.failure.unfailed; err = tt; faults = p.failure.faults })
 
     pub uploads-stopped : (e : DataError) → n ≡ d → PutsShards u v c d x z ss (Err e) → Uploads u v b n x z (Err e)
     uploads-stopped e is p =
         let P : InterfaceTold → Type 0 = λ t. Forgets d t in
         let f = subst P (sym is) (record { same = refl; resumed = inl refl; faults = omega arith }) in
-        done (Err e) (Err e) p f (λ s. tt) (λ s. tt) (λ s. tt) is (record { ok = tt; err = p.failure.err; faults = p.failure.faults })
+        done (Err e) (Err e) p f (λ s. tt) (λ s. tt) (λ s. tt) is tt (record { ok = tt; unfailed = tt; err = p.failure.err; faults = p.failure.faults })

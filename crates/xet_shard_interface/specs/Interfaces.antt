@@ -171,6 +171,12 @@ FailsInOrder b n hs e = (e ≡ data_error.OutOfMemory) ⊎ ResumedFails b n e
     ⊎ ((find_in (searched_resumed b) hs ≡ None) × (find_in (records_of b.session).xorbs hs ≡ None)
     × StoreFails b.cache.faults n.cache.faults e)
 
+-- a store is searched only where those before it have no such run
+pub record AsksInOrder (b n : InterfaceTold) (hs : List MerkleHash) : Type 0 where
+  pub session : IsSome (find_in (searched_resumed b) hs) → n.session ≡ b.session
+  pub cache : IsSome (find_in (searched_resumed b) hs) ⊎ IsSome (find_in (records_of b.session).xorbs hs)
+      → n.cache ≡ b.cache
+
 -- a search of the resumed records, then of those of the session, then of those of the cache
 pub record Searches (b n : InterfaceTold) (hashes : List MerkleHash)
     (answer : Result (Option (ℕ × FileDataSequenceEntry × Bool)) DataError) : Type 0 where
@@ -181,6 +187,7 @@ pub record Searches (b n : InterfaceTold) (hashes : List MerkleHash)
   pub faults : LaterFaults b n
   pub why : IfErr answer (SearchFails b n)
   pub order : SearchTells b → IfErr answer (FailsInOrder b n hashes)
+  pub asks : SearchTells b → AsksInOrder b n hashes
 
 -- ---- staging
 

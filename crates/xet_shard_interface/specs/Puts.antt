@@ -1,5 +1,5 @@
 -- Records that are put as shards, and the cache, which learns what was put or answered.
-use Rattle.std.specs.Prelude.{ℕ, ◌≡◌, ◌+◌, ◌-◌, ◌^◌, ◌≤◌, ◌⊎◌, min, Bool, true, false, List, [], ◌∷◌, ◌++◌, length, map, take, All, Option, Some, None, IsSome, option_map, unwrap_or, Result, IfOk, OnOk, OnErr, IfErr}
+use Rattle.std.specs.Prelude.{ℕ, ◌≡◌, ◌+◌, ◌-◌, ◌^◌, ◌<◌, ◌≤◌, ◌⊎◌, min, Bool, true, false, List, [], ◌∷◌, ◌++◌, length, map, take, All, Option, Some, None, IsSome, option_map, unwrap_or, Result, IfOk, OnOk, OnErr, IfErr}
 use Rattle.std.specs.List.{sum_by}
 use Rattle.xet_base.specs.declared.merklehash.MerkleHash.{MerkleHash}
 use Rattle.xet_base.specs.declared.mdb_shard.ShardRecord.{ShardRecord}
@@ -10,7 +10,7 @@ use Rattle.xet_outside.specs.Told.{Rose, Grew}
 use Rattle.xet_uploader.specs.declared.uploader.Put.{Put}
 use Rattle.xet_uploader.specs.declared.uploader.Put.TheVariants as put
 use Rattle.xet_uploader.specs.Uploads.{AskedOnce, UploaderTold}
-use Rattle.xet_shards.specs.Shards.{no_records, with_records}
+use Rattle.xet_shards.specs.Shards.{ShardsTold, no_records, with_records}
 use Rattle.xet_upload.specs.Orders.{IsOrdered, IsThere, names_of}
 use Rattle.xet_upload.specs.DataErrors.{of_client_error}
 use Rattle.xet_upload.specs.declared.data_error.DataError.{DataError}
@@ -65,22 +65,24 @@ pub record Asks (u v : UploaderTold) (b n : InterfaceTold) (chunk : MerkleHash)
 
 -- ---- puts of shards
 
--- a put failed with this error, which is kept
+-- a put failed with this error, which is kept; where memory was wanting no fault came
 pub record PutFailed (u v : UploaderTold) (after : Option ClientError) (e : DataError) : Type 0 where
   pub error : ClientError
   pub kept : after ≡ Some error
   pub told : e ≡ of_client_error error
   pub rose : error ≡ client_error.Failed → Rose u.faults v.faults
+  pub memory : error ≡ client_error.OutOfMemory → v.faults ≡ u.faults
 
--- no put failed, and the call fails for another cause if it does; or a put failed, and the call answers so
+-- no put failed, so that the faults stay, and the call fails for another cause; or a put failed, and it answers so
 abbrev pub FailsSo : UploaderTold → UploaderTold → Option ClientError → Option ClientError
     → (DataError → Type 0) → DataError → Type 0
-FailsSo u v before after Other e = ((after ≡ before) × Other e) ⊎ PutFailed u v after e
+FailsSo u v before after Other e = ((after ≡ before) × (v.faults ≡ u.faults) × Other e) ⊎ PutFailed u v after e
 
 -- what a call that puts keeps of a failed put, and why it fails
 pub record Fails {A : Type 0} (u v : UploaderTold) (before after : Option ClientError)
     (Other : DataError → Type 0) (answer : Result A DataError) : Type 0 where
   pub ok : OnOk answer (after ≡ before)
+  pub unfailed : OnOk answer (v.faults ≡ u.faults)
   pub err : IfErr answer (FailsSo u v before after Other)
   pub faults : u.faults ≤ v.faults
 
@@ -92,10 +94,15 @@ pub record PutsShard (u v : UploaderTold) (b n : InterfaceTold) (before after : 
       × (n.cache.records ≡ option_map (λ r. with_records r s) b.cache.records))
   pub err : OnErr answer ((n.cache.records ≡ b.cache.records)
       × ((v.puts ≡ u.puts) ⊎ (v.puts ≡ with_puts u.puts (s ∷ []))))
+  pub unput : (after ≡ before) ⊎ (v.puts ≡ u.puts)
   pub asked : v.asked ≡ u.asked
   pub answered : v.answered ≡ u.answered
   pub failure : Fails u v before after (StoreFails b.cache.faults n.cache.faults) answer
   pub cache : b.cache.faults ≤ n.cache.faults
+
+-- no put failed; or one failed, so that shards are left, and the cache has all that were put
+abbrev pub StopsAtFailure : Option ClientError → Option ClientError → ℕ → ℕ → List ShardRecord → Type 0
+StopsAtFailure before after count kept ss = (after ≡ before) ⊎ ((kept ≡ count) × (count < length ss))
 
 -- the puts of some shards, in order: the first `count` of them are in the log, and the first `kept` of these in the
 -- cache, which are all but the last at least
@@ -110,6 +117,7 @@ pub record PutsShards (u v : UploaderTold) (b n : InterfaceTold) (before after :
   pub fewer : kept ≤ count
   pub close : count ≤ kept + 1
   pub cached : n.cache.records ≡ all_with_shards b.cache.records (take kept ss)
+  pub unput : StopsAtFailure before after count kept ss
   pub asked : v.asked ≡ u.asked
   pub answered : v.answered ≡ u.answered
   pub failure : Fails u v before after (StoreFails b.cache.faults n.cache.faults) answer
@@ -125,6 +133,11 @@ pub record Forgets (b n : InterfaceTold) : Type 0 where
   pub resumed : (resumed_records n.resumed ≡ resumed_records b.resumed)
       ⊎ (resumed_records n.resumed ≡ forgotten (resumed_records b.resumed))
   pub faults : resumed_faults b.resumed ≤ resumed_faults n.resumed
+
+-- the resumed records are forgotten, or their store failed
+abbrev pub Forgot : Option ShardsTold → Option ShardsTold → Type 0
+Forgot before after = (resumed_records after ≡ forgotten (resumed_records before))
+    ⊎ Rose (resumed_faults before) (resumed_faults after)
 
 -- ---- all records of the session
 
@@ -166,9 +179,11 @@ pub record Uploads (u v : UploaderTold) (b n : InterfaceTold) (before after : Op
   pub close : count ≤ kept + 1
   pub cached : IsSome b.session.records
       → n.cache.records ≡ all_with_shards b.cache.records (take kept (shards_of b))
+  pub unput : IsSome b.session.records → StopsAtFailure before after count kept (shards_of b)
   pub resumed : (resumed_records n.resumed ≡ resumed_records b.resumed)
       ⊎ (resumed_records n.resumed ≡ forgotten (resumed_records b.resumed))
   pub unforgotten : OnErr answer (resumed_records n.resumed ≡ resumed_records b.resumed)
+  pub forgot : b.rules.dry_run ≡ false → OnOk answer (Forgot b.resumed n.resumed)
   pub asked : v.asked ≡ u.asked
   pub answered : v.answered ≡ u.answered
   pub failure : Fails u v before after (UploadFails b n) answer

@@ -1,7 +1,7 @@
 //! The stores of records of a session.
-ghost use Rattle.std.specs.Prelude.{◌≡◌, [], ◌∷◌, ◌++◌, OnErr, OnOk};
+ghost use Rattle.std.specs.Prelude.{◌≡◌, [], ◌∷◌, ◌++◌, OnErr, OnOk, option_map};
 ghost use Rattle.xet_shard_interface.specs.Interfaces.{AddsRecords, Flushes, ListsFiles, LooksResumed, Searches, StagesXorb, is_due, new_interface, rules_of, shards_told};
-ghost use Rattle.xet_shard_interface.specs.Puts.{Asks, Forgets, MakesShards, PutsInOrder, PutsShard, PutsShards, Uploads, UploadsAll, sizes};
+ghost use Rattle.xet_shard_interface.specs.Puts.{Asks, Forgets, Forgot, MakesShards, PutsInOrder, PutsShard, PutsShards, Uploads, UploadsAll, sizes};
 
 use crate::shard_filler::split;
 use std::alloc::Global;
@@ -340,7 +340,9 @@ impl<R: ShardStore> SessionShardInterface<R> {
 
     // Forgets the resumed records. A failure changes nothing.
     fn forget_resumed(&mut self)
-        ensures { Forgets (shards_told R.told self.old) (shards_told R.told self.new) }
+        ensures call { Forgets (shards_told R.told self.old) (shards_told R.told self.new) }
+        ensures forgot { Forgot (option_map R.told self.old.stores.resumed)
+            (option_map R.told self.new.stores.resumed) }
     {
         if let Some(resumed) = &mut self.stores.resumed {
             let _ = resumed.clear();

@@ -53,6 +53,7 @@ pub record ClearCall (before after : ShardsTold) (answer : Result (Unit {0}) Sha
   pub kept : OnErr answer (after.records ≡ before.records)
   pub faults : before.faults ≤ after.faults
   pub failed : IsErrOf answer shard_error.Failed → Rose before.faults after.faults
+  pub memory : IsErrOf answer shard_error.OutOfMemory → ⊥
 
 -- a count of faults after a call: one that failed makes it one more, or leaves it at its last value, and every other
 -- answer leaves it

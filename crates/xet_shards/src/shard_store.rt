@@ -56,7 +56,7 @@ pub trait ShardStore {
     fn all(&mut self, alloc: Global) -> Result<ShardRecord, ShardError>
         ensures { AllCall (told self.old) (told self.new) result };
 
-    /// Forgets all records. An error leaves them.
+    /// Forgets all records. An error leaves them. It takes no memory, so an error is `Failed`.
     fn clear(&mut self) -> Result<(), ShardError>
         ensures { ClearCall (told self.old) (told self.new) result };
 }

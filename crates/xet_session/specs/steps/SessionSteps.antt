@@ -45,6 +45,7 @@ pub record PutRaw (b n : SessionTold) (x : Xorb) (answer : Result (Unit {0}) Dat
   pub unput : OnErr answer (log_of n ≡ log_of b)
   pub unfailed : b.failed ≡ None
   pub faults : b.uploader.faults ≤ n.uploader.faults
+  pub steady : OnOk answer (n.uploader.faults ≡ b.uploader.faults)
   pub failed : IfErr answer (PutFailed b.uploader n.uploader n.failed)
 
 -- the waiting data was taken as a xorb with its record, and files with theirs

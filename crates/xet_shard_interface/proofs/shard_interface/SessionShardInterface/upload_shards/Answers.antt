@@ -23,4 +23,4 @@ returns-in_err-put_shards g c =
 pub returns : goal.returns
 returns g c =
     uploads-done _ _ _ _ c.in_ok-shards.shards (rw c.in_ok-shards.was at c.session_shards.ensures)
-    _ _ _ _ c.if-self.false _ _ (c.sum_of-sum.ensures ∙ ap sizes c.as_slice.ensures) (rw (c.in_ok-put_shards.was, c.as_slice-2.ensures) at c.put_shards.ensures) c.forget_resumed.ensures
+    _ _ _ _ c.if-self.false _ _ (c.sum_of-sum.ensures ∙ ap sizes c.as_slice.ensures) (rw (c.in_ok-put_shards.was, c.as_slice-2.ensures) at c.put_shards.ensures) c.forget_resumed.ensures.call c.forget_resumed.ensures.forgot
