@@ -1,39 +1,41 @@
 -- Records of a session that ended are in its log, and a download gives their files.
-use Rattle.std.proofs.Common.{◌≡◌, ℕ, zero, suc, ◌<◌, ◌⊎◌, inl, inr, Bool, true, false, cond, List, [], ◌∷◌, ◌++◌, length, map, refl, sym, ◌∙◌, ap, subst, arith}
-use Rattle.std.specs.Prelude.{All, Contains, None, Some, Result, Ok, Err, find, is_some, Option, slice_index_or, slice_range}
-use Rattle.std.specs.List.{concat}
+use Rattle.std.proofs.Common.{◌≡◌, ℕ, zero, suc, ◌<◌, ◌⊎◌, inl, inr, Bool, true, false, cond, List, [], ◌∷◌, ◌++◌, map, refl, sym, ◌∙◌, ap, subst, arith}
+use Rattle.std.specs.Prelude.{All, Contains, IsSome, None, Some, Result, Ok, find, is_some, Option, option_map, slice_index_or, slice_range, unwrap_or}
+use Rattle.std.specs.List.{concat, flat_map}
+use Rattle.std.specs.Option.{option_or}
 use Rattle.std.proofs.lemmas.Bool.{false≢true}
-use Rattle.std.proofs.lemmas.List.Elements.{Contains-append_left}
-use Rattle.xet_base.specs.declared.cas_types.FileRange.{FileRange}
+use Rattle.std.proofs.lemmas.List.Elements.{All-head, All-tail}
 use Rattle.xet_base.specs.declared.mdb_shard.MDBFileInfo.{MDBFileInfo}
 use Rattle.xet_base.specs.declared.mdb_shard.Xorb.{Xorb}
 use Rattle.xet_base.specs.declared.merklehash.MerkleHash.{MerkleHash}
-use Rattle.xet_base.specs.Digests.{infos_of}
 use Rattle.xet_base.specs.Hashes.{hash_eq}
-use Rattle.xet_base.specs.Store.{Store, bytes_of, file_of}
+use Rattle.xet_base.specs.declared.stored.StoredFile.{StoredFile}
+use Rattle.xet_base.specs.declared.stored.StoredTerm.{StoredTerm}
+use Rattle.xet_base.specs.Store.{IsTermIn, Store, bytes_of, chunks_of_file, chunks_of_term, file_of, terms_of_file, xorb_of}
 use Rattle.xet_base.proofs.CallerLemmas.{hash_eq-true}
 use Rattle.xet_outside.specs.declared.client.ClientError.{ClientError}
 use Rattle.xet_upload.specs.DataErrors.{of_client_error}
 use Rattle.xet_uploader.specs.declared.uploader.Put.{Put}
 use Rattle.xet_uploader.specs.declared.uploader.Put.TheVariants as put
-use Rattle.xet_uploader.specs.StoresAfter.{file_of_record, files_in}
+use Rattle.xet_uploader.specs.StoresAfter.{file_of_record, files_in, store_after}
+use Rattle.xet_uploader.proofs.CallerLemmas.{after_finds_files, after_finds_xorbs}
 use Rattle.xet_shard_interface.specs.declared.shard_interface.ShardRules.{ShardRules}
 use Rattle.xet_shard_interface.specs.Puts.{shards_of}
-use Rattle.xet_upload.specs.FileDatas.{Parts, PartsStand}
 use Rattle.xet_upload.specs.Standing.{AgreeOn, Stand, StandsFor, term_of, world}
 use Rattle.xet_upload.specs.Waitings.{Waiting, no_waiting}
 use Rattle.xet_upload.specs.declared.data_error.DataError.{DataError}
-use Rattle.xet_upload.specs.declared.metrics.DeduplicationMetrics.{DeduplicationMetrics}
-use Rattle.xet_upload.proofs.CallerLemmas.{later_resolved, resolved, stand-grown}
+use Rattle.xet_upload.proofs.CallerLemmas.{later_resolved, resolved, same_bytes, stand-grown}
 use Rattle.xet_uploader.specs.Uploads.{xorbs_in}
-use Rattle.xet_session.specs.Calls.{Cut, EndsCut, EndsSo, EndsUncut, Finalizes, IsPut, Keeps, as_finalized, finalized_error, waiting_hash}
+use Rattle.xet_session.specs.Calls.{Cut, EndsCut, EndsSo, EndsUncut, Finalizes, IsPut, as_finalized, finalized_error, waiting_hash}
 use Rattle.xet_session.specs.Sessions.{SessionTold, Tells, log_of}
+use Rattle.xet_session.specs.Learnings.{Learns}
 use Rattle.xet_session.specs.Sounds.{XorbsAgree}
+use Rattle.xet_session.proofs.CallerLemmas.{learns-sound, learns-tells}
 use Rattle.xet_clean.specs.Cleaners.{Cleaner, CleanerStands}
-use Rattle.xet_clean.specs.Laws.{AcceptedReads, AcceptedResolves, CutKeepsRecords, FinalizeAccepts, KeepsCleaners, LeavesRecords}
-use Rattle.xet_clean.specs.Premises.{IsOpen, IsSteady, waiting_xorb, with_xorbs}
+use Rattle.xet_clean.specs.Laws.{AcceptedReads, AcceptedResolves, CallsKeepSteady, CountsKeepRecords, CutKeepsRecords, EndAccepts, FileKeepsRecords, KeepsCleaners, LearningKeepsCleaners, LearningKeepsRecords, LearningKeepsSteady, LeavesRecords, RegisterKeepsRecords, SearchKeepsRecords, StoredResolves}
+use Rattle.xet_clean.specs.Premises.{IsSteady, waiting_xorb, with_xorbs}
 use Rattle.xet_clean.specs.Records.{CleanedFile, HasRecord, IsAccepted, IsRecorded, WaitsFor}
-use Rattle.xet_clean.proofs.Holding.{cut-holds, cut-recorded, cut-waited, left-holds, opened, recorded-grown}
+use Rattle.xet_clean.proofs.Holding.{cut-holds, cut-recorded, cut-waited, left-holds, opened, recorded-grown, takes-holds}
 use Rattle.xet_clean.proofs.Worlds.{Contains-head, agree-made, ok-err, world-grew, world-has}
 
 -- ---- other calls
@@ -69,9 +71,73 @@ cleaner-grown k b n c bytes keeps s a =
       fed = a.fed;
     }
 
+-- a given xorb, and a search
+pub register-keeps : RegisterKeepsRecords
+register-keeps k b n x now answer f q s o r = left-holds k b n no_waiting 0 s o f q.keeps
+    (ap (λ (t : SessionTold). t.waiting) q.same) (ap (λ (t : SessionTold). t.finished) q.same) r
+
+pub search-keeps : SearchKeepsRecords
+search-keeps k b n hashes answer f q s o r = left-holds k b n no_waiting 0 s o f q.keeps
+    (ap (λ (t : SessionTold). t.waiting) q.same) (ap (λ (t : SessionTold). t.finished) q.same) r
+
+-- counts that are added
+pub counts-keep : CountsKeepRecords
+counts-keep k b n counts f e r = subst (λ (t : SessionTold). HasRecord k t f) (sym e) r
+
+-- the data of another file
+pub file-keeps : FileKeepsRecords
+file-keeps k b n w now answer f t s o a r = takes-holds k b n w now s o f (waiting_xorb b ∷ []) a answer t
+    (Contains-head (waiting_xorb b) []) r
+
+-- queries of the uploader
+module _ (k : Store) (b n : SessionTold) (hashes : List MerkleHash) (answer : Result Bool DataError)
+    (l : Learns b n hashes answer) where
+  log-same : log_of n ≡ log_of b
+  log-same = ap (λ (o : Option (List Put)). unwrap_or o []) l.puts
+
+  learned-record : (f : CleanedFile) → HasRecord k b f → HasRecord k n f
+  learned-record f (inl a) =
+      let P : List Put → Type 0 = λ ps. WaitsFor (world k ps) n.waiting f in
+      let Q : Waiting → Type 0 = λ w. WaitsFor (world k (log_of b)) w f in
+      inl (subst P (sym log-same) (subst Q (sym (ap (λ (t : SessionTold). t.waiting) l.same)) a))
+  learned-record f (inr a) =
+      let P : List Put → Type 0 = λ ps. IsRecorded (world k ps) n.finished f in
+      let Q : List MDBFileInfo → Type 0 = λ fs. IsRecorded (world k (log_of b)) fs f in
+      inr (subst P (sym log-same) (subst Q (sym (ap (λ (t : SessionTold). t.finished) l.same)) a))
+
+  learned-cleaner : (c : Cleaner) (bytes : List ℕ) → CleanerStands (world k (log_of b)) c bytes
+      → CleanerStands (world k (log_of n)) c bytes
+  learned-cleaner c bytes a =
+      let P : List Put → Type 0 = λ ps. CleanerStands (world k ps) c bytes in
+      subst P (sym log-same) a
+
+pub learning-keeps : LearningKeepsRecords
+learning-keeps k b n hashes answer f l r = learned-record k b n hashes answer l f r
+
+pub learning-cleaners : LearningKeepsCleaners
+learning-cleaners k b n hashes answer c bytes l a = learned-cleaner k b n hashes answer l c bytes a
+
+-- ---- sessions that stay steady
+
+pub calls-steady : CallsKeepSteady
+calls-steady k b n keeps backs agree s = record {
+  tells = keeps.tells s.tells;
+  backed = backs.backed s.tells s.backed;
+  listed = backs.listed;
+  sound = keeps.sound k s.tells agree s.sound;
+}
+
+pub learning-steady : LearningKeepsSteady
+learning-steady k b n hashes answer l backs more s = record {
+  tells = learns-tells b n hashes answer l s.tells;
+  backed = backs.backed s.tells s.backed;
+  listed = backs.listed;
+  sound = learns-sound b n hashes answer l k s.tells more s.sound;
+}
+
 -- ---- the end of a session
 
-module _ (k : Store) (b n : SessionTold) (now : ℕ) (counts : DeduplicationMetrics) (f : CleanedFile)
+module _ {A : Type 0} (k : Store) (b n : SessionTold) (now : ℕ) (counts : A) (f : CleanedFile)
     (z : Finalizes b n now (Ok counts)) (s : IsSteady k b) (dry : b.shards.rules.dry_run ≡ false)
     (agree : XorbsAgree (with_xorbs (world k (log_of n)) (waiting_xorb b ∷ []))) (r : HasRecord k b f) where
   -- it was not finalized
@@ -143,8 +209,8 @@ module _ (k : Store) (b n : SessionTold) (now : ℕ) (counts : DeduplicationMetr
       go (inl e) = ok-err counts e.0 e.1
       go (inr e) = accepted-after e.0 e.1 e.2
 
-pub finalize-accepts : FinalizeAccepts
-finalize-accepts k b n now counts f z s dry agree r = accepted-end k b n now counts f z s dry agree r
+pub end-accepts : {A : Type 0} → EndAccepts A
+end-accepts k b n now counts f z s dry agree r = accepted-end k b n now counts f z s dry agree r
 
 -- ---- downloads
 
@@ -202,3 +268,43 @@ accepted-resolves k s log f g info range after none accepted found first agree =
         (sym (ap (λ (r : MDBFileInfo). r.hash) is) ∙ first.hash ∙ first.has.hash) (found_hash
         ∙ accepted.recorded.has.hash) agree.lists agree.chunks)
         ∙ sym accepted.recorded.has.bytes
+
+-- a store that had a file of the hash before
+module _ (k s : Store) (log : List Put) (after : store_after k log ≡ Some s) where
+  or-some : {A : Type 0} (o p : Option A) → IsSome o → option_or o p ≡ o
+  or-some None p t = absurd (false≢true t)
+  or-some (Some x) p t = refl
+
+  -- a term names the same chunks as before
+  term-still : (t : StoredTerm) → IsTermIn k t → chunks_of_term s t ≡ chunks_of_term k t
+  term-still t inside =
+      let found = find (λ (x : Xorb). hash_eq x.hash t.xorb) (xorbs_in log) in
+      let same = after_finds_xorbs k s log t.xorb after ∙ or-some (xorb_of k t.xorb) found inside.stored in
+      ap (λ (o : Option Xorb). slice_range (unwrap_or (option_map (λ (x : Xorb). x.chunks) o) []) t.from t.to) same
+
+  terms-still : (ts : List StoredTerm) → All (IsTermIn k) ts
+      → flat_map (chunks_of_term s) ts ≡ flat_map (chunks_of_term k) ts
+  terms-still [] a = refl
+  terms-still (t ∷ ts) a =
+      let one = term-still t (All-head (IsTermIn k) t ts a) in
+      let more = terms-still ts (All-tail (IsTermIn k) t ts a) in
+      ap (λ (cs : List (List ℕ)). cs ++ flat_map (chunks_of_term s) ts) one
+      ∙ ap (λ (cs : List (List ℕ)). chunks_of_term k t ++ cs) more
+
+  -- so does the file
+  file-still : (h : MerkleHash) → IsSome (file_of k h) → All (IsTermIn k) (terms_of_file k h)
+      → chunks_of_file s h ≡ chunks_of_file k h
+  file-still h there a =
+      let found = option_map file_of_record (find (λ (r : MDBFileInfo). hash_eq r.hash h) (files_in log)) in
+      let same = after_finds_files k s log h after ∙ or-some (file_of k h) found there in
+      ap (λ (o : Option StoredFile). flat_map (chunks_of_term s) (unwrap_or (option_map (λ (x : StoredFile). x.terms) o)
+      [])) same ∙ terms-still (terms_of_file k h) a
+
+pub stored-resolves : StoredResolves
+stored-resolves k s log f range after there terms hash accepted agree =
+    let cs = accepted.recorded.chunks in
+    let ds = chunks_of_file k f.hash in
+    let bytes : bytes_of s f.hash ≡ f.bytes = ap concat (file-still k s log after f.hash there terms)
+    ∙ sym (same_bytes cs ds (sym accepted.recorded.has.hash ∙ hash) agree.lists agree.chunks)
+    ∙ sym accepted.recorded.has.bytes in
+    ap (λ (bs : List ℕ). slice_range bs range.start range.end) bytes

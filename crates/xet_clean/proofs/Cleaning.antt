@@ -1,9 +1,8 @@
 -- Chunks that a session cleans: the parts of a file stand for them too.
-use Rattle.std.proofs.Common.{◌≡◌, ℕ, ◌+◌, ◌<◌, ◌≤◌, ◌⊎◌, inl, inr, Bool, true, false, List, [], ◌∷◌, ◌++◌, length, map, refl, sym, ◌∙◌, ap, subst, arith}
-use Rattle.std.specs.Prelude.{All, Contains, None, Some, Result, Ok, Err, OnOk, slice_index_or}
-use Rattle.std.specs.List.{concat, flat_map}
-use Rattle.std.proofs.lemmas.Bool.{false≢true}
-use Rattle.std.proofs.lemmas.List.{append-nil, append_assoc, length-append}
+use Rattle.std.proofs.Common.{◌≡◌, ℕ, ◌<◌, ◌≤◌, ◌⊎◌, inl, inr, Bool, true, false, List, [], ◌∷◌, ◌++◌, length, map, refl, sym, ◌∙◌, ap, subst, arith}
+use Rattle.std.specs.Prelude.{All, Contains, None, Some, Result, Ok, Err, OnOk}
+use Rattle.std.specs.List.{concat}
+use Rattle.std.proofs.lemmas.List.{append-nil, append_assoc}
 use Rattle.std.proofs.lemmas.List.Concat.{flat_map-append}
 use Rattle.std.proofs.lemmas.List.Elements.{All-nil, All-cons, All-append, All-contains, All-head, All-same, All-weaker, Contains-append_cases, Contains-append_left, Contains-append_right, Contains-push}
 use Rattle.std.proofs.lemmas.List.Folds.{concat-append}
@@ -15,9 +14,8 @@ use Rattle.xet_base.specs.Digests.{chunk_hash_of, info_of, infos_of, xorb_hash_o
 use Rattle.xet_base.specs.Store.{Store, chunks_of}
 use Rattle.xet_uploader.specs.declared.uploader.Put.{Put}
 use Rattle.xet_uploader.specs.declared.uploader.Put.TheVariants as put
-use Rattle.xet_uploader.specs.Uploads.{xorbs_in}
 use Rattle.xet_shard_interface.proofs.CallerLemmas.{All-append_left, All-append_right}
-use Rattle.xet_upload.specs.FileDatas.{FoundAdded, OwnAdded, Parts, PartsStand, cut_parts, no_parts, renamed}
+use Rattle.xet_upload.specs.FileDatas.{FoundAdded, OwnAdded, Parts, PartsStand, cut_parts, renamed}
 use Rattle.xet_upload.specs.Standing.{Added, AgreeOn, AgreesWith, IsRecordIn, Stand, continue, named, named_xorb, term_of, world}
 use Rattle.xet_upload.specs.Waitings.{IsWithin, Waiting, no_waiting, xorb_of_chunks}
 use Rattle.xet_upload.specs.declared.data_error.DataError.{DataError}
@@ -26,15 +24,16 @@ use Rattle.xet_upload.specs.declared.metrics.DeduplicationMetrics.{Deduplication
 use Rattle.xet_upload.specs.declared.waiting.TermXorb.{TermXorb}
 use Rattle.xet_upload.specs.declared.waiting.TermXorb.TheVariants.{Own, Stored}
 use Rattle.xet_upload.specs.declared.waiting.WaitingTerm.{WaitingTerm}
-use Rattle.xet_upload.proofs.CallerLemmas.{parts-found, parts-nil, parts-own, parts_cut, stand-grown, stand-named}
-use Rattle.xet_session.specs.Calls.{Backs, CountsSent, PutsFail, Refuses, Registers, RegisteredNew, WasPut, finalized_error}
-use Rattle.xet_session.specs.Sessions.{HasListed, IsListed, SessionTold, Stands, known_of, log_of, named_by}
+use Rattle.xet_upload.proofs.CallerLemmas.{parts-found, parts-own, parts_cut, stand-named}
+use Rattle.xet_session.specs.Calls.{Backs, CountsSent, PutsFail, Refuses, Registers, WasPut, finalized_error}
+use Rattle.xet_session.specs.Sessions.{IsListed, SessionTold, known_of, log_of, named_by}
 use Rattle.xet_session.specs.Sounds.{XorbsAgree, searched}
 use Rattle.xet_session.proofs.CallerLemmas.{backs-kept, keeps-both, keeps-refl, ordered-grown, stores-later}
-use Rattle.xet_clean.specs.Cleanings.{AreNamed, ChunkFails, CleanFails, Cleans, FoundChunk, IsHonest, Leaves, TrackFails, term_names}
-use Rattle.xet_clean.specs.Premises.{IsOpen, IsSteady, NoClash, with_xorbs}
+use Rattle.xet_clean.specs.Cleanings.{AreNamed, ChunkFails, CleanFails, Cleans, FoundChunk, Leaves, TrackFails, term_names}
+use Rattle.xet_clean.specs.Premises.{IsSteady, NoClash}
 use Rattle.xet_clean.proofs.Holding.{opened}
-use Rattle.xet_clean.proofs.Worlds.{agree-alone, agree-made, found-agrees, found-chunks, listed-stored, world-grew, world-has}
+use Rattle.xet_clean.proofs.Picked.{into-both, into-cut, into-found, into-none, into-own}
+use Rattle.xet_clean.proofs.Worlds.{agree-alone, agree-made, found-agrees, found-chunks, listed-stored, world-has}
 
 -- ---- calls that leave what waits
 
@@ -169,7 +168,8 @@ pub cleans-both : (b m n : SessionTold) (p q r : Parts) (cut cuts : List (List �
     → Cleans b m p q cut → Cleans m n q r cuts → Cleans b n p r (cut ++ cuts)
 cleans-both b m n p q r cut cuts l h one two = record {
   made = one.made ++ two.made;
-  honest = All-append IsHonest one.made two.made one.honest two.honest;
+  into = into-both p q r one.made two.made cut cuts one.into two.into;
+  failed = two.failed ∙ one.failed;
   stands = λ k bytes s o c a.
       let grown = world-before k s in
       let before = clash-before k m n grown one.made two.made cut cuts c in
@@ -270,7 +270,8 @@ module _ (b n : SessionTold) (p : Parts) (now : ℕ) (some : 0 < length p.own.ch
   again-cleans : Contains b.registered own.hash → n ≡ b → Cleans b n p (cut_parts p) []
   again-cleans c e = record {
     made = own ∷ [];
-    honest = All-cons IsHonest own [] refl (All-nil IsHonest);
+    into = into-cut p;
+    failed = ap (λ (t : SessionTold). t.failed) e;
     stands = λ k bytes s o clash a.
         let before = opened b n (keeps-refl b n e) o in
         let there = All-contains (Contains b.listed) b.registered own.hash
@@ -294,7 +295,8 @@ module _ (b n : SessionTold) (p : Parts) (now : ℕ) (some : 0 < length p.own.ch
   put-cleans : WasPut b n own [] now (Ok tt) → Cleans b n p (cut_parts p) []
   put-cleans w = record {
     made = own ∷ [];
-    honest = All-cons IsHonest own [] refl (All-nil IsHonest);
+    into = into-cut p;
+    failed = ap (λ (t : SessionTold). t.failed) w.same;
     stands = λ k bytes s o clash a.
         let grown = w.log s.tells in
         let P : List Put → Type 0 = λ ps. AgreeOn (world k ps).xorbs own.hash p.own.chunks in
@@ -339,12 +341,14 @@ some-wait [] c short full = absurd (full (within-one c short))
 some-wait (d ∷ cs) c short full = omega arith
 
 -- nothing was cut
-pub same-cleans : (b n : SessionTold) (p : Parts) → Leaves b n → ((k : Store) → IsSteady k b → XorbsAgree (world k
+pub same-cleans : (b n : SessionTold) (p : Parts) → Leaves b n → n.failed ≡ b.failed
+    → ((k : Store) → IsSteady k b → XorbsAgree (world k
     (log_of n)) → (bytes : List ℕ) → PartsStand (world k (log_of b)) p bytes → PartsStand (world k (log_of n)) p bytes)
     → ((h : MerkleHash) → Contains b.listed h → Contains n.listed h) → Cleans b n p p []
-same-cleans b n p l grown lists = record {
+same-cleans b n p l failed grown lists = record {
   made = [];
-  honest = All-nil IsHonest;
+  into = into-none p p refl refl;
+  failed = failed;
   stands = λ k bytes s o c a. with-none (world k (log_of n)) p bytes (grown k s (agree-alone (world k
       (log_of n)) [] c.xorbs) bytes a);
   named = λ h o a. terms-more b.listed n.listed p.terms lists a;
@@ -354,7 +358,7 @@ pub still-cleans : (b n : SessionTold) (p q : Parts) → n ≡ b → q ≡ p →
 still-cleans b n p q e f =
     let P : SessionTold → Type 0 = λ t. Cleans b t p p [] in
     let Q : Parts → Type 0 = λ z. Cleans b n p z [] in
-    subst Q (sym f) (subst P (sym e) (same-cleans b b p (leaves-refl b b refl) (λ k s a bytes h. h) (λ h c. c)))
+    subst Q (sym f) (subst P (sym e) (same-cleans b b p (leaves-refl b b refl) refl (λ k s a bytes h. h) (λ h c. c)))
 
 -- ---- one chunk more
 
@@ -369,7 +373,8 @@ pub more-cleans : (b n : SessionTold) (p q r : Parts) (c : List ℕ) → Cleans 
     → Cleans b n p r (c ∷ [])
 more-cleans b n p q r c h added = record {
   made = h.made;
-  honest = h.honest;
+  into = into-own p q r h.made c h.into added;
+  failed = h.failed;
   stands = λ k bytes s o clash a.
       let before = h.stands k bytes s o (no-cut (world k (log_of n)) h.made (c ∷ []) clash) a in
       let P : List ℕ → Type 0 = λ xs. PartsStand (world k (log_of n)) r xs in
@@ -386,7 +391,8 @@ pub found-cleans : (b n : SessionTold) (p q : Parts) (c : List ℕ) (e : FileDat
     (chunk_hash_of c) (Ok (Some e)) → FoundAdded p e.xorb e.from (info_of c) q → Cleans b n p q (c ∷ [])
 found-cleans b n p q c e found added = record {
   made = [];
-  honest = All-nil IsHonest;
+  into = into-found p q e.xorb e.from c added;
+  failed = found.failed;
   stands = λ k bytes s o clash a.
       let at = found.found s.tells in
       let record_in = All-contains (IsRecordIn (world k (log_of b))) (searched b) at.holder s.sound at.is_there in
@@ -411,7 +417,7 @@ pub new-cleans : (b m n : SessionTold) (p q : Parts) (c : List ℕ) → Leaves b
     (chunk_hash_of c) (Ok None) → Cleans m n p q (c ∷ []) → Cleans b n p q (c ∷ [])
 new-cleans b m n p q c l h found cleans =
     cleans-both b m n p p q [] (c ∷ []) l h
-    (same-cleans b m p l (λ k s a bytes x. subst (λ (ps : List Put). PartsStand (world k ps) p bytes)
+    (same-cleans b m p l found.failed (λ k s a bytes x. subst (λ (ps : List Put). PartsStand (world k ps) p bytes)
     (sym found.log) x) found.lists) cleans
 
 -- the same of a chunk whose hash and length are known by an equation

@@ -1,20 +1,16 @@
 -- The end of a cleaner: the session has a record of its file.
-use Rattle.std.proofs.Common.{◌≡◌, ℕ, ◌⊎◌, inl, inr, Bool, true, false, List, [], ◌∷◌, ◌++◌, length, refl, sym, ◌∙◌, ap, subst, arith}
-use Rattle.std.specs.Prelude.{All, Contains, Option, Some, None, Result, Ok, Err, IfErr, IfOk, OnOk, is_some}
-use Rattle.std.specs.List.{concat}
-use Rattle.std.proofs.lemmas.Bool.{false≢true}
+use Rattle.std.proofs.Common.{◌≡◌, ℕ, ◌⊎◌, inl, inr, true, false, List, [], ◌∷◌, ◌++◌, length, refl, sym, ◌∙◌, ap, subst}
+use Rattle.std.specs.Prelude.{All, Contains, Option, Some, None, Result, Ok, Err, IfErr, IfOk, OnOk}
 use Rattle.std.proofs.lemmas.List.{append-nil}
-use Rattle.std.proofs.lemmas.List.Elements.{All-nil, All-cons, All-append, All-contains, All-same, All-tail, Contains-append_cases, Contains-append_left, Contains-append_right, Contains-push}
+use Rattle.std.proofs.lemmas.List.Elements.{All-contains, All-same, All-tail, Contains-append_cases, Contains-append_left, Contains-append_right, Contains-push}
 use Rattle.sha2.specs.Hashers.{Holds256}
-use Rattle.xet_base.specs.declared.mdb_shard.ChunkInfo.{ChunkInfo}
 use Rattle.xet_base.specs.declared.mdb_shard.Xorb.{Xorb}
 use Rattle.xet_base.specs.declared.merklehash.MerkleHash.{MerkleHash}
-use Rattle.xet_base.specs.Digests.{file_hash_of, infos_of}
+use Rattle.xet_base.specs.Digests.{file_hash_of}
 use Rattle.xet_base.specs.Store.{Store}
 use Rattle.xet_pointer.specs.declared.xet_file_info.XetFileInfo.{XetFileInfo}
-use Rattle.xet_uploader.specs.declared.uploader.Put.{Put}
 use Rattle.xet_upload.specs.FileDatas.{Parts, with_file}
-use Rattle.xet_upload.specs.Standing.{Stand, world}
+use Rattle.xet_upload.specs.Standing.{world}
 use Rattle.xet_upload.specs.Waitings.{Waiting, no_waiting, xorb_of_chunks}
 use Rattle.xet_upload.specs.declared.data_error.DataError.{DataError}
 use Rattle.xet_upload.specs.declared.data_error.DataError.TheVariants as data_error
@@ -22,19 +18,59 @@ use Rattle.xet_upload.specs.declared.metrics.DeduplicationMetrics.{Deduplication
 use Rattle.xet_upload.specs.declared.sha256_policy.Sha256Policy.{Sha256Policy}
 use Rattle.xet_upload.specs.declared.sha256_policy.Sha256Policy.TheVariants.{Compute}
 use Rattle.xet_upload.specs.declared.waiting.WaitingFile.{WaitingFile}
-use Rattle.xet_session.specs.Calls.{Backs, Keeps, PutsFail, finalized_error}
-use Rattle.xet_session.specs.Completions.{TakesFile, with_file_counts}
+use Rattle.xet_session.specs.Calls.{Backs, CutStopped, Keeps, finalized_error}
+use Rattle.xet_session.specs.Completions.{CutsFile, CutsWaiting, Joins, TakesFile, with_file_counts}
 use Rattle.xet_session.specs.Sessions.{HasListed, SessionTold, known_of, log_of, waiting_names}
 use Rattle.xet_session.specs.Sounds.{XorbsAgree}
-use Rattle.xet_session.proofs.CallerLemmas.{keeps-both, keeps-refl, ordered-grown, stores-later}
-use Rattle.xet_clean.specs.Cleaners.{Cleaner, CleanerStands, Completes, Counts, CutsChunks, Finishes, IsFed, IsFirstUnlisted, cleaned_file, pointer_to, recorded_sha256, unknown_xorb}
-use Rattle.xet_clean.specs.Cleanings.{AreNamed, ChunkFails, CleanFails, IsHonest, Leaves, term_names}
+use Rattle.xet_session.proofs.CallerLemmas.{keeps-both, keeps-refl, ordered-grown}
+use Rattle.xet_clean.specs.Cleaners.{Cleaner, CleanerStands, Completes, Counts, CountsChunks, CutsChunks, Finishes, IsFed, IsFirstUnlisted, cleaned_file, pointer_to, recorded_sha256, unknown_xorb}
+use Rattle.xet_clean.specs.Cleanings.{AreNamed, ChunkFails, CleanFails, Leaves, NoFault, term_names}
+use Rattle.xet_clean.specs.Made.{IsMadeOf, IsPickedFrom}
 use Rattle.xet_clean.specs.Premises.{IsOpen, IsSteady, NoClash, waiting_xorb, with_xorbs}
 use Rattle.xet_clean.specs.Records.{CleanedFile, HasRecord, WaitsFor}
 use Rattle.xet_clean.proofs.Cleaning.{fails-later, fails-memory, leaves-refl, steady-left}
 use Rattle.xet_clean.proofs.Feeding.{cut-fed, cut-stands, never, never-failed}
 use Rattle.xet_clean.proofs.Holding.{left-holds, opened, takes-holds, takes-taken}
+use Rattle.xet_clean.proofs.Picked.{made-both, made-none, made-one, made-wider, picked-all, picked-behind, picked-both, picked-front, picked-none, picked-same, picked-trans}
 use Rattle.xet_clean.proofs.Worlds.{Contains-cons, Contains-head, agree-alone, world-has}
+
+-- ---- what waits afterwards
+
+-- what waited waits on
+pub waits-still : (b n : SessionTold) (more : List (List ℕ)) → n.waiting ≡ b.waiting
+    → IsPickedFrom n.waiting.chunks (b.waiting.chunks ++ more)
+waits-still b n more e =
+    picked-same n.waiting.chunks b.waiting.chunks (b.waiting.chunks ++ more) (ap (λ (w : Waiting). w.chunks) e)
+    (picked-front b.waiting.chunks b.waiting.chunks more (picked-all b.waiting.chunks))
+
+waits-none : (b n : SessionTold) (more : List (List ℕ)) → n.waiting ≡ no_waiting
+    → IsPickedFrom n.waiting.chunks (b.waiting.chunks ++ more)
+waits-none b n more e = picked-same n.waiting.chunks [] (b.waiting.chunks ++ more)
+    (ap (λ (w : Waiting). w.chunks) e) (picked-none (b.waiting.chunks ++ more))
+
+-- after the end of a file
+takes-waits : (b n : SessionTold) (w : Waiting) (now : ℕ) (answer : Result (Unit {0}) DataError)
+    → TakesFile b n w now answer → IsPickedFrom n.waiting.chunks (b.waiting.chunks ++ w.chunks)
+takes-waits b n w now answer t = go answer t.exits
+  where
+    middle-waits : (m : SessionTold) (e : DataError) → CutStopped b m now (Err e)
+        → IsPickedFrom m.waiting.chunks (b.waiting.chunks ++ w.chunks)
+    middle-waits m e (inl s) = waits-still b m w.chunks (ap (λ (z : SessionTold). z.waiting) s)
+    middle-waits m e (inr (inl s)) = waits-none b m w.chunks (ap (λ (z : SessionTold). z.waiting) s.same)
+    middle-waits m e (inr (inr p)) = waits-none b m w.chunks (ap (λ (z : SessionTold). z.waiting) p.put.same)
+
+    go : (a : Result (Unit {0}) DataError) → Joins b n w a ⊎ CutsFile b n w now a ⊎ CutsWaiting b n w now a
+        → IsPickedFrom n.waiting.chunks (b.waiting.chunks ++ w.chunks)
+    go (Ok u) (inl j) = picked-same n.waiting.chunks (b.waiting.chunks ++ w.chunks) (b.waiting.chunks ++ w.chunks)
+        (ap (λ (z : SessionTold). z.waiting.chunks) j.ok) (picked-all (b.waiting.chunks ++ w.chunks))
+    go (Err e) (inl j) = waits-still b n w.chunks (ap (λ (z : SessionTold). z.waiting) j.err)
+    go a (inr (inl c)) = waits-still b n w.chunks (ap (λ (z : SessionTold). z.waiting) c.same)
+    go (Ok u) (inr (inr c)) = picked-same n.waiting.chunks w.chunks (b.waiting.chunks ++ w.chunks)
+        (ap (λ (z : SessionTold). z.waiting.chunks) c.ok) (picked-behind b.waiting.chunks w.chunks w.chunks
+        (picked-all w.chunks))
+    go (Err e) (inr (inr c)) =
+        let P : SessionTold → Type 0 = λ z. IsPickedFrom z.waiting.chunks (b.waiting.chunks ++ w.chunks) in
+        subst P (sym c.err) (middle-waits c.middle e c.cut.err)
 
 -- ---- the data of a file
 
@@ -52,7 +88,7 @@ data-named l p w id h sha is alone a =
     subst P (sym is) (All-same (Contains l) (waiting_names (with_file p id h sha).files) (term_names p.terms)
     (names-alone p id h sha alone) a)
 
-file-waits : (s : Store) (c : Cleaner) (bytes : List ℕ) (id : ℕ) (h : MerkleHash) (sha : Option MerkleHash)
+pub file-waits : (s : Store) (c : Cleaner) (bytes : List ℕ) (id : ℕ) (h : MerkleHash) (sha : Option MerkleHash)
     → c.pending ≡ [] → h ≡ file_hash_of c.parts.infos → sha ≡ recorded_sha256 c.policy bytes → CleanerStands s c bytes
     → WaitsFor s (with_file c.parts id h sha) (cleaned_file c h bytes)
 file-waits s c bytes id h sha ended is recorded a =
@@ -87,11 +123,14 @@ module _ (b : SessionTold) (c : Cleaner) (ended : c.pending ≡ []) (hash : Merk
     keeps = keeps-refl b n same;
     backs = (leaves-refl b n same).backs;
     made = [];
-    honest = All-nil IsHonest;
+    made_of = made-none c.parts.own.chunks;
+    waits = waits-still b n c.parts.own.chunks (ap (λ (z : SessionTold). z.waiting) same);
     hash = hash;
+    hash_is = is;
     holds = λ k f s o a r. subst (λ (z : SessionTold). HasRecord k z f) (sym same) r;
     stands = λ k bytes s o a r. tt;
     pointer = λ bytes a. tt;
+    unfailed = tt;
     counts = tt;
     counted = tt;
     why = fails-memory b n e why;
@@ -106,6 +145,20 @@ module _ (b : SessionTold) (c : Cleaner) (ended : c.pending ≡ []) (hash : Merk
         let P : Waiting → Type 0 = λ z. WaitsFor s z (cleaned_file c hash bytes) in
         subst P (sym data_is) (file-waits s c bytes id hash sha ended is (recorded bytes a.fed.hashed) a)
 
+    -- its chunks are the file's own
+    chunks_are : w.chunks ≡ c.parts.own.chunks
+    chunks_are = ap (λ (z : Waiting). z.chunks) data_is
+
+    made-own : All (IsMadeOf c.parts.own.chunks) (own ∷ [])
+    made-own = made-one w.chunks c.parts.own.chunks (picked-same w.chunks c.parts.own.chunks c.parts.own.chunks
+        chunks_are (picked-all c.parts.own.chunks))
+
+    waits-own : (n : SessionTold) (answer : Result (Unit {0}) DataError) → TakesFile b n w now answer
+        → IsPickedFrom n.waiting.chunks (b.waiting.chunks ++ c.parts.own.chunks)
+    waits-own n answer t =
+        let P : List (List ℕ) → Type 0 = λ cs. IsPickedFrom n.waiting.chunks (b.waiting.chunks ++ cs) in
+        subst P chunks_are (takes-waits b n w now answer t)
+
     -- the session refused the data
     pub completes-err : (n : SessionTold) (e : DataError) → TakesFile b n w now (Err e) → Backs b n → Completes b n c
         (Err e)
@@ -113,12 +166,15 @@ module _ (b : SessionTold) (c : Cleaner) (ended : c.pending ≡ []) (hash : Merk
       keeps = t.keeps;
       backs = λ h. k;
       made = own ∷ [];
-      honest = All-cons IsHonest own [] refl (All-nil IsHonest);
+      made_of = made-own;
+      waits = waits-own n (Err e) t;
       hash = hash;
+      hash_is = is;
       holds = λ m f s o a r. takes-holds m b n w now s o f (waiting_xorb b ∷ own ∷ []) a (Err e) t (Contains-head
           (waiting_xorb b) (own ∷ [])) r;
       stands = λ m bytes s o a r. tt;
       pointer = λ bytes a. tt;
+      unfailed = tt;
       counts = tt;
       counted = tt;
       why = inr t.why;
@@ -151,8 +207,10 @@ module _ (b : SessionTold) (c : Cleaner) (ended : c.pending ≡ []) (hash : Merk
             keeps = whole;
             backs = λ h. backs-both b m n' t.keeps whole one two;
             made = own ∷ [];
-            honest = All-cons IsHonest own [] refl (All-nil IsHonest);
+            made_of = made-own;
+            waits = waits-own m (Ok u) t;
             hash = hash;
+            hash_is = is;
             holds = λ k f s o a r. takes-holds k b m w now s (open-before o) f (waiting_xorb b ∷ own ∷ []) a (Ok u) t
                 (Contains-head (waiting_xorb b) (own ∷ [])) r;
             stands = λ k bytes s o a r. takes-taken k b m w now s (open-before o) (cleaned_file c hash bytes)
@@ -160,6 +218,7 @@ module _ (b : SessionTold) (c : Cleaner) (ended : c.pending ≡ []) (hash : Merk
                 (Contains-head own [])) (waits (world k (log_of b)) bytes r);
             pointer = λ bytes a. pointer ∙ ap (λ (z : ℕ). pointer_to hash z sha) a.count
                 ∙ ap (λ (o : Option MerkleHash). pointer_to hash (length bytes) o) (recorded bytes a.hashed);
+            unfailed = t.unfailed;
             counts = refl;
             counted = counted-all;
             why = tt;
@@ -174,6 +233,10 @@ module _ (b : SessionTold) (c : Cleaner) (ended : c.pending ≡ []) (hash : Merk
 
 -- ---- the exits of `finish`
 
+on-any : {A : Type 0} {P : Type 0} (answer : Result A DataError) → P → OnOk answer P
+on-any (Ok r) p = p
+on-any (Err e) p = tt
+
 kept-holds : (b n : SessionTold) → n ≡ b → (k : Store) (f : CleanedFile) → HasRecord k b f → HasRecord k n f
 kept-holds b n e k f r = subst (λ (z : SessionTold). HasRecord k z f) (sym e) r
 
@@ -184,13 +247,20 @@ module _ (b n : SessionTold) (c : Cleaner) (listed : HasListed b) where
     keeps = keeps-refl b n e;
     backs = (leaves-refl b n e).backs listed;
     made = [];
-    honest = All-nil IsHonest;
     cut = [];
+    rest = c.pending;
+    pending = refl;
+    all = tt;
+    made_of = made-none (c.parts.own.chunks ++ []);
+    waits = waits-still b n (c.parts.own.chunks ++ []) (ap (λ (z : SessionTold). z.waiting) e);
     hash = file_hash_of c.parts.infos;
+    hash_is = tt;
     holds = λ k f s o a r. kept-holds b n e k f r;
     stands = λ k bytes s o a r. tt;
     pointer = λ bytes a. tt;
+    counts = tt;
     counted = tt;
+    unfailed = tt;
     finalized = λ g. (refl, e);
     kept = λ g. never b.finalized g fin;
     unknown = λ g. never b.finalized g fin;
@@ -203,13 +273,20 @@ module _ (b n : SessionTold) (c : Cleaner) (listed : HasListed b) where
     keeps = keeps-refl b n same;
     backs = (leaves-refl b n same).backs listed;
     made = [];
-    honest = All-nil IsHonest;
     cut = [];
+    rest = c.pending;
+    pending = refl;
+    all = tt;
+    made_of = made-none (c.parts.own.chunks ++ []);
+    waits = waits-still b n (c.parts.own.chunks ++ []) (ap (λ (z : SessionTold). z.waiting) same);
     hash = file_hash_of c.parts.infos;
+    hash_is = tt;
     holds = λ k f s o a r. kept-holds b n same k f r;
     stands = λ k bytes s o a r. tt;
     pointer = λ bytes a. tt;
+    counts = tt;
     counted = tt;
+    unfailed = tt;
     finalized = λ g. never b.finalized fin g;
     kept = λ g x k. (
       let both : Some e ≡ Some x = sym failed ∙ k in let one : e ≡ x = cc in ap (λ
@@ -243,13 +320,20 @@ module _ (b n : SessionTold) (c : Cleaner) (listed : HasListed b) where
     keeps = keeps-refl b n same;
     backs = (leaves-refl b n same).backs listed;
     made = [];
-    honest = All-nil IsHonest;
     cut = [];
+    rest = c.pending;
+    pending = refl;
+    all = tt;
+    made_of = made-none (c.parts.own.chunks ++ []);
+    waits = waits-still b n (c.parts.own.chunks ++ []) (ap (λ (z : SessionTold). z.waiting) same);
     hash = file_hash_of c.parts.infos;
+    hash_is = tt;
     holds = λ k f s o a r. kept-holds b n same k f r;
     stands = λ k bytes s o a r. tt;
     pointer = λ bytes a. tt;
+    counts = tt;
     counted = tt;
+    unfailed = tt;
     finalized = λ g. never b.finalized fin g;
     kept = λ g x k. never-failed c.failed x none k;
     unknown = λ g k x other. (
@@ -276,13 +360,20 @@ module _ (b n : SessionTold) (c : Cleaner) (listed : HasListed b) where
     keeps = l.keeps;
     backs = l.backs listed;
     made = [];
-    honest = All-nil IsHonest;
     cut = [];
+    rest = c.pending;
+    pending = refl;
+    all = tt;
+    made_of = made-none (c.parts.own.chunks ++ []);
+    waits = waits-still b n (c.parts.own.chunks ++ []) l.waiting;
     hash = file_hash_of c.parts.infos;
+    hash_is = tt;
     holds = λ k f s o a r. left-holds k b n no_waiting 0 s o f l.keeps l.waiting l.finished r;
     stands = λ k bytes s o a r. tt;
     pointer = λ bytes a. tt;
+    counts = tt;
     counted = tt;
+    unfailed = tt;
     finalized = λ g. never b.finalized fin g;
     kept = λ g x k. never-failed c.failed x none k;
     unknown = λ g k x first. absurd (none-missing named x first);
@@ -382,23 +473,56 @@ module _ (b n : SessionTold) (c : Cleaner) (listed : HasListed b) where
     fails (Ok r) f = tt
     fails (Err e) f = inr (inr (inl (fails-later b m n e l f)))
 
+    finish-counts : (x : Result (XetFileInfo × DeduplicationMetrics) DataError) → IfOk x (λ r. r.1 ≡ d.counts)
+        → IfOk x (λ r. CountsChunks c.counts cuts.cut r.1)
+    finish-counts (Ok r) e =
+        subst (λ (m : DeduplicationMetrics). CountsChunks c.counts cuts.cut m) (sym e) cuts.counts
+    finish-counts (Err x) e = tt
+
+    finish-unfailed : (x : Result (XetFileInfo × DeduplicationMetrics) DataError) → OnOk x (n.failed ≡ m.failed)
+        → OnOk x (NoFault b n)
+    finish-unfailed (Ok r) e =
+        let same = e ∙ cuts.cleans.failed in
+        (same, (keeps-both b m n l.keeps z.keeps).steady (inl same))
+    finish-unfailed (Err x) e = tt
+
+    -- the made xorbs, and what waits
+    finish-made : All (IsMadeOf (c.parts.own.chunks ++ cuts.cut)) made
+    finish-made = made-both (c.parts.own.chunks ++ cuts.cut) cuts.cleans.made z.made cuts.cleans.into.made_of
+        (made-wider d.parts.own.chunks (c.parts.own.chunks ++ cuts.cut) z.made cuts.cleans.into.own z.made_of)
+
+    finish-waits : IsPickedFrom n.waiting.chunks (b.waiting.chunks ++ (c.parts.own.chunks ++ cuts.cut))
+    finish-waits =
+        let all = c.parts.own.chunks ++ cuts.cut in
+        let P : Waiting → Type 0 = λ w. IsPickedFrom n.waiting.chunks (w.chunks ++ d.parts.own.chunks) in
+        picked-trans n.waiting.chunks (b.waiting.chunks ++ d.parts.own.chunks) (b.waiting.chunks ++ all)
+        (subst P l.waiting z.waits) (picked-both b.waiting.chunks d.parts.own.chunks b.waiting.chunks all
+        (picked-all b.waiting.chunks) cuts.cleans.into.own)
+
     -- all bytes were cut, and the session took the data or refused it
     pub finishes-complete : b.finalized ≡ false → c.failed ≡ None → AreNamed b.listed c.parts.terms
-        → Finishes b n c answer
-    finishes-complete fin none named =
+        → d.pending ≡ [] → Finishes b n c answer
+    finishes-complete fin none named ended =
         let one = l.backs listed in
         let whole = keeps-both b m n l.keeps z.keeps in
         record {
           keeps = whole;
           backs = backs-both b m n l.keeps whole one (z.backs one.listed);
           made = made;
-          honest = All-append IsHonest cuts.cleans.made z.made cuts.cleans.honest z.honest;
           cut = cuts.cut;
+          rest = d.pending;
+          pending = cuts.pending;
+          all = on-any answer ended;
+          made_of = finish-made;
+          waits = finish-waits;
           hash = z.hash;
+          hash_is = on-any answer (z.hash_is ∙ ap file_hash_of cuts.cleans.into.infos);
           holds = λ k f s o a r. finish-holds k s o a f r;
           stands = λ k bytes s o a r. finish-stands k s o a bytes r;
           pointer = finish-pointer;
+          counts = finish-counts answer z.counts;
           counted = finish-counted answer z.counted;
+          unfailed = finish-unfailed answer z.unfailed;
           finalized = λ g. never b.finalized fin g;
           kept = λ g x k. never-failed c.failed x none k;
           unknown = λ g k x first. absurd (none-missing named x first);

@@ -1,11 +1,10 @@
 -- A cleaner that is fed stands for the fed bytes too.
-use Rattle.std.proofs.Common.{◌≡◌, ℕ, ◌+◌, ◌-◌, ◌<◌, ◌⊎◌, inl, inr, Bool, true, false, List, [], ◌∷◌, ◌++◌, length, map, refl, sym, ◌∙◌, ap, subst, arith}
-use Rattle.std.specs.Prelude.{All, Contains, Option, Some, None, Result, Ok, Err, IfErr, OnOk, drop, is_some, take, unwrap_or}
+use Rattle.std.proofs.Common.{◌≡◌, ℕ, ◌+◌, ◌<◌, inl, inr, Bool, true, false, List, [], ◌∷◌, ◌++◌, length, map, refl, sym, ◌∙◌, ap, subst, arith}
+use Rattle.std.specs.Prelude.{Contains, Option, Some, None, Result, Ok, Err, IfErr, OnOk, drop, is_some, take, unwrap_or}
 use Rattle.std.specs.List.{concat}
 use Rattle.std.specs.Option.{option_or}
 use Rattle.std.proofs.lemmas.Bool.{false≢true}
 use Rattle.std.proofs.lemmas.List.{append-nil, append_assoc, length-append, take-append-drop}
-use Rattle.std.proofs.lemmas.List.Elements.{All-append}
 use Rattle.std.proofs.lemmas.List.Folds.{concat-append}
 use Rattle.sha2.specs.Hashers.{Holds256}
 use Rattle.sha2.specs.declared.Sha256.{Sha256}
@@ -13,18 +12,20 @@ use Rattle.xet_base.specs.declared.mdb_shard.Xorb.{Xorb}
 use Rattle.xet_base.specs.Store.{Store}
 use Rattle.xet_uploader.specs.declared.uploader.Put.TheVariants as put
 use Rattle.xet_upload.specs.FileDatas.{Parts, PartsStand, no_parts}
+use Rattle.xet_upload.specs.Metrics.{both}
 use Rattle.xet_upload.specs.Standing.{world}
+use Rattle.xet_upload.specs.declared.metrics.DeduplicationMetrics.{DeduplicationMetrics}
 use Rattle.xet_upload.specs.declared.data_error.DataError.{DataError}
-use Rattle.xet_upload.specs.declared.sha256_policy.Sha256Policy.{Sha256Policy}
 use Rattle.xet_upload.specs.declared.sha256_policy.Sha256Policy.TheVariants.{Compute}
 use Rattle.xet_upload.proofs.CallerLemmas.{parts-nil}
 use Rattle.xet_session.specs.Calls.{finalized_error}
 use Rattle.xet_session.specs.Sessions.{SessionTold, log_of}
-use Rattle.xet_clean.specs.Cleaners.{AddFails, AddsData, Cleaner, CleanerStands, CutsChunks, Feeds, FeedsSo, IsFed, NextChunk, PassesTotal, TakesIn, error_of, past_total}
-use Rattle.xet_clean.specs.Cleanings.{AreNamed, ChunkFails, Cleans, IsHonest, Leaves}
+use Rattle.xet_clean.specs.Cleaners.{AddsData, Cleaner, CleanerStands, CountsChunks, CutsChunks, Feeds, FeedsSo, IsFed, NextChunk, PassesTotal, TakesIn, chunk_counts, past_total}
+use Rattle.xet_clean.specs.Cleanings.{AreNamed, ChunkFails, Cleans, Leaves}
 use Rattle.xet_clean.specs.Premises.{IsOpen, IsSteady, NoClash}
 use Rattle.xet_clean.proofs.Cleaning.{clash-after, clash-before, cleans-both, leaves-refl, steady-left, still-cleans}
 use Rattle.xet_clean.proofs.Holding.{opened}
+use Rattle.xet_clean.proofs.Picked.{into-both, into-same}
 use Rattle.xet_clean.proofs.Worlds.{agree-alone, ok-err, world-has}
 
 -- nothing was fed
@@ -39,6 +40,13 @@ new-stands s c parts pending fed holds = record {
 
 -- ---- chunks are cut
 
+-- counts of the chunks of two calls
+pub counts-both : (m x n : DeduplicationMetrics) (cut cuts : List (List ℕ)) → CountsChunks m cut x
+    → CountsChunks x cuts n → CountsChunks m (cut ++ cuts) n
+counts-both m x n [] cuts one two = subst (λ (z : DeduplicationMetrics). CountsChunks z cuts n) one two
+counts-both m x n (c ∷ cut) cuts one two =
+    (one.0, counts-both (both m (chunk_counts (length c) one.0)) x n cut cuts one.1 two)
+
 pub cuts-none : (b n : SessionTold) (c d : Cleaner) → n ≡ b → d ≡ c → CutsChunks b n c d
 cuts-none b n c d e f =
     let P : Cleaner → Type 0 = λ z. CutsChunks b n c z in
@@ -46,20 +54,23 @@ cuts-none b n c d e f =
       cut = [];
       cleans = still-cleans b n c.parts c.parts e refl;
       pending = refl;
+      counts = refl;
       same =
           refl;
     })
 
 pub cuts-one : (b n : SessionTold) (c m d : Cleaner) (last : Bool) (chunk : List ℕ) → NextChunk c m last (Some chunk)
     → Cleans b n m.parts d.parts (chunk ∷ []) → d ≡ record m { parts = d.parts; counts = d.counts }
-    → CutsChunks b n c d
-cuts-one b n c m d last chunk next cleans same =
+    → CountsChunks m.counts (chunk ∷ []) d.counts → CutsChunks b n c d
+cuts-one b n c m d last chunk next cleans same counts =
     let parts : m.parts ≡ c.parts = ap (λ (z : Cleaner). z.parts) next.same in
     let pending : d.pending ≡ m.pending = ap (λ (z : Cleaner). z.pending) same in
     let P : Parts → Type 0 = λ p. Cleans b n p d.parts (chunk ∷ []) in
     record {
       cut = chunk ∷ [];
       cleans = subst P parts cleans;
+      counts = subst (λ (z : DeduplicationMetrics). CountsChunks z (chunk ∷ []) d.counts)
+          (ap (λ (z : Cleaner). z.counts) next.same) counts;
       pending = next.pending ∙ ap (λ (xs : List ℕ). xs ++ m.pending) (sym (append-nil chunk)) ∙ ap (λ (xs : List ℕ).
           (chunk ++ []) ++ xs) (sym pending);
       same = same ∙ ap (λ (z : Cleaner). record z { parts = d.parts; counts = d.counts }) next.same
@@ -71,6 +82,7 @@ pub cuts-both : (b m n : SessionTold) (c x d : Cleaner) → Leaves b m → Leave
 cuts-both b m n c x d l h one two = record {
   cut = one.cut ++ two.cut;
   cleans = cleans-both b m n c.parts x.parts d.parts one.cut two.cut l h one.cleans two.cleans;
+  counts = counts-both c.counts x.counts d.counts one.cut two.cut one.counts two.counts;
   pending =
       one.pending ∙ ap (λ (xs : List ℕ). concat one.cut ++ xs) two.pending ∙ sym (append_assoc (concat one.cut)
       (concat two.cut) d.pending)
@@ -153,8 +165,13 @@ feeds b n c x d bytes tk cuts =
     let hasher : d.hasher ≡ x.hasher = ap (λ (z : Cleaner). z.hasher) cuts.same in
     record {
       made = cuts.cleans.made;
-      honest = cuts.cleans.honest;
       cut = cuts.cut;
+      into = into-same x.parts c.parts d.parts cuts.cleans.made cuts.cut (ap (λ (z : Cleaner). z.parts) tk.same)
+          cuts.cleans.into;
+      pending = sym (ap (λ (z : Cleaner). z.pending) tk.same) ∙ cuts.pending;
+      failed = cuts.cleans.failed;
+      counts = subst (λ (z : DeduplicationMetrics). CountsChunks z cuts.cut d.counts)
+          (ap (λ (z : Cleaner). z.counts) tk.same) cuts.counts;
       stands = λ k before s o clash a. cut-stands b n x d cuts k (before ++ bytes) s o clash (take-stands (world k
           (log_of b)) c x bytes before tk a);
       fed = λ before a. cut-fed b n x d cuts (before ++ bytes) (take-fed c x bytes before tk a);
@@ -279,6 +296,7 @@ adds-ok b n c d bytes u v f = record {
   leaves = f.leaves;
   ok = f.ok;
   failed = or-same c.failed d.failed f.failed;
+  unfailed = (f.ok.failed, f.leaves.keeps.steady (inl f.ok.failed));
   finalized = λ g. let q = f.finalized g in ok-err u finalized_error q.0;
   kept = λ g e k. let q = f.kept g e k in ok-err u e q.0;
   past = λ g k p. let q = f.past g k p in ok-err u (past_total c bytes) q.0;
@@ -291,6 +309,7 @@ adds-err b n c m d bytes e f is = record {
   leaves = f.leaves;
   ok = tt;
   failed = is ∙ ap (λ (o : Option DataError). Some (unwrap_or o e)) f.failed ∙ go c.failed;
+  unfailed = tt;
   finalized = f.finalized;
   kept = f.kept;
   past = f.past;
@@ -343,8 +362,11 @@ feeds-none b n c d e f =
     let none = cuts-none b n c c e refl in
     subst P (sym f) (record {
       made = none.cleans.made;
-      honest = none.cleans.honest;
       cut = none.cut;
+      into = none.cleans.into;
+      pending = append-nil c.pending ∙ none.pending;
+      failed = none.cleans.failed;
+      counts = none.counts;
       stands = λ k before s o clash a. subst (λ (xs : List ℕ). CleanerStands (world k (log_of n)) c xs) (sym
           (append-nil before)) (cut-stands b n c c none k before s o clash a);
       fed = λ before a. subst (λ (xs : List ℕ). IsFed c xs) (sym (append-nil before)) a;
@@ -356,8 +378,14 @@ pub feeds-both : (b m n : SessionTold) (c x d : Cleaner) (xs ys : List ℕ) → 
     → Feeds m n x ys d → Feeds b n c (xs ++ ys) d
 feeds-both b m n c x d xs ys l h one two = record {
   made = one.made ++ two.made;
-  honest = All-append IsHonest one.made two.made one.honest two.honest;
   cut = one.cut ++ two.cut;
+  into = into-both c.parts x.parts d.parts one.made two.made one.cut two.cut one.into two.into;
+  failed = two.failed ∙ one.failed;
+  counts = counts-both c.counts x.counts d.counts one.cut two.cut one.counts two.counts;
+  pending = sym (append_assoc c.pending xs ys) ∙ ap (λ (zs : List ℕ). zs ++ ys) one.pending
+      ∙ append_assoc (concat one.cut) x.pending ys ∙ ap (λ (zs : List ℕ). concat one.cut ++ zs) two.pending
+      ∙ sym (append_assoc (concat one.cut) (concat two.cut) d.pending)
+      ∙ ap (λ (zs : List ℕ). zs ++ d.pending) (sym (concat-append one.cut two.cut));
   stands = λ k before s o clash a.
       let grown = world-before k s in
       let first = clash-before k m n grown one.made two.made one.cut two.cut clash in

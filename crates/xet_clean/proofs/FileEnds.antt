@@ -1,30 +1,167 @@
 -- What the end of a file refuses.
-use Rattle.std.proofs.Common.{◌≡◌, ℕ, ◌⊎◌, inl, inr, List, sym, ◌∙◌}
-use Rattle.std.specs.Prelude.{Result, Err, IfErr}
+use Rattle.std.proofs.Common.{◌≡◌, ℕ, ◌⊎◌, inl, inr, List, [], ◌∷◌, ◌++◌, refl, sym, ◌∙◌, ap, subst}
+use Rattle.std.specs.Prelude.{Option, Result, Ok, Err, IfErr, OnOk, OnErr}
+use Rattle.std.proofs.lemmas.List.{append-nil}
+use Rattle.std.proofs.lemmas.List.Elements.{All-nil}
+use Rattle.sha2.specs.Hashers.{Holds256}
 use Rattle.xet_base.specs.declared.invalid.Invalid.{Invalid}
+use Rattle.xet_base.specs.declared.merklehash.MerkleHash.{MerkleHash}
+use Rattle.xet_base.specs.Digests.{file_hash_of}
+use Rattle.xet_base.specs.Store.{Store}
 use Rattle.xet_progress.specs.declared.step.TrackerStep.{TrackerStep}
+use Rattle.xet_upload.specs.FileDatas.{Parts, with_file}
+use Rattle.xet_upload.specs.Waitings.{Waiting}
 use Rattle.xet_upload.specs.declared.data_error.DataError.{DataError}
 use Rattle.xet_upload.specs.declared.data_error.DataError.TheVariants as data_error
+use Rattle.xet_upload.specs.declared.metrics.DeduplicationMetrics.{DeduplicationMetrics}
+use Rattle.xet_upload.specs.declared.sha256_policy.Sha256Policy.TheVariants.{Compute}
+use Rattle.xet_upload.specs.declared.waiting.WaitingFile.{WaitingFile}
+use Rattle.xet_session.specs.Completions.{TakesFile}
 use Rattle.xet_session.specs.Sessions.{SessionTold}
-use Rattle.xet_clean.specs.Cleaners.{Cleaner, IsEndError}
+use Rattle.xet_session.specs.Trackings.{TracksFile}
+use Rattle.xet_clean.specs.Cleaners.{Cleaner, CleanerStands, CutsChunks, IsEndError, cleaned_file, recorded_sha256}
 use Rattle.xet_clean.specs.Cleanings.{CleanFails}
-use Rattle.xet_clean.specs.FileCalls.{IsLate, RefusedOf, RefusesFor, TellsOf}
+use Rattle.xet_clean.specs.FileCalls.{IsLate, IsPartOf, RefusedOf, RefusesFor, TellsOf}
+use Rattle.xet_clean.specs.Records.{WaitsFor}
+use Rattle.xet_clean.specs.SessionCalls.{Calls, CutsAndTakes, EndsFile, IsSame, TookFile}
+use Rattle.xet_clean.proofs.Completing.{file-waits}
 use Rattle.xet_clean.proofs.FileCalls.{end-refused}
+use Rattle.xet_clean.proofs.SessionCalls.{calls-none}
 
 -- a chunk of the bytes that waited was refused
-pub end-uncut : (file : ℕ) (b : SessionTold) (c : Cleaner) (before after : List TrackerStep)
-    (e : DataError) → TellsOf {A = Unit {0}} file (IsLate b.finalized) before after (Err e)
-    → (why : Invalid) → e ≡ data_error.InvalidOperation why → IsEndError b c e ⊎ RefusesFor file before why
-end-uncut file b c before after e t = λ why q. side why (t.refused why q)
+pub end-uncut : (K : TrackerStep → Type 0) (b : SessionTold) (c : Cleaner) (before after : List TrackerStep)
+    (e : DataError) → TellsOf {A = Unit {0}} K (IsLate b.finalized) before after (Err e)
+    → (why : Invalid) → e ≡ data_error.InvalidOperation why → IsEndError b c e ⊎ RefusesFor K before after why
+end-uncut K b c before after e t = λ why q. side why (t.refused why q)
   where
-    side : (why : Invalid) → IsLate b.finalized e ⊎ RefusesFor file before why
-        → IsEndError b c e ⊎ RefusesFor file before why
+    side : (why : Invalid) → IsLate b.finalized e ⊎ RefusesFor K before after why
+        → IsEndError b c e ⊎ RefusesFor K before after why
     side why (inl l) = inl (inl l)
     side why (inr r) = inr r
 
 -- the session took the data or refused it, which was finalized exactly if it is
-pub end-taken : {A : Type 0} (file : ℕ) (b : SessionTold) (c : Cleaner) (before : List TrackerStep)
-    (m n : SessionTold) (answer : Result A DataError) → m.finalized ≡ b.finalized → IfErr answer (CleanFails m n)
-    → RefusedOf file (IsEndError b c) before answer
-end-taken file b c before m n answer f w = end-refused file (IsEndError b c) before m n answer
+pub end-taken : {A : Type 0} (K : TrackerStep → Type 0) (b : SessionTold) (c : Cleaner)
+    (before after : List TrackerStep) (m n : SessionTold) (answer : Result A DataError)
+    → m.finalized ≡ b.finalized → IfErr answer (CleanFails m n) → RefusedOf K (IsEndError b c) before after answer
+end-taken K b c before after m n answer f w = end-refused K (IsEndError b c) before m n after answer
     (λ e l. inl (l.0, sym f ∙ l.1)) w
+
+-- ---- what the end of a file calls, and tells the tracker
+
+-- the data of one file
+data-alone : (p : Parts) (w : Waiting) (id : ℕ) (h : MerkleHash) (sha : Option MerkleHash) → w ≡ with_file p id h sha
+    → p.own.files ≡ [] → w.files ≡ record { file_id = id; hash = h; terms = p.terms; sha256 = sha } ∷ []
+data-alone p w id h sha is alone =
+    let f : WaitingFile = record { file_id = id; hash = h; terms = p.terms; sha256 = sha } in
+    ap (λ (z : Waiting). z.files) is ∙ ap (λ (fs : List WaitingFile). fs ++ f ∷ []) alone
+
+module _ (b m : SessionTold) (c : Cleaner) (w : Waiting) (h : MerkleHash) (sha : Option MerkleHash)
+    (ended : c.pending ≡ []) (hash_is : h ≡ file_hash_of c.parts.infos)
+    (recorded : (bytes : List ℕ) → (c.policy ≡ Compute → Holds256 c.hasher bytes)
+    → sha ≡ recorded_sha256 c.policy bytes)
+    (is : w ≡ with_file c.parts c.file_id h sha) (alone : c.parts.own.files ≡ []) (now : ℕ)
+    (before told : List TrackerStep) where
+  waits : (s : Store) (bytes : List ℕ) → CleanerStands s c bytes → WaitsFor s w (cleaned_file c h bytes)
+  waits s bytes a =
+      let P : Waiting → Type 0 = λ z. WaitsFor s z (cleaned_file c h bytes) in
+      subst P (sym is) (file-waits s c bytes c.file_id h sha ended hash_is (recorded bytes a.fed.hashed) a)
+
+  -- the session refused the data
+  pub took-err : {A : Type 0} (e : DataError) → TakesFile b m w now (Err e) → TracksFile b m w before told (Err e)
+      → TookFile {A = A} b m c now before told (Err e)
+  took-err e t k = record {
+    taken = w;
+    one = record { file_id = c.file_id; hash = h; terms = c.parts.terms; sha256 = sha };
+    files = data-alone c.parts w c.file_id h sha is alone;
+    number = refl;
+    hash = hash_is;
+    sha256 = λ bytes a. recorded bytes a.hashed;
+    stands = waits;
+    later = m;
+    takes = t;
+    tracks = k;
+    counted = refl;
+  }
+
+  -- it took them, and the counts were added
+  pub took-ok : {A : Type 0} (n : SessionTold) (after : List TrackerStep) (counts : DeduplicationMetrics) (r : A)
+      → TakesFile b m w now (Ok tt) → TracksFile b m w before told (Ok tt) → n ≡ record m { metrics = counts }
+      → after ≡ told → TookFile b n c now before after (Ok r)
+  took-ok n after counts r t k same untold =
+      let P : List TrackerStep → Type 0 = λ l. TracksFile b m w before l (Ok tt) in
+      record {
+        taken = w;
+        one = record { file_id = c.file_id; hash = h; terms = c.parts.terms; sha256 = sha };
+        files = data-alone c.parts w c.file_id h sha is alone;
+        number = refl;
+        hash = hash_is;
+        sha256 = λ bytes a. recorded bytes a.hashed;
+        stands = waits;
+        later = m;
+        takes = t;
+        tracks = subst P (sym untold) k;
+        counted = same ∙ ap (λ (x : DeduplicationMetrics). record m { metrics = x })
+            (sym (ap (λ (z : SessionTold). z.metrics) same));
+      }
+
+module _ {A : Type 0} (b : SessionTold) (c : Cleaner) (now : ℕ) (before : List TrackerStep) where
+  -- nothing was done
+  pub ends-early : (n : SessionTold) (after : List TrackerStep) (e : DataError) → n ≡ b → after ≡ before
+      → EndsFile {A = A} b n c now before after (Err e)
+  ends-early n after e same untold = record {
+    middle = n;
+    ended = c;
+    calls = calls-none now b n same;
+    told = after;
+    parts = [];
+    accepted = untold ∙ sym (append-nil before);
+    are_parts = All-nil (IsPartOf c.file_id);
+    ok = tt;
+    err = inl (refl, refl);
+  }
+
+  -- a chunk was refused
+  pub ends-uncut : {B : Type 0} (n : SessionTold) (after : List TrackerStep) (own : DataError → Type 0) (e : DataError)
+      → Calls now b n → TellsOf {A = B} (IsPartOf c.file_id) own before after (Err e)
+      → EndsFile {A = A} b n c now before after (Err e)
+  ends-uncut n after own e calls t = record {
+    middle = n;
+    ended = c;
+    calls = calls;
+    told = after;
+    parts = t.calls;
+    accepted = t.accepted;
+    are_parts = t.are;
+    ok = tt;
+    err = inl (refl, refl);
+  }
+
+  -- all were cut
+  pub ends-so : {B : Type 0} (m n : SessionTold) (d : Cleaner) (told after : List TrackerStep)
+      (own : DataError → Type 0) (x : B) (answer : Result A DataError) → CutsChunks b m c d → Calls now b m
+      → TellsOf (IsPartOf c.file_id) own before told (Ok x)
+      → OnOk answer (TookFile m n d now told after answer)
+      → OnErr answer (IsSame m n told after ⊎ TookFile m n d now told after answer)
+      → EndsFile b n c now before after answer
+  ends-so m n d told after own x answer cuts calls t ok err = record {
+    middle = m;
+    ended = d;
+    calls = calls;
+    told = told;
+    parts = t.calls;
+    accepted = t.accepted;
+    are_parts = t.are;
+    ok = all answer ok;
+    err = none answer err;
+  }
+    where
+      all : (a : Result A DataError) → OnOk a (TookFile m n d now told after a)
+          → OnOk a (CutsAndTakes b m n c d now told after a)
+      all (Ok r) t = record { cuts = cuts; took = t }
+      all (Err e) t = tt
+
+      none : (a : Result A DataError) → OnErr a (IsSame m n told after ⊎ TookFile m n d now told after a)
+          → OnErr a (IsSame m n told after ⊎ CutsAndTakes b m n c d now told after a)
+      none (Ok r) t = tt
+      none (Err e) (inl same) = inl same
+      none (Err e) (inr t) = inr (record { cuts = cuts; took = t })

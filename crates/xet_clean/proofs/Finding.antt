@@ -1,5 +1,5 @@
 -- What a search of a session finds: a record that has the chunk at a place.
-use Rattle.std.proofs.Common.{◌≡◌, ℕ, ◌+◌, ◌<◌, ◌≤◌, ◌⊎◌, inl, inr, Bool, true, false, List, [], ◌∷◌, ◌++◌, length, refl, sym, ◌∙◌, ap, subst, arith}
+use Rattle.std.proofs.Common.{◌≡◌, ℕ, ◌⊎◌, inl, inr, Bool, true, false, List, [], ◌∷◌, ◌++◌, refl, sym, ◌∙◌, ap, subst, arith}
 use Rattle.std.specs.Prelude.{Contains, Option, Some, None, Result, Ok, Err, if◌then◌else◌, is_some}
 use Rattle.std.specs.Option.{option_or}
 use Rattle.std.proofs.lemmas.Bool.{false≢true}
@@ -10,10 +10,10 @@ use Rattle.xet_base.specs.declared.mdb_shard.FileDataSequenceEntry.{FileDataSequ
 use Rattle.xet_base.specs.declared.mdb_shard.MDBXorbInfo.{MDBXorbInfo}
 use Rattle.xet_shards.specs.Runs.{find_in}
 use Rattle.xet_shards.proofs.CallerLemmas.{FoundAt, find_in-at}
-use Rattle.xet_shard_interface.specs.Interfaces.{InterfaceTold, SearchFails, SearchTells, StoreFails, StoresTell, found_in, known_told, known_xorbs, noted, records_of, resumed_faults, resumed_records, resumed_xorbs, searched_resumed}
+use Rattle.xet_shard_interface.specs.Interfaces.{InterfaceTold, SearchFails, SearchTells, StoreFails, found_in, noted, records_of, resumed_faults, resumed_records, resumed_xorbs, searched_resumed}
 use Rattle.xet_upload.specs.declared.data_error.DataError.{DataError}
 use Rattle.xet_upload.specs.declared.data_error.DataError.TheVariants as data_error
-use Rattle.xet_session.specs.Calls.{Backs, IsOnList, Queries, StoresFail}
+use Rattle.xet_session.specs.Calls.{Backs, IsOnList, Queries}
 use Rattle.xet_session.specs.Sessions.{SessionTold, Tells, log_of}
 use Rattle.xet_session.specs.Sounds.{searched}
 use Rattle.xet_clean.specs.Cleanings.{ChunkFails, FoundChunk, IsAt, Leaves}
@@ -106,6 +106,7 @@ found-some b n h f q =
     let on : IsOnList b n f.1.xorb = q.on_list in
     record {
       log = queries-log b n (h ∷ []) (Ok (Some f)) q;
+      failed = ap (λ (t : SessionTold). t.failed) q.same;
       found = λ t. found-at b h f (q.found (searches-tell b t));
       one = let run = q.run in omega (arith, run.some, run.most, run.count);
       on_list = on.is_there;
@@ -121,6 +122,7 @@ found-some b n h f q =
 pub found-none : (b n : SessionTold) (h : MerkleHash) → Queries b n (h ∷ []) (Ok None) → FoundChunk b n h (Ok None)
 found-none b n h q = record {
   log = queries-log b n (h ∷ []) (Ok None) q;
+  failed = ap (λ (t : SessionTold). t.failed) q.same;
   found = λ t. tt;
   one = tt;
   on_list = tt;
@@ -131,6 +133,7 @@ pub found-err : (b n : SessionTold) (h : MerkleHash) (d e : DataError) → Queri
     → FoundChunk b n h (Err e)
 found-err b n h d e q = record {
   log = queries-log b n (h ∷ []) (Err d) q;
+  failed = ap (λ (t : SessionTold). t.failed) q.same;
   found = λ t. tt;
   one = tt;
   on_list = tt;
@@ -158,7 +161,14 @@ search-valid b n e (inr (inr c)) why q = store-valid b.cache.faults n.cache.faul
 -- a failure after a search changes nothing of what it found
 pub found-failed : (b n : SessionTold) (h : MerkleHash) (o : Option FileDataSequenceEntry) (e : DataError)
     → FoundChunk b n h (Ok o) → FoundChunk b n h (Err e)
-found-failed b n h o e f = record { log = f.log; found = λ t. tt; one = tt; on_list = tt; lists = f.lists }
+found-failed b n h o e f = record {
+  log = f.log;
+  failed = f.failed;
+  found = λ t. tt;
+  one = tt;
+  on_list = tt;
+  lists = f.lists;
+}
 
 -- what is told beside the session's words changes none of them
 pub found-told : (b m n : SessionTold) (h : MerkleHash) (answer : Result (Option FileDataSequenceEntry) DataError)

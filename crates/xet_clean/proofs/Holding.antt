@@ -3,7 +3,7 @@ use Rattle.std.proofs.Common.{◌≡◌, ℕ, ◌<◌, ◌^◌, ◌⊎◌, inl, 
 use Rattle.std.specs.Prelude.{All, Contains, Option, None, is_some, Result, Ok, Err}
 use Rattle.std.proofs.lemmas.Bool.{false≢true}
 use Rattle.std.proofs.lemmas.List.{append-nil}
-use Rattle.std.proofs.lemmas.List.Elements.{All-contains, Contains-append_left, Contains-append_right, Contains-append_cases}
+use Rattle.std.proofs.lemmas.List.Elements.{All-contains, Contains-append_left, Contains-append_right}
 use Rattle.xet_base.specs.declared.merklehash.MerkleHash.{MerkleHash}
 use Rattle.xet_base.specs.declared.mdb_shard.Xorb.{Xorb}
 use Rattle.xet_base.specs.declared.mdb_shard.MDBFileInfo.{MDBFileInfo}
@@ -13,12 +13,12 @@ use Rattle.xet_uploader.specs.declared.uploader.Put.{Put}
 use Rattle.xet_uploader.specs.declared.uploader.Put.TheVariants as put
 use Rattle.xet_uploader.specs.Uploads.{xorbs_in}
 use Rattle.xet_upload.specs.Standing.{AgreeOn, Stand, named, term_of, world}
-use Rattle.xet_upload.specs.Waitings.{IsWithin, Waiting, file_shifted, merged, no_waiting, record_of_file, xorb_of_chunks}
+use Rattle.xet_upload.specs.Waitings.{IsWithin, Waiting, file_shifted, merged, record_of_file, xorb_of_chunks}
 use Rattle.xet_upload.specs.declared.data_error.DataError.{DataError}
 use Rattle.xet_upload.specs.declared.waiting.WaitingFile.{WaitingFile}
 use Rattle.xet_upload.specs.declared.waiting.WaitingTerm.{WaitingTerm}
 use Rattle.xet_upload.proofs.CallerLemmas.{cut_stands, stand-before, stand-behind, stand-grown, stand-named}
-use Rattle.xet_session.specs.Calls.{Cut, CutPut, CutStill, CutStopped, Keeps, WasPut, WasRefused, waiting_hash, waiting_records, without_waiting}
+use Rattle.xet_session.specs.Calls.{Cut, CutPut, CutStill, CutStopped, Keeps, waiting_hash, waiting_records}
 use Rattle.xet_session.specs.Completions.{CutsFile, CutsWaiting, Joins, TakesFile, with_waiting}
 use Rattle.xet_session.specs.Sessions.{SessionTold, Stands, Tells, log_of}
 use Rattle.xet_session.specs.Sounds.{IsSound, XorbsAgree}

@@ -1,6 +1,7 @@
 pub mod Accepting
 pub mod Cleaning
 pub mod Completing
+pub mod EndCalls
 pub mod Feeding
 pub mod FileCalls
 pub mod FileEnds
@@ -8,6 +9,10 @@ pub mod Finding
 pub mod Holding
 pub mod Naming
 pub mod Pending
+pub mod Picked
+pub mod SessionCalls
+pub mod UploadAlone
+pub mod UploadCalls
 pub mod UploadLists
 pub mod Uploading
 pub mod Worlds

@@ -1,7 +1,7 @@
 -- Bytes that were not cut yet, in a buffer.
-use Rattle.std.proofs.Common.{◌≡◌, ℕ, ◌+◌, ◌-◌, ◌≤◌, List, ◌++◌, length, take, drop, refl, sym, ◌∙◌, ap, arith}
+use Rattle.std.proofs.Common.{◌≡◌, ℕ, ◌+◌, ◌-◌, List, ◌++◌, length, take, drop, sym, ◌∙◌, ap, arith}
 use Rattle.std.specs.Prelude.{slice_range}
-use Rattle.std.proofs.lemmas.List.{drop-append-le, drop-drop, length-drop, take_at}
+use Rattle.std.proofs.lemmas.List.{drop-drop, length-drop, take_at}
 
 -- the front of what is left
 pub front-left : (xs : List ℕ) (start count : ℕ) → slice_range xs start (start + count) ≡ take count (drop start xs)

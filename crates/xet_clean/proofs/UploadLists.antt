@@ -1,51 +1,58 @@
 -- Several uploads in a row: what the session has of them, and what becomes of the list of files.
 use Rattle.std.proofs.Common.{◌≡◌, ℕ, ◌+◌, ◌<◌, ◌≤◌, ◌⊎◌, inl, inr, true, false, List, [], ◌∷◌, ◌++◌, length, map, take, drop, set, get_or, refl, sym, ◌∙◌, ap, subst, arith}
-use Rattle.std.specs.Prelude.{All, Contains, Result, Ok, Err, OnOk}
-use Rattle.std.proofs.lemmas.List.{append-nil, drop-set, drop-set-lt, drop_more, get_or_default, length-drop, length-map, map-append, map-set, take-append-drop, take-set, take_all, take_more, take_more_set}
+use Rattle.std.specs.Prelude.{Option, Some, All, Contains, Result, Ok, Err}
+use Rattle.std.proofs.lemmas.List.{append_assoc, append-nil, drop-set, drop-set-lt, drop_more, get_or_default, length-drop, length-map, map-append, map-set, take-append-drop, take-set, take_all, take_more, take_more_set}
+use Rattle.std.specs.List.{concat}
+use Rattle.std.proofs.lemmas.List.Concat.{flat_map-append}
 use Rattle.std.proofs.lemmas.List.Elements.{All-nil, All-append, All-cons, All-weaker}
 use Rattle.std.proofs.Math.ListN.{get_or-map}
 use Rattle.std.proofs.lemmas.Grind.{drop_more_same}
 use Rattle.xet_base.specs.declared.mdb_shard.Xorb.{Xorb}
 use Rattle.xet_base.specs.declared.merklehash.MerkleHash.{MerkleHash}
+use Rattle.xet_base.specs.Digests.{file_hash_of, infos_of}
 use Rattle.xet_base.specs.Store.{Store}
 use Rattle.xet_outside.specs.Told.{SourceTold}
 use Rattle.xet_pointer.specs.declared.xet_file_info.XetFileInfo.{XetFileInfo}
 use Rattle.xet_uploader.specs.declared.uploader.Put.TheVariants as put
+use Rattle.xet_upload.specs.Metrics.{no_counts}
 use Rattle.xet_upload.specs.Standing.{world}
+use Rattle.xet_upload.specs.declared.metrics.DeduplicationMetrics.{DeduplicationMetrics}
 use Rattle.xet_upload.specs.declared.data_error.DataError.{DataError}
-use Rattle.xet_upload.specs.declared.data_error.DataError.TheVariants as data_error
 use Rattle.xet_session.specs.Calls.{Backs, Keeps, finalized_error}
+use Rattle.xet_session.specs.Completions.{with_file_counts}
 use Rattle.xet_session.specs.Sessions.{HasListed, SessionTold, log_of}
-use Rattle.xet_session.specs.Sounds.{XorbsAgree}
 use Rattle.xet_session.proofs.CallerLemmas.{keeps-both, keeps-refl}
-use Rattle.xet_clean.specs.Cleanings.{IsHonest}
+use Rattle.xet_clean.specs.Made.{IsMadeOf, IsPickedFrom}
 use Rattle.xet_clean.specs.Premises.{IsOpen, IsSteady, NoClash}
 use Rattle.xet_clean.specs.Records.{CleanedFile, HasRecord}
-use Rattle.xet_clean.specs.Uploads.{FailsAt, FailsFirst, FileTold, HasUploads, IsUpload, SessionFails, SourceFails, StopsBehind, TakesOff, Upload, UploadsFiles, file_after, recorded_file, upload_pointer}
-use Rattle.xet_clean.specs.steps.Uploading.{Progress, UploadsFile}
+use Rattle.xet_clean.specs.Cleaners.{CountsChunks}
+use Rattle.xet_clean.specs.Uploads.{CountsFiles, EndsUpload, EndsUploads, fixed_sizes, FailsFirst, FileTold, HasUploads, IsUpload, SessionFails, SourceFails, StopsBehind, StopsUpload, TakesOff, Upload, UploadsFiles, all_chunks, file_after, recorded_file, upload_pointer}
+use Rattle.xet_clean.specs.steps.Uploading.{Progress, UploadsAlone, UploadsFile}
 use Rattle.xet_clean.proofs.Cleaning.{clash-after, clash-before, leaves-refl}
-use Rattle.xet_clean.proofs.Completing.{backs-both}
+use Rattle.xet_clean.proofs.Completing.{backs-both, waits-still}
 use Rattle.xet_clean.proofs.Feeding.{never}
 use Rattle.xet_clean.proofs.Holding.{opened}
+use Rattle.xet_clean.proofs.Picked.{made-later, made-none, picked-later}
 use Rattle.xet_clean.proofs.Uploading.{chunk-later}
 use Rattle.xet_clean.proofs.Worlds.{agree-alone, world-has}
 
 -- ---- what the session has
 
-pub uploads-none : (b n : SessionTold) → n ≡ b → HasListed b → HasUploads b n []
+pub uploads-none : (b n : SessionTold) → n ≡ b → HasListed b → HasUploads b n [] []
 uploads-none b n e listed = record {
   keeps = keeps-refl b n e;
   backs = (leaves-refl b n e).backs listed;
   made = [];
-  honest = All-nil IsHonest;
-  cut = [];
+  made_of = made-none (b.waiting.chunks ++ []);
+  waits = waits-still b n [] (ap (λ (z : SessionTold). z.waiting) e);
   are = All-nil IsUpload;
   holds = λ k f s o a r. subst (λ (z : SessionTold). HasRecord k z f) (sym e) r;
   stand = λ k s o a. All-nil (λ (u : Upload). HasRecord k n (recorded_file u));
 }
 
 module _ (b m n : SessionTold) (done : List Upload) (f : FileTold) (s : SourceTold)
-    (answer : Result XetFileInfo DataError) (h : HasUploads b m done) (x : UploadsFile m n f s answer) where
+    (answer : Result XetFileInfo DataError) (h : HasUploads b m (all_chunks done) done)
+    (x : UploadsFile m n f s answer) where
   keeps : Keeps b n
   keeps = keeps-both b m n h.keeps x.keeps
 
@@ -55,25 +62,29 @@ module _ (b m n : SessionTold) (done : List Upload) (f : FileTold) (s : SourceTo
   abbrev made : List Xorb
   made = h.made ++ x.made
 
-  honest : All IsHonest made
-  honest = All-append IsHonest h.made x.made h.honest x.honest
-
   abbrev cut : List (List ℕ)
-  cut = h.cut ++ x.cut
+  cut = all_chunks done ++ x.cut
+
+  made_of : All (IsMadeOf (b.waiting.chunks ++ cut)) made
+  made_of = made-later b.waiting.chunks m.waiting.chunks (all_chunks done) x.cut h.made x.made h.waits h.made_of
+      x.made_of
+
+  waits : IsPickedFrom n.waiting.chunks (b.waiting.chunks ++ cut)
+  waits = picked-later n.waiting.chunks m.waiting.chunks b.waiting.chunks (all_chunks done) x.cut x.waits h.waits
 
   abbrev one : Upload
-  one = record { file = f; source = s; bytes = x.bytes; hash = x.hash }
+  one = record { file = f; source = s; bytes = x.bytes; chunks = x.cut; hash = x.hash }
 
   module _ (k : Store) (y : IsSteady k b) (o : IsOpen n) (clash : NoClash (world k (log_of n)) made cut) where
     grown : (z : Xorb) → Contains (world k (log_of m)).xorbs z → Contains (world k (log_of n)).xorbs z
     grown z e = let g = x.keeps.grew (h.keeps.tells y.tells) in world-has k (log_of m) (log_of n)
         (map put.Xorb g.xorbs) g.grown z e
 
-    before : NoClash (world k (log_of m)) h.made h.cut
-    before = clash-before k m n grown h.made x.made h.cut x.cut clash
+    before : NoClash (world k (log_of m)) h.made (all_chunks done)
+    before = clash-before k m n grown h.made x.made (all_chunks done) x.cut clash
 
     after : NoClash (world k (log_of n)) x.made x.cut
-    after = clash-after k m n grown h.made x.made h.cut x.cut clash
+    after = clash-after k m n grown h.made x.made (all_chunks done) x.cut clash
 
     middle : IsSteady k m
     middle = record {
@@ -96,30 +107,33 @@ module _ (b m n : SessionTold) (done : List Upload) (f : FileTold) (s : SourceTo
         All-weaker P Q (λ u r. x.holds k (recorded_file u) middle o after r) done (h.stand k y was_open before)
 
   -- the next file was not uploaded
-  pub uploads-same : HasUploads b n done
+  pub uploads-same : HasUploads b n cut done
   uploads-same = record {
     keeps = keeps;
     backs = backs;
     made = made;
-    honest = honest;
-    cut = cut;
+    made_of = made_of;
+    waits = waits;
     are = h.are;
     holds = λ k g y o a r. uploads-hold k y o a g r;
     stand = uploads-stand;
   }
 
   -- it was
-  uploads-added : length x.bytes ≡ f.size → ((k : Store) → IsSteady k m → IsOpen n → NoClash (world k
-      (log_of n)) x.made x.cut → HasRecord k n (recorded_file one)) → HasUploads b n (done ++ one ∷ [])
-  uploads-added size stands = record {
+  uploads-added : length x.bytes ≡ f.size → x.rest ≡ [] → x.hash ≡ file_hash_of (infos_of x.cut)
+      → ((k : Store) → IsSteady k m → IsOpen n → NoClash (world k (log_of n)) x.made x.cut
+      → HasRecord k n (recorded_file one)) → HasUploads b n cut (done ++ one ∷ [])
+  uploads-added size rest hash stands = record {
     keeps = keeps;
     backs = backs;
     made = made;
-    honest = honest;
-    cut = cut;
+    made_of = made_of;
+    waits = waits;
     are = All-append IsUpload done (one ∷ []) h.are (All-cons IsUpload one [] (record {
       taken = x.taken;
       size = size;
+      bytes = x.bytes_are ∙ ap (λ (xs : List ℕ). concat x.cut ++ xs) rest ∙ append-nil (concat x.cut);
+      hash = hash;
     }) (All-nil IsUpload));
     holds = λ k g y o a r. uploads-hold k y o a g r;
     stand = λ k y o a.
@@ -133,10 +147,61 @@ module _ (b m n : SessionTold) (done : List Upload) (f : FileTold) (s : SourceTo
   session-later e (inl w) = inl (chunk-later b m n e h.keeps w)
   session-later e (inr q) = inr q
 
+-- the upload that a call made
+abbrev pub upload_of : {m n : SessionTold} {answer : Result XetFileInfo DataError} (f : FileTold) (s : SourceTold)
+    → UploadsFile m n f s answer → Upload
+upload_of f s x = record { file = f; source = s; bytes = x.bytes; chunks = x.cut; hash = x.hash }
+
+-- the chunks of one upload more
+chunks-more : (done : List Upload) (u : Upload) → all_chunks done ++ u.chunks ≡ all_chunks (done ++ u ∷ [])
+chunks-more done u = ap (λ (cs : List (List ℕ)). all_chunks done ++ cs) (sym (append-nil u.chunks))
+    ∙ sym (flat_map-append (λ (z : Upload). z.chunks) done (u ∷ []))
+
 pub uploads-more : (b m n : SessionTold) (done : List Upload) (f : FileTold) (s : SourceTold) (info : XetFileInfo)
-    → HasUploads b m done → (x : UploadsFile m n f s (Ok info)) → HasUploads b n
-    (done ++ record { file = f; source = s; bytes = x.bytes; hash = x.hash } ∷ [])
-uploads-more b m n done f s info h x = uploads-added b m n done f s (Ok info) h x x.whole (λ k y o a. x.stands k y o a)
+    → HasUploads b m (all_chunks done) done → (x : UploadsFile m n f s (Ok info)) → HasUploads b n
+    (all_chunks (done ++ upload_of f s x ∷ [])) (done ++ upload_of f s x ∷ [])
+uploads-more b m n done f s info h x =
+    let u = upload_of f s x in
+    let P : List (List ℕ) → Type 0 = λ cs. HasUploads b n cs (done ++ u ∷ []) in
+    subst P (chunks-more done u) (uploads-added b m n done f s (Ok info) h x x.whole x.all x.hash_is
+    (λ k y o a. x.stands k y o a))
+
+-- the calls, with those of one file more
+pub ends-more : (now : ℕ) (b m n : SessionTold) (done : List Upload) (u : Upload) → EndsUploads now done b m
+    → EndsUpload now m n u.file u.bytes (Ok tt) → EndsUploads now (done ++ u ∷ []) b n
+ends-more now b m n [] u e x = (
+  n,
+  subst (λ (t : SessionTold). EndsUpload now t n u.file u.bytes (Ok tt)) e x,
+  refl,
+)
+ends-more now b m n (v ∷ done) u e x = (e.0, e.1, ends-more now e.0 m n done u e.2 x)
+
+-- the counts, with those of one file more
+pub counts-more : (m x n : DeduplicationMetrics) (done : List Upload) (u : Upload) (counts : DeduplicationMetrics)
+    → CountsFiles m done x → CountsChunks no_counts u.chunks counts
+    → n ≡ record (with_file_counts x counts) { xorb_bytes_uploaded = n.xorb_bytes_uploaded }
+    → CountsFiles m (done ++ u ∷ []) n
+counts-more m x n [] u counts e k w = (
+  counts,
+  k,
+  w ∙ ap (λ (y : DeduplicationMetrics). record
+      (with_file_counts y counts) { xorb_bytes_uploaded = n.xorb_bytes_uploaded }) e,
+)
+counts-more m x n (v ∷ done) u counts e k w =
+    (e.0, e.1, counts-more (with_file_counts m e.0) x n done u counts e.2 k w)
+
+-- the sizes of the files that the tracker knows, with one file more
+pub sizes-begin : (before : List (Option ℕ)) → before ≡ before ++ fixed_sizes (map (λ (u : Upload). u.file) [])
+sizes-begin before = sym (append-nil before)
+
+pub sizes-more : (before m n : List (Option ℕ)) (done : List Upload) (u : Upload)
+    → m ≡ before ++ fixed_sizes (map (λ z. z.file) done) → n ≡ m ++ Some u.file.size ∷ []
+    → n ≡ before ++ fixed_sizes (map (λ z. z.file) (done ++ u ∷ []))
+sizes-more before m n done u e g =
+    let all = fixed_sizes (map (λ (z : Upload). z.file) done) in
+    g ∙ ap (λ (l : List (Option ℕ)). l ++ Some u.file.size ∷ []) e ∙ append_assoc before all (Some u.file.size ∷ [])
+    ∙ ap (λ (l : List (Option ℕ)). before ++ l) (sym (ap fixed_sizes (map-append (λ (z : Upload). z.file) done (u ∷ []))
+    ∙ map-append (λ (f : FileTold). Some f.size) (map (λ (z : Upload). z.file) done) (u.file ∷ [])))
 
 -- ---- the list of files
 
@@ -175,11 +240,11 @@ module _ (before after : List FileTold) (done : List Upload) (i : ℕ) (p : Prog
       drop-set-more x = let low : i < i + 1 = omega arith in drop-set-lt (i + 1) after i x low
 
   -- the next file failed
-  pub progress-stopped : (b n : SessionTold) (f : FileTold) (s : SourceTold) (bytes : List ℕ) (e : DataError)
-      → i < length after → get_or after i f ≡ f → TakesOff f.source s bytes → length bytes ≤ f.size → SourceFails
-      f.source s f.size bytes e ⊎ SessionFails b n e → StopsBehind b n done before (set after i (record f { source = s }))
-      e
-  progress-stopped b n f s bytes e lt is taken most why =
+  pub progress-stopped : (now : ℕ) (b m n : SessionTold) (f : FileTold) (s : SourceTold) (bytes rest : List ℕ)
+      (part : List (List ℕ)) (e : DataError) → i < length after → get_or after i f ≡ f → TakesOff f.source s bytes
+      → length bytes ≤ f.size → bytes ≡ concat part ++ rest → StopsUpload now m n f bytes e
+      → SourceFails f.source s f.size bytes e ⊎ SessionFails b n e → StopsBehind now b m n done part before (set after i (record f { source = s })) e
+  progress-stopped now b m n f s bytes rest part e lt is taken most bytes_are calls why =
       let g : FileTold = record f { source = s } in
       record {
         rest = f ∷ drop (i + 1) before;
@@ -188,7 +253,8 @@ module _ (before after : List FileTold) (done : List Upload) (i : ℕ) (p : Prog
             ∙ ap (λ (xs : List FileTold). map (λ (u : Upload). u.file) done ++ xs) (drop_more before i f (within lt)
             ∙ ap (λ (x : FileTold). x ∷ drop (i + 1) before) (next-same f lt is));
         after_are = sym (take-append-drop i (set after i g)) ∙ ap (λ (xs : List FileTold). xs ++ drop i (set after i g))
-            (take-set after i g ∙ p.left) ∙ ap (λ (xs : List FileTold). map file_after done ++ xs) (drop-set after i g lt
+            (take-set after i g ∙ p.left) ∙ ap (λ (xs : List FileTold). map file_after done ++ xs)
+            (drop-set after i g lt
             ∙ ap (λ (xs : List FileTold). g ∷ xs) (drop_more_same after before i p.rest));
         why = inl (record {
           file = f;
@@ -199,6 +265,9 @@ module _ (before after : List FileTold) (done : List Upload) (i : ℕ) (p : Prog
           bytes = bytes;
           taken = taken;
           most = most;
+          uncut = rest;
+          bytes_are = bytes_are;
+          calls = calls;
           why = why;
         });
       }
@@ -221,12 +290,19 @@ progress-none files = record { taken = refl; left = refl; rest = refl }
 -- ---- the call
 
 -- nothing was done
-pub all-unbegun : (b n : SessionTold) (before after : List FileTold) (e : DataError) → n ≡ b → after ≡ before
+pub all-unbegun : (now : ℕ) (b n : SessionTold) (before after : List FileTold) (e : DataError) → n ≡ b → after ≡ before
     → HasListed b → (b.finalized ≡ true → e ≡ finalized_error) → FailsFirst b e
-    → UploadsFiles b n before after (Err e)
-all-unbegun b n before after e same are listed fin why = record {
+    → UploadsFiles now b n before after (Err e)
+all-unbegun now b n before after e same are listed fin why = record {
   done = [];
+  last = [];
   has = uploads-none b n same listed;
+  reached = b;
+  ended = refl;
+  no_more = tt;
+  none = tt;
+  unfailed = tt;
+  counts = tt;
   answers = tt;
   all = tt;
   after_are = tt;
@@ -241,12 +317,19 @@ all-unbegun b n before after e same are listed fin why = record {
 }
 
 -- a file failed
-pub all-stopped : (b n : SessionTold) (fs gs : List FileTold) (done : List Upload) (e : DataError)
-    → b.finalized ≡ false → HasUploads b n done → StopsBehind b n done fs gs e
-    → UploadsFiles b n fs gs (Err e)
-all-stopped b n fs gs done e fin has stops = record {
+pub all-stopped : (now : ℕ) (b m n : SessionTold) (fs gs : List FileTold) (done : List Upload) (cut : List (List ℕ))
+    (e : DataError) → b.finalized ≡ false → HasUploads b n (all_chunks done ++ cut) done
+    → EndsUploads now done b m → StopsBehind now b m n done cut fs gs e → UploadsFiles now b n fs gs (Err e)
+all-stopped now b m n fs gs done cut e fin has ended stops = record {
   done = done;
+  last = cut;
   has = has;
+  reached = m;
+  ended = ended;
+  no_more = tt;
+  none = tt;
+  unfailed = tt;
+  counts = tt;
   answers = tt;
   all = tt;
   after_are = tt;
@@ -255,12 +338,21 @@ all-stopped b n fs gs done e fin has stops = record {
 }
 
 -- all were uploaded
-pub all-done : (b n : SessionTold) (before after : List FileTold) (done : List Upload) (infos : List XetFileInfo) (i : ℕ)
-    → b.finalized ≡ false → HasUploads b n done → Progress before after done i → length after ≤ i
-    → infos ≡ map upload_pointer done → UploadsFiles b n before after (Ok infos)
-all-done b n before after done infos i fin has p h is = record {
+pub all-done : (now : ℕ) (b n : SessionTold) (before after : List FileTold) (done : List Upload)
+    (infos : List XetFileInfo) (i : ℕ)
+    → b.finalized ≡ false → n.failed ≡ b.failed → CountsFiles b.metrics done n.metrics
+    → HasUploads b n (all_chunks done) done → EndsUploads now done b n → Progress before after done i
+    → length after ≤ i → infos ≡ map upload_pointer done → UploadsFiles now b n before after (Ok infos)
+all-done now b n before after done infos i fin failed counts has ended p h is = record {
   done = done;
-  has = has;
+  last = [];
+  has = subst (λ (cs : List (List ℕ)). HasUploads b n cs done) (sym (append-nil (all_chunks done))) has;
+  reached = n;
+  ended = ended;
+  no_more = refl;
+  none = refl;
+  unfailed = (failed, has.keeps.steady (inl failed));
+  counts = counts;
   answers = is;
   all = progress-all before after done i p h;
   after_are = progress-left before after done i p h;
@@ -269,6 +361,14 @@ all-done b n before after done infos i fin has p h is = record {
 }
 
 -- ---- a step of the call, over the files as they are
+
+pub step-within : {F : Type 0} (told : F → FileTold) (before files : List F) (done : List Upload) (i : ℕ)
+    → Progress (map told before) (map told files) done i → i < length files → i < length before
+step-within told before files done i p lt =
+    let size = length-map files told in
+    let low = within (map told before) (map told files) done i p (omega (arith, lt, size)) in
+    let whole = length-map before told in
+    omega (arith, low, whole)
 
 module _ {F : Type 0} (told : F → FileTold) (before files : List F) (done : List Upload) (i : ℕ)
     (p : Progress (map told before) (map told files) done i) (old new : F) (s : SourceTold) (lt : i < length files)
@@ -282,34 +382,42 @@ module _ {F : Type 0} (told : F → FileTold) (before files : List F) (done : Li
   set-told : map told (set files i new) ≡ set (map told files) i (record (told old) { source = s })
   set-told = map-set told files i new ∙ ap (λ (x : FileTold). set (map told files) i x) is
 
-  pub step-more : (bytes : List ℕ) (hash : MerkleHash) → Progress (map told before) (map told (set files i new))
-      (done ++ record { file = told old; source = s; bytes = bytes; hash = hash } ∷ []) (i + 1)
-  step-more bytes hash =
-      let u : Upload = record { file = told old; source = s; bytes = bytes; hash = hash } in
+  pub step-more : (bytes : List ℕ) (chunks : List (List ℕ)) (hash : MerkleHash) → Progress (map told before)
+      (map told (set files i new)) (done ++ record {
+        file = told old;
+        source = s;
+        bytes = bytes;
+        chunks = chunks;
+        hash = hash;
+      } ∷ []) (i + 1)
+  step-more bytes chunks hash =
+      let u : Upload = record { file = told old; source = s; bytes = bytes; chunks = chunks; hash = hash } in
       let P : List FileTold → Type 0 = λ xs. Progress (map told before) xs (done ++ u ∷ []) (i + 1) in
       subst P (sym set-told) (progress-more (map told before) (map told files) done i p u below at-told)
 
-  pub step-stopped : (b m n : SessionTold) (e : DataError) → b.finalized ≡ false → HasUploads b m done → UploadsFile
-      m n (told old) s (Err e) → UploadsFiles b n (map told before) (map told (set files i new)) (Err e)
-  step-stopped b m n e fin h x =
-      let P : List FileTold → Type 0 = λ xs. UploadsFiles b n (map told before) xs (Err e) in
-      subst P (sym set-told) (all-stopped b n (map told before) (set (map told files) i
-      (record (told old) { source = s })) done e fin (uploads-same b m n done (told old) s (Err e) h x)
-      (progress-stopped (map told before) (map told files) done i p b n (told old) s x.bytes e below at-told x.taken
-      x.most (why-later (x.why h.backs.listed))))
+  pub step-stopped : (now : ℕ) (b m n : SessionTold) (e : DataError) → b.finalized ≡ false
+      → HasUploads b m (all_chunks done) done → EndsUploads now done b m → UploadsAlone now m n (told old) s (Err e)
+      → UploadsFiles now b n (map told before) (map told (set files i new)) (Err e)
+  step-stopped now b m n e fin h ended a =
+      let x = a.file in
+      let P : List FileTold → Type 0 = λ xs. UploadsFiles now b n (map told before) xs (Err e) in
+      subst P (sym set-told) (all-stopped now b m n (map told before) (set (map told files) i
+      (record (told old) { source = s })) done x.cut e fin (uploads-same b m n done (told old) s (Err e) h x) ended
+      (progress-stopped (map told before) (map told files) done i p now b m n (told old) s x.bytes x.rest x.cut e
+      below at-told x.taken x.most x.bytes_are a.stopped (why-later (x.why h.backs.listed))))
     where
-      why-later : SourceFails (told old).source s (told old).size x.bytes e ⊎ SessionFails m n e → SourceFails
-          (told old).source s (told old).size x.bytes e ⊎ SessionFails b n e
+      why-later : SourceFails (told old).source s (told old).size a.file.bytes e ⊎ SessionFails m n e → SourceFails
+          (told old).source s (told old).size a.file.bytes e ⊎ SessionFails b n e
       why-later (inl w) = inl w
-      why-later (inr w) = inr (session-later b m n done (told old) s (Err e) h x e w)
+      why-later (inr w) = inr (session-later b m n done (told old) s (Err e) h a.file e w)
 
 -- the answers, one more
 pub answers-more : (m n : SessionTold) (f : FileTold) (s : SourceTold) (info : XetFileInfo)
     (x : UploadsFile m n f s (Ok info)) (infos later : List XetFileInfo) (done : List Upload)
     → infos ≡ map upload_pointer done → later ≡ infos ++ info ∷ [] → later ≡ map upload_pointer
-    (done ++ record { file = f; source = s; bytes = x.bytes; hash = x.hash } ∷ [])
+    (done ++ upload_of f s x ∷ [])
 answers-more m n f s info x infos later done e g =
-    let u : Upload = record { file = f; source = s; bytes = x.bytes; hash = x.hash } in
+    let u : Upload = upload_of f s x in
     let is : info ≡ upload_pointer u = x.pointer in
     g ∙ ap (λ (xs : List XetFileInfo). xs ++ info ∷ []) e ∙ ap (λ (z : XetFileInfo). map upload_pointer done ++ z ∷ [])
     is ∙ sym (map-append upload_pointer done (u ∷ []))

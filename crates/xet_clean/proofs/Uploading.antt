@@ -1,43 +1,48 @@
 -- Files that are uploaded from their sources.
-use Rattle.std.proofs.Common.{◌≡◌, ℕ, ◌+◌, ◌<◌, ◌≤◌, ◌^◌, ◌-◌, ◌⊎◌, inl, inr, Bool, true, false, eqb, List, [], ◌∷◌, ◌++◌, length, map, take, drop, refl, sym, ◌∙◌, ap, subst, arith}
+use Rattle.std.proofs.Common.{◌≡◌, ℕ, ◌+◌, ◌<◌, ◌≤◌, ◌^◌, ◌-◌, ◌⊎◌, inl, inr, Bool, true, false, eqb, List, [], ◌∷◌, ◌++◌, length, map, take, refl, sym, ◌∙◌, ap, subst, arith}
 use Rattle.std.specs.Prelude.{All, Contains, Option, Some, None, Result, Ok, Err, IfErr, IfOk, IfSome, OnOk, option_map, unwrap_or}
+use Rattle.std.specs.List.{concat}
 use Rattle.std.specs.Option.{option_or}
 use Rattle.std.proofs.lemmas.Bool.Decides.{eqb_tells}
-use Rattle.std.proofs.lemmas.List.{append_assoc, length-append, length-take-le, take-append-le}
-use Rattle.std.proofs.lemmas.List.Elements.{All-nil, All-append, All-cons}
+use Rattle.std.proofs.lemmas.List.{append_assoc, length-append, length-take-le, map-append, take-append-le}
+use Rattle.std.proofs.lemmas.List.Elements.{All-nil}
 use Rattle.xet_base.specs.declared.invalid.Invalid.TheVariants as invalid
 use Rattle.xet_base.specs.declared.item_id.UniqueID.{UniqueID}
 use Rattle.xet_base.specs.declared.mdb_shard.Xorb.{Xorb}
 use Rattle.xet_base.specs.declared.merklehash.MerkleHash.{MerkleHash}
-use Rattle.xet_base.specs.Digests.{file_hash_of}
+use Rattle.xet_base.specs.declared.mdb_shard.ChunkInfo.{ChunkInfo}
+use Rattle.xet_base.specs.Digests.{file_hash_of, info_of, infos_of}
 use Rattle.xet_base.specs.Store.{Store}
-use Rattle.xet_outside.specs.Told.{ReadCall, Rose, SourceTold}
+use Rattle.xet_outside.specs.Told.{ReadCall, SourceTold}
 use Rattle.xet_pointer.specs.declared.xet_file_info.XetFileInfo.{XetFileInfo}
 use Rattle.xet_progress.specs.declared.step.TrackerStep.{TrackerStep}
 use Rattle.xet_progress.specs.declared.step.TrackerStep.TheVariants.{RegisterNewFile}
 use Rattle.xet_uploader.specs.declared.uploader.Put.TheVariants as put
 use Rattle.xet_upload.specs.FileDatas.{Parts}
+use Rattle.xet_upload.specs.Metrics.{no_counts}
 use Rattle.xet_upload.specs.Standing.{world}
-use Rattle.xet_upload.specs.Waitings.{no_waiting}
+use Rattle.xet_upload.specs.Waitings.{Waiting, no_waiting}
 use Rattle.xet_upload.specs.declared.data_error.DataError.{DataError}
 use Rattle.xet_upload.specs.declared.data_error.DataError.TheVariants as data_error
 use Rattle.xet_upload.specs.declared.metrics.DeduplicationMetrics.{DeduplicationMetrics}
 use Rattle.xet_upload.specs.declared.sha256_policy.Sha256Policy.{Sha256Policy}
-use Rattle.xet_session.specs.Calls.{Backs, Keeps, finalized_error}
+use Rattle.xet_session.specs.Calls.{Keeps, finalized_error}
+use Rattle.xet_session.specs.Completions.{with_file_counts}
 use Rattle.xet_session.specs.Sessions.{HasListed, SessionTold, log_of}
-use Rattle.xet_session.specs.Sounds.{XorbsAgree}
 use Rattle.xet_session.specs.Trackings.{IsRefusal, StartsFile, first_refusal, ids_used_up}
 use Rattle.xet_session.proofs.CallerLemmas.{keeps-both, keeps-refl, stores-later}
-use Rattle.xet_clean.specs.Cleaners.{AddFails, AddsData, Cleaner, CleanerStands, Feeds, Finishes, IsFed, IsFirstUnlisted, IsNewCleaner, PassesTotal, cleaned_file, pointer_to, recorded_sha256, total_of, unknown_xorb}
-use Rattle.xet_clean.specs.Cleanings.{AreNamed, ChunkFails, CleanFails, IsHonest, Leaves, TrackFails}
+use Rattle.xet_clean.specs.Cleaners.{Counts, CountsChunks, AddFails, AddsData, Cleaner, CleanerStands, Finishes, IsFed, IsFirstUnlisted, IsNewCleaner, PassesTotal, pointer_to, recorded_sha256, total_of, unknown_xorb}
+use Rattle.xet_clean.specs.Cleanings.{AreNamed, ChunkFails, NoFault, TrackFails}
+use Rattle.xet_clean.specs.Made.{IsMadeOf, IsPickedFrom}
 use Rattle.xet_clean.specs.Premises.{IsOpen, IsSteady, NoClash, waiting_xorb}
 use Rattle.xet_clean.specs.Records.{CleanedFile, HasRecord}
-use Rattle.xet_clean.specs.Uploads.{FileTold, SessionFails, SourceFails, TakesOff, Upload, recorded_file, upload_pointer}
+use Rattle.xet_clean.specs.Uploads.{FileTold, SessionFails, SourceFails, TakesOff}
 use Rattle.xet_clean.specs.steps.Uploading.{Poured, Pours, UploadsFile}
 use Rattle.xet_clean.proofs.Cleaning.{clash-after, clash-before, leaves-both, leaves-refl, steady-left}
-use Rattle.xet_clean.proofs.Completing.{backs-both, none-missing}
-use Rattle.xet_clean.proofs.Feeding.{feeds-both, feeds-none, never-failed}
+use Rattle.xet_clean.proofs.Completing.{backs-both, none-missing, waits-still}
+use Rattle.xet_clean.proofs.Feeding.{counts-both, feeds-both, feeds-none, never-failed}
 use Rattle.xet_clean.proofs.Holding.{left-holds, opened}
+use Rattle.xet_clean.proofs.Picked.{bytes-later, made-both, made-none, made-one, made-wider, picked-all, picked-behind, picked-both, picked-first, picked-front, picked-trans}
 use Rattle.xet_clean.proofs.Worlds.{agree-alone, world-has}
 
 -- ---- errors, and answers
@@ -174,6 +179,11 @@ left-more left size k xs into sum within most =
     let front = length-take-le k into within in
     omega (arith, sum, within, most, both, front)
 
+-- the size of a cleaner stays
+pub size-kept : (b n : SessionTold) (s t : SourceTold) (c d : Cleaner) (xs : List ℕ) (total : Option ℕ)
+    → Poured b n s t c d xs → c.size ≡ total → d.size ≡ total
+size-kept b n s t c d xs total p is = ap (λ (z : Cleaner). z.size) p.feeds.same ∙ is
+
 pub pours-ok : (b n : SessionTold) (s t : SourceTold) (c d : Cleaner) (size : ℕ) (w : Unit {0}) (xs : List ℕ)
     → Poured b n s t c d xs → length xs ≡ size → Pours b n s t c d size (Ok w)
 pours-ok b n s t c d size w xs p whole = record {
@@ -240,6 +250,15 @@ module _ (b m : SessionTold) (s t : SourceTold) (c x : Cleaner) (size : ℕ) (xs
         let all = total in
         omega (arith, sum, all, is_fed, most, passes)
 
+    -- nor does a piece that a read gave pass it
+    pub piece-fits : {E : Type 0} (u : SourceTold) (into rest : List ℕ) (k left : ℕ) → left + length xs ≡ size
+        → length into ≤ left → ReadCall {E = E} t u into (Ok k) → PassesTotal x (take k (into ++ rest)) → ⊥
+    piece-fits u into rest k left sum most r passes =
+        let within : k ≤ length into = r.count in
+        let front = length-take-le k into within in
+        let P : List ℕ → Type 0 = λ ys. PassesTotal x ys in
+        fits (take k into) (omega (arith, sum, most, within, front)) (subst P (piece-front into rest k within) passes)
+
     -- the cleaner failed
     pub pours-stopped : (n : SessionTold) (u : SourceTold) (d : Cleaner) (ys : List ℕ) (e : DataError) → length xs +
         length ys ≤ size → TakesOff t u ys → AddsData m n x ys d (Err e) → Pours b n s u c d size (Err e)
@@ -276,11 +295,6 @@ module _ (b m : SessionTold) (s t : SourceTold) (c x : Cleaner) (size : ℕ) (xs
 no_hash : MerkleHash
 no_hash = file_hash_of []
 
--- what a call left as it was before
-pub file-from : (a b n : SessionTold) (f : FileTold) (s : SourceTold) (answer : Result XetFileInfo DataError) → b ≡ a
-    → UploadsFile b n f s answer → UploadsFile a n f s answer
-file-from a b n f s answer e x = subst (λ (z : SessionTold). UploadsFile z n f s answer) e x
-
 -- the file wasn't begun
 pub file-unbegun : (b n : SessionTold) (f : FileTold) (s : SourceTold) (e : DataError) → n ≡ b → s ≡ f.source
     → ChunkFails b n e → UploadsFile b n f s (Err e)
@@ -288,10 +302,17 @@ file-unbegun b n f s e same is why = record {
   keeps = keeps-refl b n same;
   backs = (leaves-refl b n same).backs;
   made = [];
-  honest = All-nil IsHonest;
   cut = [];
+  made_of = made-none (b.waiting.chunks ++ []);
+  waits = waits-still b n [] (ap (λ (z : SessionTold). z.waiting) same);
   bytes = [];
+  rest = [];
+  bytes_are = refl;
+  all = tt;
   hash = no_hash;
+  hash_is = tt;
+  unfailed = tt;
+  counts = tt;
   taken = takes-none f.source s is;
   most = omega arith;
   whole = tt;
@@ -314,10 +335,17 @@ file-unfed b n f s c d e p = record {
   keeps = p.leaves.keeps;
   backs = p.leaves.backs;
   made = [];
-  honest = All-nil IsHonest;
   cut = [];
+  made_of = made-none (b.waiting.chunks ++ []);
+  waits = waits-still b n [] p.leaves.waiting;
   bytes = p.bytes;
+  rest = p.bytes;
+  bytes_are = refl;
+  all = tt;
   hash = no_hash;
+  hash_is = tt;
+  unfailed = tt;
+  counts = tt;
   taken = p.taken;
   most = p.most;
   whole = tt;
@@ -341,9 +369,53 @@ module _ (b m n : SessionTold) (f : FileTold) (s : SourceTold) (c d : Cleaner) (
   abbrev cut : List (List ℕ)
   cut = p.feeds.cut ++ z.cut
 
-  honest : All IsHonest made
-  honest = All-append IsHonest p.feeds.made (waiting_xorb m ∷ z.made) p.feeds.honest (All-cons IsHonest
-      (waiting_xorb m) z.made refl z.honest)
+  -- a new file has no chunks and no bytes
+  no_own : c.parts.own.chunks ≡ []
+  no_own = ap (λ (w : Parts). w.own.chunks) new.parts
+
+  -- its own chunks and the later ones, of those that were cut
+  file-own : IsPickedFrom (d.parts.own.chunks ++ z.cut) cut
+  file-own =
+      let P : List (List ℕ) → Type 0 = λ cs. IsPickedFrom d.parts.own.chunks (cs ++ p.feeds.cut) in
+      picked-first d.parts.own.chunks p.feeds.cut z.cut (subst P no_own p.feeds.into.own)
+
+  waited : IsPickedFrom m.waiting.chunks (b.waiting.chunks ++ cut)
+  waited = waits-still b m cut p.leaves.waiting
+
+  file-made : All (IsMadeOf (b.waiting.chunks ++ cut)) made
+  file-made =
+      let all = b.waiting.chunks ++ cut in
+      let P : List (List ℕ) → Type 0 = λ cs. All (IsMadeOf (cs ++ p.feeds.cut)) p.feeds.made in
+      let first = made-wider p.feeds.cut all p.feeds.made (picked-behind b.waiting.chunks p.feeds.cut cut (picked-front
+      p.feeds.cut p.feeds.cut z.cut (picked-all p.feeds.cut))) (subst P no_own p.feeds.into.made_of) in
+      let second = made-one m.waiting.chunks all waited in
+      let third = made-wider (d.parts.own.chunks ++ z.cut) all z.made (picked-behind b.waiting.chunks
+      (d.parts.own.chunks ++ z.cut) cut file-own) z.made_of in
+      made-both all p.feeds.made (waiting_xorb m ∷ z.made) first
+      (made-both all (waiting_xorb m ∷ []) z.made second third)
+
+  file-waits : IsPickedFrom n.waiting.chunks (b.waiting.chunks ++ cut)
+  file-waits =
+      let P : Waiting → Type 0 = λ w. IsPickedFrom n.waiting.chunks (w.chunks ++ (d.parts.own.chunks ++ z.cut)) in
+      picked-trans n.waiting.chunks (b.waiting.chunks ++ (d.parts.own.chunks ++ z.cut)) (b.waiting.chunks ++ cut)
+      (subst P p.leaves.waiting z.waits) (picked-both b.waiting.chunks (d.parts.own.chunks ++ z.cut)
+      b.waiting.chunks cut (picked-all b.waiting.chunks) file-own)
+
+  file-bytes : p.bytes ≡ concat cut ++ z.rest
+  file-bytes =
+      let P : List ℕ → Type 0 = λ xs. xs ++ p.bytes ≡ concat p.feeds.cut ++ d.pending in
+      bytes-later p.bytes d.pending z.rest p.feeds.cut z.cut (subst P new.pending p.feeds.pending) z.pending
+
+  file-infos : d.parts.infos ++ infos_of z.cut ≡ infos_of cut
+  file-infos =
+      let P : List ChunkInfo → Type 0 = λ is. d.parts.infos ≡ is ++ infos_of p.feeds.cut in
+      let first = subst P (ap (λ (w : Parts). w.infos) new.parts) p.feeds.into.infos in
+      ap (λ (is : List ChunkInfo). is ++ infos_of z.cut) first ∙ sym (map-append info_of p.feeds.cut z.cut)
+
+  file-hash : (a : Result (XetFileInfo × DeduplicationMetrics) DataError) → OnOk a (z.hash ≡ file_hash_of
+      (d.parts.infos ++ infos_of z.cut)) → OnOk (info_of_answer a) (z.hash ≡ file_hash_of (infos_of cut))
+  file-hash (Ok r) e = e ∙ ap file_hash_of file-infos
+  file-hash (Err e) a = tt
 
   whole : length p.bytes ≡ f.size
   whole = p.whole
@@ -403,35 +475,63 @@ module _ (b m n : SessionTold) (f : FileTold) (s : SourceTold) (c d : Cleaner) (
       let P : Parts → Type 0 = λ w. AreNamed b.listed w.terms in
       p.feeds.named i (opened m n z.keeps o) (subst P (sym new.parts) (All-nil (Contains b.listed)))
 
+  -- the names of its terms are on the list of an open session
+  pub file-unlisted : HasListed b → (h : MerkleHash) → IsFirstUnlisted m.listed d.parts.terms h → IsOpen n → ⊥
+  file-unlisted i h first o = none-missing m n d (p.leaves.backs i).listed (named i o) h first
+
   file-fails : HasListed b → (a : Result (XetFileInfo × DeduplicationMetrics) DataError) → IfErr a (λ e.
       (d.failed ≡ Some e) ⊎ ((h : MerkleHash) × IsFirstUnlisted m.listed d.parts.terms h × (e ≡ unknown_xorb h))
       ⊎ ChunkFails m n e) → IfErr (info_of_answer a) (λ e. SourceFails f.source s f.size p.bytes e
       ⊎ SessionFails b n e)
   file-fails i (Ok r) w = tt
   file-fails i (Err e) (inl k) = never-failed d.failed e p.unfailed k
-  file-fails i (Err e) (inr (inl q)) = inr (inr (
-    q.0,
-    q.2,
-    λ o. none-missing m n d (p.leaves.backs i).listed
-        (named i o) q.0 q.1,
-  ))
+  file-fails i (Err e) (inr (inl q)) = inr (inr (q.0, q.2, file-unlisted i q.0 q.1))
   file-fails i (Err e) (inr (inr w)) = inr (inl (chunk-later b m n e p.leaves.keeps w))
 
-  -- the file was ended, or this failed
-  pub file-ended : UploadsFile b n f s (info_of_answer answer)
-  file-ended = record {
-    keeps = keeps-both b m n p.leaves.keeps z.keeps;
-    backs = λ h. backs-both b m n p.leaves.keeps (keeps-both b m n p.leaves.keeps z.keeps) (p.leaves.backs h) z.backs;
-    made = made;
-    honest = honest;
-    cut = cut;
-    bytes = p.bytes;
-    hash = z.hash;
-    taken = p.taken;
-    most = p.most;
-    whole = on-ok _ (info_of_answer answer) whole;
-    holds = λ k g y o a r. file-holds k y o a g r;
-    stands = λ k y o a. file-stands k y o a;
-    pointer = file-pointer answer (z.pointer p.bytes was_fed);
-    why = λ i. file-fails i answer z.why;
-  }
+  file-unfailed : (a : Result (XetFileInfo × DeduplicationMetrics) DataError) → OnOk a (NoFault m n)
+      → OnOk (info_of_answer a) (n.failed ≡ b.failed)
+  file-unfailed (Ok r) e = e.0 ∙ p.feeds.failed
+  file-unfailed (Err e) a = tt
+
+  -- the counts of its chunks, and those of the session
+  file-counts : (a : Result (XetFileInfo × DeduplicationMetrics) DataError)
+      → IfOk a (λ r. CountsChunks d.counts z.cut r.1) → IfOk a (λ r. Counts m n r.1)
+      → OnOk (info_of_answer a) ((counts : DeduplicationMetrics) × CountsChunks no_counts cut counts
+      × Counts b n counts)
+  file-counts (Err e) k w = tt
+  file-counts (Ok r) k w =
+      let P : DeduplicationMetrics → Type 0 = λ c. CountsChunks c p.feeds.cut d.counts in (
+        r.1,
+        counts-both no_counts d.counts r.1 p.feeds.cut z.cut (subst P new.counts p.feeds.counts) k,
+        w ∙ ap (λ (y : DeduplicationMetrics). record
+            (with_file_counts y r.1) { xorb_bytes_uploaded = n.metrics.xorb_bytes_uploaded }) p.leaves.counts,
+      )
+
+  -- the file was ended, or this failed; the bytes are those that were read
+  pub file-ended : (x : UploadsFile b n f s (info_of_answer answer)) × (x.bytes ≡ p.bytes)
+  file-ended = (
+    record {
+      keeps = keeps-both b m n p.leaves.keeps z.keeps;
+      backs = λ h. backs-both b m n p.leaves.keeps (keeps-both b m n p.leaves.keeps z.keeps) (p.leaves.backs h) z.backs;
+      made = made;
+      cut = cut;
+      made_of = file-made;
+      waits = file-waits;
+      bytes = p.bytes;
+      rest = z.rest;
+      bytes_are = file-bytes;
+      all = on-info (z.rest ≡ []) answer z.all;
+      hash = z.hash;
+      hash_is = file-hash answer z.hash_is;
+      unfailed = file-unfailed answer z.unfailed;
+      counts = file-counts answer z.counts z.counted;
+      taken = p.taken;
+      most = p.most;
+      whole = on-ok _ (info_of_answer answer) whole;
+      holds = λ k g y o a r. file-holds k y o a g r;
+      stands = λ k y o a. file-stands k y o a;
+      pointer = file-pointer answer (z.pointer p.bytes was_fed);
+      why = λ i. file-fails i answer z.why;
+    },
+    refl,
+  )

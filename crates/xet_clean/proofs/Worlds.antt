@@ -1,6 +1,6 @@
 -- Xorbs of a world that grows: what is found there, and what its chunks are.
-use Rattle.std.proofs.Common.{◌≡◌, ℕ, zero, suc, ◌<◌, ◌⊎◌, inl, inr, Bool, true, false, cond, List, [], ◌∷◌, ◌++◌, length, map, refl, sym, ◌∙◌, ap, subst, arith}
-use Rattle.std.specs.Prelude.{All, Contains, Option, Some, None, IsSome, Result, Ok, Err, find, is_ok, option_map, slice_index_or, unwrap_or}
+use Rattle.std.proofs.Common.{◌≡◌, ℕ, zero, suc, ◌<◌, inl, inr, Bool, true, false, cond, List, [], ◌∷◌, ◌++◌, length, map, refl, sym, ◌∙◌, ap, subst, arith}
+use Rattle.std.specs.Prelude.{Contains, Some, IsSome, Result, Ok, Err, find, is_ok, option_map, slice_index_or, unwrap_or}
 use Rattle.std.proofs.lemmas.Bool.{false≢true, true≢false}
 use Rattle.std.proofs.lemmas.List.{append_assoc, get_or-map, length-map}
 use Rattle.std.proofs.lemmas.List.Elements.{All-contains, Contains-append_left, Contains-append_right}
@@ -8,7 +8,7 @@ use Rattle.xet_base.specs.declared.merklehash.MerkleHash.{MerkleHash}
 use Rattle.xet_base.specs.declared.mdb_shard.Xorb.{Xorb}
 use Rattle.xet_base.specs.declared.mdb_shard.MDBXorbInfo.{MDBXorbInfo}
 use Rattle.xet_base.specs.Hashes.{hash_eq}
-use Rattle.xet_base.specs.Store.{Store, xorb_of, chunks_of}
+use Rattle.xet_base.specs.Store.{Store, xorb_of}
 use Rattle.xet_base.proofs.CallerLemmas.{hash_eq-true}
 use Rattle.xet_uploader.specs.declared.uploader.Put.{Put}
 use Rattle.xet_uploader.specs.Uploads.{xorbs_in}

@@ -9,10 +9,11 @@ use Rattle.sha2.specs.declared.Sha256.{Sha256}
 use Rattle.xet_base.specs.declared.invalid.Invalid.TheVariants as invalid
 use Rattle.xet_base.specs.declared.merklehash.MerkleHash.{MerkleHash}
 use Rattle.xet_base.specs.declared.mdb_shard.Xorb.{Xorb}
+use Rattle.xet_base.specs.Digests.{file_hash_of, infos_of}
 use Rattle.xet_base.specs.Store.{Store}
 use Rattle.xet_pointer.specs.declared.xet_file_info.XetFileInfo.{XetFileInfo}
 use Rattle.xet_upload.specs.FileDatas.{Parts, PartsStand, no_parts}
-use Rattle.xet_upload.specs.Metrics.{no_counts}
+use Rattle.xet_upload.specs.Metrics.{both, no_counts}
 use Rattle.xet_upload.specs.Standing.{world}
 use Rattle.xet_upload.specs.declared.data_error.DataError.{DataError}
 use Rattle.xet_upload.specs.declared.data_error.DataError.TheVariants as data_error
@@ -24,8 +25,9 @@ use Rattle.xet_session.specs.Calls.{Backs, Keeps, finalized_error}
 use Rattle.xet_session.specs.Completions.{with_file_counts}
 use Rattle.xet_session.specs.Sessions.{HasListed, SessionTold, log_of}
 use Rattle.xet_session.specs.Sounds.{XorbsAgree}
-use Rattle.xet_clean.specs.Cleanings.{AreNamed, ChunkFails, CleanFails, Cleans, IsHonest, Leaves, term_names}
+use Rattle.xet_clean.specs.Cleanings.{AreNamed, ChunkFails, CleanFails, Cleans, Leaves, NoFault, term_names}
 use Rattle.xet_clean.specs.FileCalls.{IsLate}
+use Rattle.xet_clean.specs.Made.{CutInto, IsMadeOf, IsPickedFrom}
 use Rattle.xet_clean.specs.Premises.{IsOpen, IsSteady, NoClash, waiting_xorb, with_xorbs}
 use Rattle.xet_clean.specs.Records.{CleanedFile, HasRecord}
 
@@ -80,6 +82,11 @@ abbrev pub chunk_counts : ℕ → Bool → DeduplicationMetrics
 chunk_counts n true = record no_counts { total_bytes = n; deduped_bytes = n; total_chunks = 1; deduped_chunks = 1 }
 chunk_counts n false = record no_counts { total_bytes = n; new_bytes = n; total_chunks = 1; new_chunks = 1 }
 
+-- counts with those of chunks, each of which was found or is new
+abbrev pub CountsChunks : DeduplicationMetrics → List (List ℕ) → DeduplicationMetrics → Type 0
+CountsChunks m [] n = n ≡ m
+CountsChunks m (c ∷ cs) n = (found : Bool) × CountsChunks (both m (chunk_counts (length c) found)) cs n
+
 -- bytes came behind those that wait
 pub record TakesIn (c : Cleaner) (bytes : List ℕ) (d : Cleaner) : Type 0 where
   pub same : d ≡ record c {
@@ -100,13 +107,17 @@ pub record CutsChunks (b n : SessionTold) (c d : Cleaner) : Type 0 where
   pub cut : List (List ℕ)
   pub cleans : Cleans b n c.parts d.parts cut
   pub pending : c.pending ≡ concat cut ++ d.pending
+  pub counts : CountsChunks c.counts cut d.counts
   pub same : d ≡ record c { parts = d.parts; pending = d.pending; counts = d.counts }
 
 -- the cleaner stands for these bytes too, and its terms are on the list as before
 pub record Feeds (b n : SessionTold) (c : Cleaner) (bytes : List ℕ) (d : Cleaner) : Type 0 where
   pub made : List Xorb
-  pub honest : All IsHonest made
   pub cut : List (List ℕ)
+  pub into : CutInto c.parts d.parts made cut
+  pub pending : c.pending ++ bytes ≡ concat cut ++ d.pending
+  pub failed : n.failed ≡ b.failed
+  pub counts : CountsChunks c.counts cut d.counts
   pub stands : (k : Store) (before : List ℕ) → IsSteady k b → IsOpen n → NoClash (world k (log_of n)) made cut
       → CleanerStands (world k (log_of b)) c before → CleanerStands (world k (log_of n)) d (before ++ bytes)
   pub fed : (before : List ℕ) → IsFed c before → IsFed d (before ++ bytes)
@@ -162,6 +173,7 @@ pub record AddsData (b n : SessionTold) (c : Cleaner) (bytes : List ℕ) (d : Cl
   pub leaves : Leaves b n
   pub ok : OnOk answer (Feeds b n c bytes d)
   pub failed : d.failed ≡ option_or c.failed (error_of answer)
+  pub unfailed : OnOk answer (NoFault b n)
   pub finalized : b.finalized ≡ true → (answer ≡ Err finalized_error) × (n ≡ b)
   pub kept : b.finalized ≡ false → (e : DataError) → c.failed ≡ Some e → (answer ≡ Err e) × (n ≡ b)
   pub past : b.finalized ≡ false → c.failed ≡ None → PassesTotal c bytes
@@ -216,8 +228,10 @@ pub record Completes (b n : SessionTold) (c : Cleaner)
   pub keeps : Keeps b n
   pub backs : HasListed b → Backs b n
   pub made : List Xorb
-  pub honest : All IsHonest made
+  pub made_of : All (IsMadeOf c.parts.own.chunks) made
+  pub waits : IsPickedFrom n.waiting.chunks (b.waiting.chunks ++ c.parts.own.chunks)
   pub hash : MerkleHash
+  pub hash_is : hash ≡ file_hash_of c.parts.infos
   pub holds : (k : Store) (f : CleanedFile) → IsSteady k b → IsOpen n
       → XorbsAgree (with_xorbs (world k (log_of n)) (waiting_xorb b ∷ made)) → HasRecord k b f → HasRecord k n f
   pub stands : (k : Store) (bytes : List ℕ) → IsSteady k b → IsOpen n
@@ -226,20 +240,27 @@ pub record Completes (b n : SessionTold) (c : Cleaner)
       → OnOk answer (HasRecord k n (cleaned_file c hash bytes))
   pub pointer : (bytes : List ℕ) → IsFed c bytes
       → IfOk answer (λ r. r.0 ≡ pointer_to hash (length bytes) (recorded_sha256 c.policy bytes))
+  pub unfailed : OnOk answer (n.failed ≡ b.failed)
   pub counts : IfOk answer (λ r. r.1 ≡ c.counts)
   pub counted : IfOk answer (λ r. Counts b n r.1)
   pub why : IfErr answer (CleanFails b n)
 
 -- a cleaner ended: what other records stand for is kept, and the session has a record that stands for what the cleaner
--- stood for
+-- stood for; the pending bytes were cut, each made xorb is picked from the file's own chunks and those that were cut,
+-- and what waits from what waited and these
 pub record Finishes (b n : SessionTold) (c : Cleaner)
     (answer : Result (XetFileInfo × DeduplicationMetrics) DataError) : Type 0 where
   pub keeps : Keeps b n
   pub backs : Backs b n
   pub made : List Xorb
-  pub honest : All IsHonest made
   pub cut : List (List ℕ)
+  pub rest : List ℕ
+  pub pending : c.pending ≡ concat cut ++ rest
+  pub all : OnOk answer (rest ≡ [])
+  pub made_of : All (IsMadeOf (c.parts.own.chunks ++ cut)) made
+  pub waits : IsPickedFrom n.waiting.chunks (b.waiting.chunks ++ (c.parts.own.chunks ++ cut))
   pub hash : MerkleHash
+  pub hash_is : OnOk answer (hash ≡ file_hash_of (c.parts.infos ++ infos_of cut))
   pub holds : (k : Store) (f : CleanedFile) → IsSteady k b → IsOpen n
       → NoClash (world k (log_of n)) (waiting_xorb b ∷ made) cut → HasRecord k b f → HasRecord k n f
   pub stands : (k : Store) (bytes : List ℕ) → IsSteady k b → IsOpen n
@@ -247,7 +268,9 @@ pub record Finishes (b n : SessionTold) (c : Cleaner)
       → OnOk answer (HasRecord k n (cleaned_file c hash bytes))
   pub pointer : (bytes : List ℕ) → IsFed c bytes
       → IfOk answer (λ r. r.0 ≡ pointer_to hash (length bytes) (recorded_sha256 c.policy bytes))
+  pub counts : IfOk answer (λ r. CountsChunks c.counts cut r.1)
   pub counted : IfOk answer (λ r. Counts b n r.1)
+  pub unfailed : OnOk answer (NoFault b n)
   pub finalized : b.finalized ≡ true → (answer ≡ Err finalized_error) × (n ≡ b)
   pub kept : b.finalized ≡ false → (e : DataError) → c.failed ≡ Some e → (answer ≡ Err e) × (n ≡ b)
   pub unknown : b.finalized ≡ false → c.failed ≡ None → (h : MerkleHash) → IsFirstUnlisted b.listed c.parts.terms h

@@ -10,13 +10,13 @@ use Rattle.xet_base.specs.declared.mdb_shard.Xorb.{Xorb}
 use Rattle.xet_base.specs.Store.{Store}
 use Rattle.xet_upload.specs.FileDatas.{Parts, PartsStand}
 use Rattle.xet_upload.specs.Standing.{world}
-use Rattle.xet_upload.specs.Waitings.{xorb_of_chunks}
 use Rattle.xet_upload.specs.declared.data_error.DataError.{DataError}
 use Rattle.xet_upload.specs.declared.data_error.DataError.TheVariants as data_error
 use Rattle.xet_upload.specs.declared.waiting.WaitingTerm.{WaitingTerm}
 use Rattle.xet_session.specs.Calls.{Backs, CountsSent, Keeps, PutsFail, finalized_error}
 use Rattle.xet_session.specs.Sessions.{HasListed, SessionTold, Tells, log_of, named_by}
 use Rattle.xet_session.specs.Sounds.{searched}
+use Rattle.xet_clean.specs.Made.{CutInto}
 use Rattle.xet_clean.specs.Premises.{IsOpen, IsSteady, NoClash}
 
 -- a call that leaves what waits and what is finished
@@ -26,6 +26,10 @@ pub record Leaves (b n : SessionTold) : Type 0 where
   pub waiting : n.waiting ≡ b.waiting
   pub finished : n.finished ≡ b.finished
   pub counts : CountsSent b n
+
+-- no put failed in the call, and the uploader's faults are as before
+abbrev pub NoFault : SessionTold → SessionTold → Type 0
+NoFault b n = (n.failed ≡ b.failed) × (n.uploader.faults ≡ b.uploader.faults)
 
 -- why a call fails that searches or puts: the session is finalized, or a search or a put failed
 abbrev pub CleanFails : SessionTold → SessionTold → DataError → Type 0
@@ -47,14 +51,11 @@ term_names ts = flat_map (λ t. named_by t.xorb) ts
 abbrev pub AreNamed : List MerkleHash → List WaitingTerm → Type 0
 AreNamed listed ts = All (Contains listed) (term_names ts)
 
--- the hash of a xorb is that of its chunks
-abbrev pub IsHonest : Xorb → Type 0
-IsHonest x = x ≡ xorb_of_chunks x.chunks
-
 -- chunks were cut, and the parts of the file stand for them too; the made xorbs are chunks of the file that waited
 pub record Cleans (b n : SessionTold) (p q : Parts) (cut : List (List ℕ)) : Type 0 where
   pub made : List Xorb
-  pub honest : All IsHonest made
+  pub into : CutInto p q made cut
+  pub failed : n.failed ≡ b.failed
   pub stands : (k : Store) (bytes : List ℕ) → IsSteady k b → IsOpen n → NoClash (world k (log_of n)) made cut
       → PartsStand (world k (log_of b)) p bytes → PartsStand (world k (log_of n)) q (bytes ++ concat cut)
   pub named : HasListed b → IsOpen n → AreNamed b.listed p.terms → AreNamed n.listed q.terms
@@ -73,6 +74,7 @@ pub record IsAt (records : List MDBXorbInfo) (hash xorb : MerkleHash) (place : �
 pub record FoundChunk (b n : SessionTold) (hash : MerkleHash)
     (answer : Result (Option FileDataSequenceEntry) DataError) : Type 0 where
   pub log : log_of n ≡ log_of b
+  pub failed : n.failed ≡ b.failed
   pub found : Tells b → IfOk answer (λ o. IfSome o (λ e. IsAt (searched b) hash e.xorb e.from))
   pub one : IfOk answer (λ o. IfSome o (λ e. e.from + 1 ≡ e.to))
   pub on_list : IfOk answer (λ o. IfSome o (λ e. Contains n.listed e.xorb))

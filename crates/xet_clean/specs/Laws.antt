@@ -1,16 +1,24 @@
 -- Laws of what sessions and cleaners stand for.
-use Rattle.std.specs.Prelude.{ℕ, ◌≡◌, false, List, [], ◌∷◌, ◌++◌, find, IsSome, None, Some, Result, Ok, slice_range}
+use Rattle.std.specs.Prelude.{ℕ, ◌≡◌, Bool, false, List, [], ◌∷◌, ◌++◌, All, find, take, IsSome, Option, None, Some, Result, Ok, slice_range}
+use Rattle.std.specs.List.{flat_map}
 use Rattle.xet_base.specs.declared.cas_types.FileRange.{FileRange}
+use Rattle.xet_base.specs.declared.mdb_shard.FileDataSequenceEntry.{FileDataSequenceEntry}
 use Rattle.xet_base.specs.declared.mdb_shard.MDBFileInfo.{MDBFileInfo}
+use Rattle.xet_base.specs.declared.mdb_shard.MDBXorbInfo.{MDBXorbInfo}
+use Rattle.xet_base.specs.declared.mdb_shard.Xorb.{Xorb}
 use Rattle.xet_base.specs.declared.merklehash.MerkleHash.{MerkleHash}
 use Rattle.xet_base.specs.Digests.{file_hash_of, infos_of}
 use Rattle.xet_base.specs.Hashes.{hash_eq}
-use Rattle.xet_base.specs.Store.{Store, file_of, window, xorb_of}
+use Rattle.xet_base.specs.Store.{IsTermIn, Store, chunks_of_file, file_of, terms_of_file, window, xorb_of}
 use Rattle.xet_uploader.specs.declared.uploader.Put.{Put}
 use Rattle.xet_uploader.specs.StoresAfter.{file_of_record, files_in, store_after}
-use Rattle.xet_upload.specs.Standing.{ChunksAgree, world}
+use Rattle.xet_progress.specs.declared.item.GroupProgressReport.{GroupProgressReport}
+use Rattle.xet_upload.specs.Standing.{ChunksAgree, IsRecordIn, world}
+use Rattle.xet_upload.specs.Waitings.{Waiting}
 use Rattle.xet_upload.specs.declared.metrics.DeduplicationMetrics.{DeduplicationMetrics}
-use Rattle.xet_session.specs.Calls.{Cut, Finalizes, Keeps}
+use Rattle.xet_session.specs.Calls.{Backs, Cut, Finalizes, Keeps, Queries, Registers}
+use Rattle.xet_session.specs.Completions.{TakesFile}
+use Rattle.xet_session.specs.Learnings.{Learns, found_among}
 use Rattle.xet_session.specs.Sessions.{SessionTold, log_of}
 use Rattle.xet_session.specs.Sounds.{XorbsAgree}
 use Rattle.xet_upload.specs.declared.data_error.DataError.{DataError}
@@ -26,6 +34,31 @@ abbrev pub LeavesRecords : Type 0
 LeavesRecords = (k : Store) (b n : SessionTold) (f : CleanedFile) → Leaves b n → IsSteady k b → IsOpen n
     → HasRecord k b f → HasRecord k n f
 
+-- so do a given xorb and a search of the stores
+abbrev pub RegisterKeepsRecords : Type 0
+RegisterKeepsRecords = (k : Store) (b n : SessionTold) (x : Xorb) (now : ℕ) (answer : Result Bool DataError)
+    (f : CleanedFile) → Registers b n x now answer → IsSteady k b → IsOpen n → HasRecord k b f → HasRecord k n f
+
+abbrev pub SearchKeepsRecords : Type 0
+SearchKeepsRecords = (k : Store) (b n : SessionTold) (hashes : List MerkleHash)
+    (answer : Result (Option (ℕ × FileDataSequenceEntry × Bool)) DataError) (f : CleanedFile)
+    → Queries b n hashes answer → IsSteady k b → IsOpen n → HasRecord k b f → HasRecord k n f
+
+-- so do counts that are added, and queries of the uploader, whatever is asked of the session
+abbrev pub CountsKeepRecords : Type 0
+CountsKeepRecords = (k : Store) (b n : SessionTold) (counts : DeduplicationMetrics) (f : CleanedFile)
+    → n ≡ record b { metrics = counts } → HasRecord k b f → HasRecord k n f
+
+abbrev pub LearningKeepsRecords : Type 0
+LearningKeepsRecords = (k : Store) (b n : SessionTold) (hashes : List MerkleHash) (answer : Result Bool DataError)
+    (f : CleanedFile) → Learns b n hashes answer → HasRecord k b f → HasRecord k n f
+
+-- so does the data of another file that is taken, at each exit
+abbrev pub FileKeepsRecords : Type 0
+FileKeepsRecords = (k : Store) (b n : SessionTold) (w : Waiting) (now : ℕ) (answer : Result (Unit {0}) DataError)
+    (f : CleanedFile) → TakesFile b n w now answer → IsSteady k b → IsOpen n
+    → XorbsAgree (with_xorbs (world k (log_of n)) (waiting_xorb b ∷ [])) → HasRecord k b f → HasRecord k n f
+
 -- so does a cut, at each exit
 abbrev pub CutKeepsRecords : Type 0
 CutKeepsRecords = (k : Store) (b n : SessionTold) (now : ℕ) (answer : Result (Unit {0}) DataError) (f : CleanedFile)
@@ -37,14 +70,48 @@ abbrev pub KeepsCleaners : Type 0
 KeepsCleaners = (k : Store) (b n : SessionTold) (c : Cleaner) (bytes : List ℕ) → Keeps b n → IsSteady k b
     → CleanerStands (world k (log_of b)) c bytes → CleanerStands (world k (log_of n)) c bytes
 
+-- and so do queries of the uploader
+abbrev pub LearningKeepsCleaners : Type 0
+LearningKeepsCleaners = (k : Store) (b n : SessionTold) (hashes : List MerkleHash) (answer : Result Bool DataError)
+    (c : Cleaner) (bytes : List ℕ) → Learns b n hashes answer
+    → CleanerStands (world k (log_of b)) c bytes → CleanerStands (world k (log_of n)) c bytes
+
+-- ---- sessions that stay steady
+
+-- what is asked of a session stays, where xorbs agree
+abbrev pub CallsKeepSteady : Type 0
+CallsKeepSteady = (k : Store) (b n : SessionTold) → Keeps b n → Backs b n → XorbsAgree (world k (log_of n))
+    → IsSteady k b → IsSteady k n
+
+-- the records of xorbs that queries of the uploader brought into the cache
+abbrev pub learned_records : {b n : SessionTold} {hashes : List MerkleHash} {answer : Result Bool DataError}
+    → Learns b n hashes answer → List MDBXorbInfo
+learned_records l = flat_map (λ s. s.xorbs) (take l.kept (found_among l.answers))
+
+-- it stays after queries of the uploader, where the records that came describe xorbs that are there
+abbrev pub LearningKeepsSteady : Type 0
+LearningKeepsSteady = (k : Store) (b n : SessionTold) (hashes : List MerkleHash) (answer : Result Bool DataError)
+    (l : Learns b n hashes answer) → Backs b n → All (IsRecordIn (world k (log_of b))) (learned_records l)
+    → IsSteady k b → IsSteady k n
+
 -- ---- the end of a session
 
 -- after an end that answered Ok, and was no dry run, each record is in an accepted shard
-abbrev pub FinalizeAccepts : Type 0
-FinalizeAccepts = (k : Store) (b n : SessionTold) (now : ℕ) (counts : DeduplicationMetrics) (f : CleanedFile)
-    → Finalizes b n now (Ok counts) → IsSteady k b → b.shards.rules.dry_run ≡ false
+abbrev pub EndAccepts : Type 0 → Type 0
+EndAccepts A = (k : Store) (b n : SessionTold) (now : ℕ) (ended : A) (f : CleanedFile)
+    → Finalizes b n now (Ok ended) → IsSteady k b → b.shards.rules.dry_run ≡ false
     → XorbsAgree (with_xorbs (world k (log_of n)) (waiting_xorb b ∷ [])) → HasRecord k b f
     → IsAccepted k (log_of n) f
+
+-- the same of the three calls that end one
+abbrev pub FinalizeAccepts : Type 0
+FinalizeAccepts = EndAccepts DeduplicationMetrics
+
+abbrev pub FinalizeWithFilesAccepts : Type 0
+FinalizeWithFilesAccepts = EndAccepts (DeduplicationMetrics × List MDBFileInfo)
+
+abbrev pub FinalizeWithReportAccepts : Type 0
+FinalizeWithReportAccepts = EndAccepts (DeduplicationMetrics × GroupProgressReport)
 
 -- ---- downloads
 
@@ -70,4 +137,13 @@ AcceptedResolves = (k s : Store) (log : List Put) (f g : CleanedFile) (info : MD
     → store_after k log ≡ Some s → file_of k f.hash ≡ None → (accepted : IsAccepted k log f)
     → find (λ r. hash_eq r.hash f.hash) (files_in log) ≡ Some info
     → (first : IsRecorded (world k log) (info ∷ []) g) → FilesAgree accepted.recorded.chunks first.chunks
+    → window s f.hash range ≡ slice_range f.bytes range.start range.end
+
+-- and the store after the log to one that had a file of the hash before, each of whose terms names chunks of a stored
+-- xorb, and whose hash is that of its chunks, where these don't clash with those of the accepted one
+abbrev pub StoredResolves : Type 0
+StoredResolves = (k s : Store) (log : List Put) (f : CleanedFile) (range : FileRange) → store_after k log ≡ Some s
+    → IsSome (file_of k f.hash) → All (IsTermIn k) (terms_of_file k f.hash)
+    → f.hash ≡ file_hash_of (infos_of (chunks_of_file k f.hash)) → (accepted : IsAccepted k log f)
+    → FilesAgree accepted.recorded.chunks (chunks_of_file k f.hash)
     → window s f.hash range ≡ slice_range f.bytes range.start range.end

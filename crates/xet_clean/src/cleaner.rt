@@ -1,13 +1,14 @@
 //! A file on its way into a session.
-ghost use Rattle.std.specs.Prelude.{◌≡◌, ◌+◌, ◌++◌, ◌∷◌, ◌<◌, ◌≤◌, ◌^◌, ℕ, List, [], IfErr, IfOk, IfSome, None, OnErr, OnOk, false, length, true};
+ghost use Rattle.std.specs.Prelude.{◌≡◌, ◌+◌, ◌++◌, ◌∷◌, ◌<◌, ◌≤◌, ◌^◌, ◌⊎◌, ℕ, List, [], IfErr, IfOk, IfSome, None, OnErr, OnOk, false, length, true};
 ghost use Rattle.sha2.specs.Hashers.{Holds256};
 ghost use Rattle.xet_upload.specs.declared.sha256_policy.Sha256Policy.TheVariants.{Compute};
-ghost use Rattle.xet_session.specs.Telling.{told_by};
+ghost use Rattle.xet_session.specs.Telling.{KeepsGroup, told_by};
 ghost use Rattle.xet_session.specs.Trackings.{StartsFile};
-ghost use Rattle.xet_clean.specs.Cleaners.{AddsData, Completes, CutsChunks, FeedsSo, Finishes, IsEndError, IsNewCleaner, IsOwnError, NextChunk, PassesTotal, TakesIn, chunk_counts, past_total, started};
+ghost use Rattle.xet_clean.specs.Cleaners.{AddsData, Completes, CountsChunks, CutsChunks, FeedsSo, Finishes, IsEndError, IsNewCleaner, IsOwnError, NextChunk, PassesTotal, TakesIn, chunk_counts, past_total, started};
 ghost use Rattle.xet_clean.specs.Cleanings.{AreNamed, ChunkFails, Cleans, Leaves, TrackFails};
-ghost use Rattle.xet_clean.specs.FileCalls.{IsLate, RefusedOf, TellsOf};
+ghost use Rattle.xet_clean.specs.FileCalls.{GrowsFirst, IsFor, IsLate, IsPartOf, RefusedOf, TellsOf, growth};
 ghost use Rattle.xet_clean.specs.Pending.{bytes_left};
+ghost use Rattle.xet_clean.specs.SessionCalls.{Calls, EndsFile, IsSame, TookFile};
 ghost use Rattle.xet_clean.specs.Showing.{cleaner_of};
 
 use crate::deduper::add_chunk;
@@ -132,11 +133,14 @@ impl<T: Cutter> SingleFileCleaner<T> {
           parts = self.new.parts;
           counts = self.new.counts;
         }) }
+        ensures counts { OnOk result (CountsChunks self.old.counts (chunk ∷ []) self.new.counts) }
         ensures failed { self.new.failed ≡ self.old.failed }
         ensures why { IfErr result (ChunkFails (told_by U.told R.told session.old)
             (told_by U.told R.told session.new)) }
-        ensures tells { TellsOf self.old.file_id (IsLate session.old.finalized) session.old.files.tracker
+        ensures tells { TellsOf (IsPartOf self.old.file_id) (IsLate session.old.finalized) session.old.files.tracker
             session.new.files.tracker result }
+        ensures calls { Calls now (told_by U.told R.told session.old) (told_by U.told R.told session.new) }
+        ensures group { KeepsGroup session.old session.new }
     {
         let length = chunk.len() as u64;
         let found = add_chunk(
@@ -170,8 +174,10 @@ impl<T: Cutter> SingleFileCleaner<T> {
         ensures failed { self.new.failed ≡ self.old.failed }
         ensures why { IfErr result (ChunkFails (told_by U.told R.told session.old)
             (told_by U.told R.told session.new)) }
-        ensures tells { TellsOf self.old.file_id (IsLate session.old.finalized) session.old.files.tracker
+        ensures tells { TellsOf (IsPartOf self.old.file_id) (IsLate session.old.finalized) session.old.files.tracker
             session.new.files.tracker result }
+        ensures calls { Calls now (told_by U.told R.told session.old) (told_by U.told R.told session.new) }
+        ensures group { KeepsGroup session.old session.new }
     {
         match self.next_chunk(alloc, last)? {
             None => Ok(false),
@@ -198,8 +204,10 @@ impl<T: Cutter> SingleFileCleaner<T> {
         ensures failed { self.new.failed ≡ self.old.failed }
         ensures why { IfErr result (ChunkFails (told_by U.told R.told session.old)
             (told_by U.told R.told session.new)) }
-        ensures tells { TellsOf self.old.file_id (IsLate session.old.finalized) session.old.files.tracker
+        ensures tells { TellsOf (IsPartOf self.old.file_id) (IsLate session.old.finalized) session.old.files.tracker
             session.new.files.tracker result }
+        ensures calls { Calls now (told_by U.told R.told session.old) (told_by U.told R.told session.new) }
+        ensures group { KeepsGroup session.old session.new }
     {
         'chunks: loop {
             match self.cut_chunk(session, rt, alloc, last, now) {
@@ -239,8 +247,11 @@ impl<T: Cutter> SingleFileCleaner<T> {
     ) -> Result<(), DataError>
         ensures same { told_by U.told R.told session.new ≡ told_by U.told R.told session.old }
         ensures why { IfErr result TrackFails }
-        ensures tells { TellsOf self.now.file_id (IsLate session.old.finalized) session.old.files.tracker
-            session.new.files.tracker result }
+        ensures tells { TellsOf (IsFor self.now.file_id self.now.size bytes) (IsLate session.old.finalized)
+            session.old.files.tracker session.new.files.tracker result }
+        ensures grows { OnOk result (session.new.files.tracker
+            ≡ session.old.files.tracker ++ growth self.now.file_id self.now.size bytes) }
+        ensures group { KeepsGroup session.old session.new }
     {
         match self.size {
             Some(_size) => Ok(()),
@@ -259,8 +270,13 @@ impl<T: Cutter> SingleFileCleaner<T> {
     ) -> Result<(), DataError>
         ensures feeds { FeedsSo (told_by U.told R.told session.old) (told_by U.told R.told session.new)
             (cleaner_of self.old) bytes.now (cleaner_of self.new) result }
-        ensures tells { TellsOf self.old.file_id (IsOwnError session.old.finalized (cleaner_of self.old) bytes.now)
+        ensures tells { TellsOf (IsFor self.old.file_id self.old.size (length bytes.now))
+            (IsOwnError session.old.finalized (cleaner_of self.old) bytes.now)
             session.old.files.tracker session.new.files.tracker result }
+        ensures grows { OnOk result (GrowsFirst self.old.file_id self.old.size (length bytes.now)
+            session.old.files.tracker session.new.files.tracker) }
+        ensures calls { Calls now (told_by U.told R.told session.old) (told_by U.told R.told session.new) }
+        ensures group { KeepsGroup session.old session.new }
     {
         if session.is_finalized() {
             return Err(DataError::InvalidOperation(Invalid::Finalized));
@@ -295,8 +311,13 @@ impl<T: Cutter> SingleFileCleaner<T> {
     ) -> Result<(), DataError>
         ensures adds { AddsData (told_by U.told R.told session.old) (told_by U.told R.told session.new)
             (cleaner_of self.old) bytes.now (cleaner_of self.new) result }
-        ensures tells { TellsOf self.old.file_id (IsOwnError session.old.finalized (cleaner_of self.old) bytes.now)
+        ensures tells { TellsOf (IsFor self.old.file_id self.old.size (length bytes.now))
+            (IsOwnError session.old.finalized (cleaner_of self.old) bytes.now)
             session.old.files.tracker session.new.files.tracker result }
+        ensures grows { OnOk result (GrowsFirst self.old.file_id self.old.size (length bytes.now)
+            session.old.files.tracker session.new.files.tracker) }
+        ensures calls { Calls now (told_by U.told R.told session.old) (told_by U.told R.told session.new) }
+        ensures group { KeepsGroup session.old session.new }
     {
         match self.feed(session, rt, alloc, bytes, now) {
             Ok(()) => Ok(()),
@@ -320,8 +341,15 @@ impl<T: Cutter> SingleFileCleaner<T> {
         requires named { session.old.failed ≡ None → session.old.finalized ≡ false
             → AreNamed session.old.listed.hashes.items self.parts.terms }
         requires ended { bytes_left self.pending ≡ [] }
-        ensures { Completes (told_by U.told R.told session.old) (told_by U.told R.told session.new)
+        ensures call { Completes (told_by U.told R.told session.old) (told_by U.told R.told session.new)
             (cleaner_of self) result }
+        ensures ok { OnOk result (TookFile (told_by U.told R.told session.old) (told_by U.told R.told session.new)
+            (cleaner_of self) now session.old.files.tracker session.new.files.tracker result) }
+        ensures err { OnErr result (IsSame (told_by U.told R.told session.old) (told_by U.told R.told session.new)
+            session.old.files.tracker session.new.files.tracker
+            ⊎ TookFile (told_by U.told R.told session.old) (told_by U.told R.told session.new)
+            (cleaner_of self) now session.old.files.tracker session.new.files.tracker result) }
+        ensures group { KeepsGroup session.old session.new }
     {
         let hash = MerkleHash::file_hash(self.parts.infos());
         let sha256 = recorded_sha256(self.policy, self.hasher);
@@ -353,8 +381,12 @@ impl<T: Cutter> SingleFileCleaner<T> {
         T: Drop,
         ensures ends { Finishes (told_by U.told R.told session.old) (told_by U.told R.told session.new)
             (cleaner_of self) result }
-        ensures refused { RefusedOf self.file_id (IsEndError (told_by U.told R.told session.old) (cleaner_of self))
-            session.old.files.tracker result }
+        ensures refused { RefusedOf (IsPartOf self.file_id)
+            (IsEndError (told_by U.told R.told session.old) (cleaner_of self)) session.old.files.tracker
+            session.new.files.tracker result }
+        ensures so { EndsFile (told_by U.told R.told session.old) (told_by U.told R.told session.new)
+            (cleaner_of self) now session.old.files.tracker session.new.files.tracker result }
+        ensures group { KeepsGroup session.old session.new }
     {
         if session.is_finalized() {
             return Err(DataError::InvalidOperation(Invalid::Finalized));
@@ -394,6 +426,7 @@ where
     ensures cleaner { IfOk result (λ r. IsNewCleaner (cleaner_of r.1) size sha256) }
     ensures starts { StartsFile session.old.files.tracker session.new.files.tracker session.old.ids session.new.ids
         session.old.finalized size (started (λ r. (r.0, r.1.file_id)) result) }
+    ensures group { session.new.progress ≡ session.old.progress }
 {
     let name = tracking_name.unwrap_or("");
     let (id, file_id) = session.start_file(rt, alloc, name, size)?;

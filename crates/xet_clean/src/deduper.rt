@@ -1,10 +1,11 @@
 //! What a chunk of a file becomes in a session: a place in a known xorb, or one more chunk that waits.
-ghost use Rattle.std.specs.Prelude.{◌≡◌, ◌++◌, ◌∷◌, ◌<◌, ◌≤◌, [], IfErr, OnOk, length};
+ghost use Rattle.std.specs.Prelude.{◌≡◌, ◌++◌, ◌∷◌, ◌<◌, ◌≤◌, ℕ, [], IfErr, OnOk, length};
 ghost use Rattle.xet_base.specs.Digests.{info_of};
 ghost use Rattle.xet_upload.specs.Waitings.{IsWithin, no_waiting};
-ghost use Rattle.xet_session.specs.Telling.{told_by};
+ghost use Rattle.xet_session.specs.Telling.{KeepsGroup, told_by};
 ghost use Rattle.xet_clean.specs.Cleanings.{ChunkFails, Cleans, FoundChunk, Leaves, TrackFails};
-ghost use Rattle.xet_clean.specs.FileCalls.{IsLate, TellsOf};
+ghost use Rattle.xet_clean.specs.FileCalls.{IsLate, IsPartOf, TellsOf};
+ghost use Rattle.xet_clean.specs.SessionCalls.{Calls};
 
 use bytes::Bytes;
 use std::alloc::Global;
@@ -32,8 +33,10 @@ fn cut_own<U: Uploader, R: ShardStore, W: Wait>(
         parts.old parts.new []) }
     ensures emptied { OnOk result (parts.new.own ≡ no_waiting) }
     ensures why { IfErr result (ChunkFails (told_by U.told R.told session.old) (told_by U.told R.told session.new)) }
-    ensures tells { TellsOf file_id (IsLate session.old.finalized) session.old.files.tracker
+    ensures tells { TellsOf (IsPartOf file_id) (IsLate session.old.finalized) session.old.files.tracker
         session.new.files.tracker result }
+    ensures calls { Calls now (told_by U.told R.told session.old) (told_by U.told R.told session.new) }
+    ensures group { KeepsGroup session.old session.new }
 {
     let raw = parts.cut(alloc)?;
     let dependencies = [FileXorbDependency {
@@ -62,8 +65,10 @@ fn make_room<U: Uploader, R: ShardStore, W: Wait>(
         parts.old parts.new []) }
     ensures room { OnOk result (IsWithin (parts.new.own.chunks ++ chunk.now ∷ [])) }
     ensures why { IfErr result (ChunkFails (told_by U.told R.told session.old) (told_by U.told R.told session.new)) }
-    ensures tells { TellsOf file_id (IsLate session.old.finalized) session.old.files.tracker
+    ensures tells { TellsOf (IsPartOf file_id) (IsLate session.old.finalized) session.old.files.tracker
         session.new.files.tracker result }
+    ensures calls { Calls now (told_by U.told R.told session.old) (told_by U.told R.told session.new) }
+    ensures group { KeepsGroup session.old session.new }
 {
     if parts.has_room(chunk) {
         return Ok(());
@@ -89,8 +94,10 @@ fn add_new<U: Uploader, R: ShardStore, W: Wait>(
     ensures cleans { OnOk result (Cleans (told_by U.told R.told session.old) (told_by U.told R.told session.new)
         parts.old parts.new (chunk ∷ [])) }
     ensures why { IfErr result (ChunkFails (told_by U.told R.told session.old) (told_by U.told R.told session.new)) }
-    ensures tells { TellsOf file_id (IsLate session.old.finalized) session.old.files.tracker
+    ensures tells { TellsOf (IsPartOf file_id) (IsLate session.old.finalized) session.old.files.tracker
         session.new.files.tracker result }
+    ensures calls { Calls now (told_by U.told R.told session.old) (told_by U.told R.told session.new) }
+    ensures group { KeepsGroup session.old session.new }
 {
     make_room(session, rt, alloc, file_id, parts, chunk.as_slice(), now)?;
     Ok(parts.add_own(chunk, info)?)
@@ -120,8 +127,9 @@ fn tell_found<U: Uploader, R: ShardStore, W: Wait>(
 ) -> Result<(), DataError>
     ensures same { told_by U.told R.told session.new ≡ told_by U.told R.told session.old }
     ensures why { IfErr result TrackFails }
-    ensures tells { TellsOf file_id (IsLate session.old.finalized) session.old.files.tracker
+    ensures tells { TellsOf (IsPartOf file_id) (IsLate session.old.finalized) session.old.files.tracker
         session.new.files.tracker result }
+    ensures group { KeepsGroup session.old session.new }
 {
     let dependencies = [FileXorbDependency {
         file_id,
@@ -145,8 +153,10 @@ fn find_chunk<U: Uploader, R: ShardStore, W: Wait>(
     ensures found { FoundChunk (told_by U.told R.told session.old) (told_by U.told R.told session.new) info.hash
         result }
     ensures why { IfErr result (ChunkFails (told_by U.told R.told session.old) (told_by U.told R.told session.new)) }
-    ensures tells { TellsOf file_id (IsLate session.old.finalized) session.old.files.tracker
+    ensures tells { TellsOf (IsPartOf file_id) (IsLate session.old.finalized) session.old.files.tracker
         session.new.files.tracker result }
+    ensures calls { (now : ℕ) → Calls now (told_by U.told R.told session.old) (told_by U.told R.told session.new) }
+    ensures group { KeepsGroup session.old session.new }
 {
     let hashes = [info.hash];
     match session.chunk_hash_dedup_query(alloc, hashes.as_slice())? {
@@ -181,8 +191,10 @@ pub(crate) fn add_chunk<U: Uploader, R: ShardStore, W: Wait>(
     ensures cleans { OnOk result (Cleans (told_by U.told R.told session.old) (told_by U.told R.told session.new)
         parts.old parts.new (chunk ∷ [])) }
     ensures why { IfErr result (ChunkFails (told_by U.told R.told session.old) (told_by U.told R.told session.new)) }
-    ensures tells { TellsOf file_id (IsLate session.old.finalized) session.old.files.tracker
+    ensures tells { TellsOf (IsPartOf file_id) (IsLate session.old.finalized) session.old.files.tracker
         session.new.files.tracker result }
+    ensures calls { Calls now (told_by U.told R.told session.old) (told_by U.told R.told session.new) }
+    ensures group { KeepsGroup session.old session.new }
 {
     let info = chunk_info(chunk.as_slice());
     match find_chunk(session, rt, alloc, file_id, info)? {

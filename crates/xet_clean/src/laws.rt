@@ -1,18 +1,36 @@
 //! Laws of what sessions and cleaners stand for, as functions whose contracts state them.
-ghost use Rattle.xet_clean.specs.Laws.{AcceptedReads, AcceptedResolves, CutKeepsRecords, FinalizeAccepts, KeepsCleaners, LeavesRecords};
+ghost use Rattle.xet_clean.specs.Laws.{AcceptedReads, AcceptedResolves, CallsKeepSteady, CountsKeepRecords, CutKeepsRecords, FileKeepsRecords, FinalizeAccepts, FinalizeWithFilesAccepts, FinalizeWithReportAccepts, KeepsCleaners, LearningKeepsCleaners, LearningKeepsRecords, LearningKeepsSteady, LeavesRecords, RegisterKeepsRecords, SearchKeepsRecords, StoredResolves};
 
 /// Each call of a session keeps what its records and its cleaners stand for, at each exit at which the session keeps
-/// no failed put.
+/// no failed put: a given xorb, a search, a cut, the data of another file, counts that are added, and queries of the
+/// uploader.
 pub fn records_go_on_standing()
     ensures leaves { LeavesRecords }
+    ensures register { RegisterKeepsRecords }
+    ensures search { SearchKeepsRecords }
     ensures cut { CutKeepsRecords }
+    ensures file { FileKeepsRecords }
+    ensures counts { CountsKeepRecords }
+    ensures learning { LearningKeepsRecords }
     ensures cleaners { KeepsCleaners }
+    ensures cleaners_learning { LearningKeepsCleaners }
 {}
 
-/// After an end that answered Ok each record of a cleaned file is in an accepted shard. So a store with the accepted
-/// xorbs and records gives the file's bytes in each range, and the store after the uploader's log is one.
+/// What is asked of a session, where something is said of its records, stays after each call before its end. After
+/// queries of the uploader this asks that the records which it answered describe xorbs that are there.
+pub fn sessions_stay_steady()
+    ensures calls { CallsKeepSteady }
+    ensures learning { LearningKeepsSteady }
+{}
+
+/// After an end that answered Ok, by each of the calls that make one, each record of a cleaned file is in an accepted
+/// shard. So a store with the accepted xorbs and records gives the file's bytes in each range, and the store after the
+/// uploader's log is one, also where it had a file of the hash before.
 pub fn accepted_files_download()
     ensures accepts { FinalizeAccepts }
+    ensures accepts_files { FinalizeWithFilesAccepts }
+    ensures accepts_report { FinalizeWithReportAccepts }
     ensures reads { AcceptedReads }
     ensures resolves { AcceptedResolves }
+    ensures stored { StoredResolves }
 {}

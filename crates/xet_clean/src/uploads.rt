@@ -1,10 +1,14 @@
 //! Files that are uploaded from their sources, one after another.
-ghost use Rattle.std.specs.Prelude.{◌≡◌, ◌<◌, None, Some, length, map};
-ghost use Rattle.xet_session.specs.Telling.{told_by};
+ghost use Rattle.std.specs.Prelude.{◌≡◌, ◌+◌, ◌++◌, ◌∷◌, ◌<◌, [], None, OnOk, Some, length, map};
+ghost use Rattle.xet_progress.specs.Counts.{sizes};
+ghost use Rattle.xet_session.specs.Sessions.{HasListed};
+ghost use Rattle.xet_session.specs.Telling.{KeepsGroup, told_by};
+ghost use Rattle.xet_clean.specs.FileCalls.{IsLate, IsUploadCall, IsXorbCall, TellsOf};
+ghost use Rattle.xet_clean.specs.SessionCalls.{Calls, CallsOf, UploadsOnce};
 ghost use Rattle.xet_clean.specs.Showing.{cleaner_of};
 ghost use Rattle.xet_clean.specs.UploadTelling.{file_told};
-ghost use Rattle.xet_clean.specs.Uploads.{UploadsFiles};
-ghost use Rattle.xet_clean.specs.steps.Uploading.{Pours, UploadsFile};
+ghost use Rattle.xet_clean.specs.Uploads.{IsFileError, IsUploadError, UploadsFiles, fixed_sizes};
+ghost use Rattle.xet_clean.specs.steps.Uploading.{Pours, UploadsAlone};
 
 use crate::cleaner::{SingleFileCleaner, start_clean};
 use std::alloc::Global;
@@ -49,8 +53,12 @@ fn pour<I: Source, T: Cutter, U: Uploader, R: ShardStore, W: Wait>(
     requires fed { cleaner.old.fed ≡ 0 }
     requires unfailed { cleaner.old.failed ≡ None }
     requires room { 0 < length buffer.old }
-    ensures { Pours (told_by U.told R.told session.old) (told_by U.told R.told session.new)
+    ensures call { Pours (told_by U.told R.told session.old) (told_by U.told R.told session.new)
         (I.told source.old) (I.told source.new) (cleaner_of cleaner.old) (cleaner_of cleaner.new) total result }
+    ensures tells { TellsOf IsXorbCall (IsLate session.old.finalized) session.old.files.tracker
+        session.new.files.tracker result }
+    ensures calls { Calls now (told_by U.told R.told session.old) (told_by U.told R.told session.new) }
+    ensures group { KeepsGroup session.old session.new }
 {
     let mut left = total;
     'pieces: while left > 0 {
@@ -76,9 +84,18 @@ fn upload_file<I: Source, T: Cutter, U: Uploader, R: ShardStore, W: Wait>(
     file: &mut UploadFile<I, T>,
     now: u64,
 ) -> Result<XetFileInfo, DataError>
-    ensures call { UploadsFile (told_by U.told R.told session.old) (told_by U.told R.told session.new)
+    ensures call { UploadsAlone now (told_by U.told R.told session.old) (told_by U.told R.told session.new)
         (file_told I.told file.old) (I.told file.new.source) result }
     ensures same { file_told I.told file.new ≡ record (file_told I.told file.old) { source = I.told file.new.source } }
+    ensures tells { HasListed (told_by U.told R.told session.old) → TellsOf IsUploadCall
+        (IsFileError (told_by U.told R.told session.old) (told_by U.told R.told session.new) session.old.ids)
+        session.old.files.tracker session.new.files.tracker result }
+    ensures calls { CallsOf (UploadsOnce now) (told_by U.told R.told session.old)
+        (told_by U.told R.told session.new) }
+    ensures group { session.new.progress ≡ session.old.progress }
+    ensures ids { OnOk result (session.new.ids ≡ session.old.ids + 1) }
+    ensures begun { OnOk result (sizes session.new.files.tracker
+        ≡ sizes session.old.files.tracker ++ Some file.old.length ∷ []) }
 {
     let name = Some(file.name.as_str());
     let length = file.length;
@@ -112,8 +129,9 @@ fn upload_file<I: Source, T: Cutter, U: Uploader, R: ShardStore, W: Wait>(
 ///
 /// `Finalized` exactly where the session is finalized; then nothing is read. `SourceEnded` exactly where a source ended
 /// before the length of its file, with that length and how many bytes came. `IOError` only where a source or a store of
-/// records failed, `ClientError` where a put failed and is kept. After an error the files before that one are uploaded,
-/// and those behind it are as they were.
+/// records failed, `ClientError` where a put failed and is kept. Each other `InvalidOperation` is `IdsUsedUp`, where no
+/// id is left for a file, `UnknownXorb`, only where a failed put is kept, or a refusal of the session's tracker. After
+/// an error the files before that one are uploaded, and those behind it are as they were.
 ///
 /// In the Rust crate xet-data: `FileUploadSession::upload_files`, which opens paths and uploads several at once.
 pub fn upload_files<I: Source, T: Cutter, U: Uploader, R: ShardStore, W: Wait>(
@@ -123,8 +141,17 @@ pub fn upload_files<I: Source, T: Cutter, U: Uploader, R: ShardStore, W: Wait>(
     files: &mut [UploadFile<I, T>],
     now: u64,
 ) -> Result<List<XetFileInfo>, DataError>
-    ensures { UploadsFiles (told_by U.told R.told session.old) (told_by U.told R.told session.new)
+    ensures call { UploadsFiles now (told_by U.told R.told session.old) (told_by U.told R.told session.new)
         (map (file_told I.told) files.old) (map (file_told I.told) files.new) result }
+    ensures tells { TellsOf IsUploadCall (IsUploadError (told_by U.told R.told session.old)
+        (told_by U.told R.told session.new) session.old.ids (length files.old))
+        session.old.files.tracker session.new.files.tracker result }
+    ensures calls { CallsOf (UploadsOnce now) (told_by U.told R.told session.old)
+        (told_by U.told R.told session.new) }
+    ensures group { session.new.progress ≡ session.old.progress }
+    ensures ids { OnOk result (session.new.ids ≡ session.old.ids + length files.old) }
+    ensures begun { OnOk result (sizes session.new.files.tracker
+        ≡ sizes session.old.files.tracker ++ fixed_sizes (map (file_told I.told) files.old)) }
 {
     if session.is_finalized() {
         return Err(DataError::InvalidOperation(Invalid::Finalized));

@@ -1,8 +1,9 @@
-use Rattle.std.proofs.Common.{refl, rules, false, ◌≡◌}
+use Rattle.std.proofs.Common.{rules, false, ◌≡◌}
 use Rattle.std.specs.Prelude.{Err, Ok}
 use Rattle.xet_session.specs.Telling.{told_by}
-use Rattle.xet_clean.proofs.Cleaning.{chunk-later, chunk-memory, found-adds, leaves-both, new-adds}
-use Rattle.xet_clean.proofs.FileCalls.{tells-both, tells-err, tells-late, tells-memory, tells-ok}
+use Rattle.xet_clean.proofs.Cleaning.{chunk-later, found-adds, leaves-both, new-adds}
+use Rattle.xet_clean.proofs.SessionCalls.{calls-both, group-both}
+use Rattle.xet_clean.proofs.FileCalls.{tells-both, tells-err, tells-late, tells-ok}
 use Rattle.xet_clean.proofs.deduper.add_chunk.Goals as goal
 
 pub returns-in_err-add_new-in-None : goal.returns-in_err-add_new-in-None
@@ -14,8 +15,11 @@ returns-in_err-add_new-in-None g c =
       cleans = tt;
       why = chunk-later _ _ (told_by g.U.Uploader.told g.R.ShardStore.told c.add_new.new.session) _
           c.find_chunk.ensures.leaves (rw c.in_err-add_new-in-None.was at c.add_new.ensures.why);
-      tells = tells-both _ _ _ _ _ _ (rw was at c.find_chunk.ensures.tells) _ (tells-late _ _ _ _ _ _ c.find_chunk.ensures.leaves.keeps.finalized
+      tells = tells-both _ _ _ _ _ _ (rw was at c.find_chunk.ensures.tells) _
+          (tells-late _ _ _ _ _ _ c.find_chunk.ensures.leaves.keeps.finalized
           (tells-err _ _ _ _ _ (rw c.in_err-add_new-in-None.was at c.add_new.ensures.tells)));
+      calls = calls-both _ _ _ _ (c.find_chunk.ensures.calls _) c.add_new.ensures.calls;
+      group = group-both c.find_chunk.ensures.group c.add_new.ensures.group;
     })
 
 pub returns-in_ok-add_found-in-Some-clause-cleans : goal.returns-in_ok-add_found-in-Some-clause-cleans
@@ -33,6 +37,18 @@ returns-in_ok-add_new-in-None g c =
           c.find_chunk.ensures.leaves c.add_new.ensures.leaves (rw (was, c.in-None.is) at c.find_chunk.ensures.found)
           c.in_ok-add_new-in-None.ensures.cleans;
       why = tt;
-      tells = tells-both _ _ _ _ _ _ (rw was at c.find_chunk.ensures.tells) _ (tells-late _ _ _ _ _ _ c.find_chunk.ensures.leaves.keeps.finalized
+      tells = tells-both _ _ _ _ _ _ (rw was at c.find_chunk.ensures.tells) _
+          (tells-late _ _ _ _ _ _ c.find_chunk.ensures.leaves.keeps.finalized
           (tells-ok _ _ _ _ _ false (rw c.in_ok-add_new-in-None.was at c.add_new.ensures.tells)));
+      calls = calls-both _ _ _ _ (c.find_chunk.ensures.calls _) c.add_new.ensures.calls;
+      group = group-both c.find_chunk.ensures.group c.add_new.ensures.group;
     }
+
+pub returns-in_err-entry-clause-calls : goal.returns-in_err-entry-clause-calls
+returns-in_err-entry-clause-calls g c = c.find_chunk.ensures.calls c.args.now
+
+pub returns-in_err-add_found-in-Some-clause-calls : goal.returns-in_err-add_found-in-Some-clause-calls
+returns-in_err-add_found-in-Some-clause-calls g c = c.find_chunk.ensures.calls c.args.now
+
+pub returns-in_ok-add_found-in-Some-clause-calls : goal.returns-in_ok-add_found-in-Some-clause-calls
+returns-in_ok-add_found-in-Some-clause-calls g c = c.find_chunk.ensures.calls c.args.now

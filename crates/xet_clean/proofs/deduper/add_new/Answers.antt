@@ -1,5 +1,5 @@
 use Rattle.std.proofs.Common.{refl, rules, ◌≡◌}
-use Rattle.std.specs.Prelude.{Err, Ok}
+use Rattle.std.specs.Prelude.{Err}
 use Rattle.xet_upload.specs.declared.data_error.DataError.TheVariants as data_error
 use Rattle.xet_session.specs.Telling.{told_by}
 use Rattle.xet_clean.proofs.Cleaning.{chunk-memory, more-cleans}
@@ -15,6 +15,8 @@ returns-in_err-make_room g c =
       why =
           rw c.in_err-make_room.was at c.make_room.ensures.why;
       tells = tells-err _ _ _ _ _ (rw c.in_err-make_room.was at c.make_room.ensures.tells);
+      calls = c.make_room.ensures.calls;
+      group = c.make_room.ensures.group;
     })
 
 pub returns-in_err-add_own : goal.returns-in_err-add_own
@@ -28,6 +30,8 @@ returns-in_err-add_own g c =
           (told_by g.U.Uploader.told g.R.ShardStore.told c.make_room.new.session) _ refl;
       tells = tells-both _ _ _ _ _ _ (rw c.in_ok-make_room.was at c.make_room.ensures.tells) _
           (tells-memory _ _ _ _ refl);
+      calls = c.make_room.ensures.calls;
+      group = c.make_room.ensures.group;
     })
 
 pub returns : goal.returns
@@ -37,6 +41,8 @@ returns g c = record {
       more-cleans _ _ _ _ _ _ c.in_ok-make_room.ensures.cleans c.in_ok-add_own.ensures;
   why = tt;
   tells = tells-ok _ _ _ _ _ tt (rw c.in_ok-make_room.was at c.make_room.ensures.tells);
+  calls = c.make_room.ensures.calls;
+  group = c.make_room.ensures.group;
 }
 
 pub add_own-requires-clause-within : goal.add_own-requires-clause-within

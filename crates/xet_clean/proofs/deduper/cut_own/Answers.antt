@@ -1,9 +1,10 @@
 use Rattle.std.proofs.Common.{refl, rules, ap, ◌≡◌}
-use Rattle.std.specs.Prelude.{Err, Ok}
+use Rattle.std.specs.Prelude.{Err}
 use Rattle.xet_upload.specs.FileDatas.{Parts}
 use Rattle.xet_upload.specs.declared.data_error.DataError.TheVariants as data_error
 use Rattle.xet_session.specs.Telling.{told_by}
 use Rattle.xet_clean.proofs.Cleaning.{chunk-memory, cut-cleans, leaves-refl, registers-fails, registers-leaves}
+use Rattle.xet_clean.proofs.SessionCalls.{calls-none, calls-xorb}
 use Rattle.xet_clean.proofs.FileCalls.{tells-err, tells-memory, tells-ok, xorb-tells, xorb-tells-err}
 use Rattle.xet_clean.proofs.deduper.cut_own.Goals as goal
 
@@ -18,6 +19,8 @@ returns-in_err-raw g c =
           (told_by g.U.Uploader.told g.R.ShardStore.told c.args.session.now)
           (told_by g.U.Uploader.told g.R.ShardStore.told c.args.session.now) _ refl;
       tells = tells-memory _ _ _ _ refl;
+      calls = calls-none _ _ _ refl;
+      group = (refl, refl);
     })
 
 pub returns-in_err-register_new_xorb : goal.returns-in_err-register_new_xorb
@@ -32,7 +35,10 @@ returns-in_err-register_new_xorb g c =
           tt;
       why = registers-fails _ _ _ _ _ call;
       tells = tells-err _ _ _ _ _ (xorb-tells-err _ _ _ _ _ _ _ _ refl _
-          (rw (c.in_err-register_new_xorb.was, c.as_slice.ensures) at c.register_new_xorb.ensures.tracks) call.err);
+          (rw (c.in_err-register_new_xorb.was, c.as_slice.ensures) at c.register_new_xorb.ensures.tracks) call.err
+          call.why);
+      calls = calls-xorb _ _ _ _ _ call;
+      group = c.register_new_xorb.ensures.group;
     })
 
 pub returns : goal.returns
@@ -45,4 +51,6 @@ returns g c =
       why = tt;
       tells = tells-ok _ _ _ _ _ tt (xorb-tells _ _ _ _ _ _ _ c.args.now refl _
           (rw (c.in_ok-register_new_xorb.was, c.as_slice.ensures) at c.register_new_xorb.ensures.tracks));
+      calls = calls-xorb _ _ _ _ _ call;
+      group = c.register_new_xorb.ensures.group;
     }

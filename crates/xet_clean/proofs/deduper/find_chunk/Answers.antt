@@ -1,9 +1,10 @@
-use Rattle.std.proofs.Common.{refl, rules, ◌≡◌}
+use Rattle.std.proofs.Common.{rules, ◌≡◌}
 use Rattle.std.specs.Prelude.{Err, Ok}
 use Rattle.xet_session.specs.Telling.{told_by}
 use Rattle.xet_clean.proofs.Cleaning.{chunk-tracks}
+use Rattle.xet_clean.proofs.SessionCalls.{calls-search, calls-told, group-both}
 use Rattle.xet_clean.proofs.FileCalls.{tells-err, tells-late, tells-moved, tells-none, tells-ok}
-use Rattle.xet_clean.proofs.Finding.{fails-search, found-err, found-failed, found-none, found-some, found-told, leaves-told, queries-leaves, search-valid}
+use Rattle.xet_clean.proofs.Finding.{fails-search, found-err, found-failed, found-none, found-some, found-told, queries-leaves, search-valid}
 use Rattle.xet_clean.proofs.deduper.find_chunk.Goals as goal
 
 pub returns-in_err-chunk_hash_dedup_query : goal.returns-in_err-chunk_hash_dedup_query
@@ -20,6 +21,8 @@ returns-in_err-chunk_hash_dedup_query g c =
           (λ why q. search-valid
           (told_by g.U.Uploader.told g.R.ShardStore.told c.args.session.now).shards
           (told_by g.U.Uploader.told g.R.ShardStore.told c.chunk_hash_dedup_query.new.self).shards _ call.why why q);
+      calls = λ now. calls-search now _ _ _ _ call;
+      group = c.chunk_hash_dedup_query.ensures.group;
     })
 
 pub returns-in-None : goal.returns-in-None
@@ -33,6 +36,8 @@ returns-in-None g c =
           found-none _ _ _ call;
       why = tt;
       tells = tells-none _ _ _ _ _ c.chunk_hash_dedup_query.ensures.untold tt;
+      calls = λ now. calls-search now _ _ _ _ call;
+      group = c.chunk_hash_dedup_query.ensures.group;
     }
 
 pub returns-in_err-tell_found-in-Some-clause-found : goal.returns-in_err-tell_found-in-Some-clause-found
@@ -42,7 +47,8 @@ returns-in_err-tell_found-in-Some-clause-found g c =
     let call = rw (was, c.in-Some.is, c.as_slice.ensures) at c.chunk_hash_dedup_query.ensures.call in
     let e : c.from_residual-in_err-tell_found-in-Some.result ≡ Err c.in_err-tell_found-in-Some.field-0.0 =
     search rules in
-    rw e (found-told _ _ _ _ _ c.tell_found.ensures.same (found-failed _ _ _ _ _ (found-some _ _ _ c.in-Some.found call)))
+    rw e (found-told _ _ _ _ _ c.tell_found.ensures.same (found-failed _ _ _ _ _
+    (found-some _ _ _ c.in-Some.found call)))
 
 pub returns-in_ok-tell_found-in-Some-clause-found : goal.returns-in_ok-tell_found-in-Some-clause-found
 returns-in_ok-tell_found-in-Some-clause-found g c =
@@ -72,3 +78,19 @@ returns-in_err-tell_found-in-Some-clause-why g c =
     rw e (chunk-tracks (told_by g.U.Uploader.told g.R.ShardStore.told c.args.session.now)
     (told_by g.U.Uploader.told g.R.ShardStore.told c.tell_found.new.session) _
     (rw c.in_err-tell_found-in-Some.was at c.tell_found.ensures.why))
+
+pub returns-in_err-tell_found-in-Some-clause-calls : goal.returns-in_err-tell_found-in-Some-clause-calls
+returns-in_err-tell_found-in-Some-clause-calls g c = λ now. calls-told now _ _ _ c.tell_found.ensures.same
+    (calls-search now _ _ _ _ c.chunk_hash_dedup_query.ensures.call)
+
+pub returns-in_ok-tell_found-in-Some-clause-calls : goal.returns-in_ok-tell_found-in-Some-clause-calls
+returns-in_ok-tell_found-in-Some-clause-calls g c = λ now. calls-told now _ _ _ c.tell_found.ensures.same
+    (calls-search now _ _ _ _ c.chunk_hash_dedup_query.ensures.call)
+
+pub returns-in_err-tell_found-in-Some-clause-group : goal.returns-in_err-tell_found-in-Some-clause-group
+returns-in_err-tell_found-in-Some-clause-group g c =
+    group-both c.chunk_hash_dedup_query.ensures.group c.tell_found.ensures.group
+
+pub returns-in_ok-tell_found-in-Some-clause-group : goal.returns-in_ok-tell_found-in-Some-clause-group
+returns-in_ok-tell_found-in-Some-clause-group g c =
+    group-both c.chunk_hash_dedup_query.ensures.group c.tell_found.ensures.group

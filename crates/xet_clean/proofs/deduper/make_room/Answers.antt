@@ -1,6 +1,7 @@
 use Rattle.std.proofs.Common.{refl, sym, ◌∙◌}
 use Rattle.std.proofs.lemmas.Bool.{false≢true}
 use Rattle.xet_clean.proofs.Cleaning.{leaves-refl, room-after, some-wait, still-cleans}
+use Rattle.xet_clean.proofs.SessionCalls.{calls-none}
 use Rattle.xet_clean.proofs.FileCalls.{tells-none}
 use Rattle.xet_clean.proofs.deduper.make_room.Goals as goal
 
@@ -12,6 +13,8 @@ returns-then-has_room g c = record {
       c.has_room.ensures.0 c.if-has_room.true;
   why = tt;
   tells = tells-none _ _ _ _ _ refl tt;
+  calls = calls-none _ _ _ refl;
+  group = (refl, refl);
 }
 
 pub returns : goal.returns
@@ -21,6 +24,8 @@ returns g c = record {
   room = room-after _ _ c.cut_own.result c.cut_own.ensures.emptied c.requires;
   why = c.cut_own.ensures.why;
   tells = c.cut_own.ensures.tells;
+  calls = c.cut_own.ensures.calls;
+  group = c.cut_own.ensures.group;
 }
 
 pub cut_own-requires : goal.cut_own-requires

@@ -9,4 +9,5 @@ returns g c =
       same = c.register_xorb_dependencies.ensures.same;
       why = tracks-why _ _ _ c.register_xorb_dependencies.result tracks;
       tells = tracks-part _ _ _ _ _ c.register_xorb_dependencies.result refl tracks;
+      group = c.register_xorb_dependencies.ensures.group;
     }

@@ -1,8 +1,9 @@
 use Rattle.std.proofs.Common.{refl, rules, ap, true, false, ◌≡◌, ◌∙◌}
-use Rattle.std.specs.Prelude.{Err, Ok}
+use Rattle.std.specs.Prelude.{Ok}
 use Rattle.xet_session.specs.Telling.{told_by}
 use Rattle.xet_clean.specs.Cleaners.{Cleaner}
 use Rattle.xet_clean.proofs.Cleaning.{chunk-later, leaves-both, leaves-refl}
+use Rattle.xet_clean.proofs.SessionCalls.{calls-both, calls-none, group-both}
 use Rattle.xet_clean.proofs.FileCalls.{tells-both, tells-err, tells-late, tells-none, tells-ok}
 use Rattle.xet_clean.proofs.Feeding.{cuts-both, cuts-none}
 use Rattle.xet_clean.proofs.cleaner.SingleFileCleaner.cut_chunks.Goals as goal
@@ -13,6 +14,8 @@ chunks-init g c = record {
   cuts = cuts-none _ _ _ _ refl refl;
   failed = refl;
   tells = tells-none _ _ _ _ _ refl tt;
+  calls = calls-none _ _ _ refl;
+  group = (refl, refl);
 }
 
 pub chunks-preserved : goal.chunks-preserved
@@ -27,6 +30,8 @@ chunks-preserved g c =
           let file = ap (λ (z : Cleaner). z.file_id) old.cuts.same in
           tells-both _ _ _ _ _ tt old.tells _ (tells-late _ _ _ _ _ _ old.leaves.keeps.finalized
           (tells-ok _ _ _ _ _ tt (rw (is, file) at c.cut_chunk.ensures.tells)));
+      calls = calls-both _ _ _ _ old.calls c.cut_chunk.ensures.calls;
+      group = group-both old.group c.cut_chunk.ensures.group;
     }
 
 pub returns-in-Ok-false : goal.returns-in-Ok-false
@@ -42,6 +47,8 @@ returns-in-Ok-false g c =
       why = tt;
       tells = tells-both _ _ _ _ _ tt old.tells _ (tells-late _ _ _ _ _ _ old.leaves.keeps.finalized
           (tells-ok _ _ _ _ _ tt (rw (is, file) at c.cut_chunk.ensures.tells)));
+      calls = calls-both _ _ _ _ old.calls c.cut_chunk.ensures.calls;
+      group = group-both old.group c.cut_chunk.ensures.group;
     }
 
 pub returns-in-Err : goal.returns-in-Err
@@ -57,4 +64,6 @@ returns-in-Err g c =
           (rw c.in-Err.is at c.cut_chunk.ensures.why);
       tells = tells-both _ _ _ _ _ tt old.tells _ (tells-late _ _ _ _ _ _ old.leaves.keeps.finalized
           (tells-err _ _ _ _ _ (rw (c.in-Err.is, file) at c.cut_chunk.ensures.tells)));
+      calls = calls-both _ _ _ _ old.calls c.cut_chunk.ensures.calls;
+      group = group-both old.group c.cut_chunk.ensures.group;
     }

@@ -1,10 +1,11 @@
 use Rattle.std.proofs.Common.{◌≡◌, length}
 use Rattle.std.specs.Prelude.{Ok}
-use Rattle.xet_session.specs.Telling.{told_by}
+use Rattle.xet_session.specs.Telling.{KeepsGroup, told_by}
 use Rattle.xet_clean.specs.Cleaners.{CutsChunks}
 use Rattle.xet_clean.specs.Cleanings.{Leaves}
-use Rattle.xet_clean.specs.FileCalls.{IsLate, TellsOf}
+use Rattle.xet_clean.specs.FileCalls.{IsLate, IsPartOf, TellsOf}
 use Rattle.xet_clean.specs.Pending.{bytes_left}
+use Rattle.xet_clean.specs.SessionCalls.{Calls}
 use Rattle.xet_clean.specs.Showing.{cleaner_of}
 use Rattle.xet_clean.proofs.cleaner.SingleFileCleaner.cut_chunks.Given as goal
 
@@ -15,9 +16,12 @@ invariant-chunks g l = record {
   cuts : CutsChunks (told_by g.U.Uploader.told g.R.ShardStore.told l.initial.session)
       (told_by g.U.Uploader.told g.R.ShardStore.told l.session) (cleaner_of l.initial.self) (cleaner_of l.self);
   failed : l.self.failed ≡ l.initial.self.failed;
-  tells : TellsOf {A = Unit {0}} l.initial.self.file_id (IsLate l.initial.session.finalized)
+  tells : TellsOf {A = Unit {0}} (IsPartOf l.initial.self.file_id) (IsLate l.initial.session.finalized)
       l.initial.session.files.tracker
       l.session.files.tracker (Ok tt);
+  calls : Calls l.now (told_by g.U.Uploader.told g.R.ShardStore.told l.initial.session)
+      (told_by g.U.Uploader.told g.R.ShardStore.told l.session);
+  group : KeepsGroup l.initial.session l.session;
 }
 
 abbrev pub decreases-chunks : goal.decreases-chunks

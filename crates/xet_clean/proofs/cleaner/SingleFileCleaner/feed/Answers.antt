@@ -1,12 +1,13 @@
-use Rattle.std.proofs.Common.{refl, rules, ap, inl, inr, sym, ◌≡◌, ◌∙◌}
-use Rattle.std.specs.Prelude.{Err, Ok}
+use Rattle.std.proofs.Common.{refl, rules, ap, inl, sym, ◌≡◌, ◌∙◌}
+use Rattle.std.specs.Prelude.{Err}
 use Rattle.xet_upload.specs.declared.data_error.DataError.TheVariants as data_error
 use Rattle.xet_session.specs.Sessions.{SessionTold}
 use Rattle.xet_session.specs.Telling.{told_by}
 use Rattle.xet_clean.specs.Cleaners.{Cleaner}
 use Rattle.xet_clean.proofs.Cleaning.{chunk-memory, chunk-tracks, leaves-refl}
-use Rattle.xet_clean.proofs.FileCalls.{tells-both, tells-err, tells-late, tells-memory, tells-none, tells-own}
-use Rattle.xet_clean.proofs.Feeding.{feeds-failed, feeds-finalized, feeds-grown, feeds-kept, feeds-past}
+use Rattle.xet_clean.proofs.SessionCalls.{calls-moved, calls-none, group-both}
+use Rattle.xet_clean.proofs.FileCalls.{grows-first, part-for, tells-both, tells-err, tells-late, tells-memory, tells-none, tells-own, tells-wider}
+use Rattle.xet_clean.proofs.Feeding.{feeds-failed, feeds-finalized, feeds-grown}
 use Rattle.xet_clean.proofs.cleaner.SingleFileCleaner.feed.Goals as goal
 
 pub returns-then-is_finalized : goal.returns-then-is_finalized
@@ -16,6 +17,9 @@ returns-then-is_finalized g c = record {
     refl,
     sym c.is_finalized.ensures.is ∙ c.if-is_finalized.true,
   )));
+  grows = tt;
+  calls = calls-none _ _ _ refl;
+  group = (refl, refl);
 }
 
 pub returns-in_err-grow : goal.returns-in_err-grow
@@ -30,6 +34,9 @@ returns-in_err-grow g c =
           (rw c.in_err-grow.was at c.grow.ensures.why));
       tells = tells-own _ _ _ _ _ _ (λ e l. inl l) (tells-err _ _ _ _ _
           (rw c.in_err-grow.was at c.grow.ensures.tells));
+      grows = tt;
+      calls = calls-none _ _ _ c.grow.ensures.same;
+      group = c.grow.ensures.group;
     })
 
 pub returns-in_err-take_in : goal.returns-in_err-take_in
@@ -44,6 +51,9 @@ returns-in_err-take_in g c =
           (told_by g.U.Uploader.told g.R.ShardStore.told c.grow.new.session) _ refl);
       tells = tells-own _ _ _ _ _ _ (λ e l. inl l) (tells-both _ _ _ _ _ _
           (rw c.in_ok-grow.was at c.grow.ensures.tells) _ (tells-memory _ _ _ _ refl));
+      grows = tt;
+      calls = calls-none _ _ _ c.grow.ensures.same;
+      group = c.grow.ensures.group;
     })
 
 pub returns : goal.returns
@@ -57,7 +67,13 @@ returns g c = record {
       let file = ap (λ (z : Cleaner). z.file_id) c.in_ok-take_in.ensures.ok.same in
       tells-own _ _ _ _ _ _ (λ e l. inl l) (tells-both _ _ _ _ _ _ (rw c.in_ok-grow.was at c.grow.ensures.tells) _
       (tells-late _ _ _ _ _ _ (ap (λ (z : SessionTold). z.finalized) c.grow.ensures.same)
-      (rw file at c.cut_chunks.ensures.tells)));
+      (tells-wider _ _ (part-for _ _ _) _ _ _ _ (rw file at c.cut_chunks.ensures.tells))));
+  grows =
+      let file = ap (λ (z : Cleaner). z.file_id) c.in_ok-take_in.ensures.ok.same in
+      grows-first _ _ _ _ _ _ _ c.cut_chunks.result c.in_ok-grow.ensures.grows
+      (rw file at c.cut_chunks.ensures.tells);
+  calls = calls-moved _ _ _ _ c.grow.ensures.same c.cut_chunks.ensures.calls;
+  group = group-both c.grow.ensures.group c.cut_chunks.ensures.group;
 }
 
 pub take_in-requires : goal.take_in-requires

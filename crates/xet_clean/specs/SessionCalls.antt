@@ -1,0 +1,87 @@
+-- The calls of its session that a cleaner makes, and the moment that it hands on.
+use Rattle.std.specs.Prelude.{ℕ, ◌≡◌, ◌⊎◌, Bool, List, [], ◌∷◌, ◌++◌, All, Option, Result, Ok, Err, OnOk, OnErr}
+use Rattle.xet_base.specs.declared.merklehash.MerkleHash.{MerkleHash}
+use Rattle.xet_base.specs.declared.mdb_shard.FileDataSequenceEntry.{FileDataSequenceEntry}
+use Rattle.xet_base.specs.declared.mdb_shard.Xorb.{Xorb}
+use Rattle.xet_base.specs.Digests.{file_hash_of}
+use Rattle.xet_base.specs.Store.{Store}
+use Rattle.xet_progress.specs.declared.step.TrackerStep.{TrackerStep}
+use Rattle.xet_upload.specs.Waitings.{Waiting}
+use Rattle.xet_upload.specs.declared.data_error.DataError.{DataError}
+use Rattle.xet_upload.specs.declared.waiting.WaitingFile.{WaitingFile}
+use Rattle.xet_session.specs.Calls.{Queries, Registers}
+use Rattle.xet_session.specs.Completions.{TakesFile}
+use Rattle.xet_session.specs.Sessions.{SessionTold}
+use Rattle.xet_session.specs.Trackings.{TracksFile}
+use Rattle.xet_clean.specs.Cleaners.{Cleaner, CleanerStands, CutsChunks, IsFed, cleaned_file, recorded_sha256}
+use Rattle.xet_clean.specs.FileCalls.{IsPartOf}
+use Rattle.xet_clean.specs.Records.{WaitsFor}
+
+-- a search of the stores, or a xorb that is given at this moment
+abbrev pub CallsOnce : ℕ → SessionTold → SessionTold → Type 0
+CallsOnce now b n = ((hashes : List MerkleHash)
+    × (answer : Result (Option (ℕ × FileDataSequenceEntry × Bool)) DataError) × Queries b n hashes answer)
+    ⊎ ((x : Xorb) × (answer : Result Bool DataError) × Registers b n x now answer)
+
+-- such a call, or the data of a file that is taken at this moment, or counts that are added
+abbrev pub UploadsOnce : ℕ → SessionTold → SessionTold → Type 0
+UploadsOnce now b n = CallsOnce now b n
+    ⊎ ((w : Waiting) × (answer : Result (Unit {0}) DataError) × TakesFile b n w now answer)
+    ⊎ (n ≡ record b { metrics = n.metrics })
+
+-- calls of a kind, one after another, which leave the session as these
+abbrev pub CallsAll : (SessionTold → SessionTold → Type 0) → List SessionTold → SessionTold → SessionTold → Type 0
+CallsAll Once [] b n = n ≡ b
+CallsAll Once (m ∷ ms) b n = Once b m × CallsAll Once ms m n
+
+-- nothing but such calls was made
+abbrev pub CallsOf : (SessionTold → SessionTold → Type 0) → SessionTold → SessionTold → Type 0
+CallsOf Once b n = (after : List SessionTold) × CallsAll Once after b n
+
+-- searches and given xorbs alone
+abbrev pub Calls : ℕ → SessionTold → SessionTold → Type 0
+Calls now b n = CallsOf (CallsOnce now) b n
+
+-- the answer without its value
+abbrev pub unit_of : {A : Type 0} → Result A DataError → Result (Unit {0}) DataError
+unit_of (Ok a) = Ok tt
+unit_of (Err e) = Err e
+
+-- the session took the data of one file, or refused it, at this moment; then counts may have been added. The data have
+-- this one record, which stands for the bytes that the cleaner stood for
+pub record TookFile {A : Type 0} (b n : SessionTold) (c : Cleaner) (now : ℕ) (before after : List TrackerStep)
+    (answer : Result A DataError) : Type 0 where
+  pub taken : Waiting
+  pub one : WaitingFile
+  pub files : taken.files ≡ one ∷ []
+  pub number : one.file_id ≡ c.file_id
+  pub hash : one.hash ≡ file_hash_of c.parts.infos
+  pub sha256 : (bytes : List ℕ) → IsFed c bytes → one.sha256 ≡ recorded_sha256 c.policy bytes
+  pub stands : (s : Store) (bytes : List ℕ) → CleanerStands s c bytes → WaitsFor s taken (cleaned_file c one.hash bytes)
+  pub later : SessionTold
+  pub takes : TakesFile b later taken now (unit_of answer)
+  pub tracks : TracksFile b later taken before after (unit_of answer)
+  pub counted : n ≡ record later { metrics = n.metrics }
+
+-- nothing changed, and the tracker was told nothing
+abbrev pub IsSame : SessionTold → SessionTold → List TrackerStep → List TrackerStep → Type 0
+IsSame b n before after = (n ≡ b) × (after ≡ before)
+
+-- chunks of a cleaner were cut, and then the session took its data
+pub record CutsAndTakes {A : Type 0} (b m n : SessionTold) (c d : Cleaner) (now : ℕ) (told after : List TrackerStep)
+    (answer : Result A DataError) : Type 0 where
+  pub cuts : CutsChunks b m c d
+  pub took : TookFile m n d now told after answer
+
+-- a cleaner's file ended: chunks were cut, and then the session took its data; an error may come before
+pub record EndsFile {A : Type 0} (b n : SessionTold) (c : Cleaner) (now : ℕ) (before after : List TrackerStep)
+    (answer : Result A DataError) : Type 0 where
+  pub middle : SessionTold
+  pub ended : Cleaner
+  pub calls : Calls now b middle
+  pub told : List TrackerStep
+  pub parts : List TrackerStep
+  pub accepted : told ≡ before ++ parts
+  pub are_parts : All (IsPartOf c.file_id) parts
+  pub ok : OnOk answer (CutsAndTakes b middle n c ended now told after answer)
+  pub err : OnErr answer (IsSame middle n told after ⊎ CutsAndTakes b middle n c ended now told after answer)
