@@ -1,3 +1,4 @@
+mod AscendingOffsets
 mod AscendingSearch
 mod BlockNumbers
 mod BlockReferences
@@ -6,6 +7,7 @@ mod BlockWalk
 mod ChainSums
 mod ChainsExist
 mod ChunkNumbers
+mod ChunkRuns
 mod EqualBlocks
 mod FirstFailures
 mod HonestBlockTests

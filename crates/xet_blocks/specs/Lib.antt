@@ -3,6 +3,7 @@ pub mod BlockChecks
 pub mod BlockEquality
 pub mod Blocks
 pub mod Chain
+pub mod ChunkOffsets
 pub mod DataTasks
 pub mod Extracts
 pub mod Laws

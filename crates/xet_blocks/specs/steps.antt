@@ -1,3 +1,4 @@
+pub mod Ascents
 -- The words of private functions.
 pub mod BlockKeys
 pub mod Offers

@@ -6,6 +6,7 @@ pub mod laws;
 pub mod reconstruction_terms;
 
 pub use fetch_policy::{FetchPolicy, PrefetchView, Steady};
+pub use reconstruction_terms::chunk_offsets::ChunkOffsets;
 pub use reconstruction_terms::file_term::{
     DataSource, FileTerm, TermBlock, retrieve_file_term_block,
 };

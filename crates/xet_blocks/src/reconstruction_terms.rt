@@ -1,5 +1,6 @@
 //! The terms of a file, the blocks that they are cut from, and the URLs of these.
 mod block_list;
+pub mod chunk_offsets;
 pub mod file_term;
 mod lists;
 mod plan_blocks;

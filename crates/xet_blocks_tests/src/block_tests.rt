@@ -3,20 +3,24 @@ ghost use Rattle.std.specs.Prelude.{◌≡◌};
 
 use bytes::Bytes;
 use std::alloc::Global;
+use std::process::Abort;
+use std::sync::Arc;
 use std::test::Fail;
 use xet_base::{ChunkRange, FileRange, HttpRange, List, MerkleHash, OutOfMemory, Text, UniqueId};
 use xet_blocks::{
-    Corruption, DataSource, FileReconstructionError, FileTerm, RetrievalUrl,
+    ChunkOffsets, Corruption, DataSource, FileReconstructionError, FileTerm, RetrievalUrl,
     TermBlockRetrievalURLs, XorbBlock, XorbBlockData, XorbReference,
 };
-use xet_outside::BlockBytes;
+use xet_outside::{BlockBytes, Offsets};
 
 fn four_chunks(alloc: Global) -> Result<XorbBlock, OutOfMemory> {
-    let mut chunk_ranges = List::new(alloc);
-    chunk_ranges.push(ChunkRange::new(0, 4))?;
+    block_of(alloc, &[ChunkRange::new(0, 4)])
+}
+
+fn block_of(alloc: Global, chunk_ranges: &[ChunkRange]) -> Result<XorbBlock, OutOfMemory> {
     Ok(XorbBlock {
         xorb_hash: MerkleHash([17; 32]),
-        chunk_ranges,
+        chunk_ranges: List::from_vec(chunk_ranges.to_vec(alloc)?),
         xorb_block_index: 0,
         references: List::new(alloc),
         uncompressed_size_if_known: None,
@@ -25,11 +29,24 @@ fn four_chunks(alloc: Global) -> Result<XorbBlock, OutOfMemory> {
 }
 
 fn answered(alloc: Global, offsets: &[u32]) -> Result<BlockBytes, OutOfMemory> {
-    let offsets = offsets.to_vec(alloc)?;
-    Ok(BlockBytes {
-        offsets: List::from_vec(offsets),
+    Ok(of_hello(Offsets::from_vec(alloc, offsets.to_vec(alloc)?)?))
+}
+
+fn of_hello(offsets: Offsets) -> BlockBytes {
+    BlockBytes {
+        offsets,
         bytes: Bytes::from_static(b"Hello, world!"),
-    })
+    }
+}
+
+fn pairs_of(alloc: Global, chunks: &ChunkOffsets) -> Result<Vec<(usize, usize)>, OutOfMemory> {
+    let mut pairs = Vec::new(alloc);
+    for index in 0..chunks.len() {
+        if let Some(pair) = chunks.get(index) {
+            pairs.push(pair)?;
+        }
+    }
+    Ok(pairs)
 }
 
 #[test]
@@ -72,9 +89,47 @@ fn offsets_and_lengths_of_four_chunks(rt: HostRuntime) -> Result<(), Fail> {
     block.uncompressed_size_if_known = Some(13);
     let data = block.check(alloc, &answered(alloc, &[0, 5, 7, 12])?)?;
     let wanted = [(0, 0), (1, 5), (2, 7), (3, 12)];
-    assert_eq!(rt; data.chunk_offsets.as_slice(), wanted.as_slice());
+    assert_eq!(rt;
+        pairs_of(alloc, &data.chunk_offsets)?.as_slice(),
+        wanted.as_slice()
+    );
+    assert!(rt; data.chunk_offsets.get(4).is_none());
     assert_eq!(rt; data.bytes.as_slice(), b"Hello, world!".as_slice());
     Ok(())
+}
+
+/// Four chunks of a xorb, from the second one on.
+fn part_of_a_xorb(alloc: Global) -> Result<BlockBytes, OutOfMemory> {
+    let shared = Arc::new(alloc, [4, 20, 25, 27, 32, 40].to_vec(alloc)?)?;
+    Ok(of_hello(Offsets::of_shared(shared, 1, 5, 20)))
+}
+
+/// Asserts the numbers and places of these chunks, as a block of these ranges.
+fn part_has(
+    rt: &impl Abort,
+    alloc: Global,
+    ranges: &[ChunkRange],
+    wanted: &[(usize, usize)],
+) -> Result<(), Fail> {
+    let data = block_of(alloc, ranges)?.check(alloc, &part_of_a_xorb(alloc)?)?;
+    assert_eq!(rt; pairs_of(alloc, &data.chunk_offsets)?.as_slice(), wanted);
+    let offsets = data.chunk_offsets.offsets(alloc)?.to_vec(alloc)?;
+    assert_eq!(rt; offsets.as_slice(), [0, 5, 7, 12].as_slice());
+    Ok(())
+}
+
+#[test]
+fn a_part_of_a_xorb_as_one_range(rt: HostRuntime) -> Result<(), Fail> {
+    let ranges = [ChunkRange::new(1, 5)];
+    let wanted = [(1, 0), (2, 5), (3, 7), (4, 12)];
+    part_has(&rt, rt.alloc(), &ranges, &wanted)
+}
+
+#[test]
+fn a_part_of_a_xorb_as_two_ranges(rt: HostRuntime) -> Result<(), Fail> {
+    let ranges = [ChunkRange::new(1, 2), ChunkRange::new(6, 9)];
+    let wanted = [(1, 0), (6, 5), (7, 7), (8, 12)];
+    part_has(&rt, rt.alloc(), &ranges, &wanted)
 }
 
 #[test]
@@ -128,7 +183,7 @@ fn data(alloc: Global, length: usize) -> Result<XorbBlockData, OutOfMemory> {
     let mut bytes = Bytes::from_static(b"Hello, world!");
     bytes.truncate(length);
     Ok(XorbBlockData {
-        chunk_offsets: List::from_vec(chunk_offsets),
+        chunk_offsets: ChunkOffsets::from_vec(chunk_offsets),
         bytes,
     })
 }

@@ -6,7 +6,7 @@ ghost use Rattle.xet_blocks.specs.BlockChecks.{numbers_in};
 ghost use Rattle.xet_fetch.specs.CachedBlocks.{CheckCachedCall, IsOffered, LookCall, OfferCall, ends_within, entry_of, has_reference};
 
 use std::alloc::Global;
-use xet_base::{ChunkRange, List, OutOfMemory};
+use xet_base::{ChunkRange, OutOfMemory};
 use xet_blocks::{XorbBlock, XorbBlockData, XorbReference};
 use xet_error::{FileReconstructionError, Result};
 use xet_outside::{BlockBytes, CacheError, ChunkCache};
@@ -93,28 +93,23 @@ pub fn offer_data<K: ChunkCache>(
 }
 
 /// The data as the bytes of a block, as a connection answers them and a cache keeps them. Its bytes share memory with
-/// the data's. An offset over `u32::MAX`, which no answer has, is that number. `OutOfMemory` where memory was refused.
+/// the data's, and so do its offsets where the data are of one range. An offset over `u32::MAX`, which no answer has,
+/// is that number. `OutOfMemory` where memory was refused.
 pub fn entry(alloc: Global, found: &XorbBlockData) -> std::result::Result<BlockBytes, OutOfMemory>
     ensures { IfOk result (λ e. e ≡ entry_of found.now) }
 {
-    let places = found.chunk_offsets.as_slice();
-    let mut offsets = Vec::with_capacity(alloc, places.len())?;
-    for (_, offset) in places {
-        offsets.push_reserved((*offset).min(u32::MAX as usize) as u32);
-    }
+    let offsets = found.chunk_offsets.offsets(alloc)?;
     let bytes = found.bytes.clone().map_err(OutOfMemory::from)?;
-    Ok(BlockBytes {
-        offsets: List::from_vec(offsets),
-        bytes,
-    })
+    Ok(BlockBytes { offsets, bytes })
 }
 
 /// Whether an entry of these ranges has all bytes of a reference.
 fn has_reference(ranges: &[ChunkRange], entry: &BlockBytes, reference: XorbReference) -> bool
     ensures { result ≡ has_reference ranges.now entry.now reference }
 {
-    let index = chunks_before(ranges, reference.term_chunks.start);
-    let Some(place) = entry.offsets.as_slice().get(index).copied() else {
+    let offsets = &entry.offsets;
+    let index = chunks_before(ranges, reference.term_chunks.start).min(offsets.len());
+    let Some(place) = offsets.get(index) else {
         return false;
     };
     let end = (place as usize).saturating_add(reference.uncompressed_size);

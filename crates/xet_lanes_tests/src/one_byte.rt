@@ -1,8 +1,10 @@
 //! A connection that answers at once.
 use bytes::Bytes;
 use std::alloc::Global;
-use xet_base::{FileRange, List, MerkleHash};
-use xet_outside::{BlockAnswer, BlockBytes, BlockRequest, Client, ClientError, PlanAnswer};
+use xet_base::{FileRange, MerkleHash, OutOfMemory};
+use xet_outside::{
+    BlockAnswer, BlockBytes, BlockRequest, Client, ClientError, Offsets, PlanAnswer,
+};
 
 /// Answers every request with one chunk of one byte, or fails at each.
 #[derive(Drop)]
@@ -54,10 +56,9 @@ impl Client for OneByte {
             self.faults = self.faults.saturating_add(1);
             return Err(ClientError::Failed);
         }
-        let mut offsets = List::new(alloc);
-        offsets.push(0)?;
+        let first = [0].to_vec(alloc).map_err(OutOfMemory::from)?;
         Ok(BlockAnswer::Bytes(BlockBytes {
-            offsets,
+            offsets: Offsets::from_vec(alloc, first)?,
             bytes: Bytes::from_static(b"x"),
         }))
     }

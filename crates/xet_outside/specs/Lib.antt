@@ -1,5 +1,6 @@
 pub mod Answers
 pub mod Laws
+pub mod Offsets
 pub mod Places
 pub mod Plan
 pub mod Told

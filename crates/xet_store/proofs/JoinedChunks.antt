@@ -1,9 +1,9 @@
 -- The parts of joined lists, and where they stand.
-use Rattle.std.proofs.Common.{subst, ◌≡◌, ◌≢◌, zero-add, ℕ, zero, suc, ◌+◌, ◌-◌, ◌≤◌, ◌<◌, List, [], ◌∷◌, ◌++◌, length, take, drop, get_or, refl, sym, ◌∙◌, ap, arith}
+use Rattle.std.proofs.Common.{subst, ◌≡◌, zero-add, ℕ, zero, suc, ◌+◌, ◌-◌, ◌≤◌, ◌<◌, List, [], ◌∷◌, ◌++◌, length, take, drop, get_or, refl, sym, ◌∙◌, ap, arith}
 use Rattle.std.specs.Prelude.{sum, slice_range}
 use Rattle.std.specs.List.{concat}
 use Rattle.std.proofs.Math.Seq.{take-add}
-use Rattle.std.proofs.lemmas.List.{take_at, drop_at, append_assoc, append-nil, length-append, length-map, take-map, take-append-drop, take_more, map_push}
+use Rattle.std.proofs.lemmas.List.{take_at, drop_at, append_assoc, append-nil, length-append, length-map, take-map, take-append-drop, take_more, take_all, map_push}
 use Rattle.std.proofs.lemmas.List.Sums.{sum_by-cons}
 use Rattle.std.proofs.lemmas.List.Folds.{concat-append}
 use Rattle.xet_base.specs.declared.mdb_shard.Xorb.{Xorb}
@@ -151,17 +151,31 @@ ends_of_more cs i d h =
     (get_or cs i d)) ∙ push
     ∙ ap (λ (k : ℕ). ends_of 0 (lengths (take i cs)) ++ k ∷ []) e
 
-module _ (x : Xorb) (bytes ends : List ℕ) (h : IsJoined x bytes ends) where
-  pub joined_count : length ends ≡ length x.chunks
-  joined_count = ap length h.ends_are ∙ length-ends_of 0 (lengths x.chunks) ∙ length-map x.chunks length
+-- the places of some lengths and of their end
+pub get_or-places : (ns : List ℕ) (k d : ℕ) → k ≤ length ns → get_or (0 ∷ ends_of 0 ns) k d ≡ sum (take k ns)
+get_or-places ns zero d h = refl
+get_or-places ns (suc k) d h = get_or-ends_of 0 ns k d (omega arith) ∙ zero-add (sum (take (suc k) ns))
 
-  -- the end before a chunk's number is the chunk's place
-  pub joined_end : (k d : ℕ) → k ≢ 0 → k ≤ length x.chunks → get_or ends (k - 1) d ≡ sum (take k (lengths x.chunks))
-  joined_end k d some inside =
-      let within : k - 1 < length (lengths x.chunks) = omega (arith, length-map x.chunks length) in
-      let one : suc (k - 1) ≡ k = omega arith in
-      ap (λ (es : List ℕ). get_or es (k - 1) d) h.ends_are ∙ get_or-ends_of 0 (lengths x.chunks) (k - 1) d within
-      ∙ zero-add (sum (take (suc (k - 1)) (lengths x.chunks))) ∙ ap (λ (n : ℕ). sum (take n (lengths x.chunks))) one
+module _ (x : Xorb) (bytes places : List ℕ) (h : IsJoined x bytes places) where
+  pub joined_count : length places ≡ length x.chunks + 1
+  joined_count = omega (
+    arith,
+    ap length h.places_are,
+    length-ends_of 0 (lengths x.chunks),
+    length-map x.chunks length,
+  )
+
+  -- what stands at a chunk's number is the chunk's place
+  pub joined_place : (k d : ℕ) → k ≤ length x.chunks → get_or places k d ≡ sum (take k (lengths x.chunks))
+  joined_place k d inside =
+      let within : k ≤ length (lengths x.chunks) = omega (arith, length-map x.chunks length) in
+      ap (λ (ps : List ℕ). get_or ps k d) h.places_are ∙ get_or-places (lengths x.chunks) k d within
+
+  -- the place behind the last chunk is how many bytes there are
+  pub joined_last : (k : ℕ) → k ≡ length x.chunks → length bytes ≡ sum (take k (lengths x.chunks))
+  joined_last k e =
+      ap length h.bytes_are ∙ sym (place_is x.chunks k ∙ ap (λ (cs : List (List ℕ)). length (concat cs))
+      (take_all k x.chunks (omega (arith, e))))
 
   pub joined_within : (k : ℕ) → sum (take k (lengths x.chunks)) ≤ length bytes
   joined_within k = omega (arith, place_within x.chunks k, ap length h.bytes_are)
@@ -175,18 +189,19 @@ module _ (x : Xorb) (bytes ends : List ℕ) (h : IsJoined x bytes ends) where
 pub length-concat-take : (cs : List (List ℕ)) (k : ℕ) → length (concat (take k cs)) ≤ length (concat cs)
 length-concat-take cs k = omega (arith, place_is cs k, place_within cs k)
 
-module _ (x : Xorb) (bytes ends : List ℕ) (bytes_are : bytes ≡ concat x.chunks) (ends_are : ends ≡ ends_of 0
+module _ (x : Xorb) (bytes places : List ℕ) (bytes_are : bytes ≡ concat x.chunks) (places_are : places ≡ 0 ∷ ends_of 0
     (lengths x.chunks)) where
-  pub parts_are_chunks : parts bytes 0 ends ≡ x.chunks
-  parts_are_chunks = rw (bytes_are, ends_are) (parts_are [] x.chunks 0 refl)
+  pub parts_are_chunks : parts bytes 0 (drop 1 places) ≡ x.chunks
+  parts_are_chunks = rw (bytes_are, places_are) (parts_are [] x.chunks 0 refl)
 
-  pub is_joined : IsValidXorb x → IsJoined (record { hash = x.hash; chunks = parts bytes 0 ends }) bytes ends
+  pub is_joined : IsValidXorb x
+      → IsJoined (record { hash = x.hash; chunks = parts bytes 0 (drop 1 places) }) bytes places
   is_joined v =
-      let joined : IsJoined x bytes ends = record { valid = v; bytes_are = bytes_are; ends_are = ends_are } in
+      let joined : IsJoined x bytes places = record { valid = v; bytes_are = bytes_are; places_are = places_are } in
       subst (λ (cs : List (List ℕ)). IsJoined (record {
         hash = x.hash;
         chunks = cs;
-      }) bytes ends) (sym parts_are_chunks) joined
+      }) bytes places) (sym parts_are_chunks) joined
 
 -- one step of joining: the chunk with this number is added
 module _ (cs : List (List ℕ)) (i : ℕ) (chunk : List ℕ) (within : i < length cs) (item : chunk ≡ get_or cs i chunk) where
@@ -194,9 +209,10 @@ module _ (cs : List (List ℕ)) (i : ℕ) (chunk : List ℕ) (within : i < lengt
   joined_more joined e = ap (λ (xs : List ℕ). xs ++ chunk) e ∙ ap (λ (xs : List ℕ). concat (take i cs) ++ xs) item
       ∙ sym (concat_more cs i chunk within)
 
-  pub ends_more : (joined ends : List ℕ) (n : ℕ) → joined ≡ concat (take (i + 1) cs)
-      → ends ≡ ends_of 0 (lengths (take i cs)) → n ≡ length joined
-      → ends ++ n ∷ [] ≡ ends_of 0 (lengths (take (i + 1) cs))
-  ends_more joined ends n e f g =
-      ap (λ (es : List ℕ). es ++ n ∷ []) f ∙ ap (λ (k : ℕ). ends_of 0 (lengths (take i cs)) ++ k ∷ []) (g ∙ ap length e)
-      ∙ sym (ends_of_more cs i chunk within)
+  pub places_more : (joined places : List ℕ) (n : ℕ) → joined ≡ concat (take (i + 1) cs)
+      → places ≡ 0 ∷ ends_of 0 (lengths (take i cs)) → n ≡ length joined
+      → places ++ n ∷ [] ≡ 0 ∷ ends_of 0 (lengths (take (i + 1) cs))
+  places_more joined places n e f g =
+      ap (λ (ps : List ℕ). ps ++ n ∷ []) f
+      ∙ ap (λ (k : ℕ). 0 ∷ (ends_of 0 (lengths (take i cs)) ++ k ∷ [])) (g ∙ ap length e)
+      ∙ ap (λ (es : List ℕ). 0 ∷ es) (sym (ends_of_more cs i chunk within))

@@ -95,10 +95,14 @@ module _ (hash : MerkleHash) (bytes es : List ℕ) (h : AreEnds 0 es (length byt
       let short = v.byte_count in
       omega (arith, all, whole, short)
 
+  -- it has a chunk for each end
+  pub joined-count : length es ≡ length x.chunks
+  joined-count = omega (arith, ap (λ (y : Xorb). length y.chunks) is, length-parts bytes 0 es)
+
   -- and it stands as a store keeps it
-  pub parts-joined : IsJoined (record { hash = hash; chunks = parts bytes 0 es }) bytes es
+  pub parts-joined : IsJoined (record { hash = hash; chunks = parts bytes 0 es }) bytes (0 ∷ es)
   parts-joined = record {
     valid = subst IsValidXorb is v;
     bytes_are = sym (concat-parts bytes 0 es h);
-    ends_are = ends-of-parts bytes 0 es h;
+    places_are = ap (λ (ps : List ℕ). 0 ∷ ps) (ends-of-parts bytes 0 es h);
   }

@@ -31,9 +31,9 @@ pub use tap::{MemTap, NoTap, ScriptTap, Tap};
 pub use tap_client::TapClient;
 pub use xet_outside::{
     BlockAnswer, BlockBytes, BlockRequest, CacheError, CancelSignal, ChunkCache, Client,
-    ClientError, FetchEntry, FetchRange, NeverCancel, NoCache, PlaceSink, Plan, PlanAnswer,
-    PlanTerm, PlanXorb, Said, Served, Sink, SinkError, Source, SourceFault, place_follows,
-    write_plainly,
+    ClientError, FetchEntry, FetchRange, NeverCancel, NoCache, Offsets, PlaceSink, Plan,
+    PlanAnswer, PlanTerm, PlanXorb, Said, Served, Sink, SinkError, Source, SourceFault,
+    place_follows, write_plainly,
 };
 pub use xet_sinks::{
     BufferedSink, FileSink, HexSink, MemFile, ReadSource, ScriptSink, ScriptSource, SinkStep,

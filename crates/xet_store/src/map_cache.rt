@@ -28,8 +28,9 @@ impl Keyed<CacheKey> for (MerkleHash, ChunkRange, BlockBytes) {
     }
 }
 
-/// A fake: a cache in memory, which keeps the first entry of each key for good. It tells proofs what it was looked up
-/// for, which takes no memory, and counts the entries that it was offered, a count that stops at `u64::MAX`.
+/// A fake: a cache in memory, which keeps the first entry of each key for good. What it keeps shares memory with the
+/// block that it was offered, and what it gives with what it keeps. It tells proofs what it was looked up for, which
+/// takes no memory, and counts the entries that it was offered, a count that stops at `u64::MAX`.
 #[derive(Drop)]
 pub struct MapCache {
     entries: KeyedList<CacheKey, (MerkleHash, ChunkRange, BlockBytes)>,
@@ -64,18 +65,13 @@ impl MapCache {
         self.entries.position(key)
     }
 
-    /// The entry of a key, with memory of its own for its offsets.
-    fn entry(
-        &self,
-        alloc: Global,
-        xorb: &MerkleHash,
-        range: ChunkRange,
-    ) -> Result<Option<BlockBytes>, OutOfMemory>
+    /// The entry of a key, which shares memory with the one that is kept.
+    fn entry(&self, xorb: &MerkleHash, range: ChunkRange) -> Result<Option<BlockBytes>, OutOfMemory>
         ensures { IfOk result (λ o. o ≡ entry_at self.now.entries xorb.now range) }
     {
         match self.number_of(&CacheKey { xorb: *xorb, range }) {
             Some(number) => {
-                let copy = self.entries.as_slice()[number].2.copied(alloc)?;
+                let copy = self.entries.as_slice()[number].2.copied()?;
                 Ok(Some(copy))
             }
             None => Ok(None),
@@ -91,11 +87,11 @@ impl ChunkCache for MapCache {
       faults = 0;
     } };
 
-    /// The entry of the key; none exactly where there is none. `OutOfMemory` where memory was refused, and then the
-    /// look is not told.
+    /// The entry of the key, which shares memory with the one that is kept; none exactly where there is none.
+    /// `OutOfMemory` where memory was refused, and then the look is not told.
     fn get(
         &mut self,
-        alloc: Global,
+        _alloc: Global,
         xorb: &MerkleHash,
         range: ChunkRange,
     ) -> Result<Option<BlockBytes>, CacheError>
@@ -103,18 +99,18 @@ impl ChunkCache for MapCache {
             (⟦<MapCache as ChunkCache>⟧.told self.new) xorb.now range result }
         ensures exact { MapGet self.old.entries xorb.now range result }
     {
-        let Ok(found) = self.entry(alloc, xorb, range) else {
+        let Ok(found) = self.entry(xorb, range) else {
             return Err(CacheError::OutOfMemory);
         };
         self.log = self.log.and_look(xorb, &range, &found);
         Ok(found)
     }
 
-    /// Adds the entry where its key isn't there, and else leaves the entries. `OutOfMemory` where memory was refused,
-    /// and then the entries are as before.
+    /// Adds the entry where its key isn't there, and else leaves the entries. What is kept shares memory with the
+    /// block. `OutOfMemory` where memory was refused, and then the entries are as before.
     fn put(
         &mut self,
-        alloc: Global,
+        _alloc: Global,
         xorb: &MerkleHash,
         range: ChunkRange,
         block: &BlockBytes,
@@ -128,7 +124,7 @@ impl ChunkCache for MapCache {
         if self.entries.position(&key).is_some() {
             return Ok(());
         }
-        let Ok(copy) = block.copied(alloc) else {
+        let Ok(copy) = block.copied() else {
             return Err(CacheError::OutOfMemory);
         };
         match self.entries.push((*xorb, range, copy)) {

@@ -2,8 +2,8 @@
 use bytes::Bytes;
 use std::alloc::Global;
 use std::test::Fail;
-use xet_base::{ChunkRange, List, MerkleHash};
-use xet_store::{BlockBytes, CacheError, ChunkCache, MapCache};
+use xet_base::{ChunkRange, MerkleHash};
+use xet_store::{BlockBytes, CacheError, ChunkCache, MapCache, Offsets};
 
 /// The hash of 32 bytes of this number.
 fn hash(number: u8) -> MerkleHash {
@@ -12,11 +12,13 @@ fn hash(number: u8) -> MerkleHash {
 
 /// One chunk with these bytes.
 fn block(alloc: Global, text: &str) -> Result<BlockBytes, Fail> {
-    let mut offsets = List::new(alloc);
+    let mut offsets = Vec::new(alloc);
     offsets.push(0)?;
     offsets.push(u32::try_from(text.len())?)?;
-    let bytes = Bytes::copy_from_slice(alloc, text.as_bytes())?;
-    Ok(BlockBytes { offsets, bytes })
+    Ok(BlockBytes {
+        offsets: Offsets::from_vec(alloc, offsets)?,
+        bytes: Bytes::copy_from_slice(alloc, text.as_bytes())?,
+    })
 }
 
 /// Puts an entry of this xorb's first chunk.

@@ -1,17 +1,20 @@
-//! The connection by a script.
+//! The honest connection, and the one by a script.
 use bytes::Bytes;
 use std::alloc::Global;
 use std::test::Fail;
 use xet_base::{ChunkRange, FileRange, List, Text, UniqueId};
 use xet_store::worked::{FILE_OF_ALL, X1, worked_store};
 use xet_store::{
-    BlockAnswer, BlockBytes, BlockRequest, Client, ClientError, ClientStep, PlanAnswer,
-    ScriptClient,
+    BlockAnswer, BlockBytes, BlockRequest, Client, ClientError, ClientStep, MemClient, Offsets,
+    PlanAnswer, ScriptClient,
 };
 
-fn request(alloc: Global) -> Result<BlockRequest, Fail> {
+// A request for these chunks of the first xorb, by the number of the first and of the one after the last.
+fn request(alloc: Global, ranges: &[(u32, u32)]) -> Result<BlockRequest, Fail> {
     let mut chunks = List::new(alloc);
-    chunks.push(ChunkRange::new(3, 4))?;
+    for (start, end) in ranges {
+        chunks.push(ChunkRange::new(*start, *end))?;
+    }
     Ok(BlockRequest {
         acquisition: UniqueId {
             plan: 1,
@@ -66,10 +69,10 @@ fn answers_queries_by_its_steps(rt: HostRuntime) -> Result<(), Fail> {
 fn answers_requests_by_its_steps(rt: HostRuntime) -> Result<(), Fail> {
     let alloc = rt.alloc();
     let store = worked_store(alloc)?;
-    let request = request(alloc)?;
+    let request = request(alloc, &[(3, 4)])?;
     let mut steps = Vec::new(alloc);
     steps.push(ClientStep::SayBlock(BlockBytes {
-        offsets: List::new(alloc),
+        offsets: Offsets::from_vec(alloc, Vec::new(alloc))?,
         bytes: Bytes::copy_from_slice(alloc, b"?")?,
     }))?;
     steps.push(ClientStep::Fail)?;
@@ -79,5 +82,26 @@ fn answers_requests_by_its_steps(rt: HostRuntime) -> Result<(), Fail> {
     for wanted in [b'?', b'f', b'm', b'e', b'!'] {
         assert_eq!(rt; block_of(alloc, &mut client, &request), wanted);
     }
+    Ok(())
+}
+
+// Whether an honest connection answers a block of these chunks with these places.
+fn has_places(alloc: Global, ranges: &[(u32, u32)], places: &[u32]) -> Result<bool, Fail> {
+    let store = worked_store(alloc)?;
+    let mut client = MemClient::new(alloc, &store);
+    match client.block(alloc, &request(alloc, ranges)?) {
+        Ok(BlockAnswer::Bytes(block)) => Ok(block.offsets.to_vec(alloc)?.as_slice() == places),
+        Ok(BlockAnswer::Expired) | Err(_) => Ok(false),
+    }
+}
+
+#[test]
+fn tells_the_places_of_a_blocks_chunks(rt: HostRuntime) -> Result<(), Fail> {
+    let alloc = rt.alloc();
+    assert!(rt; has_places(alloc, &[(0, 4)], &[0, 5, 7, 12])?);
+    assert!(rt; has_places(alloc, &[(1, 4)], &[0, 2, 7])?);
+    assert!(rt; has_places(alloc, &[(0, 1), (2, 4)], &[0, 5, 10])?);
+    assert!(rt; has_places(alloc, &[(4, 5)], &[])?);
+    assert!(rt; has_places(alloc, &[], &[])?);
     Ok(())
 }

@@ -25,8 +25,8 @@ fn note(
     Ok(())
 }
 
-fn copied(alloc: Global, bytes: &BlockBytes) -> Result<Option<BlockBytes>, CacheError> {
-    match bytes.copied(alloc) {
+fn copied(bytes: &BlockBytes) -> Result<Option<BlockBytes>, CacheError> {
+    match bytes.copied() {
         Ok(entry) => Ok(Some(entry)),
         Err(_) => Err(CacheError::OutOfMemory),
     }
@@ -49,7 +49,7 @@ impl ChunkCache for FakeCache {
             return Err(CacheError::OutOfMemory);
         }
         match &self.step {
-            Step::Block(bytes) => copied(alloc, bytes),
+            Step::Block(bytes) => copied(bytes),
             Step::Fail => Err(CacheError::Failed),
             Step::NoMemory => Err(CacheError::OutOfMemory),
             _ => Ok(None),

@@ -4,7 +4,9 @@ use std::alloc::Global;
 use std::collections::VecDeque;
 use std::test::Fail;
 use xet_base::{ChunkRange, HttpRange, List, MerkleHash, Text};
-use xet_outside::{BlockBytes, FetchEntry, FetchRange, Plan, PlanAnswer, PlanTerm, PlanXorb};
+use xet_outside::{
+    BlockBytes, FetchEntry, FetchRange, Offsets, Plan, PlanAnswer, PlanTerm, PlanXorb,
+};
 
 /// What a connection, or a cache, does at one call.
 #[derive(Drop)]
@@ -96,7 +98,7 @@ fn plan(alloc: Global, offset: &str, rest: &str) -> Result<Step, Fail> {
 
 /// Bytes of a block after a bar, before which stand its offsets.
 fn block(alloc: Global, offsets: &str, text: &str) -> Result<Step, Fail> {
-    let offsets = List::from_vec(numbers(alloc, offsets)?);
+    let offsets = Offsets::from_vec(alloc, numbers(alloc, offsets)?)?;
     let bytes = Bytes::copy_from_slice(alloc, text.trim().as_bytes())?;
     Ok(Step::Block(BlockBytes { offsets, bytes }))
 }

@@ -25,8 +25,8 @@ fn an_admission_goes_with_its_term(rt: HostRuntime) -> Result<(), Fail> {
     Ok(())
 }
 
-/// Wants a hundred terms of one byte, supplies each tenth of them in ten rounds, and answers the starts of the completed
-/// ones in order.
+/// Wants a hundred terms of one byte, supplies each tenth of them in ten rounds, and answers the starts of the
+/// completed ones in order.
 fn starts_of_ten_rounds(alloc: Global) -> Result<Vec<u64>, Fail> {
     let mut writer = UnorderedWriter::new(alloc);
     for i in 0..100u64 {

@@ -90,11 +90,10 @@ impl FileTerm {
         ensures { MatchResult result (IsPlaceOf self.now block.now)
             (λ fault. failed_term_test self.now block.now ≡ Some fault) }
     {
-        let offsets = block.chunk_offsets.as_slice();
-        let Some((_, first)) = offsets.get(self.xorb_block_start_index).copied() else {
+        let Some((_, first)) = block.chunk_offsets.get(self.xorb_block_start_index) else {
             return Err(Corruption::OffsetCount {
                 expected: (self.xorb_block_start_index as u64).saturating_add(1),
-                actual: offsets.len() as u64,
+                actual: block.chunk_offsets.len() as u64,
             });
         };
         let start = (first as u64).saturating_add(self.offset_into_first_range);

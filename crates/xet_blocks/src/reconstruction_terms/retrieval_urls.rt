@@ -1,8 +1,6 @@
 //! The URLs of a plan's blocks.
 ghost use Rattle.std.specs.Prelude.{◌≡◌, ◌≤◌, Some, MatchOption, slice_get, length};
 
-use std::alloc::Global;
-use std::mem;
 use xet_base::{FileRange, HttpRange, List, MerkleHash, Text, UniqueId};
 
 /// Where a block is fetched.
@@ -88,32 +86,4 @@ impl TermBlockRetrievalURLs {
             None => None,
         }
     }
-
-    /// Takes the URL of a block out of the table by its number, from 0; none exactly where the number is out of range.
-    /// The table has an empty URL with no ranges in its place then.
-    pub(crate) fn take(&mut self, alloc: Global, xorb_block_index: usize) -> Option<RetrievalUrl>
-        ensures found { result ≡ slice_get self.old.retrieval_urls xorb_block_index }
-        ensures acquisition { self.new.acquisition_id ≡ self.old.acquisition_id }
-        ensures count { length self.new.retrieval_urls ≡ length self.old.retrieval_urls }
-    {
-        let mut urls = mem::replace(&mut self.retrieval_urls, List::new(alloc)).into_inner();
-        let found = take_from(alloc, &mut urls, xorb_block_index);
-        self.retrieval_urls = List::from_vec(urls);
-        found
-    }
-}
-
-/// Takes the URL of a number out of a list, and leaves an empty one with no ranges in its place.
-fn take_from(alloc: Global, urls: &mut Vec<RetrievalUrl>, number: usize) -> Option<RetrievalUrl>
-    ensures found { result ≡ slice_get urls.old.items number }
-    ensures count { length urls.new.items ≡ length urls.old.items }
-{
-    if number >= urls.len() {
-        return None;
-    }
-    let empty = RetrievalUrl {
-        url: Text::from_string(String::new(alloc)),
-        ranges: List::new(alloc),
-    };
-    Some(mem::replace(&mut urls[number], empty))
 }

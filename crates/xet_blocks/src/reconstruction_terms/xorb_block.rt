@@ -1,23 +1,25 @@
 //! Blocks: what is fetched at once of a xorb.
-ghost use Rattle.std.specs.Prelude.{◌≡◌, ◌-◌, ◌++◌, Some, None, OnErr, OnOk, IfOk, IfErr, length, zip};
+ghost use Rattle.std.specs.Prelude.{◌≡◌, ◌-◌, ◌++◌, Some, None, OnErr, OnOk, IfOk, IfErr, length, map, zip};
 ghost use Rattle.std.specs.Prelude.{◌<◌, All};
 ghost use Rattle.std.specs.List.{range_with_len};
 ghost use Rattle.std.specs.Result.{result_err};
 ghost use Rattle.std.specs.List.Sorted.{IsNonDecreasingBy};
 ghost use Rattle.xet_base.specs.Ranges.{Ascend};
 ghost use Rattle.xet_blocks.specs.BlockCalls.{CheckCall, RequestCall};
-ghost use Rattle.xet_blocks.specs.BlockChecks.{chunk_total, count_test, failed_block_test, is_misplaced, length_test, misplaced_after, numbers_in, order_test};
+ghost use Rattle.xet_blocks.specs.BlockChecks.{chunk_total, count_test, failed_block_test, length_test, misplaced_after, numbers_in, order_test};
 ghost use Rattle.xet_blocks.specs.Chain.{last_end};
 ghost use Rattle.xet_blocks.specs.TermBlocks.{known_size};
+ghost use Rattle.xet_blocks.specs.steps.Ascents.{ascend_below};
 ghost use Rattle.xet_blocks.specs.steps.Reached.{size_between};
 
+use crate::reconstruction_terms::chunk_offsets::ChunkOffsets;
 use crate::reconstruction_terms::reached_sizes::{ReachedSizes, sizes_fit};
-use crate::reconstruction_terms::retrieval_urls::{RetrievalUrl, TermBlockRetrievalURLs};
+use crate::reconstruction_terms::retrieval_urls::TermBlockRetrievalURLs;
 use bytes::Bytes;
 use std::alloc::Global;
 use xet_base::{ChunkRange, List, MerkleHash, OutOfMemory};
 use xet_error::{Corruption, FileReconstructionError, Result};
-use xet_outside::{BlockBytes, BlockRequest};
+use xet_outside::{BlockBytes, BlockRequest, Offsets};
 
 /// The data of a fetched block.
 ///
@@ -25,7 +27,7 @@ use xet_outside::{BlockBytes, BlockRequest};
 #[derive(Drop, Debug)]
 pub struct XorbBlockData {
     /// For each chunk of the block, in order: its number in the xorb, and the place of its first byte in the block.
-    pub chunk_offsets: List<(usize, usize)>,
+    pub chunk_offsets: ChunkOffsets,
     /// The joined bytes of the block's chunks.
     pub bytes: Bytes,
 }
@@ -146,54 +148,24 @@ impl XorbBlock {
         }))
     }
 
-    /// The request by which the block is fetched, as `request` makes it, with the URL and the byte ranges that the table
-    /// had: they go from the table into the request, and no copy is made of them. The table keeps its length and its
-    /// acquisition.
-    ///
-    /// The Rust crate has no such call.
-    pub fn take_request(
-        &self,
-        alloc: Global,
-        urls: &mut TermBlockRetrievalURLs,
-    ) -> Result<Option<BlockRequest>>
-        ensures call { RequestCall self.now urls.old result }
-        ensures acquisition { urls.new.acquisition_id ≡ urls.old.acquisition_id }
-        ensures count { length urls.new.retrieval_urls ≡ length urls.old.retrieval_urls }
-    {
-        let chunks = self.chunk_ranges.copied(alloc)?;
-        let acquisition = urls.acquisition_id();
-        let Some(found) = urls.take(alloc, self.xorb_block_index) else {
-            return Ok(None);
-        };
-        let RetrievalUrl { url, ranges } = found;
-        Ok(Some(BlockRequest {
-            acquisition,
-            index: self.xorb_block_index,
-            url,
-            xorb: self.xorb_hash,
-            chunks,
-            bytes: ranges,
-        }))
-    }
-
     /// The data of a block that a connection answered, where it passes its tests.
     ///
     /// `OffsetCount` exactly where there is not one offset for each chunk of the ranges, with the number of chunks, a
     /// sum that stops at `u64::MAX`, and the number of offsets; a reversed range has no chunks. Else `OffsetOrder` at
     /// the first offset that is not 0 at the first place, not above the one before it, or not below the number of
     /// bytes. Else `BlockLength` where the block's size is known and is not the number of bytes. `OutOfMemory` where
-    /// the data's memory was refused.
+    /// the data's memory was refused. The data of a block of one range share memory with the answer, so nothing is
+    /// written for each chunk.
     ///
     /// In the Rust crate: a step of `XorbBlock::retrieve_data`.
     pub fn check(&self, alloc: Global, block: &BlockBytes) -> Result<XorbBlockData>
         ensures { CheckCall self.now block.now result }
     {
         let ranges = self.chunk_ranges.as_slice();
-        let offsets = block.offsets.as_slice();
         check_block(ranges, self.uncompressed_size_if_known, block).map_err(
             FileReconstructionError::CorruptedReconstruction,
         )?;
-        let chunk_offsets = numbered_offsets(alloc, ranges, offsets)?;
+        let chunk_offsets = numbered_offsets(alloc, ranges, &block.offsets)?;
         let bytes = block.bytes.clone().map_err(OutOfMemory::from)?;
         Ok(XorbBlockData {
             chunk_offsets,
@@ -240,7 +212,8 @@ fn check_count(ranges: &[ChunkRange], block: &BlockBytes) -> std::result::Result
 fn check_order(block: &BlockBytes) -> std::result::Result<(), Corruption>
     ensures { result_err result ≡ order_test block.now }
 {
-    match first_misplaced(block.offsets.as_slice(), block.bytes.len()) {
+    let (places, base) = block.offsets.as_parts();
+    match first_misplaced(places, base, block.bytes.len()) {
         Some(place) => Err(Corruption::OffsetOrder { place }),
         None => Ok(()),
     }
@@ -283,45 +256,77 @@ fn chunk_total(ranges: &[ChunkRange]) -> u64
     total
 }
 
-/// Whether an offset after another, or at the first place, is out of order in a block of this many bytes.
-fn is_misplaced(size: usize, before: Option<u32>, offset: u32) -> bool
-    ensures { result ≡ is_misplaced size before offset }
+/// The place of the first offset that is out of order in a block of this many bytes. The offsets are these numbers,
+/// each less `base`. Offsets in order are told by a loop without a branch for each number.
+fn first_misplaced(places: &[u32], base: u32, size: usize) -> Option<usize>
+    ensures { result ≡ misplaced_after size None (map (λ p. p - base) places.now) }
 {
-    let follows = match before {
-        Some(before) => before < offset,
-        None => offset == 0,
-    };
-    !follows || size <= offset as usize
-}
-
-/// The place of the first offset that is out of order in a block of this many bytes.
-fn first_misplaced(offsets: &[u32], size: usize) -> Option<usize>
-    ensures { result ≡ misplaced_after size None offsets.now }
-{
-    let mut before = None;
-    for (place, offset) in offsets.iter().enumerate() {
-        if is_misplaced(size, before, *offset) {
-            return Some(place);
+    let (first, rest) = places.split_first()?;
+    if *first == base && ascend_below((base as usize).saturating_add(size), base, rest) {
+        return None;
+    }
+    let mut before = first.saturating_sub(base);
+    if before != 0 || size == 0 {
+        return Some(0);
+    }
+    for (place, number) in rest.iter().enumerate() {
+        let offset = number.saturating_sub(base);
+        if offset <= before || size <= offset as usize {
+            return Some(place + 1);
         }
-        before = Some(*offset);
+        before = offset;
     }
     None
 }
 
-/// The number of each chunk of the ranges, with its offset, as far as there are both.
+/// Whether numbers ascend from a first one, and the last of all is below an end.
+fn ascend_below(end: usize, first: u32, rest: &[u32]) -> bool
+    ensures { result ≡ ascend_below end first rest.now }
+{
+    let mut ascend = true;
+    let mut before = first;
+    for number in rest {
+        ascend &= before < *number;
+        before = *number;
+    }
+    ascend && (before as usize) < end
+}
+
+/// The number of each chunk of the ranges, with its offset, as far as there are both. Those of one range share memory
+/// with the offsets.
 fn numbered_offsets(
     alloc: Global,
     ranges: &[ChunkRange],
+    offsets: &Offsets,
+) -> std::result::Result<ChunkOffsets, OutOfMemory>
+    ensures { IfOk result (λ chunks. chunks ≡ zip (numbers_in ranges.now) offsets.now) }
+{
+    match ranges {
+        [range] if range.end.saturating_sub(range.start) as usize == offsets.len() => {
+            Ok(ChunkOffsets::of_run(range.start, offsets.copied()?))
+        }
+        _ => {
+            let offsets = offsets.to_vec(alloc)?;
+            let pairs = numbered_pairs(alloc, ranges, offsets.as_slice())?;
+            Ok(ChunkOffsets::from_vec(pairs))
+        }
+    }
+}
+
+/// The number of each chunk of the ranges, with its offset, as far as there are both.
+fn numbered_pairs(
+    alloc: Global,
+    ranges: &[ChunkRange],
     offsets: &[u32],
-) -> std::result::Result<List<(usize, usize)>, OutOfMemory>
-    ensures { IfOk result (λ pairs. pairs ≡ zip (numbers_in ranges.now) offsets.now) }
+) -> std::result::Result<Vec<(usize, usize)>, OutOfMemory>
+    ensures { IfOk result (λ pairs. pairs.items ≡ zip (numbers_in ranges.now) offsets.now) }
 {
     let mut pairs = Vec::with_capacity(alloc, offsets.len())?;
     for range in ranges {
         let rest = &offsets[pairs.len()..];
         push_chunks(&mut pairs, *range, rest)?;
     }
-    Ok(List::from_vec(pairs))
+    Ok(pairs)
 }
 
 /// Adds the number of each chunk of a range, with its offset, as far as there are both. Room for all of them is taken

@@ -10,8 +10,8 @@ abbrev pub ends_of : ℕ → List ℕ → List ℕ
 ends_of p [] = []
 ends_of p (n ∷ ns) = (p + n) ∷ ends_of (p + n) ns
 
--- a valid xorb, its chunks joined, and where each of them ends
-pub record IsJoined (x : Xorb) (bytes ends : List ℕ) : Type 0 where
+-- a valid xorb, its chunks joined, and where each of them starts, with the end of the last
+pub record IsJoined (x : Xorb) (bytes places : List ℕ) : Type 0 where
   pub valid : IsValidXorb x
   pub bytes_are : bytes ≡ concat x.chunks
-  pub ends_are : ends ≡ ends_of 0 (lengths x.chunks)
+  pub places_are : places ≡ 0 ∷ ends_of 0 (lengths x.chunks)

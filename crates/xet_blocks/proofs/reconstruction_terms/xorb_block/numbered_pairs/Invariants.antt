@@ -1,6 +1,6 @@
 use Rattle.std.proofs.Common.{◌≡◌, ◌≤◌, ◌++◌, length, drop, zip}
 use Rattle.xet_blocks.specs.BlockChecks.{numbers_in}
-use Rattle.xet_blocks.proofs.reconstruction_terms.xorb_block.numbered_offsets.Given as goal
+use Rattle.xet_blocks.proofs.reconstruction_terms.xorb_block.numbered_pairs.Given as goal
 
 abbrev pub invariant-loop-range : goal.invariant-loop-range
 invariant-loop-range l =

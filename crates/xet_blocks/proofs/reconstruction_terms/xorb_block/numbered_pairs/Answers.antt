@@ -1,6 +1,6 @@
 use Rattle.std.proofs.Common.{◌∙◌}
 use Rattle.xet_blocks.proofs.ChunkNumbers.{pushed_range}
-use Rattle.xet_blocks.proofs.reconstruction_terms.xorb_block.numbered_offsets.Goals as goal
+use Rattle.xet_blocks.proofs.reconstruction_terms.xorb_block.numbered_pairs.Goals as goal
 
 pub loop-range-preserved : goal.loop-range-preserved
 loop-range-preserved c =

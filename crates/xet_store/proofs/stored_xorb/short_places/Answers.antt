@@ -1,6 +1,6 @@
 use Rattle.std.proofs.Common.{arith}
 use Rattle.xet_store.proofs.JoinedParts.{ends-within}
-use Rattle.xet_store.proofs.stored_xorb.short_ends.Goals as goal
+use Rattle.xet_store.proofs.stored_xorb.short_places.Goals as goal
 
 pub overflow_cast-end : goal.overflow_cast-end
 overflow_cast-end c =
