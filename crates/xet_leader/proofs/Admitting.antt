@@ -1,6 +1,6 @@
 -- A run after its terms were admitted.
 use Rattle.std.proofs.Common.{◌≡◌, ℕ, ◌+◌, ◌-◌, ◌<◌, List, [], ◌∷◌, ◌++◌, length, take, refl, sym, subst, ◌∙◌, ap, arith, append_assoc, Some, Ok, Err}
-use Rattle.std.specs.Prelude.{Result, All, count_by, true}
+use Rattle.std.specs.Prelude.{Result, count_by}
 use Rattle.std.specs.List.{sum_by}
 use Rattle.std.proofs.lemmas.List.{append-nil}
 use Rattle.xet_error.specs.declared.error.FileReconstructionError.{FileReconstructionError}
@@ -13,7 +13,6 @@ use Rattle.xet_run.specs.Events.{Task, expires, size, written}
 use Rattle.xet_run.proofs.CallerLemmas.{written-push}
 use Rattle.xet_terms.specs.Managers.{Manager}
 use Rattle.xet_ties.specs.Causes.{Cause}
-use Rattle.xet_ties.specs.History.{is_expired}
 use Rattle.xet_ties.specs.Setup.{RunTold, Setup}
 use Rattle.xet_ties.specs.Ties.{MayLeave, Slack}
 use Rattle.xet_ties.proofs.CallerLemmas.{short_leaves}

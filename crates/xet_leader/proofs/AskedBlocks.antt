@@ -1,13 +1,10 @@
 -- The fetches of missing blocks, as a round wants them.
-use Rattle.std.proofs.Common.{◌≡◌, ℕ, ◌+◌, ◌-◌, ◌^◌, ◌<◌, ◌≤◌, ◌==◌, ◌&&◌, ◌||◌, suc, zero, Bool, true, false, cond, List, [], ◌∷◌, ◌++◌, length, take, get_or, refl, sym, subst, ◌∙◌, ap, arith, ⊎_elim, Ok, Err}
+use Rattle.std.proofs.Common.{◌≡◌, ℕ, ◌+◌, ◌-◌, ◌^◌, ◌<◌, ◌≤◌, ◌==◌, ◌&&◌, suc, zero, Bool, true, false, cond, List, [], ◌∷◌, ◌++◌, length, take, get_or, refl, sym, subst, ◌∙◌, ap, arith, ⊎_elim, Ok, Err}
 use Rattle.std.specs.Prelude.{All, Contains, IfErr, IfOk, MatchOption, Option, Result, Some, None, count_by, map, min, slice_get}
-use Rattle.std.specs.List.{flat_map}
-use Rattle.std.proofs.lemmas.Bool.{false≢true, or_parts}
+use Rattle.std.proofs.lemmas.Bool.{or_parts}
 use Rattle.std.proofs.lemmas.List.{length-take-le, take_more}
 use Rattle.std.proofs.lemmas.List.Elements.{All-cons, All-nil}
-use Rattle.std.proofs.lemmas.Option.{slice_get_past, slice_get_read, slice_get_within}
-use Rattle.xet_base.specs.declared.cas_types.ChunkRange.{ChunkRange}
-use Rattle.xet_base.specs.declared.merklehash.MerkleHash.{MerkleHash}
+use Rattle.std.proofs.lemmas.Option.{slice_get_read, slice_get_within}
 use Rattle.xet_base.specs.declared.unique_id.UniqueId.{UniqueId}
 use Rattle.xet_outside.specs.declared.block.BlockRequest.{BlockRequest}
 use Rattle.xet_outside.proofs.CallerLemmas.{count_by-cons}
@@ -35,7 +32,7 @@ use Rattle.xet_lanes.specs.Fetches.{ask_of}
 use Rattle.xet_leader.specs.ByNumber.{plan_index}
 use Rattle.xet_leader.specs.declared.leader.LedPlan.{LedPlan}
 use Rattle.xet_leader.specs.declared.missing_blocks.BlockAt.{BlockAt}
-use Rattle.xet_leader.specs.FetchLists.{AreApart, Each, IsFetchList}
+use Rattle.xet_leader.specs.FetchLists.{AreApart, Each}
 use Rattle.xet_leader.specs.Fetching.{AddsFetch, AreAsked, AreFetches, FetchLeads, IsFetch}
 use Rattle.xet_leader.specs.Lacking.{lists, same_place}
 use Rattle.xet_leader.specs.Led.{IsLed, IsReady, Led}

@@ -1,5 +1,5 @@
 -- A run after its leader asked for the plan that was due.
-use Rattle.std.proofs.Common.{◌≡◌, ℕ, ◌+◌, ◌≤◌, Bool, true, false, cond, List, [], ◌∷◌, ◌++◌, length, take, refl, sym, subst, ◌∙◌, ap, arith, inl, inr, ⊎_elim, Option, Some, None, Ok, Err}
+use Rattle.std.proofs.Common.{◌≡◌, ℕ, ◌+◌, ◌≤◌, Bool, true, false, cond, List, [], ◌∷◌, length, take, refl, sym, subst, ◌∙◌, ap, arith, inl, inr, ⊎_elim, Option, Some, None, Ok, Err}
 use Rattle.std.specs.Prelude.{IfOk, Result}
 use Rattle.std.proofs.lemmas.List.{length-append, length-take-le}
 use Rattle.xet_base.specs.declared.unique_id.UniqueId.{UniqueId}
@@ -23,8 +23,8 @@ use Rattle.xet_terms.proofs.CallerLemmas.{looked_same}
 use Rattle.xet_ties.specs.Saids.{InStep}
 use Rattle.xet_ties.specs.Setup.{RunTold, Setup}
 use Rattle.xet_ties.specs.steps.Moves.{heard_first}
-use Rattle.xet_ties.specs.steps.Parts.{AskedShort, plan_query}
-use Rattle.xet_ties.specs.Ties.{AllAre, EachLane, MayLeave, Slack, Ties, all_of, IsNextQuery, CutsRange}
+use Rattle.xet_ties.specs.steps.Parts.{plan_query}
+use Rattle.xet_ties.specs.Ties.{AllAre, EachLane, MayLeave, Slack, Ties, all_of, IsNextQuery}
 use Rattle.xet_ties.proofs.CallerLemmas.{asked_own, first_tells, none_hidden, none_late, short_leaves, steady_leaves}
 use Rattle.xet_parts.specs.DueQueries.{CancelledDue, NoneDue, OneDue, TakesDue}
 use Rattle.xet_parts.specs.PlanAsks.{AskPlanCall, PlanFails, QueryFails}

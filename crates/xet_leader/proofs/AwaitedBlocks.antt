@@ -1,6 +1,6 @@
 -- What a leader has of a missing block.
-use Rattle.std.proofs.Common.{◌≡◌, ℕ, ◌+◌, ◌-◌, ◌<◌, ◌≤◌, ◌==◌, ◌&&◌, suc, zero, Bool, true, false, List, [], ◌∷◌, ◌++◌, length, take, drop, refl, sym, subst, ◌∙◌, ap, arith, ⊎_elim}
-use Rattle.std.specs.Prelude.{All, ◌⊎◌, map, option_map, option_to_list, Option, Some, None, slice_get}
+use Rattle.std.proofs.Common.{◌≡◌, ℕ, ◌+◌, ◌-◌, ◌<◌, ◌==◌, ◌&&◌, suc, zero, Bool, true, false, List, [], ◌∷◌, length, take, drop, refl, sym, subst, ◌∙◌, ap, arith, ⊎_elim}
+use Rattle.std.specs.Prelude.{All, map, option_map, option_to_list, Option, Some, None, slice_get}
 use Rattle.std.specs.List.{flat_map, list_any}
 use Rattle.std.specs.Option.{is_some}
 use Rattle.std.proofs.lemmas.Bool.{and_parts, eqb-true, false≢true, or_cases}
@@ -25,13 +25,13 @@ use Rattle.xet_fetch.proofs.CallerLemmas.{honest_entries_pass}
 use Rattle.xet_run.specs.declared.event.Event.{Event}
 use Rattle.xet_run.specs.declared.event.PlannedBlock.{PlannedBlock}
 use Rattle.xet_run.specs.Allowed.{IsMissing}
-use Rattle.xet_run.specs.Events.{Task, is_kept, needs}
+use Rattle.xet_run.specs.Events.{Task, is_kept}
 use Rattle.xet_history.specs.TrueHistory.{planned_term}
 use Rattle.xet_ties.specs.History.{block_at}
 use Rattle.xet_ties.specs.Saids.{has_bytes, planned_of}
 use Rattle.xet_ties.specs.Setup.{IsOver, RunTold, Setup}
 use Rattle.xet_ties.specs.Ties.{Slack}
-use Rattle.xet_ties.specs.steps.Windows.{is_wanted, open_terms}
+use Rattle.xet_ties.specs.steps.Windows.{is_wanted}
 use Rattle.xet_ties.proofs.CallerLemmas.{wanted_is}
 use Rattle.xet_leader.specs.ByNumber.{plan_index}
 use Rattle.xet_leader.specs.declared.leader.LedPlan.{LedPlan}

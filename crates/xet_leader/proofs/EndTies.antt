@@ -1,5 +1,5 @@
 -- A run after its writer was ended, and after its error was recorded.
-use Rattle.std.proofs.Common.{◌≡◌, ℕ, ◌+◌, ◌≤◌, ◌++◌, inl, inr, Option, Some, None, Ok, Err, List, [], length, take, refl, sym, subst, ◌∙◌, ap, arith, false}
+use Rattle.std.proofs.Common.{◌≡◌, ℕ, ◌≤◌, ◌++◌, inl, inr, Option, Some, None, Ok, Err, List, [], length, take, refl, sym, subst, ◌∙◌, ap, arith, false}
 use Rattle.std.specs.Prelude.{option_map}
 use Rattle.std.proofs.Math.Seq.{take-nil}
 use Rattle.std.proofs.lemmas.List.{append-nil}

@@ -1,5 +1,5 @@
 -- What a leader's terms lack is what is to be fetched.
-use Rattle.std.proofs.Common.{◌≡◌, ℕ, ◌+◌, ◌-◌, ◌<◌, ◌≤◌, ◌==◌, ◌&&◌, ◌||◌, suc, zero, Bool, true, false, cond, List, [], ◌∷◌, ◌++◌, length, take, drop, refl, sym, subst, ◌∙◌, ap, arith, inl, inr, ⊎_elim}
+use Rattle.std.proofs.Common.{◌≡◌, ℕ, ◌+◌, ◌-◌, ◌<◌, ◌==◌, ◌||◌, suc, zero, Bool, true, false, cond, List, [], ◌∷◌, ◌++◌, length, take, drop, refl, sym, subst, ◌∙◌, ap, arith, inl, inr, ⊎_elim}
 use Rattle.std.specs.Prelude.{All, map, ◌⊎◌, is_none, Option, Some, None, slice_get}
 use Rattle.std.specs.List.{list_any}
 use Rattle.std.specs.Option.{is_some}
@@ -14,7 +14,7 @@ use Rattle.xet_run.specs.Allowed.{IsMissing}
 use Rattle.xet_run.specs.Events.{Task, is_kept, needs}
 use Rattle.xet_run.proofs.CallerLemmas.{any-push}
 use Rattle.xet_history.specs.TrueHistory.{planned_term}
-use Rattle.xet_ties.specs.Saids.{has_bytes, planned_of}
+use Rattle.xet_ties.specs.Saids.{planned_of}
 use Rattle.xet_ties.specs.Setup.{RunTold, Setup}
 use Rattle.xet_ties.specs.Ties.{Slack}
 use Rattle.xet_ties.specs.steps.Windows.{IsAt, is_wanted, open_terms}

@@ -1,7 +1,6 @@
 -- What is to be fetched after a block was found, or not.
-use Rattle.std.proofs.Common.{◌≡◌, ℕ, ◌+◌, ◌-◌, ◌==◌, ◌&&◌, ◌||◌, Bool, true, false, List, [], ◌∷◌, ◌++◌, take, drop, refl, sym, subst, ◌∙◌, ap, inl, inr, ⊎_elim, append_assoc}
-use Rattle.std.specs.Prelude.{◌⊎◌, count_by}
-use Rattle.std.specs.List.{flat_map, list_any}
+use Rattle.std.proofs.Common.{◌≡◌, ℕ, ◌-◌, true, false, List, [], ◌∷◌, ◌++◌, take, drop, refl, sym, subst, ◌∙◌, ap, inl, inr, ⊎_elim}
+use Rattle.std.specs.Prelude.{count_by}
 use Rattle.std.proofs.lemmas.Bool.{or_cases, or_from, or_left, or_parts, or_right}
 use Rattle.std.proofs.lemmas.List.{append-nil}
 use Rattle.std.proofs.lemmas.List.Concat.{flat_map-append}
@@ -13,14 +12,13 @@ use Rattle.xet_run.specs.Allowed.{IsMissing}
 use Rattle.xet_run.specs.Events.{Task, is_admit, is_kept, keeps, planned}
 use Rattle.xet_run.proofs.CallerLemmas.{any-push, planned-push}
 use Rattle.xet_ties.specs.History.{block_at}
-use Rattle.xet_ties.specs.Saids.{has_bytes}
 use Rattle.xet_ties.specs.steps.Windows.{open_terms}
 use Rattle.xet_ties.proofs.CallerLemmas.{block_at-push, count-same, missing-push}
 use Rattle.xet_leader.specs.declared.missing_blocks.BlockAt.{BlockAt}
 use Rattle.xet_leader.specs.FetchLists.{AreApart, Each, IsFetchList, IsKeptOrListed, place_of}
 use Rattle.xet_leader.specs.Lacking.{lists, same_place}
 use Rattle.xet_leader.specs.Looks.{blocks_of}
-use Rattle.xet_leader.proofs.FetchFacts.{same_back, same_is, same_own}
+use Rattle.xet_leader.proofs.FetchFacts.{same_back}
 use Rattle.xet_leader.proofs.LookSteps.{still}
 use Rattle.xet_leader.proofs.PlanFacts.{each_append, each_back, each_front, each_weaker}
 

@@ -1,7 +1,7 @@
 -- What a whole join does, by what preparing a round and the round do.
-use Rattle.std.proofs.Common.{◌≡◌, ℕ, ◌+◌, ◌-◌, ◌^◌, min, List, length, refl, sym, subst, ◌∙◌, ap, arith, inl, inr, Ok, Err}
+use Rattle.std.proofs.Common.{◌≡◌, ℕ, ◌+◌, ◌-◌, ◌^◌, min, List, length, subst, ap, arith, inr, Ok, Err}
 use Rattle.std.specs.Prelude.{OnOk, Result}
-use Rattle.xet_outside.specs.Told.{CacheTold, ClientTold, SignalTold, SinkTold}
+use Rattle.xet_outside.specs.Told.{CacheTold, ClientTold, SinkTold}
 use Rattle.xet_error.specs.declared.error.FileReconstructionError.{FileReconstructionError}
 use Rattle.xet_run.specs.declared.event.Event.{Event}
 use Rattle.xet_writers.specs.Sequential.{Sequential}

@@ -1,8 +1,7 @@
 -- A leader after an event that keeps a block: it was fetched, or the cache gave it.
 use Rattle.std.proofs.Common.{◌≡◌, ℕ, ◌+◌, ◌<◌, ◌≤◌, ◌==◌, ◌&&◌, ◌||◌, suc, zero, Bool, true, false, List, [], ◌∷◌, ◌++◌, length, refl, sym, subst, ◌∙◌, ap, arith}
-use Rattle.std.specs.Prelude.{All, count_by, map, None, Some, slice_get, slice_set}
+use Rattle.std.specs.Prelude.{All, count_by, map, Some, slice_get, slice_set}
 use Rattle.std.specs.List.{list_any}
-use Rattle.std.specs.Option.{is_some}
 use Rattle.std.proofs.lemmas.Bool.{eq-eqb, eqb-true, ne_eqb}
 use Rattle.std.proofs.lemmas.List.{length-set}
 use Rattle.std.proofs.lemmas.List.Elements.{All-cons, All-head, All-nil, All-tail}
@@ -11,10 +10,10 @@ use Rattle.xet_blocks.specs.declared.reconstruction_terms.xorb_block.XorbBlockDa
 use Rattle.xet_run.specs.declared.event.Event.{Event}
 use Rattle.xet_run.specs.declared.event.Event.TheVariants.{Cached, Fetched}
 use Rattle.xet_run.specs.declared.event.PlannedBlock.{PlannedBlock}
-use Rattle.xet_run.specs.Events.{Task, expires, expiry_in, is_admit, is_kept, keeps, planned, taken_in, tasks_of}
+use Rattle.xet_run.specs.Events.{expires, expiry_in, is_admit, keeps, taken_in, tasks_of}
 use Rattle.xet_run.proofs.CallerLemmas.{any-push}
 use Rattle.xet_history.specs.TrueHistory.{planned_term}
-use Rattle.xet_ties.specs.History.{blocks_in, expiry_of, fetches}
+use Rattle.xet_ties.specs.History.{expiry_of, fetches}
 use Rattle.xet_ties.specs.Saids.{planned_of}
 use Rattle.xet_ties.specs.Setup.{RunTold, Setup}
 use Rattle.xet_ties.specs.Ties.{Slack}
@@ -23,7 +22,7 @@ use Rattle.xet_leader.specs.declared.leader.LedPlan.{LedPlan}
 use Rattle.xet_leader.specs.Led.{AreLedPlans, EachLedBlock, FollowOn, IsAnswerData, IsLed, IsLedBlock, IsLedData, IsLedPlan, IsRecordedPlan, Led, bare}
 use Rattle.xet_leader.specs.KeptBlocks.{kept_in_plan, kept_in_plans, with_data}
 use Rattle.xet_leader.proofs.AlikePlans.{AllPast, alike_begins, alike_follow, alike_number, alike_set, alike_terms, follow_rest, past_at, past_first}
-use Rattle.xet_leader.proofs.MoreTold.{TellsMore, data_more, led_more}
+use Rattle.xet_leader.proofs.MoreTold.{TellsMore, led_more}
 use Rattle.xet_leader.proofs.QuietEvents.{IsQuiet, quiet_counted, quiet_kept, quiet_manager, quiet_numbered, quiet_ready, quiet_recorded, quiet_running, quiet_stale, quiet_under}
 
 -- an event that keeps this block of this plan, and does nothing else

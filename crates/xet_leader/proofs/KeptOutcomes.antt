@@ -1,21 +1,20 @@
 -- What a join came to, kept lane by lane.
-use Rattle.std.proofs.Common.{◌≡◌, ℕ, false, true, List, [], ◌∷◌, ◌++◌, length, refl, sym, subst, ◌∙◌, ap, inl, inr, ⊎_elim, Ok, Err}
-use Rattle.std.specs.Prelude.{Result, None, Some, map, ◌⊎◌}
+use Rattle.std.proofs.Common.{◌≡◌, ℕ, true, List, [], ◌∷◌, ◌++◌, length, refl, sym, ◌∙◌, ap, inl, inr, ⊎_elim}
+use Rattle.std.specs.Prelude.{map}
 use Rattle.std.specs.List.{flat_map}
 use Rattle.std.proofs.lemmas.Grind.{flat_map-append}
 use Rattle.xet_error.specs.declared.error.FileReconstructionError.{FileReconstructionError}
 use Rattle.xet_error.specs.declared.error.FileReconstructionError.TheVariants as error
 use Rattle.xet_ties.specs.declared.lane_step.LaneStep.{LaneStep}
 use Rattle.xet_ties.specs.steps.Records.{Place, places_in, places_of}
-use Rattle.xet_ties.specs.steps.Rounds.{got_in, got_of}
+use Rattle.xet_ties.specs.steps.Rounds.{got_in}
 use Rattle.xet_lanes.specs.declared.joined.LaneEnd.{LaneEnd}
 use Rattle.xet_leader.specs.Advances.{advanced}
 use Rattle.xet_leader.specs.declared.keeping.RoundPlaces.{RoundPlaces}
-use Rattle.xet_leader.specs.declared.leader.LedPlan.{LedPlan}
 use Rattle.xet_leader.specs.declared.outcomes.Outcome.{Outcome}
 use Rattle.xet_leader.specs.declared.missing_blocks.BlockAt.{BlockAt}
 use Rattle.xet_leader.specs.Expiries.{CountFails, CountedLate, counted, spends, stale_after}
-use Rattle.xet_leader.specs.Keeping.{Given, KeptRound, all_steps, given_in, given_of, kept, places_at}
+use Rattle.xet_leader.specs.Keeping.{Given, KeptRound, all_steps, given_in, kept, places_at}
 use Rattle.xet_leader.specs.Led.{Led}
 use Rattle.xet_leader.specs.Outcomes.{KeepFails, KeptOutcome, is_spent}
 use Rattle.xet_leader.specs.Places.{place_at}

@@ -1,12 +1,12 @@
 -- Parts of a turn one after another.
-use Rattle.std.proofs.Common.{◌≡◌, Ok}
+use Rattle.std.proofs.Common.{Ok}
 use Rattle.std.specs.Prelude.{Result}
 use Rattle.xet_error.specs.declared.error.FileReconstructionError.{FileReconstructionError}
 use Rattle.xet_outside.specs.Told.{SinkTold}
 use Rattle.xet_writers.specs.Sequential.{Sequential}
-use Rattle.xet_ties.specs.Setup.{RunTold, Setup}
+use Rattle.xet_ties.specs.Setup.{Setup}
 use Rattle.xet_leader.specs.Led.{Led}
-use Rattle.xet_leader.specs.Steady.{IsGoing, IsSteady, LeadCall, LeadPart, Loose, Moment}
+use Rattle.xet_leader.specs.Steady.{LeadCall, LeadPart, Loose, Moment}
 
 -- nothing was done
 pub lead_none : {A : Type 0} (g : Setup) (m : Moment) (o : Loose) (l : Led) (x : A) → LeadPart g m m o o l l (Ok x)

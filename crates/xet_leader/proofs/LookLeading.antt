@@ -1,6 +1,6 @@
 -- A run after its leader looked for what is missing.
 use Rattle.std.proofs.Common.{◌≡◌, ℕ, List, [], ◌++◌, take, drop, refl, sym, subst, ◌∙◌, ap, ⊎_elim, Ok, Err}
-use Rattle.std.specs.Prelude.{◌⊎◌, Result, Some, count_by}
+use Rattle.std.specs.Prelude.{Result, Some, count_by}
 use Rattle.std.proofs.lemmas.List.{append-nil, take-append-drop}
 use Rattle.xet_outside.specs.Told.{CacheTold}
 use Rattle.xet_error.specs.declared.error.FileReconstructionError.{FileReconstructionError}

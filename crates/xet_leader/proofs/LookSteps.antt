@@ -1,7 +1,6 @@
 -- Looks one after another, and when the next one may be made.
-use Rattle.std.proofs.Common.{◌≡◌, ℕ, ◌+◌, ◌-◌, ◌<◌, ◌≤◌, ◌==◌, ◌&&◌, suc, zero, Bool, true, false, cond, List, [], ◌∷◌, ◌++◌, length, take, drop, get_or, refl, sym, subst, ◌∙◌, ap, arith, inl, inr, ⊎_elim, Result, Ok, Err}
-use Rattle.std.specs.Prelude.{◌⊎◌, Option, Some, None, IfOk, IfErr, OnErr, OnOk, slice_get, slice_set}
-use Rattle.std.specs.Option.{is_some}
+use Rattle.std.proofs.Common.{◌≡◌, ℕ, ◌+◌, ◌-◌, ◌<◌, ◌==◌, ◌&&◌, suc, zero, Bool, true, false, cond, List, [], ◌∷◌, ◌++◌, length, take, drop, get_or, refl, sym, subst, ◌∙◌, ap, arith, inl, inr, ⊎_elim, Result, Ok, Err}
+use Rattle.std.specs.Prelude.{◌⊎◌, Option, Some, None, IfOk, OnErr, slice_get, slice_set}
 use Rattle.std.proofs.lemmas.Bool.{or_parts}
 use Rattle.std.proofs.lemmas.List.{drop_more, take-append-drop, take_more}
 use Rattle.std.proofs.lemmas.Option.{slice_get_read, slice_get_within}
@@ -14,13 +13,13 @@ use Rattle.xet_run.specs.declared.event.Event.{Event}
 use Rattle.xet_run.specs.declared.event.Event.TheVariants.{Cached}
 use Rattle.xet_run.specs.Allowed.{IsMissing, IsRunning}
 use Rattle.xet_run.specs.Events.{keeps}
-use Rattle.xet_ties.specs.steps.Parts.{FoundBlock, LookUpCall, LookedShort, LookedUp}
+use Rattle.xet_ties.specs.steps.Parts.{FoundBlock}
 use Rattle.xet_ties.proofs.CallerLemmas.{IsStill, missing-push, running-push}
 use Rattle.xet_leader.specs.ByNumber.{plan_index}
 use Rattle.xet_leader.specs.declared.leader.LedPlan.{LedPlan}
 use Rattle.xet_leader.specs.declared.missing_blocks.BlockAt.{BlockAt}
-use Rattle.xet_leader.specs.FetchLists.{AreApart, Each}
-use Rattle.xet_leader.specs.KeptBlocks.{with_block, with_data}
+use Rattle.xet_leader.specs.FetchLists.{Each}
+use Rattle.xet_leader.specs.KeptBlocks.{with_block}
 use Rattle.xet_leader.specs.Lacking.{lists, missing_of, same_place}
 use Rattle.xet_leader.specs.Led.{Led}
 use Rattle.xet_leader.specs.Looks.{CanLook, CanLookAll, CanRequest, EndsShort, IsLedBy, LookedBlock, LookedIn, LookedPlace, LooksCall, LooksFrom, LookTurn}

@@ -1,9 +1,8 @@
 -- A run after looks for its missing blocks.
-use Rattle.std.proofs.Common.{◌≡◌, ℕ, ◌+◌, ◌<◌, ◌≤◌, ◌==◌, Bool, true, false, cond, List, [], ◌∷◌, ◌++◌, length, take, drop, refl, sym, subst, ◌∙◌, ap, arith, inl, inr, ⊎_elim, append_assoc}
+use Rattle.std.proofs.Common.{◌≡◌, ℕ, ◌<◌, ◌≤◌, Bool, true, false, cond, List, [], ◌∷◌, ◌++◌, refl, sym, subst, ◌∙◌, ap, arith, inl, inr, append_assoc}
 use Rattle.std.specs.Prelude.{All, Contains, IfSome, MatchOption, Option, Some, None, count_by, slice_get, slice_set}
 use Rattle.std.specs.Option.{is_some}
-use Rattle.std.proofs.lemmas.Bool.{false≢true}
-use Rattle.std.proofs.lemmas.List.{append-nil, take-append-drop}
+use Rattle.std.proofs.lemmas.List.{append-nil}
 use Rattle.std.proofs.lemmas.List.Elements.{All-contains, Contains-append_right}
 use Rattle.xet_base.specs.declared.cas_types.ChunkRange.{ChunkRange}
 use Rattle.xet_base.specs.declared.merklehash.MerkleHash.{MerkleHash}
@@ -25,23 +24,23 @@ use Rattle.xet_ties.specs.History.{block_at, fetches}
 use Rattle.xet_ties.specs.InCall.{Look}
 use Rattle.xet_ties.specs.Saids.{IsLookedData, planned_of}
 use Rattle.xet_ties.specs.Setup.{CacheTells, IsHonestEntry, IsOver, RunTold, Setup}
-use Rattle.xet_ties.specs.Ties.{Slack, Ties, is_one}
-use Rattle.xet_ties.specs.steps.Parts.{FoundBlock, LookedUp, looks_after, pending_after}
+use Rattle.xet_ties.specs.Ties.{Slack, is_one}
+use Rattle.xet_ties.specs.steps.Parts.{FoundBlock, LookedUp, looks_after}
 use Rattle.xet_ties.proofs.CallerLemmas.{count-append, count-same, look_up_ties, none_fetched, tie_rest}
 use Rattle.xet_parts.proofs.CallerLemmas.{look_tells}
 use Rattle.xet_leader.specs.ByNumber.{plan_index}
 use Rattle.xet_leader.specs.declared.leader.LedPlan.{LedPlan}
 use Rattle.xet_leader.specs.declared.missing_blocks.BlockAt.{BlockAt}
 use Rattle.xet_leader.specs.FetchLists.{Each, IsFetchList}
-use Rattle.xet_leader.specs.KeptBlocks.{kept_in_plans, with_block, with_data}
-use Rattle.xet_leader.specs.Led.{IsLed, IsLedData, Led, bare, true_data}
+use Rattle.xet_leader.specs.KeptBlocks.{with_block, with_data}
+use Rattle.xet_leader.specs.Led.{IsLed, IsLedData, Led, bare}
 use Rattle.xet_leader.specs.Looks.{LookedPlace, LooksFrom, blocks_of, to_fetch}
 use Rattle.xet_leader.specs.Steady.{IsGoing, Moment}
 use Rattle.xet_leader.proofs.AwaitedBlocks.{awaited}
 use Rattle.xet_leader.proofs.FoundBlocks.{blocks_push, blocks_stay, list_at, list_found, list_front}
 use Rattle.xet_leader.proofs.KeptEvents.{cached_keeps, led_kept}
 use Rattle.xet_leader.proofs.LookSteps.{same_found, set_own}
-use Rattle.xet_leader.proofs.MoreTold.{TellsMore, led_more, tells_more_looks}
+use Rattle.xet_leader.proofs.MoreTold.{led_more, tells_more_looks}
 use Rattle.xet_leader.proofs.PlanFacts.{each_weaker}
 
 -- ---- the data that a look gave

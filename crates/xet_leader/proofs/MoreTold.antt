@@ -1,16 +1,15 @@
 -- A leader where more was heard, or more looks came.
-use Rattle.std.proofs.Common.{◌≡◌, ℕ, ◌+◌, List, [], ◌∷◌, ◌++◌, refl, sym, subst, ◌∙◌, ap, inl, inr, ⊎_elim}
-use Rattle.std.specs.Prelude.{All, IfSome, Option, Some, None}
+use Rattle.std.proofs.Common.{◌≡◌, ℕ, ◌+◌, List, [], ◌∷◌, ◌++◌, sym, subst, ◌∙◌, inl, inr, ⊎_elim}
+use Rattle.std.specs.Prelude.{All}
 use Rattle.std.proofs.lemmas.List.{append-nil}
 use Rattle.std.proofs.lemmas.List.Elements.{All-cons, All-head, All-nil, All-tail, Contains-append_left}
 use Rattle.std.proofs.lemmas.Option.{IfSome_then}
-use Rattle.xet_base.specs.Store.{Store}
 use Rattle.xet_blocks.specs.declared.reconstruction_terms.xorb_block.XorbBlock.{XorbBlock}
 use Rattle.xet_blocks.specs.declared.reconstruction_terms.xorb_block.XorbBlockData.{XorbBlockData}
 use Rattle.xet_run.specs.declared.event.Event.{Event}
 use Rattle.xet_ties.specs.InCall.{EachGrew, Look}
 use Rattle.xet_ties.specs.Saids.{IsLookedData, IsTestedData}
-use Rattle.xet_ties.specs.Setup.{IsOver, RunTold, Setup}
+use Rattle.xet_ties.specs.Setup.{RunTold, Setup}
 use Rattle.xet_ties.specs.Ties.{Slack}
 use Rattle.xet_ties.proofs.CallerLemmas.{accepted_more, grew_none, served_more, tested_data_more}
 use Rattle.xet_leader.specs.declared.leader.LedPlan.{LedPlan}

@@ -1,14 +1,14 @@
 -- The open terms of a history are those of a leader's plans.
-use Rattle.std.proofs.Common.{◌≡◌, ℕ, ◌+◌, ◌-◌, ◌<◌, ◌≤◌, suc, zero, List, [], ◌∷◌, ◌++◌, length, take, drop, refl, sym, subst, ◌∙◌, ap, arith}
-use Rattle.std.specs.Prelude.{All, count_by, map}
+use Rattle.std.proofs.Common.{◌≡◌, ℕ, ◌+◌, ◌-◌, ◌≤◌, suc, zero, List, [], ◌∷◌, ◌++◌, length, take, drop, refl, sym, subst, ◌∙◌, ap, arith}
+use Rattle.std.specs.Prelude.{All, map}
 use Rattle.std.specs.List.{flat_map}
-use Rattle.std.proofs.lemmas.List.{append-nil, drop-drop, drop_all, length-map, take-append-drop}
+use Rattle.std.proofs.lemmas.List.{drop-drop, drop_all, length-map, take-append-drop}
 use Rattle.std.proofs.lemmas.List.Elements.{All-head, All-tail}
 use Rattle.xet_base.proofs.CallerLemmas.{drop-nil, take-nil}
 use Rattle.xet_blocks.specs.declared.reconstruction_terms.file_term.FileTerm.{FileTerm}
 use Rattle.xet_run.specs.declared.event.Event.{Event}
 use Rattle.xet_run.specs.declared.event.PlannedTerm.{PlannedTerm}
-use Rattle.xet_run.specs.Events.{Task, is_admit, planned, tasks_of}
+use Rattle.xet_run.specs.Events.{Task, planned, tasks_of}
 use Rattle.xet_history.specs.TrueHistory.{planned_term}
 use Rattle.xet_ties.specs.Saids.{planned_of}
 use Rattle.xet_ties.specs.Setup.{RunTold, Setup}
@@ -17,7 +17,6 @@ use Rattle.xet_ties.specs.steps.Windows.{open_terms}
 use Rattle.xet_leader.specs.declared.leader.LedPlan.{LedPlan}
 use Rattle.xet_leader.specs.Lacking.{first_of}
 use Rattle.xet_leader.specs.Led.{BeginsWith, FollowOn, IsLed, IsLedPlan, IsRecordedPlan, LastTermsAre, Led}
-use Rattle.xet_leader.proofs.AlikePlans.{follow_rest}
 
 -- some terms of a plan, as the history has them
 abbrev pub tasks_from : LedPlan → List FileTerm → List Task

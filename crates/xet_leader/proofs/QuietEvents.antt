@@ -1,5 +1,5 @@
 -- A leader's manager, counts and stale plans after an event that plans nothing and is no error.
-use Rattle.std.proofs.Common.{◌≡◌, ℕ, ◌+◌, Bool, true, false, List, [], ◌∷◌, ◌++◌, length, take, drop, refl, sym, subst, ◌∙◌, ap, inl, inr, ⊎_elim, arith, Option, None}
+use Rattle.std.proofs.Common.{◌≡◌, ℕ, Bool, true, false, List, [], ◌∷◌, ◌++◌, length, take, drop, refl, sym, subst, ◌∙◌, ap, inl, inr, ⊎_elim, arith, Option, None}
 use Rattle.std.specs.Prelude.{count_by, Contains, map, ◌<◌, ◌||◌}
 use Rattle.std.specs.Option.{option_or}
 use Rattle.std.specs.List.{list_any, sum_by}

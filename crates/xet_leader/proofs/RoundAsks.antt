@@ -1,5 +1,5 @@
 -- The fetches of a leader's missing blocks, against its plans.
-use Rattle.std.proofs.Common.{◌≡◌, ℕ, ◌+◌, ◌-◌, ◌^◌, ◌≤◌, List, [], ◌∷◌, refl, sym, subst, ◌∙◌, ap, arith, Ok}
+use Rattle.std.proofs.Common.{◌≡◌, ℕ, ◌+◌, ◌-◌, ◌^◌, ◌≤◌, List, [], ◌∷◌, sym, subst, ◌∙◌, ap, Ok}
 use Rattle.std.specs.Prelude.{All, Some, count_by, map, min, slice_get}
 use Rattle.std.proofs.lemmas.List.Elements.{All-cons, All-nil}
 use Rattle.xet_run.specs.declared.event.Event.{Event}

@@ -17,7 +17,7 @@ use Rattle.xet_leader.specs.Joins.{to_settle}
 use Rattle.xet_leader.specs.Led.{AreStale, Led}
 use Rattle.xet_leader.specs.Measures.{measure}
 use Rattle.xet_leader.specs.Plans.{Answer, find_plan}
-use Rattle.xet_leader.specs.Refreshing.{RefreshedEach, RefreshedOne, RefreshedThere, Touched}
+use Rattle.xet_leader.specs.Refreshing.{RefreshedEach, RefreshedThere, Touched}
 use Rattle.xet_leader.specs.Settling.{BothSettled, OfferedShort, Reached, SettleLeads, SettleTurn}
 use Rattle.xet_leader.specs.Steady.{IsIdle, LeadCall, LeadPart, Loose, Moment, no_loose}
 use Rattle.xet_leader.specs.Works.{CanWork, FirstSettled, WorkCall, WorkLeads, seen_at}

@@ -10,7 +10,7 @@ use Rattle.xet_error.specs.declared.error.FileReconstructionError.{FileReconstru
 use Rattle.xet_error.specs.declared.error.FileReconstructionError.TheVariants as error
 use Rattle.xet_run.specs.declared.event.Event.{Event}
 use Rattle.xet_run.specs.Allowed.{IsMissing}
-use Rattle.xet_run.specs.Events.{Task, is_kept, planned, size, taken_in, written}
+use Rattle.xet_run.specs.Events.{Task, planned, size, taken_in, written}
 use Rattle.xet_history.specs.Laws.{IsPrefix}
 use Rattle.xet_writers.specs.declared.queued_term.QueuedTerm.{QueuedTerm}
 use Rattle.xet_writers.specs.Calls.{SinkCause, closed_by}

@@ -1,16 +1,15 @@
 -- What a join did may be recorded.
-use Rattle.std.proofs.Common.{◌≡◌, ℕ, ◌+◌, ◌<◌, ◌≤◌, List, [], ◌∷◌, ◌++◌, length, take, drop, refl, sym, subst, ◌∙◌, ap, arith, Ok, Err}
-use Rattle.std.specs.Prelude.{Result, count_by, map}
+use Rattle.std.proofs.Common.{ℕ, ◌<◌, List, [], ◌∷◌, ◌++◌, length, take, drop, sym, subst, ◌∙◌, ap, arith, Ok, Err}
+use Rattle.std.specs.Prelude.{Result, map}
 use Rattle.std.specs.List.{sum_by}
 use Rattle.xet_base.specs.declared.merklehash.MerkleHash.{MerkleHash}
 use Rattle.xet_outside.specs.Told.{ClientTold, Query, SinkTold}
 use Rattle.xet_error.specs.declared.error.FileReconstructionError.{FileReconstructionError}
 use Rattle.xet_run.specs.declared.event.Event.{Event}
 use Rattle.xet_run.specs.Allowed.{AllowedAfter}
-use Rattle.xet_run.specs.Events.{Task, is_admit, planned, size}
+use Rattle.xet_run.specs.Events.{Task, size}
 use Rattle.xet_writers.specs.Sequential.{Sequential}
 use Rattle.xet_ties.specs.declared.lane_step.LaneStep.{LaneStep}
-use Rattle.xet_ties.specs.InCall.{Exchange}
 use Rattle.xet_ties.specs.Lanes.{DrewApart}
 use Rattle.xet_ties.specs.Setup.{RunTold, Setup}
 use Rattle.xet_ties.specs.steps.Records.{wrote_of}

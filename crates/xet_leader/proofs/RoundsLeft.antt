@@ -26,7 +26,6 @@ use Rattle.xet_ties.specs.Ties.{Slack, Ties}
 use Rattle.xet_ties.proofs.CallerLemmas.{new_pairs, round_allowed, round_may_expire, round_short, round_tied, tells_now}
 use Rattle.xet_leader.specs.Expiries.{stale_after}
 use Rattle.xet_leader.specs.Keeping.{given_of}
-use Rattle.xet_leader.specs.KeptBlocks.{with_data}
 use Rattle.xet_leader.specs.Led.{IsAnswerData, IsLed, IsLedPlan, IsReady, Led, bare}
 use Rattle.xet_leader.specs.RoundRecords.{expired_events, fetched_events}
 use Rattle.xet_leader.specs.Rounds.{AreLedAsks, IsLedAsk, IsLedAt, IsSpent, RoundLeft, plans_after, plans_kept}

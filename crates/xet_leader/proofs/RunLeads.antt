@@ -20,7 +20,7 @@ use Rattle.xet_leader.specs.Plans.{Answer}
 use Rattle.xet_leader.specs.Starts.{LeadStarts}
 use Rattle.xet_leader.specs.Steady.{IsFailing, IsSteady, Moment, no_loose}
 use Rattle.xet_leader.specs.Turns.{IsSteadyRun, LeadRun}
-use Rattle.xet_leader.proofs.EndTies.{IsWhole, going_whole, start_whole}
+use Rattle.xet_leader.proofs.EndTies.{IsWhole, start_whole}
 
 -- ---- want of memory
 

@@ -1,13 +1,11 @@
 -- The blocks that a round served are those of plans that the leader still has, and keep data.
 use Rattle.std.proofs.Common.{◌≡◌, ℕ, zero, suc, ◌+◌, ◌-◌, ◌<◌, ◌≤◌, Bool, true, false, cond, List, [], ◌∷◌, ◌++◌, length, take, drop, refl, sym, subst, ◌∙◌, ap, arith, ⊎_elim}
-use Rattle.std.specs.Prelude.{All, None, Option, Some, ◌==◌, ◌&&◌, ◌||◌, count_by, map, nat_le, nat_lt, option_and_then, slice_get}
+use Rattle.std.specs.Prelude.{All, None, Option, Some, ◌==◌, ◌&&◌, count_by, nat_le, nat_lt, option_and_then, slice_get}
 use Rattle.std.specs.List.{flat_map, list_any}
-use Rattle.std.specs.Option.{is_some}
-use Rattle.std.proofs.lemmas.Bool.{and_from, and_parts, eq-eqb, eqb-true, false≢true, le-leb, lt-ltb, or_cases, or_left, or_right}
+use Rattle.std.proofs.lemmas.Bool.{and_from, and_parts, eq-eqb, eqb-true, false≢true, le-leb, lt-ltb, or_cases}
 use Rattle.std.proofs.lemmas.List.Elements.{All-head, All-tail}
 use Rattle.std.proofs.lemmas.List.Folds.{list_any-append}
 use Rattle.std.proofs.lemmas.Option.{slice_get_within}
-use Rattle.xet_blocks.specs.declared.reconstruction_terms.xorb_block.XorbBlock.{XorbBlock}
 use Rattle.xet_outside.specs.Told.{ClientTold}
 use Rattle.xet_run.specs.declared.event.Event.{Event}
 use Rattle.xet_run.specs.Allowed.{IsMissing}
@@ -20,7 +18,7 @@ use Rattle.xet_ties.specs.InCall.{Exchange}
 use Rattle.xet_ties.specs.Lanes.{Ask}
 use Rattle.xet_ties.specs.Saids.{has_bytes}
 use Rattle.xet_ties.specs.Setup.{RunTold, Setup}
-use Rattle.xet_ties.specs.steps.Records.{Place, fetched_on, lane_events, wrote_of}
+use Rattle.xet_ties.specs.steps.Records.{Place, fetched_on, lane_events}
 use Rattle.xet_ties.specs.steps.Rounds.{IsHeardData, IsHeardStep, IsMissingAsk, got_of}
 use Rattle.xet_ties.specs.steps.Windows.{AreKept, is_wanted, open_terms}
 use Rattle.xet_ties.specs.Ties.{Slack}
@@ -36,7 +34,7 @@ use Rattle.xet_leader.specs.Plans.{block_in, block_there, find_plan}
 use Rattle.xet_leader.specs.RoundRecords.{expired_events, fetched_events, lanes_events}
 use Rattle.xet_leader.proofs.AwaitedBlocks.{TermOf, all_terms, some_plan}
 use Rattle.xet_leader.proofs.FetchFacts.{is_at, kept_is}
-use Rattle.xet_leader.proofs.OpenTerms.{open_is, tasks_open}
+use Rattle.xet_leader.proofs.OpenTerms.{open_is}
 use Rattle.xet_leader.proofs.PlanFacts.{each_append, each_weaker}
 use Rattle.xet_leader.proofs.PlanPlaces.{numbered_at}
 

@@ -1,6 +1,6 @@
 -- A run after its leader asked and admitted.
-use Rattle.std.proofs.Common.{◌≡◌, ◌⊎◌, ℕ, ◌+◌, ◌-◌, ◌^◌, ◌<◌, ◌≤◌, ◌==◌, ◌&&◌, Bool, true, false, List, [], ◌∷◌, ◌++◌, length, take, inl, inr, not, refl, sym, subst, ◌∙◌, ap, arith, ⊎_elim, None, Some, Ok, Err}
-use Rattle.std.specs.Prelude.{Option, Result, MatchOption, OnOk, count_by, slice_get}
+use Rattle.std.proofs.Common.{◌≡◌, ◌⊎◌, ℕ, ◌+◌, ◌-◌, ◌^◌, ◌<◌, ◌≤◌, Bool, true, false, List, [], ◌∷◌, ◌++◌, length, take, inl, inr, refl, sym, subst, ◌∙◌, ap, arith, ⊎_elim, Some, Ok, Err}
+use Rattle.std.specs.Prelude.{Option, MatchOption, count_by, slice_get}
 use Rattle.std.specs.List.{sum_by}
 use Rattle.std.proofs.lemmas.Bool.{cases_lt, eq-eqb, eqb-true}
 use Rattle.std.proofs.lemmas.List.{append-nil, append_assoc}
@@ -9,22 +9,21 @@ use Rattle.xet_outside.specs.Told.{ClientTold, SignalTold}
 use Rattle.xet_error.specs.declared.error.FileReconstructionError.{FileReconstructionError}
 use Rattle.xet_run.specs.declared.event.Event.{Event}
 use Rattle.xet_run.specs.declared.event.Event.TheVariants.{Admit}
-use Rattle.xet_run.specs.Allowed.{IsAllowed, IsRunning, MayAdmit}
+use Rattle.xet_run.specs.Allowed.{IsRunning, MayAdmit}
 use Rattle.xet_run.specs.Budgets.{LimitTold}
 use Rattle.xet_run.specs.Events.{Task, is_admit, planned, size, unwritten, written}
 use Rattle.xet_run.proofs.CallerLemmas.{written-push}
-use Rattle.xet_terms.specs.Managers.{IsCovered, Manager}
+use Rattle.xet_terms.specs.Managers.{IsCovered}
 use Rattle.xet_ties.specs.RunCalls.{IsFinished}
 use Rattle.xet_ties.specs.Setup.{RunTold, Setup}
-use Rattle.xet_ties.specs.steps.Parts.{blocks_of_answer, plan_event, terms_in}
+use Rattle.xet_ties.specs.steps.Parts.{plan_event}
 use Rattle.xet_parts.specs.Admissions.{IsWaiting, admits}
 use Rattle.xet_leader.specs.declared.leader.Job.{Job}
 use Rattle.xet_leader.specs.Admission.{AdmitLeads, AdmitTurn, AdmittedTerms}
 use Rattle.xet_leader.specs.Asking.{AskLeads, AskOk, AskTurn}
 use Rattle.xet_leader.specs.Led.{IsCounted, IsLedManager, Led, setup_of_job}
 use Rattle.xet_leader.specs.Measures.{measure}
-use Rattle.xet_leader.specs.Plans.{Answer}
-use Rattle.xet_leader.specs.Steady.{IsFailing, IsGoing, LeadPart, Moment, no_loose}
+use Rattle.xet_leader.specs.Steady.{IsFailing, IsGoing, Moment, no_loose}
 use Rattle.xet_leader.specs.Turns.{LeavesWork, StartLeads, all_done}
 use Rattle.xet_leader.proofs.PartMeasures.{admitted_falls, none_asked_stays, one_asked_falls}
 use Rattle.xet_leader.proofs.Reaching.{covered_reaches}

@@ -1,6 +1,6 @@
 -- What a run is tied to after the bytes of a window were taken, before they are recorded.
-use Rattle.std.proofs.Common.{◌≡◌, ℕ, zero, suc, ◌+◌, ◌-◌, ◌<◌, ◌≤◌, Bool, true, false, cond, List, [], ◌∷◌, ◌++◌, length, take, drop, refl, sym, subst, ◌∙◌, ap, arith, append_assoc, length-append, length-take, Option, Some, None}
-use Rattle.std.specs.Prelude.{All, filter, map, nat_lt, option_map, slice_get, slice_index_or, unwrap_or}
+use Rattle.std.proofs.Common.{◌≡◌, ℕ, ◌+◌, ◌≤◌, Bool, true, false, cond, List, [], ◌∷◌, ◌++◌, length, take, drop, refl, sym, subst, ◌∙◌, ap, arith, append_assoc, length-append, length-take, Option, Some, None}
+use Rattle.std.specs.Prelude.{filter, map, option_map, slice_get, slice_index_or, unwrap_or}
 use Rattle.std.specs.List.{concat, flat_map, sum_by}
 use Rattle.std.proofs.lemmas.Bool.{ltb-false}
 use Rattle.std.proofs.lemmas.List.{take-append-drop}
@@ -16,7 +16,7 @@ use Rattle.xet_history.specs.Laws.{IsPrefix}
 use Rattle.xet_history.specs.TrueHistory.{piece_in, pieces, task_piece}
 use Rattle.xet_history.proofs.CallerLemmas.{all_sized}
 use Rattle.xet_ties.specs.Saids.{has_bytes}
-use Rattle.xet_ties.specs.Setup.{CacheTells, IsOver, RunTold, Setup}
+use Rattle.xet_ties.specs.Setup.{RunTold, Setup}
 use Rattle.xet_ties.specs.Ties.{Ties}
 use Rattle.xet_ties.proofs.CallerLemmas.{tie_window, window_tested}
 use Rattle.xet_leader.specs.Led.{Led}

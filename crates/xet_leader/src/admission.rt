@@ -6,17 +6,17 @@ use std::sync::Wait;
 use xet_blocks::FetchPolicy;
 use xet_error::Result;
 use xet_parts::admit_terms;
-use xet_run::{BudgetSource, RunCore};
+use xet_run::{BudgetSource, EventLog, RunCore};
 
 /// Admits the planned terms that wait, each under a limit that is asked for it, until none waits or the limit refuses
 /// one. `OutOfMemory` where memory was refused; the terms that were admitted before stay recorded. A run that goes on
 /// goes on after it, or is to stop with that error.
 ///
 /// In place of the semaphore of `file_reconstruction::file_reconstructor` of the Rust crate.
-pub fn admit<R: Wait, P: FetchPolicy, B: BudgetSource>(
+pub fn admit<R: Wait, P: FetchPolicy, B: BudgetSource, E: EventLog>(
     rt: &R,
     leader: &mut Leader<P>,
-    core: &mut RunCore,
+    core: &mut RunCore<E>,
     source: &mut B,
 ) -> Result<()>
     ensures turn { AdmitTurn (B.told source.old) (B.told source.new) core.old core.new leader.old leader.new result }
@@ -26,10 +26,10 @@ pub fn admit<R: Wait, P: FetchPolicy, B: BudgetSource>(
 }
 
 /// The same, without what it does to a run.
-fn admit_waiting<R: Wait, P: FetchPolicy, B: BudgetSource>(
+fn admit_waiting<R: Wait, P: FetchPolicy, B: BudgetSource, E: EventLog>(
     rt: &R,
     leader: &mut Leader<P>,
-    core: &mut RunCore,
+    core: &mut RunCore<E>,
     source: &mut B,
 ) -> Result<()>
     ensures { AdmitTurn (B.told source.old) (B.told source.new) core.old core.new leader.old leader.new result }

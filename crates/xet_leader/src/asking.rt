@@ -1,6 +1,6 @@
 //! Asks for the plan that is due.
 ghost use Rattle.std.specs.Prelude.{◌≡◌, ◌<◌, false, IfErr, IfOk, OnOk, Some, length, map, slice_get};
-ghost use Rattle.xet_run.specs.Allowed.{IsAllowedHistory, IsRunning};
+ghost use Rattle.xet_run.specs.Allowed.{IsRunning};
 ghost use Rattle.xet_ties.specs.steps.Parts.{plan_query};
 ghost use Rattle.xet_parts.specs.PlanAsks.{PlansAllowed};
 ghost use Rattle.xet_terms.specs.Managers.{IsCovered};
@@ -16,7 +16,7 @@ use xet_blocks::{FetchPolicy, XorbBlock};
 use xet_error::{FileReconstructionError, Result};
 use xet_outside::{CancelSignal, Client};
 use xet_parts::{ask_plan, next_due};
-use xet_run::RunCore;
+use xet_run::{EventLog, RunCore};
 use xet_terms::PlanDue;
 
 /// Looks ahead, and asks the first connection for the plan of the query that is due, where one is. The plan is
@@ -27,11 +27,11 @@ use xet_terms::PlanDue;
 /// goes on goes on after it, or is to stop with that error.
 ///
 /// In the Rust crate: a step of `ReconstructionTermManager::next_file_terms`.
-pub fn ask<R: Wait, P: FetchPolicy, C: Client, X: CancelSignal>(
+pub fn ask<R: Wait, P: FetchPolicy, C: Client, X: CancelSignal, E: EventLog>(
     rt: &R,
     alloc: Global,
     leader: &mut Leader<P>,
-    core: &mut RunCore,
+    core: &mut RunCore<E>,
     clients: &mut [C],
     cancel: &mut X,
     job: Job,
@@ -45,23 +45,16 @@ pub fn ask<R: Wait, P: FetchPolicy, C: Client, X: CancelSignal>(
         (X.told cancel.new) core.old core.new leader.old leader.new result }
     ensures covered { IfOk result (λ asked. asked ≡ false → IsCovered leader.new.manager) }
 {
-    check_history(core);
+    core.check_history();
     ask_due(rt, alloc, leader, core, clients, cancel, job)
 }
 
-/// The history of a core is an allowed one.
-fn check_history(core: &RunCore)
-    ensures { IsAllowedHistory core.now }
-{
-    let _ = core.history();
-}
-
 /// The same as `ask`, without what it does to a run.
-fn ask_due<R: Wait, P: FetchPolicy, C: Client, X: CancelSignal>(
+fn ask_due<R: Wait, P: FetchPolicy, C: Client, X: CancelSignal, E: EventLog>(
     rt: &R,
     alloc: Global,
     leader: &mut Leader<P>,
-    core: &mut RunCore,
+    core: &mut RunCore<E>,
     clients: &mut [C],
     cancel: &mut X,
     job: Job,
@@ -88,11 +81,11 @@ fn ask_due<R: Wait, P: FetchPolicy, C: Client, X: CancelSignal>(
 }
 
 /// Asks the first connection for the plan of a query that is due, and records it.
-fn ask_first<R: Wait, P: FetchPolicy, C: Client>(
+fn ask_first<R: Wait, P: FetchPolicy, C: Client, E: EventLog>(
     rt: &R,
     alloc: Global,
     leader: &mut Leader<P>,
-    core: &mut RunCore,
+    core: &mut RunCore<E>,
     clients: &mut [C],
     due: PlanDue,
     job: Job,

@@ -6,7 +6,7 @@ use std::alloc::Global;
 use xet_error::{FileReconstructionError, Result};
 use xet_outside::Sink;
 use xet_parts::stop;
-use xet_run::RunCore;
+use xet_run::{EventLog, RunCore};
 use xet_writers::{DataWriter, SequentialWriter};
 
 /// Ends a run by what its loop answered: on Ok the writer is ended, which flushes its sink, and the answer is how many
@@ -15,9 +15,9 @@ use xet_writers::{DataWriter, SequentialWriter};
 /// The loop's error, or that of `SequentialWriter::finish`; `OutOfMemory` where memory to record it was refused.
 ///
 /// In the Rust crate: the end of `FileReconstructor::run` in `file_reconstruction::file_reconstructor`.
-pub fn end_run<S: Sink>(
+pub fn end_run<S: Sink, E: EventLog>(
     alloc: Global,
-    core: &mut RunCore,
+    core: &mut RunCore<E>,
     writer: &mut SequentialWriter<S>,
     led: Result<()>,
 ) -> Result<u64>
@@ -29,9 +29,9 @@ pub fn end_run<S: Sink>(
 }
 
 /// The same, without what it does to a run.
-fn end_both<S: Sink>(
+fn end_both<S: Sink, E: EventLog>(
     alloc: Global,
-    core: &mut RunCore,
+    core: &mut RunCore<E>,
     writer: &mut SequentialWriter<S>,
     led: Result<()>,
 ) -> Result<u64>
@@ -67,7 +67,7 @@ pub(crate) fn flush_only<S: Sink>(sink: &mut S) -> Result<u64>
 }
 
 /// Records an error, and answers it.
-pub(crate) fn answer_for(core: &mut RunCore, ended: Result<u64>) -> Result<u64>
+pub(crate) fn answer_for<E: EventLog>(core: &mut RunCore<E>, ended: Result<u64>) -> Result<u64>
     requires { IsRunning core.old }
     ensures { RecordedEnd core.old core.new ended result }
 {

@@ -22,7 +22,7 @@ use xet_error::Result;
 use xet_lanes::Gate;
 use xet_outside::{CancelSignal, ChunkCache, Client, Sink};
 use xet_parts::poll;
-use xet_run::{RunCore, RunPass};
+use xet_run::{EventLog, RunCore, RunPass};
 use xet_writers::SequentialWriter;
 
 /// What a round is to do.
@@ -51,10 +51,11 @@ pub fn join<
     G: Gate + Sync,
     L: Ledger + Send + Sync,
     S: Sink,
+    E: EventLog,
 >(
     around: &Around<R, G, L>,
     leader: &mut Leader<P>,
-    core: &mut RunCore,
+    core: &mut RunCore<E>,
     pass: &mut RunPass<L>,
     clients: &mut [C],
     cache: &mut K,
@@ -121,11 +122,11 @@ pub fn join<
 
 /// Looks for what is missing, and asks the signal where something is missing still. Then the writer is given the next
 /// terms.
-fn prepare<R: Wait, P: FetchPolicy, K: ChunkCache, X: CancelSignal, S: Sink>(
+fn prepare<R: Wait, P: FetchPolicy, K: ChunkCache, X: CancelSignal, S: Sink, E: EventLog>(
     rt: &R,
     alloc: Global,
     leader: &mut Leader<P>,
-    core: &mut RunCore,
+    core: &mut RunCore<E>,
     cache: &mut K,
     cancel: &mut X,
     writer: &mut SequentialWriter<S>,

@@ -21,18 +21,18 @@ use xet_fetch::report_transfer;
 use xet_outside::ChunkCache;
 use xet_parts::look_up_block;
 use xet_progress::ItemProgressUpdater;
-use xet_run::{Event, RunCore};
+use xet_run::{Event, EventLog, RunCore};
 
 /// Looks once for each block that the admitted terms which aren't written lack. A block that is found is kept, recorded
 /// as cached, and reported as transferred. Answers those that are missing still, each once, which are to be fetched.
 /// `OutOfMemory` where memory was refused; the blocks that were found before stay kept and recorded.
 ///
 /// In the Rust crate: a step of `file_reconstruction::reconstruction_terms::xorb_block::XorbBlock::retrieve_data`.
-pub fn look_up_missing<R: Wait, P: FetchPolicy, K: ChunkCache>(
+pub fn look_up_missing<R: Wait, P: FetchPolicy, K: ChunkCache, E: EventLog>(
     rt: &R,
     alloc: Global,
     leader: &mut Leader<P>,
-    core: &mut RunCore,
+    core: &mut RunCore<E>,
     cache: &mut K,
 ) -> Result<List<BlockAt>>
     requires { IsLedBy core.old leader.old }
@@ -44,11 +44,11 @@ pub fn look_up_missing<R: Wait, P: FetchPolicy, K: ChunkCache>(
 }
 
 /// The same, without what it does to a run.
-fn look_for_all<R: Wait, P: FetchPolicy, K: ChunkCache>(
+fn look_for_all<R: Wait, P: FetchPolicy, K: ChunkCache, E: EventLog>(
     rt: &R,
     alloc: Global,
     leader: &mut Leader<P>,
-    core: &mut RunCore,
+    core: &mut RunCore<E>,
     cache: &mut K,
 ) -> Result<List<BlockAt>>
     requires { IsLedBy core.old leader.old }
@@ -65,10 +65,10 @@ fn look_for_all<R: Wait, P: FetchPolicy, K: ChunkCache>(
 }
 
 /// Looks for each of these blocks, and answers those that are missing still.
-fn look_up_places<R: Wait, K: ChunkCache>(
+fn look_up_places<R: Wait, K: ChunkCache, E: EventLog>(
     rt: &R,
     alloc: Global,
-    core: &mut RunCore,
+    core: &mut RunCore<E>,
     cache: &mut K,
     plans: &mut VecDeque<LedPlan>,
     progress: Option<&ItemProgressUpdater>,
@@ -107,10 +107,10 @@ fn add_left(left: &mut List<BlockAt>, place: BlockAt, found: bool) -> Result<()>
 }
 
 /// Looks for a block, by its plan's number and its own. Whether it is kept now.
-fn look_up_place<R: Wait, K: ChunkCache>(
+fn look_up_place<R: Wait, K: ChunkCache, E: EventLog>(
     rt: &R,
     alloc: Global,
-    core: &mut RunCore,
+    core: &mut RunCore<E>,
     cache: &mut K,
     plans: &mut VecDeque<LedPlan>,
     progress: Option<&ItemProgressUpdater>,
@@ -128,10 +128,10 @@ fn look_up_place<R: Wait, K: ChunkCache>(
 }
 
 /// Looks for a block of a plan, and reports it as transferred where it is found. Whether it is kept now.
-fn look_up_in<R: Wait, K: ChunkCache>(
+fn look_up_in<R: Wait, K: ChunkCache, E: EventLog>(
     rt: &R,
     alloc: Global,
-    core: &mut RunCore,
+    core: &mut RunCore<E>,
     cache: &mut K,
     plan: &mut LedPlan,
     progress: Option<&ItemProgressUpdater>,
@@ -153,9 +153,9 @@ fn look_up_in<R: Wait, K: ChunkCache>(
 }
 
 /// Looks for a block. Whether it is kept now.
-fn look_up_one<K: ChunkCache>(
+fn look_up_one<K: ChunkCache, E: EventLog>(
     alloc: Global,
-    core: &mut RunCore,
+    core: &mut RunCore<E>,
     cache: &mut K,
     plan: u64,
     block: &mut XorbBlock,

@@ -14,7 +14,7 @@ use xet_base::List;
 use xet_blocks::FetchPolicy;
 use xet_error::{FileReconstructionError, Result};
 use xet_lanes::{Joined, LaneEnd};
-use xet_run::RunCore;
+use xet_run::{EventLog, RunCore};
 
 /// What a join leaves to be settled and reported.
 #[derive(Drop, Debug)]
@@ -32,10 +32,10 @@ pub struct Outcome {
 ///
 /// The error of the join, where it has one, once all is recorded. Else `UrlExpired` where the tries of a block are used
 /// up. `OutOfMemory` where memory was refused.
-pub fn take_outcome<P: FetchPolicy>(
+pub fn take_outcome<P: FetchPolicy, E: EventLog>(
     alloc: Global,
     leader: &mut Leader<P>,
-    core: &mut RunCore,
+    core: &mut RunCore<E>,
     joined: Joined,
     lengths: List<u64>,
     tries: u32,

@@ -7,12 +7,16 @@ ghost use Rattle.xet_leader.specs.RoundRecords.{RoundMayBe, expired_events, fetc
 use xet_error::Result;
 use xet_lanes::{Joined, LaneEnd};
 use xet_parts::{record_expired, record_fetched, record_window};
-use xet_run::RunCore;
+use xet_run::{EventLog, RunCore};
 
 /// Records what a join came to: what the lanes were served, lane by lane, then which answers were that a URL had
 /// expired, and then the terms of the window by their lengths, where the writer took all. `OutOfMemory` where memory
 /// was refused, and then the first of these events are recorded.
-pub fn record_round(core: &mut RunCore, joined: &Joined, lengths: &[u64]) -> Result<()>
+pub fn record_round<E: EventLog>(
+    core: &mut RunCore<E>,
+    joined: &Joined,
+    lengths: &[u64],
+) -> Result<()>
     requires lanes { length joined.now.ends.items ≤ 65536 }
     requires allowed { RoundMayBe core.old (lanes_of joined.now.ends.items)
         (window_events joined.now.wrote lengths.now) }
@@ -30,7 +34,7 @@ pub fn record_round(core: &mut RunCore, joined: &Joined, lengths: &[u64]) -> Res
 }
 
 /// Records what the lanes did.
-fn record_lanes(core: &mut RunCore, ends: &[LaneEnd]) -> Result<()>
+fn record_lanes<E: EventLog>(core: &mut RunCore<E>, ends: &[LaneEnd]) -> Result<()>
     requires lanes { length ends.now ≤ 65536 }
     requires fetched { AllowedAfter core.old (fetched_events (lanes_of ends.now)) }
     requires expired { AllowedAfter (core.old ++ fetched_events (lanes_of ends.now))
@@ -44,7 +48,7 @@ fn record_lanes(core: &mut RunCore, ends: &[LaneEnd]) -> Result<()>
 }
 
 /// Records what the lanes were served.
-fn record_all_fetched(core: &mut RunCore, ends: &[LaneEnd]) -> Result<()>
+fn record_all_fetched<E: EventLog>(core: &mut RunCore<E>, ends: &[LaneEnd]) -> Result<()>
     requires lanes { length ends.now ≤ 65536 }
     requires allowed { AllowedAfter core.old (fetched_events (lanes_of ends.now)) }
     ensures { Recorded core.old core.new (fetched_events (lanes_of ends.now)) result }
@@ -60,7 +64,7 @@ fn record_all_fetched(core: &mut RunCore, ends: &[LaneEnd]) -> Result<()>
 }
 
 /// Records which answers of the lanes were that a URL had expired.
-fn record_all_expired(core: &mut RunCore, ends: &[LaneEnd]) -> Result<()>
+fn record_all_expired<E: EventLog>(core: &mut RunCore<E>, ends: &[LaneEnd]) -> Result<()>
     requires lanes { length ends.now ≤ 65536 }
     requires allowed { AllowedAfter core.old (expired_events (lanes_of ends.now)) }
     ensures { Recorded core.old core.new (expired_events (lanes_of ends.now)) result }

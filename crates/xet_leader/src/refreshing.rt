@@ -12,7 +12,7 @@ use xet_blocks::FetchPolicy;
 use xet_error::Result;
 use xet_outside::Client;
 use xet_parts::refresh_table;
-use xet_run::{Event, RunCore};
+use xet_run::{Event, EventLog, RunCore};
 
 /// Asks the first connection once for the URLs of each of these plans again, in order, takes them and records it; a
 /// number of no plan is passed over. No plan is stale after it.
@@ -21,10 +21,10 @@ use xet_run::{Event, RunCore};
 /// A run that goes on goes on after it, or is to stop with that error.
 ///
 /// In the Rust crate: `XorbBlock::retrieve_data` asks again for each block on its own.
-pub fn refresh_stale<P: FetchPolicy, C: Client>(
+pub fn refresh_stale<P: FetchPolicy, C: Client, E: EventLog>(
     alloc: Global,
     leader: &mut Leader<P>,
-    core: &mut RunCore,
+    core: &mut RunCore<E>,
     client: &mut C,
     stale: &[u64],
     multirange: bool,
@@ -40,10 +40,10 @@ pub fn refresh_stale<P: FetchPolicy, C: Client>(
 }
 
 /// The same, without what it does to a run.
-fn refresh_each<P: FetchPolicy, C: Client>(
+fn refresh_each<P: FetchPolicy, C: Client, E: EventLog>(
     alloc: Global,
     leader: &mut Leader<P>,
-    core: &mut RunCore,
+    core: &mut RunCore<E>,
     client: &mut C,
     stale: &[u64],
     multirange: bool,
@@ -57,10 +57,10 @@ fn refresh_each<P: FetchPolicy, C: Client>(
 }
 
 /// The same of plans alone.
-fn refresh_plans<C: Client>(
+fn refresh_plans<C: Client, E: EventLog>(
     alloc: Global,
     plans: &mut VecDeque<LedPlan>,
-    core: &mut RunCore,
+    core: &mut RunCore<E>,
     client: &mut C,
     stale: &[u64],
     multirange: bool,
@@ -81,10 +81,10 @@ fn refresh_plans<C: Client>(
 }
 
 /// Asks for the URLs of the plan of this number again, where it is among these.
-fn refresh_one<C: Client>(
+fn refresh_one<C: Client, E: EventLog>(
     alloc: Global,
     plans: &mut VecDeque<LedPlan>,
-    core: &mut RunCore,
+    core: &mut RunCore<E>,
     client: &mut C,
     number: u64,
     multirange: bool,
@@ -101,10 +101,10 @@ fn refresh_one<C: Client>(
 }
 
 /// Asks for the URLs of the plan at this place again, under this number.
-fn refresh_at<C: Client>(
+fn refresh_at<C: Client, E: EventLog>(
     alloc: Global,
     plans: &mut VecDeque<LedPlan>,
-    core: &mut RunCore,
+    core: &mut RunCore<E>,
     client: &mut C,
     number: u64,
     place: usize,

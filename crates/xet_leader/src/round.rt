@@ -19,7 +19,7 @@ use xet_blocks::FetchPolicy;
 use xet_error::{FileReconstructionError, Result};
 use xet_lanes::{Gate, Joined, fetch_and_write};
 use xet_outside::{Client, Sink};
-use xet_run::{RunCore, RunPass, RunState};
+use xet_run::{EventLog, RunCore, RunPass, RunState};
 use xet_writers::SequentialWriter;
 
 /// What a run lends to its parts.
@@ -51,10 +51,11 @@ pub fn run_round<
     G: Gate + Sync,
     L: Ledger + Send + Sync,
     S: Sink,
+    E: EventLog,
 >(
     around: &Around<R, G, L>,
     leader: &mut Leader<P>,
-    core: &mut RunCore,
+    core: &mut RunCore<E>,
     pass: &mut RunPass<L>,
     clients: &mut [C],
     writer: &mut SequentialWriter<S>,
@@ -87,10 +88,11 @@ fn fetch_and_take<
     G: Gate + Sync,
     L: Ledger + Send + Sync,
     S: Sink,
+    E: EventLog,
 >(
     around: &Around<R, G, L>,
     leader: &mut Leader<P>,
-    core: &mut RunCore,
+    core: &mut RunCore<E>,
     pass: &mut RunPass<L>,
     clients: &mut [C],
     writer: &mut SequentialWriter<S>,

@@ -22,7 +22,7 @@ use xet_error::{FileReconstructionError, Result};
 use xet_lanes::Gate;
 use xet_outside::{CancelSignal, ChunkCache, Client, Sink};
 use xet_progress::ItemProgressUpdater;
-use xet_run::{BudgetSource, RunCore, RunState};
+use xet_run::{BudgetSource, EventLog, RunCore, RunState};
 use xet_writers::SequentialWriter;
 
 /// What a run is asked for.
@@ -47,13 +47,14 @@ fn lead_from_start<
     X: CancelSignal,
     S: Sink,
     B: BudgetSource,
+    E: EventLog,
 >(
     rt: &R,
     alloc: Global,
     gate: &G,
     blank: Blank,
     order: Order<P>,
-    core: &mut RunCore,
+    core: &mut RunCore<E>,
     budget: &mut B,
     clients: &mut [C],
     cache: &mut K,
@@ -90,7 +91,7 @@ fn lead_from_start<
         gate,
         state: &state,
     };
-    let led = lead(
+    lead(
         &around,
         &mut pass,
         job,
@@ -101,9 +102,7 @@ fn lead_from_start<
         cache,
         cancel,
         writer,
-    );
-    let _calls = state.close(pass);
-    led
+    )
 }
 
 /// The run over a writer that took nothing yet.
@@ -117,13 +116,14 @@ fn run_with<
     X: CancelSignal,
     S: Sink,
     B: BudgetSource,
+    E: EventLog,
 >(
     rt: &R,
     alloc: Global,
     gate: &G,
     blank: Blank,
     order: Order<P>,
-    core: &mut RunCore,
+    core: &mut RunCore<E>,
     budget: &mut B,
     clients: &mut [C],
     cache: &mut K,
@@ -144,7 +144,7 @@ fn run_with<
           events = core.new;
         }) result }
 {
-    let led = lead_from_start::<R, G, L, P, C, K, X, S, B>(
+    let led = lead_from_start::<R, G, L, P, C, K, X, S, B, E>(
         rt, alloc, gate, blank, order, core, budget, clients, cache, cancel, writer,
     );
     end_run(alloc, core, writer, led)
@@ -161,13 +161,14 @@ fn run_lent<
     X: CancelSignal,
     S: Sink,
     B: BudgetSource,
+    E: EventLog,
 >(
     rt: &R,
     alloc: Global,
     gate: &G,
     blank: Blank,
     order: Order<P>,
-    core: &mut RunCore,
+    core: &mut RunCore<E>,
     budget: &mut B,
     clients: &mut [C],
     cache: &mut K,
@@ -188,7 +189,7 @@ fn run_lent<
         }) result }
 {
     let mut own = SequentialWriter::new(alloc, writer, order.job.config.use_vectored_write);
-    let answer = run_with::<R, G, L, P, C, K, X, &mut S, B>(
+    let answer = run_with::<R, G, L, P, C, K, X, &mut S, B, E>(
         rt, alloc, gate, blank, order, core, budget, clients, cache, cancel, &mut own,
     );
     let _sink = own.into_inner();
@@ -205,12 +206,13 @@ fn run_some<
     X: CancelSignal,
     S: Sink,
     B: BudgetSource,
+    E: EventLog,
 >(
     rt: &R,
     alloc: Global,
     gate: &G,
     order: Order<P>,
-    core: &mut RunCore,
+    core: &mut RunCore<E>,
     budget: &mut B,
     clients: &mut [C],
     cache: &mut K,
@@ -229,7 +231,7 @@ fn run_some<
         }) result }
 {
     let blank = Blank::new(1 << 32);
-    run_lent::<R, G, Brand, P, C, K, X, S, B>(
+    run_lent::<R, G, Brand, P, C, K, X, S, B, E>(
         rt, alloc, gate, blank, order, core, budget, clients, cache, cancel, writer,
     )
 }
@@ -249,12 +251,13 @@ pub fn run<
     X: CancelSignal,
     S: Sink,
     B: BudgetSource,
+    E: EventLog,
 >(
     rt: &R,
     alloc: Global,
     gate: &G,
     order: Order<P>,
-    core: &mut RunCore,
+    core: &mut RunCore<E>,
     budget: &mut B,
     clients: &mut [C],
     cache: &mut K,

@@ -11,7 +11,7 @@ use std::alloc::Global;
 use xet_blocks::FetchPolicy;
 use xet_error::Result;
 use xet_outside::{ChunkCache, Client};
-use xet_run::RunCore;
+use xet_run::{EventLog, RunCore};
 
 /// Offers to the cache the blocks that lanes served in a round, and then asks the first connection for the URLs of the
 /// stale plans again. Afterwards no block is due, and no plan is stale.
@@ -20,10 +20,10 @@ use xet_run::RunCore;
 /// A run that goes on goes on after it, or is to stop with that error.
 ///
 /// In the Rust crate: the end of `XorbBlock::retrieve_data`, of each block on its own.
-pub fn settle<P: FetchPolicy, C: Client, K: ChunkCache>(
+pub fn settle<P: FetchPolicy, C: Client, K: ChunkCache, E: EventLog>(
     alloc: Global,
     leader: &mut Leader<P>,
-    core: &mut RunCore,
+    core: &mut RunCore<E>,
     client: &mut C,
     cache: &mut K,
     places: &[BlockAt],
@@ -45,10 +45,10 @@ pub fn settle<P: FetchPolicy, C: Client, K: ChunkCache>(
 }
 
 /// The same, without what it does to a run.
-fn settle_both<P: FetchPolicy, C: Client, K: ChunkCache>(
+fn settle_both<P: FetchPolicy, C: Client, K: ChunkCache, E: EventLog>(
     alloc: Global,
     leader: &mut Leader<P>,
-    core: &mut RunCore,
+    core: &mut RunCore<E>,
     client: &mut C,
     cache: &mut K,
     places: &[BlockAt],

@@ -22,7 +22,7 @@ use xet_blocks::FetchPolicy;
 use xet_error::Result;
 use xet_lanes::Gate;
 use xet_outside::{CancelSignal, ChunkCache, Client, Sink};
-use xet_run::{BudgetSource, RunCore, RunPass};
+use xet_run::{BudgetSource, EventLog, RunCore, RunPass};
 use xet_writers::SequentialWriter;
 
 /// Takes turns until all is written: asks for plans, admits terms, joins lanes that fetch blocks beside the writing,
@@ -42,12 +42,13 @@ pub fn lead<
     X: CancelSignal,
     S: Sink,
     B: BudgetSource,
+    E: EventLog,
 >(
     around: &Around<R, G, L>,
     pass: &mut RunPass<L>,
     job: Job,
     leader: &mut Leader<P>,
-    core: &mut RunCore,
+    core: &mut RunCore<E>,
     source: &mut B,
     clients: &mut [C],
     cache: &mut K,
@@ -98,10 +99,11 @@ pub fn turn<
     L: Ledger + Send + Sync,
     S: Sink,
     B: BudgetSource,
+    E: EventLog,
 >(
     around: &Around<R, G, L>,
     leader: &mut Leader<P>,
-    core: &mut RunCore,
+    core: &mut RunCore<E>,
     pass: &mut RunPass<L>,
     clients: &mut [C],
     cache: &mut K,
@@ -153,10 +155,11 @@ fn join_and_settle<
     G: Gate + Sync,
     L: Ledger + Send + Sync,
     S: Sink,
+    E: EventLog,
 >(
     around: &Around<R, G, L>,
     leader: &mut Leader<P>,
-    core: &mut RunCore,
+    core: &mut RunCore<E>,
     pass: &mut RunPass<L>,
     clients: &mut [C],
     cache: &mut K,
@@ -226,10 +229,19 @@ fn join_and_settle<
 }
 
 /// Asks and admits, and then records in the run's state each term that was admitted. True where the run is finished.
-fn start<R: Wait, G, L: Ledger, P: FetchPolicy, C: Client, X: CancelSignal, B: BudgetSource>(
+fn start<
+    R: Wait,
+    G,
+    L: Ledger,
+    P: FetchPolicy,
+    C: Client,
+    X: CancelSignal,
+    B: BudgetSource,
+    E: EventLog,
+>(
     around: &Around<R, G, L>,
     leader: &mut Leader<P>,
-    core: &mut RunCore,
+    core: &mut RunCore<E>,
     pass: &mut RunPass<L>,
     clients: &mut [C],
     cancel: &mut X,
@@ -265,11 +277,18 @@ fn start<R: Wait, G, L: Ledger, P: FetchPolicy, C: Client, X: CancelSignal, B: B
 
 /// Asks for the plan that is due, and then admits the planned terms that wait. True where none was due and all planned
 /// terms are written, so that the run is finished.
-pub(crate) fn ask_and_admit<R: Wait, P: FetchPolicy, C: Client, X: CancelSignal, B: BudgetSource>(
+pub(crate) fn ask_and_admit<
+    R: Wait,
+    P: FetchPolicy,
+    C: Client,
+    X: CancelSignal,
+    B: BudgetSource,
+    E: EventLog,
+>(
     rt: &R,
     alloc: Global,
     leader: &mut Leader<P>,
-    core: &mut RunCore,
+    core: &mut RunCore<E>,
     clients: &mut [C],
     cancel: &mut X,
     source: &mut B,
@@ -296,10 +315,10 @@ pub(crate) fn ask_and_admit<R: Wait, P: FetchPolicy, C: Client, X: CancelSignal,
 /// plans again.
 ///
 /// The error of `settle`.
-fn settle_outcome<P: FetchPolicy, C: Client, K: ChunkCache>(
+fn settle_outcome<P: FetchPolicy, C: Client, K: ChunkCache, E: EventLog>(
     alloc: Global,
     leader: &mut Leader<P>,
-    core: &mut RunCore,
+    core: &mut RunCore<E>,
     clients: &mut [C],
     cache: &mut K,
     outcome: &Outcome,

@@ -30,7 +30,7 @@ use Rattle.xet_ties.specs.Setup.{AllTell, IsOver, RunTold, Setup}
 use Rattle.xet_ties.specs.steps.Moves.{heard_first}
 use Rattle.xet_ties.specs.steps.Parts.{AskedSaid, plan_query, AskedShort}
 use Rattle.xet_ties.specs.Ties.{CutsRange, EachLane, Slack, Ties, IsNextQuery}
-use Rattle.xet_ties.proofs.CallerLemmas.{all_told, ask_said, asked_own, corrupted, file_missing, first_tells, if_some, plan_fails, missing_file, ask_short}
+use Rattle.xet_ties.proofs.CallerLemmas.{ask_said, asked_own, corrupted, file_missing, first_tells, plan_fails, missing_file, ask_short}
 use Rattle.xet_parts.proofs.AskTies.{ask_fails_ties}
 use Rattle.xet_parts.specs.PlanAsks.{AskPlanCall, PlanFails, QueryFails}
 

@@ -6,12 +6,12 @@ ghost use Rattle.xet_ties.specs.steps.Records.{Recorded};
 
 use xet_base::{FileRange, List};
 use xet_error::{FileReconstructionError, Result};
-use xet_run::{CoreRefusal, Event, PlannedBlock, PlannedTerm, RunCore};
+use xet_run::{CoreRefusal, Event, EventLog, PlannedBlock, PlannedTerm, RunCore};
 
 /// Records the plan of a query under the next number, with its terms and blocks. `OutOfMemory` where memory was
 /// refused, and then nothing is recorded.
-pub fn add_planned(
-    core: &mut RunCore,
+pub fn add_planned<E: EventLog>(
+    core: &mut RunCore<E>,
     query: FileRange,
     terms: List<PlannedTerm>,
     blocks: List<PlannedBlock>,
@@ -29,7 +29,12 @@ pub fn add_planned(
 }
 
 /// Records that a lane fetched a block. `OutOfMemory` where memory was refused, and then nothing is recorded.
-pub fn add_fetched(core: &mut RunCore, lane: u32, plan: u64, block: usize) -> Result<()>
+pub fn add_fetched<E: EventLog>(
+    core: &mut RunCore<E>,
+    lane: u32,
+    plan: u64,
+    block: usize,
+) -> Result<()>
     requires { IsAllowed core.old (Event.Fetched lane plan block) }
     ensures recorded { Recorded core.old core.new (Event.Fetched lane plan block ∷ []) result }
     ensures kept { OnErr result (core.new ≡ core.old) }
@@ -42,7 +47,7 @@ pub fn add_fetched(core: &mut RunCore, lane: u32, plan: u64, block: usize) -> Re
 }
 
 /// Records that the cache gave a block. `OutOfMemory` where memory was refused, and then nothing is recorded.
-pub fn add_cached(core: &mut RunCore, plan: u64, block: usize) -> Result<()>
+pub fn add_cached<E: EventLog>(core: &mut RunCore<E>, plan: u64, block: usize) -> Result<()>
     requires { IsAllowed core.old (Event.Cached plan block) }
     ensures recorded { Recorded core.old core.new (Event.Cached plan block ∷ []) result }
     ensures kept { OnErr result (core.new ≡ core.old) }
@@ -56,7 +61,12 @@ pub fn add_cached(core: &mut RunCore, plan: u64, block: usize) -> Result<()>
 
 /// Records that a lane was answered that a block's URL has expired. `OutOfMemory` where memory was refused, and then
 /// nothing is recorded.
-pub fn add_expired(core: &mut RunCore, lane: u32, plan: u64, block: usize) -> Result<()>
+pub fn add_expired<E: EventLog>(
+    core: &mut RunCore<E>,
+    lane: u32,
+    plan: u64,
+    block: usize,
+) -> Result<()>
     requires { IsAllowed core.old (Event.Expired lane plan block) }
     ensures recorded { Recorded core.old core.new (Event.Expired lane plan block ∷ []) result }
     ensures kept { OnErr result (core.new ≡ core.old) }
@@ -70,7 +80,7 @@ pub fn add_expired(core: &mut RunCore, lane: u32, plan: u64, block: usize) -> Re
 
 /// Records that the URLs of a plan were asked for again. `OutOfMemory` where memory was refused, and then nothing is
 /// recorded.
-pub fn add_refreshed(core: &mut RunCore, plan: u64) -> Result<()>
+pub fn add_refreshed<E: EventLog>(core: &mut RunCore<E>, plan: u64) -> Result<()>
     requires { IsAllowed core.old (Event.Refreshed plan) }
     ensures recorded { Recorded core.old core.new (Event.Refreshed plan ∷ []) result }
     ensures kept { OnErr result (core.new ≡ core.old) }
@@ -84,7 +94,7 @@ pub fn add_refreshed(core: &mut RunCore, plan: u64) -> Result<()>
 
 /// Records so many written bytes of the oldest unfinished term. `OutOfMemory` where memory was refused, and then
 /// nothing is recorded.
-pub fn add_wrote(core: &mut RunCore, taken: u64) -> Result<()>
+pub fn add_wrote<E: EventLog>(core: &mut RunCore<E>, taken: u64) -> Result<()>
     requires { IsAllowed core.old (Event.Wrote taken) }
     ensures recorded { Recorded core.old core.new (Event.Wrote taken ∷ []) result }
     ensures kept { OnErr result (core.new ≡ core.old) }

@@ -9,13 +9,13 @@ use xet_blocks::XorbBlock;
 use xet_error::Result;
 use xet_fetch::look_up;
 use xet_outside::ChunkCache;
-use xet_run::{Event, RunCore};
+use xet_run::{Event, EventLog, RunCore};
 
 /// Looks once for a missing block of a plan, where it has one range. A block that is found keeps the entry's data, and
 /// is recorded as cached. `OutOfMemory` where memory was refused; then nothing is recorded, and the block is as before.
-pub fn look_up_block<K: ChunkCache>(
+pub fn look_up_block<K: ChunkCache, E: EventLog>(
     alloc: Global,
-    core: &mut RunCore,
+    core: &mut RunCore<E>,
     cache: &mut K,
     plan: u64,
     block: &mut XorbBlock,

@@ -14,7 +14,7 @@ use xet_base::{FileRange, List, MerkleHash, OutOfMemory};
 use xet_blocks::{FetchPolicy, FileTerm, TermBlock, XorbBlock, retrieve_file_term_block};
 use xet_error::{FileReconstructionError, Result};
 use xet_outside::Client;
-use xet_run::{PlannedBlock, PlannedTerm, RunCore};
+use xet_run::{EventLog, PlannedBlock, PlannedTerm, RunCore};
 use xet_terms::{PlanDue, ReconstructionTermManager};
 
 /// Asks a connection once for the plan of the query that counts as asked and has no answer, gives the answer to the
@@ -25,11 +25,11 @@ use xet_terms::{PlanDue, ReconstructionTermManager};
 /// no memory.
 ///
 /// In the Rust crate: a step of `ReconstructionTermManager::next_file_terms`.
-pub fn ask_plan<R: Wait, P: FetchPolicy, C: Client>(
+pub fn ask_plan<R: Wait, P: FetchPolicy, C: Client, E: EventLog>(
     rt: &R,
     alloc: Global,
     manager: &mut ReconstructionTermManager<P>,
-    core: &mut RunCore,
+    core: &mut RunCore<E>,
     client: &mut C,
     due: PlanDue,
     file: MerkleHash,
@@ -49,11 +49,11 @@ pub fn ask_plan<R: Wait, P: FetchPolicy, C: Client>(
 }
 
 /// Takes the answer to a query that counts as asked, and records its plan.
-fn take_answer<R: Wait, P: FetchPolicy>(
+fn take_answer<R: Wait, P: FetchPolicy, E: EventLog>(
     rt: &R,
     alloc: Global,
     manager: &mut ReconstructionTermManager<P>,
-    core: &mut RunCore,
+    core: &mut RunCore<E>,
     due: PlanDue,
     answer: Option<TermBlock>,
 ) -> Result<()>

@@ -4,12 +4,16 @@ ghost use Rattle.xet_ties.specs.steps.Records.{Recorded, expired_event, expired_
 
 use crate::event_calls::{add_expired, add_fetched, add_wrote};
 use xet_error::Result;
-use xet_run::RunCore;
+use xet_run::{EventLog, RunCore};
 use xet_ties::LaneStep;
 
 /// Records the steps of a lane that were served, in their order. `OutOfMemory` where memory was refused, and then the
 /// first of them are recorded.
-pub fn record_fetched(core: &mut RunCore, lane: u32, steps: &[LaneStep]) -> Result<()>
+pub fn record_fetched<E: EventLog>(
+    core: &mut RunCore<E>,
+    lane: u32,
+    steps: &[LaneStep],
+) -> Result<()>
     requires { AllowedAfter core.old (fetched_on lane steps.now) }
     ensures { Recorded core.old core.new (fetched_on lane steps.now) result }
 {
@@ -24,7 +28,11 @@ pub fn record_fetched(core: &mut RunCore, lane: u32, steps: &[LaneStep]) -> Resu
 
 /// Records the steps of a lane that were answered that their URL had expired, in their order. `OutOfMemory` where
 /// memory was refused, and then the first of them are recorded.
-pub fn record_expired(core: &mut RunCore, lane: u32, steps: &[LaneStep]) -> Result<()>
+pub fn record_expired<E: EventLog>(
+    core: &mut RunCore<E>,
+    lane: u32,
+    steps: &[LaneStep],
+) -> Result<()>
     requires { AllowedAfter core.old (expired_on lane steps.now) }
     ensures { Recorded core.old core.new (expired_on lane steps.now) result }
 {
@@ -39,7 +47,7 @@ pub fn record_expired(core: &mut RunCore, lane: u32, steps: &[LaneStep]) -> Resu
 
 /// Records the terms that were written, by their lengths in bytes, in their order; an empty term has no event.
 /// `OutOfMemory` where memory was refused, and then the first of them are recorded.
-pub fn record_window(core: &mut RunCore, lengths: &[u64]) -> Result<()>
+pub fn record_window<E: EventLog>(core: &mut RunCore<E>, lengths: &[u64]) -> Result<()>
     requires { AllowedAfter core.old (wrote_of lengths.now) }
     ensures { Recorded core.old core.new (wrote_of lengths.now) result }
 {
@@ -53,7 +61,7 @@ pub fn record_window(core: &mut RunCore, lengths: &[u64]) -> Result<()>
 }
 
 /// Records a step of a lane, where it was served.
-fn record_served(core: &mut RunCore, lane: u32, step: &LaneStep) -> Result<()>
+fn record_served<E: EventLog>(core: &mut RunCore<E>, lane: u32, step: &LaneStep) -> Result<()>
     requires { AllowedAfter core.old (fetched_event lane step.now) }
     ensures { Recorded core.old core.new (fetched_event lane step.now) result }
 {
@@ -64,7 +72,7 @@ fn record_served(core: &mut RunCore, lane: u32, step: &LaneStep) -> Result<()>
 }
 
 /// Records a step of a lane, where it was answered that the URL had expired.
-fn record_late(core: &mut RunCore, lane: u32, step: &LaneStep) -> Result<()>
+fn record_late<E: EventLog>(core: &mut RunCore<E>, lane: u32, step: &LaneStep) -> Result<()>
     requires { AllowedAfter core.old (expired_event lane step.now) }
     ensures { Recorded core.old core.new (expired_event lane step.now) result }
 {
@@ -75,7 +83,7 @@ fn record_late(core: &mut RunCore, lane: u32, step: &LaneStep) -> Result<()>
 }
 
 /// Records one written term; of an empty one there is nothing to record.
-fn record_written(core: &mut RunCore, length: u64) -> Result<()>
+fn record_written<E: EventLog>(core: &mut RunCore<E>, length: u64) -> Result<()>
     requires { AllowedAfter core.old (wrote_event length) }
     ensures { Recorded core.old core.new (wrote_event length) result }
 {

@@ -6,11 +6,14 @@ ghost use Rattle.xet_ties.specs.steps.Parts.{stop_event};
 ghost use Rattle.xet_parts.specs.Stops.{IsStopped};
 
 use xet_error::FileReconstructionError;
-use xet_run::{CoreRefusal, Event, RunCore};
+use xet_run::{CoreRefusal, Event, EventLog, RunCore};
 
 /// Records an error in a core that runs, `Cancelled` as a Cancel event and every other as a Fail event, and answers it;
 /// `OutOfMemory` where memory for the event was refused, and then nothing is recorded.
-pub fn stop(core: &mut RunCore, error: FileReconstructionError) -> FileReconstructionError
+pub fn stop<E: EventLog>(
+    core: &mut RunCore<E>,
+    error: FileReconstructionError,
+) -> FileReconstructionError
     requires { IsRunning core.old }
     ensures { IsStopped core.old core.new error result }
 {
@@ -21,7 +24,7 @@ pub fn stop(core: &mut RunCore, error: FileReconstructionError) -> FileReconstru
 }
 
 /// Records a cancel.
-fn stop_cancelled(core: &mut RunCore) -> FileReconstructionError
+fn stop_cancelled<E: EventLog>(core: &mut RunCore<E>) -> FileReconstructionError
     requires { IsRunning core.old }
     ensures { IsStopped core.old core.new error.Cancelled result }
 {
@@ -33,7 +36,10 @@ fn stop_cancelled(core: &mut RunCore) -> FileReconstructionError
 }
 
 /// Records an error that isn't `Cancelled`.
-fn stop_failed(core: &mut RunCore, error: FileReconstructionError) -> FileReconstructionError
+fn stop_failed<E: EventLog>(
+    core: &mut RunCore<E>,
+    error: FileReconstructionError,
+) -> FileReconstructionError
     requires running { IsRunning core.old }
     requires other { stop_event error ≡ Event.Fail error }
     ensures { IsStopped core.old core.new error result }

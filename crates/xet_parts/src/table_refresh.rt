@@ -8,7 +8,7 @@ use xet_blocks::TermBlock;
 use xet_error::Result;
 use xet_fetch::refresh_retrieval_urls;
 use xet_outside::Client;
-use xet_run::{Event, RunCore};
+use xet_run::{Event, EventLog, RunCore};
 
 /// Asks a connection once for the plan of a table's bytes again, by the table's own id, takes the new URLs and records
 /// it under the plan's number.
@@ -18,9 +18,9 @@ use xet_run::{Event, RunCore};
 ///
 /// In the Rust crate: a step of `XorbBlock::retrieve_data`, by
 /// `TermBlockRetrievalURLs::refresh_retrieval_urls`.
-pub fn refresh_table<C: Client>(
+pub fn refresh_table<C: Client, E: EventLog>(
     alloc: Global,
-    core: &mut RunCore,
+    core: &mut RunCore<E>,
     client: &mut C,
     number: u64,
     block: &mut TermBlock,

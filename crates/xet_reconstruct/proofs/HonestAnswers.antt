@@ -1,5 +1,5 @@
 -- Answers of a valid store fail no test of a run, and their pieces join to the windows of their queries.
-use Rattle.std.proofs.Common.{◌≡◌, ℕ, ◌-◌, List, [], ◌∷◌, Option, Some, None, refl, ap}
+use Rattle.std.proofs.Common.{◌≡◌, ℕ, List, [], ◌∷◌, Option, Some, None, refl, ap}
 use Rattle.std.proofs.Common.{sym, ◌∙◌, subst, inl, inr}
 use Rattle.std.specs.Prelude.{All, IfSome, map, option_map, slice_get, unwrap_or}
 use Rattle.std.specs.List.{AllZip, concat, flat_map}

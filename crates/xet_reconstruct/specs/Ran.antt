@@ -1,5 +1,5 @@
 -- A run whose history and source of limits are its own.
-use Rattle.std.specs.Prelude.{ℕ, ◌≡◌, List, Option, None, Some, Result}
+use Rattle.std.specs.Prelude.{ℕ, List, Option, None, Some, Result}
 use Rattle.xet_error.specs.declared.error.FileReconstructionError.{FileReconstructionError}
 use Rattle.xet_run.specs.declared.budget_book.BookView.{BookView}
 use Rattle.xet_run.specs.declared.event.Event.{Event}

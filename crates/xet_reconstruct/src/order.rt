@@ -1,6 +1,5 @@
 //! Runs with a source of limits and a core of their own.
 ghost use Rattle.std.specs.Prelude.{◌≡◌};
-ghost use Rattle.xet_run.specs.Allowed.{IsAllowedHistory};
 ghost use Rattle.xet_ties.specs.Legal.{Legal};
 ghost use Rattle.xet_reconstruct.specs.Ran.{RanUnder};
 ghost use Rattle.xet_reconstruct.specs.Setup.{lent_of, setup_of};
@@ -13,16 +12,10 @@ use xet_blocks::FetchPolicy;
 use xet_error::Result;
 use xet_lanes::OpenGate;
 use xet_outside::{CancelSignal, ChunkCache, Client, Sink};
-use xet_run::{BudgetSource, RunCore};
+use xet_run::{BudgetSource, RunCore, ToldEvents};
 
-/// The history of a core is an allowed one.
-fn check_history(core: &RunCore)
-    ensures { IsAllowedHistory core.now }
-{
-    let _ = core.history();
-}
-
-/// A run under these limits, with a new core and an open gate.
+/// A run under these limits, with a new core and an open gate. Nobody reads the core's history, so it is told to proofs
+/// alone and takes no memory.
 pub(crate) fn run_within<R, P, C, K, X, S, B>(
     wanted: FileReconstructor<P>,
     rt: &R,
@@ -48,8 +41,8 @@ where
         (lent_of C.told K.told X.told S.told clients.old cache.old cancel.old writer.old)
         (lent_of C.told K.told X.told S.told clients.new cache.new cancel.new writer.new) result }
 {
-    let mut core = RunCore::new(alloc);
-    let answer = wanted.run(
+    let mut core = RunCore::<ToldEvents>::new(alloc);
+    let answer = wanted.run_over(
         rt,
         alloc,
         &mut core,
@@ -60,6 +53,6 @@ where
         cancel,
         writer,
     );
-    check_history(&core);
+    core.check_history();
     answer
 }

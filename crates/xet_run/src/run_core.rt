@@ -8,6 +8,7 @@ ghost use Rattle.xet_run.specs.steps.Index.{waiting_of};
 use crate::block_table::BlockId;
 use crate::core_refusal::CoreRefusal;
 use crate::event::{Event, PlannedBlock, PlannedTerm};
+use crate::event_log::{EventLog, KeptEvents};
 use crate::index::{Index, WaitingTerm, adjoin, end_after};
 use std::alloc::Global;
 use std::marker::Model;
@@ -17,18 +18,23 @@ use xet_error::FileReconstructionError;
 /// A run's history: each of its events was allowed after those before it. Contracts see it as the list of its events.
 ///
 /// Each event call adds its event, or is refused and leaves the history as it was: `NotAllowed` exactly where the event
-/// isn't allowed after the history, `OutOfMemory` where an allocation was refused. None looks through the history: it
-/// takes constant time, amortized over the plans and their blocks, or logarithmic time in the stale plans (`expired`,
-/// `refreshed`), and `planned` besides linear time in its terms.
+/// isn't allowed after the history, `OutOfMemory` where an allocation was refused (and where `u64::MAX` plans have the
+/// numbers that there are). None looks through the history: it takes constant time, amortized over the plans and their
+/// blocks, or logarithmic time in the stale plans (`expired`, `refreshed`), and `planned` besides linear time in its
+/// terms.
+///
+/// Its log takes the events: `KeptEvents` keeps them to be read, `ToldEvents` tells them to proofs alone. Over that one
+/// a core takes memory for what its calls look up alone: terms that wait or aren't wholly written, the marks of blocks,
+/// and the stale plans.
 ///
 /// In place of the loop, tasks and semaphore of `file_reconstruction::file_reconstructor` of the Rust crate.
 #[derive(Drop)]
-pub struct RunCore {
-    events: Vec<Event>,
+pub struct RunCore<E: EventLog = KeptEvents> {
+    log: E,
     index: Index,
 }
 
-impl Model for RunCore {
+impl<E: EventLog> Model for RunCore<E> {
     ghost use Rattle.std.specs.Prelude.{List};
     ghost use Rattle.xet_run.specs.declared.event.Event.{Event};
 
@@ -36,28 +42,37 @@ impl Model for RunCore {
 
     ghost use Rattle.xet_run.specs.steps.Index.{IsIndexed};
 
-    ghost view = { λ c. c.events.items };
+    ghost view = { λ c. E.events c.log };
 
-    ghost invariant = { λ c. IsIndexed c.events.items c.index };
+    ghost invariant = { λ c. IsIndexed (E.events c.log) c.index };
 }
 
-impl RunCore {
-    /// A core without events. It takes no memory.
-    pub fn new(alloc: Global) -> RunCore
-        ensures { result ≡ [] }
-    {
-        RunCore {
-            events: Vec::new(alloc),
-            index: Index::new(alloc),
-        }
-    }
-
+impl RunCore<KeptEvents> {
     /// The events, oldest first.
     pub fn history(&self) -> &[Event]
         ensures events { result.now ≡ self.now }
         ensures allowed { IsAllowedHistory self.now }
     {
-        self.events.as_slice()
+        self.log.kept.as_slice()
+    }
+}
+
+impl<E: EventLog> RunCore<E> {
+    /// A core without events. It takes no memory.
+    pub fn new(alloc: Global) -> RunCore<E>
+        ensures { result ≡ [] }
+    {
+        RunCore {
+            log: E::new(alloc),
+            index: Index::new(alloc),
+        }
+    }
+
+    /// Does nothing, and tells proofs that the history is an allowed one.
+    pub fn check_history(&self)
+        ensures { IsAllowedHistory self.now }
+    {
+        let _ = &self.index;
     }
 
     /// How many bytes of the admitted terms aren't written.
@@ -108,12 +123,14 @@ impl RunCore {
         if !adjoin(terms.as_slice(), place, blocks.len()) {
             return Err(CoreRefusal::NotAllowed);
         }
-        self.events.reserve(event_room(terms.len(), blocks.len()))?;
-        let plan = self.index.plans + 1;
+        let Some(plan) = self.index.plans.checked_add(1) else {
+            return Err(CoreRefusal::OutOfMemory);
+        };
+        self.log.reserve(event_room(terms.len(), blocks.len()))?;
         self.index.queue(plan, terms.as_slice())?;
         self.index.plans = plan;
         self.index.planned_end = end_after(self.index.planned_end, terms.as_slice());
-        self.events.push_reserved(Event::Planned {
+        self.log.push_reserved(Event::Planned {
             plan,
             query,
             terms,
@@ -132,9 +149,9 @@ impl RunCore {
         let Some(next) = self.next_to_admit(limit) else {
             return Err(CoreRefusal::NotAllowed);
         };
-        self.events.reserve(1)?;
+        self.log.reserve(1)?;
         self.index.admit(next)?;
-        self.events.push_reserved(Event::Admit { limit });
+        self.log.push_reserved(Event::Admit { limit });
         Ok(())
     }
 
@@ -148,10 +165,9 @@ impl RunCore {
         if !self.may_fetch(plan, block) {
             return Err(CoreRefusal::NotAllowed);
         }
-        self.events.reserve(1)?;
+        self.log.reserve(1)?;
         self.index.keep(BlockId { plan, block })?;
-        self.events
-            .push_reserved(Event::Fetched { lane, plan, block });
+        self.log.push_reserved(Event::Fetched { lane, plan, block });
         Ok(())
     }
 
@@ -162,9 +178,9 @@ impl RunCore {
         if !self.may_fetch(plan, block) {
             return Err(CoreRefusal::NotAllowed);
         }
-        self.events.reserve(1)?;
+        self.log.reserve(1)?;
         self.index.keep(BlockId { plan, block })?;
-        self.events.push_reserved(Event::Cached { plan, block });
+        self.log.push_reserved(Event::Cached { plan, block });
         Ok(())
     }
 
@@ -175,10 +191,9 @@ impl RunCore {
         if !self.may_fetch(plan, block) {
             return Err(CoreRefusal::NotAllowed);
         }
-        self.events.reserve(1)?;
+        self.log.reserve(1)?;
         self.index.expire(plan)?;
-        self.events
-            .push_reserved(Event::Expired { lane, plan, block });
+        self.log.push_reserved(Event::Expired { lane, plan, block });
         Ok(())
     }
 
@@ -191,9 +206,9 @@ impl RunCore {
         if self.index.first_error.is_some() || !self.index.stale.contains(&plan) {
             return Err(CoreRefusal::NotAllowed);
         }
-        self.events.reserve(1)?;
+        self.log.reserve(1)?;
         self.index.stale.remove(&plan);
-        self.events.push_reserved(Event::Refreshed { plan });
+        self.log.push_reserved(Event::Refreshed { plan });
         Ok(())
     }
 
@@ -207,9 +222,9 @@ impl RunCore {
         if !self.may_write(taken) {
             return Err(CoreRefusal::NotAllowed);
         }
-        self.events.reserve(1)?;
+        self.log.reserve(1)?;
         self.index.write(taken);
-        self.events.push_reserved(Event::Wrote { taken });
+        self.log.push_reserved(Event::Wrote { taken });
         Ok(())
     }
 
@@ -222,9 +237,9 @@ impl RunCore {
         if self.index.cancelled {
             return Err(CoreRefusal::NotAllowed);
         }
-        self.events.reserve(1)?;
+        self.log.reserve(1)?;
         self.index.first_error = self.index.first_error.or(Some(error));
-        self.events.push_reserved(Event::Fail { error });
+        self.log.push_reserved(Event::Fail { error });
         Ok(())
     }
 
@@ -237,10 +252,10 @@ impl RunCore {
         if self.index.first_error.is_some() {
             return Err(CoreRefusal::NotAllowed);
         }
-        self.events.reserve(1)?;
+        self.log.reserve(1)?;
         self.index.first_error = Some(FileReconstructionError::Cancelled);
         self.index.cancelled = true;
-        self.events.push_reserved(Event::Cancel);
+        self.log.push_reserved(Event::Cancel);
         Ok(())
     }
 

@@ -6,6 +6,7 @@ ghost use Rattle.xet_run.specs.declared.run_book.RunError.TheVariants as run_err
 ghost use Rattle.xet_run.specs.RunReplay.{book_after, book_after_all, all_replied, opening, replied, IsReplayed};
 ghost use Rattle.xet_run.specs.steps.RunLogs.{log, Logs, LogsError, LogsNone, LogsState};
 
+use crate::call_log::{CallLog, KeptCalls, ToldCalls};
 use crate::run_book::{RunBook, RunError};
 use crate::run_call::RunCall;
 use std::alloc::Global;
@@ -17,13 +18,13 @@ use xet_error::FileReconstructionError;
 
 /// What lies under the lock.
 #[derive(Drop)]
-pub(crate) struct Logged<L: Ledger> {
+pub(crate) struct Logged<L: Ledger, C: CallLog> {
     book: RunBook,
-    history: Vec<RunCall>,
+    history: C,
     calls: Book<L>,
-    ghost replays: { book ≡ book_after_all opening history.items },
-    ghost replied: { all_replied opening history.items ≡ history.items },
-    ghost counted: { vec_len history ≡ calls.total },
+    ghost replays: { book ≡ book_after_all opening (C.calls history) },
+    ghost replied: { all_replied opening (C.calls history) ≡ C.calls history },
+    ghost counted: { length (C.calls history) ≡ calls.total },
 }
 
 /// That a ledger has 2^32 parts. It takes no bytes.
@@ -118,14 +119,14 @@ impl<L: Ledger> RunPass<L> {
     }
 }
 
-impl<L: Ledger> Logged<L> {
+impl<L: Ledger, C: CallLog> Logged<L, C> {
     /// Keeps a call that was made on the book before it.
     fn keep(&mut self, mine: &mut RunPass<L>, call: RunCall, book: RunBook)
         requires reply { replied self.old.book call ≡ call }
         requires book { book ≡ book_after self.old.book call }
-        requires room { vec_len self.old.history < vec_capacity self.old.history }
-        ensures kept { Logs (log self.old.history.items mine.old.share.amount mine.old.last)
-            (log self.new.history.items mine.new.share.amount mine.new.last) call }
+        requires room { 0 < C.room self.old.history }
+        ensures kept { Logs (log (C.calls self.old.history) mine.old.share.amount mine.old.last)
+            (log (C.calls self.new.history) mine.new.share.amount mine.new.last) call }
         ensures parts { mine.new.share.parts ≡ mine.old.share.parts }
     {
         let Logged {
@@ -149,10 +150,10 @@ impl<L: Ledger> Logged<L> {
         mine: &mut RunPass<L>,
         error: FileReconstructionError,
     ) -> Result<(), OutOfMemory>
-        ensures kept { OnOk result (Logs (log self.old.history.items mine.old.share.amount mine.old.last)
-            (log self.new.history.items mine.new.share.amount mine.new.last) (RunCall.SetError error)) }
-        ensures refused { OnErr result (LogsNone (log self.old.history.items mine.old.share.amount mine.old.last)
-            (log self.new.history.items mine.new.share.amount mine.new.last)) }
+        ensures kept { OnOk result (Logs (log (C.calls self.old.history) mine.old.share.amount mine.old.last)
+            (log (C.calls self.new.history) mine.new.share.amount mine.new.last) (RunCall.SetError error)) }
+        ensures refused { OnErr result (LogsNone (log (C.calls self.old.history) mine.old.share.amount mine.old.last)
+            (log (C.calls self.new.history) mine.new.share.amount mine.new.last)) }
         ensures parts { mine.new.share.parts ≡ mine.old.share.parts }
     {
         self.history.reserve(1)?;
@@ -163,8 +164,8 @@ impl<L: Ledger> Logged<L> {
     }
 
     fn check_error(&mut self, mine: &mut RunPass<L>) -> Result<(), FileReconstructionError>
-        ensures kept { LogsError (log self.old.history.items mine.old.share.amount mine.old.last)
-            (log self.new.history.items mine.new.share.amount mine.new.last) result }
+        ensures kept { LogsError (log (C.calls self.old.history) mine.old.share.amount mine.old.last)
+            (log (C.calls self.new.history) mine.new.share.amount mine.new.last) result }
         ensures parts { mine.new.share.parts ≡ mine.old.share.parts }
     {
         if self.history.reserve(1).is_err() {
@@ -177,8 +178,8 @@ impl<L: Ledger> Logged<L> {
     }
 
     fn check_run_state(&mut self, mine: &mut RunPass<L>) -> Result<(), RunError>
-        ensures kept { LogsState (log self.old.history.items mine.old.share.amount mine.old.last)
-            (log self.new.history.items mine.new.share.amount mine.new.last) result }
+        ensures kept { LogsState (log (C.calls self.old.history) mine.old.share.amount mine.old.last)
+            (log (C.calls self.new.history) mine.new.share.amount mine.new.last) result }
         ensures memory { result ≡ Err run_error.OutOfMemory → mine.new.share.amount ≡ mine.old.share.amount }
         ensures parts { mine.new.share.parts ≡ mine.old.share.parts }
     {
@@ -192,10 +193,10 @@ impl<L: Ledger> Logged<L> {
     }
 
     fn cancel(&mut self, mine: &mut RunPass<L>) -> Result<(), OutOfMemory>
-        ensures kept { OnOk result (Logs (log self.old.history.items mine.old.share.amount mine.old.last)
-            (log self.new.history.items mine.new.share.amount mine.new.last) RunCall.Cancel) }
-        ensures refused { OnErr result (LogsNone (log self.old.history.items mine.old.share.amount mine.old.last)
-            (log self.new.history.items mine.new.share.amount mine.new.last)) }
+        ensures kept { OnOk result (Logs (log (C.calls self.old.history) mine.old.share.amount mine.old.last)
+            (log (C.calls self.new.history) mine.new.share.amount mine.new.last) RunCall.Cancel) }
+        ensures refused { OnErr result (LogsNone (log (C.calls self.old.history) mine.old.share.amount mine.old.last)
+            (log (C.calls self.new.history) mine.new.share.amount mine.new.last)) }
         ensures parts { mine.new.share.parts ≡ mine.old.share.parts }
     {
         self.history.reserve(1)?;
@@ -206,10 +207,10 @@ impl<L: Ledger> Logged<L> {
     }
 
     fn record_new_block(&mut self, mine: &mut RunPass<L>) -> Result<(), OutOfMemory>
-        ensures kept { OnOk result (Logs (log self.old.history.items mine.old.share.amount mine.old.last)
-            (log self.new.history.items mine.new.share.amount mine.new.last) RunCall.NewBlock) }
-        ensures refused { OnErr result (LogsNone (log self.old.history.items mine.old.share.amount mine.old.last)
-            (log self.new.history.items mine.new.share.amount mine.new.last)) }
+        ensures kept { OnOk result (Logs (log (C.calls self.old.history) mine.old.share.amount mine.old.last)
+            (log (C.calls self.new.history) mine.new.share.amount mine.new.last) RunCall.NewBlock) }
+        ensures refused { OnErr result (LogsNone (log (C.calls self.old.history) mine.old.share.amount mine.old.last)
+            (log (C.calls self.new.history) mine.new.share.amount mine.new.last)) }
         ensures parts { mine.new.share.parts ≡ mine.old.share.parts }
     {
         self.history.reserve(1)?;
@@ -220,10 +221,10 @@ impl<L: Ledger> Logged<L> {
     }
 
     fn record_new_term(&mut self, mine: &mut RunPass<L>, term_size: u64) -> Result<(), OutOfMemory>
-        ensures kept { OnOk result (Logs (log self.old.history.items mine.old.share.amount mine.old.last)
-            (log self.new.history.items mine.new.share.amount mine.new.last) (RunCall.NewTerm term_size)) }
-        ensures refused { OnErr result (LogsNone (log self.old.history.items mine.old.share.amount mine.old.last)
-            (log self.new.history.items mine.new.share.amount mine.new.last)) }
+        ensures kept { OnOk result (Logs (log (C.calls self.old.history) mine.old.share.amount mine.old.last)
+            (log (C.calls self.new.history) mine.new.share.amount mine.new.last) (RunCall.NewTerm term_size)) }
+        ensures refused { OnErr result (LogsNone (log (C.calls self.old.history) mine.old.share.amount mine.old.last)
+            (log (C.calls self.new.history) mine.new.share.amount mine.new.last)) }
         ensures parts { mine.new.share.parts ≡ mine.old.share.parts }
     {
         self.history.reserve(1)?;
@@ -234,10 +235,10 @@ impl<L: Ledger> Logged<L> {
     }
 
     fn total_bytes_scheduled(&mut self, mine: &mut RunPass<L>) -> Result<u64, OutOfMemory>
-        ensures kept { IfOk result (λ n. Logs (log self.old.history.items mine.old.share.amount mine.old.last)
-            (log self.new.history.items mine.new.share.amount mine.new.last) (RunCall.Scheduled n)) }
-        ensures refused { OnErr result (LogsNone (log self.old.history.items mine.old.share.amount mine.old.last)
-            (log self.new.history.items mine.new.share.amount mine.new.last)) }
+        ensures kept { IfOk result (λ n. Logs (log (C.calls self.old.history) mine.old.share.amount mine.old.last)
+            (log (C.calls self.new.history) mine.new.share.amount mine.new.last) (RunCall.Scheduled n)) }
+        ensures refused { OnErr result (LogsNone (log (C.calls self.old.history) mine.old.share.amount mine.old.last)
+            (log (C.calls self.new.history) mine.new.share.amount mine.new.last)) }
         ensures parts { mine.new.share.parts ≡ mine.old.share.parts }
     {
         self.history.reserve(1)?;
@@ -249,23 +250,25 @@ impl<L: Ledger> Logged<L> {
 }
 
 /// The state of a run, which its threads share: a `RunBook` under a lock, with the history of the calls on it. Each
-/// call holds the lock once, keeps itself in the history with its reply, and is counted by its pass, whose last call it
-/// is then. A call that finds no memory answers `OutOfMemory` and is neither kept nor counted.
+/// call holds the lock once, goes into the history with its reply, and is counted by its pass, whose last call it is
+/// then. A call that finds no memory answers `OutOfMemory` and is neither in the history nor counted.
+///
+/// The history is told to proofs alone, and then no call takes memory; `RunState<L, KeptCalls>` keeps it for `close`.
 ///
 /// In the Rust crate: `file_reconstruction::run_state::RunState`.
 #[derive(Drop)]
-pub struct RunState<L: Ledger> {
+pub struct RunState<L: Ledger, C: CallLog = ToldCalls> {
     file_hash: MerkleHash,
-    state: Mutex<Logged<L>>,
+    state: Mutex<Logged<L, C>>,
 }
 
-impl<L: Ledger> RunState<L> {
+impl<L: Ledger, C: CallLog> RunState<L, C> {
     /// The state of a run with no calls, and a pass with all parts of a ledger of its own. It takes no memory.
     pub fn new(
         alloc: Global,
         blank: Blank,
         file_hash: MerkleHash,
-    ) -> Result<(RunState<L>, RunPass<L>), OutOfMemory>
+    ) -> Result<(RunState<L, C>, RunPass<L>), OutOfMemory>
         requires name { blank.name ≡ L.name }
         requires parts { (blank.parts ≡ L.parts) × (L.parts ≡ 2 ^ 32) }
         ensures made { IsOk result }
@@ -276,7 +279,7 @@ impl<L: Ledger> RunState<L> {
         let (calls, share) = blank.open::<L>();
         let logged = Logged {
             book: RunBook::new(),
-            history: Vec::new(alloc),
+            history: C::new(alloc),
             calls,
         };
         let state = RunState {
@@ -407,7 +410,9 @@ impl<L: Ledger> RunState<L> {
     {
         self.state.lock(rt).total_bytes_scheduled(pass)
     }
+}
 
+impl<L: Ledger> RunState<L, KeptCalls> {
     /// The history of the calls, oldest first, each with the reply that the book gives at its point. Where all passes
     /// were gathered into this one, it has as many calls as the pass counts.
     pub fn close(self, pass: RunPass<L>) -> List<RunCall>
@@ -422,6 +427,6 @@ impl<L: Ledger> RunState<L> {
         } = state.into_inner();
         let RunPass { mut share, .. } = pass;
         calls.audit(&mut share);
-        List::from_vec(history)
+        List::from_vec(history.kept)
     }
 }

@@ -3,15 +3,16 @@ ghost use Rattle.std.specs.Prelude.{◌≡◌, ◌^◌};
 
 use std::alloc::{AllocError, Global};
 use std::marker::Brand;
+use std::process::Abort;
 use std::sync::ledger::{Blank, Ledger};
 use std::sync::{Arc, Wait};
 use std::test::Fail;
 use xet_base::{FileRange, List, MerkleHash, OutOfMemory};
 use xet_error::FileReconstructionError;
 use xet_run::{
-    BookState, BookView, Budget, BudgetBook, BudgetSettings, BudgetSource, CoreRefusal,
-    FixedBudget, PlannedBlock, PlannedTerm, RunBook, RunCall, RunCore, RunError, RunState,
-    ScriptBudget,
+    BookState, BookView, Budget, BudgetBook, BudgetSettings, BudgetSource, CallLog, CoreRefusal,
+    EventLog, FixedBudget, KeptCalls, KeptEvents, PlannedBlock, PlannedTerm, RunBook, RunCall,
+    RunCore, RunError, RunPass, RunState, ScriptBudget, ToldCalls, ToldEvents,
 };
 
 fn term(start: u64, end: u64, block: usize) -> PlannedTerm {
@@ -35,20 +36,25 @@ fn blocks(alloc: Global, count: u64) -> Result<List<PlannedBlock>, AllocError> {
 }
 
 /// Twelve bytes, planned by one query as two terms of one block.
-fn two_terms(alloc: Global, core: &mut RunCore) -> Result<Result<(), CoreRefusal>, AllocError> {
+fn two_terms<E: EventLog>(
+    alloc: Global,
+    core: &mut RunCore<E>,
+) -> Result<Result<(), CoreRefusal>, AllocError> {
     let terms = vec![in alloc; term(0, 6, 0), term(6, 12, 0)]?;
     let blocks = blocks(alloc, 1)?;
     Ok(core.planned(FileRange::new(0, 12), List::from_vec(terms), blocks))
 }
 
-#[test]
-fn each_event_is_allowed_in_its_place(rt: HostRuntime) -> Result<(), Fail> {
-    let alloc = rt.alloc();
+/// Each event where it is allowed and where it isn't, over a core without events.
+fn place_events<E: EventLog>(
+    rt: &impl Abort,
+    alloc: Global,
+    core: &mut RunCore<E>,
+) -> Result<(), AllocError> {
     let no = Err(CoreRefusal::NotAllowed);
-    let mut core = RunCore::new(alloc);
     assert_eq!(rt; core.admit(10), no);
-    assert_eq!(rt; two_terms(alloc, &mut core)?, Ok(()));
-    assert_eq!(rt; two_terms(alloc, &mut core)?, no, "these terms don't go on");
+    assert_eq!(rt; two_terms(alloc, core)?, Ok(()));
+    assert_eq!(rt; two_terms(alloc, core)?, no, "these terms don't go on");
     assert_eq!(rt; core.fetched(0, 1, 0), no, "no term is admitted");
     assert_eq!(rt; core.admit(10), Ok(()));
     assert_eq!(rt; core.admit(10), no);
@@ -68,7 +74,23 @@ fn each_event_is_allowed_in_its_place(rt: HostRuntime) -> Result<(), Fail> {
     assert_eq!(rt; core.written(), 6);
     assert_eq!(rt; core.admit(3), Ok(()));
     assert_eq!(rt; core.unwritten(), 6);
+    Ok(())
+}
+
+#[test]
+fn each_event_is_allowed_in_its_place(rt: HostRuntime) -> Result<(), Fail> {
+    let alloc = rt.alloc();
+    let mut core = RunCore::<KeptEvents>::new(alloc);
+    place_events(&rt, alloc, &mut core)?;
     assert_eq!(rt; core.history().len(), 7);
+    Ok(())
+}
+
+#[test]
+fn a_core_that_keeps_no_events_answers_the_same(rt: HostRuntime) -> Result<(), Fail> {
+    let alloc = rt.alloc();
+    let mut core = RunCore::<ToldEvents>::new(alloc);
+    place_events(&rt, alloc, &mut core)?;
     Ok(())
 }
 
@@ -76,7 +98,7 @@ fn each_event_is_allowed_in_its_place(rt: HostRuntime) -> Result<(), Fail> {
 fn the_first_error_stays(rt: HostRuntime) -> Result<(), Fail> {
     let alloc = rt.alloc();
     let no = Err(CoreRefusal::NotAllowed);
-    let mut failed = RunCore::new(alloc);
+    let mut failed = RunCore::<KeptEvents>::new(alloc);
     assert_eq!(rt; two_terms(alloc, &mut failed)?, Ok(()));
     assert_eq!(rt; failed.admit(12), Ok(()));
     assert_eq!(rt; failed.cached(1, 0), Ok(()));
@@ -91,7 +113,7 @@ fn the_first_error_stays(rt: HostRuntime) -> Result<(), Fail> {
     assert_eq!(rt; failed.admit(12), no);
     assert_eq!(rt; failed.cancel(), no);
 
-    let mut cancelled = RunCore::new(alloc);
+    let mut cancelled = RunCore::<ToldEvents>::new(alloc);
     assert_eq!(rt; cancelled.cancel(), Ok(()));
     assert_eq!(rt; two_terms(alloc, &mut cancelled)?, no);
     assert_eq!(rt; cancelled.fail(FileReconstructionError::IoError), no);
@@ -185,7 +207,7 @@ fn a_book_of_a_run_keeps_its_first_error(rt: HostRuntime) -> Result<(), Fail> {
 }
 
 /// What the calls of one run answered, its file, how many parts its pass had at first, the two after a split, and the
-/// one after the gathering, and its stored history.
+/// one after the gathering.
 #[derive(Drop)]
 struct Answers {
     file: MerkleHash,
@@ -194,11 +216,56 @@ struct Answers {
     state: Result<(), RunError>,
     scheduled: Result<u64, OutOfMemory>,
     counted: u64,
-    calls: List<RunCall>,
 }
 
 /// Two errors, two terms, two checks, and the rest by a pass of its own.
+fn answers_of<L: Ledger, C: CallLog, R: Wait>(
+    rt: &R,
+    state: &RunState<L, C>,
+    pass: &mut RunPass<L>,
+) -> Result<Answers, OutOfMemory>
+    requires parts { pass.old.share.parts ≡ 2 ^ 32 }
+{
+    let file = *state.file_hash();
+    let all = pass.parts();
+    state.set_error(rt, pass, FileReconstructionError::IoError)?;
+    let mut other = pass.split(1);
+    let (left, one) = (pass.parts(), other.parts());
+    state.set_error(rt, &mut other, FileReconstructionError::UrlExpired)?;
+    let error = state.check_error(rt, pass);
+    state.record_new_term(rt, &mut other, 5)?;
+    state.record_new_term(rt, pass, 7)?;
+    let scheduled = state.total_bytes_scheduled(rt, pass);
+    state.cancel(rt, &mut other)?;
+    state.record_new_block(rt, &mut other)?;
+    let seen = state.check_run_state(rt, &mut other);
+    pass.gather(other);
+    Ok(Answers {
+        file,
+        parts: [all, left, one, pass.parts()],
+        error,
+        state: seen,
+        scheduled,
+        counted: pass.calls(),
+    })
+}
+
+/// The answers of a run that keeps its calls, and these.
 fn calls_of_a_run<L: Ledger, R: Wait>(
+    rt: &R,
+    alloc: Global,
+    blank: Blank,
+) -> Result<(Answers, List<RunCall>), OutOfMemory>
+    requires name { blank.name ≡ L.name }
+    requires parts { (blank.parts ≡ L.parts) × (L.parts ≡ 2 ^ 32) }
+{
+    let (state, mut pass) = RunState::<L, KeptCalls>::new(alloc, blank, MerkleHash([1; 32]))?;
+    let answers = answers_of(rt, &state, &mut pass)?;
+    Ok((answers, state.close(pass)))
+}
+
+/// The answers of a run that keeps no calls.
+fn told_calls_of_a_run<L: Ledger, R: Wait>(
     rt: &R,
     alloc: Global,
     blank: Blank,
@@ -206,35 +273,29 @@ fn calls_of_a_run<L: Ledger, R: Wait>(
     requires name { blank.name ≡ L.name }
     requires parts { (blank.parts ≡ L.parts) × (L.parts ≡ 2 ^ 32) }
 {
-    let (state, mut pass) = RunState::<L>::new(alloc, blank, MerkleHash([1; 32]))?;
-    let file = *state.file_hash();
-    let all = pass.parts();
-    state.set_error(rt, &mut pass, FileReconstructionError::IoError)?;
-    let mut other = pass.split(1);
-    let (left, one) = (pass.parts(), other.parts());
-    state.set_error(rt, &mut other, FileReconstructionError::UrlExpired)?;
-    let error = state.check_error(rt, &mut pass);
-    state.record_new_term(rt, &mut other, 5)?;
-    state.record_new_term(rt, &mut pass, 7)?;
-    let scheduled = state.total_bytes_scheduled(rt, &mut pass);
-    state.cancel(rt, &mut other)?;
-    state.record_new_block(rt, &mut other)?;
-    let seen = state.check_run_state(rt, &mut other);
-    pass.gather(other);
-    let counted = pass.calls();
-    Ok(Answers {
-        file,
-        parts: [all, left, one, pass.parts()],
-        error,
-        state: seen,
-        scheduled,
-        counted,
-        calls: state.close(pass),
-    })
+    let (state, mut pass) = RunState::<L, ToldCalls>::new(alloc, blank, MerkleHash([1; 32]))?;
+    answers_of(rt, &state, &mut pass)
 }
 
-fn one_run<R: Wait>(rt: &R, alloc: Global) -> Result<Answers, OutOfMemory> {
+fn one_run<R: Wait>(rt: &R, alloc: Global) -> Result<(Answers, List<RunCall>), OutOfMemory> {
     calls_of_a_run::<Brand, R>(rt, alloc, Blank::new(1 << 32))
+}
+
+fn one_told_run<R: Wait>(rt: &R, alloc: Global) -> Result<Answers, OutOfMemory> {
+    told_calls_of_a_run::<Brand, R>(rt, alloc, Blank::new(1 << 32))
+}
+
+/// That these are the answers.
+fn expect_answers(rt: &impl Abort, answers: &Answers) {
+    assert_eq!(rt; answers.file, MerkleHash([1; 32]));
+    assert_eq!(rt; answers.parts, [1 << 32, (1 << 32) - 1, 1, 1 << 32]);
+    assert_eq!(rt; answers.error, Err(FileReconstructionError::IoError));
+    assert_eq!(rt;
+        answers.state,
+        Err(RunError::Error(FileReconstructionError::IoError))
+    );
+    assert_eq!(rt; answers.scheduled, Ok(12));
+    assert_eq!(rt; answers.counted, 9);
 }
 
 #[test]
@@ -250,17 +311,16 @@ fn a_run_keeps_its_calls(rt: HostRuntime) -> Result<(), Fail> {
         RunCall::NewBlock,
         RunCall::CheckRunState(Some(RunError::Error(FileReconstructionError::IoError))),
     ];
-    let answers = one_run(&rt, rt.alloc())?;
-    assert_eq!(rt; answers.file, MerkleHash([1; 32]));
-    assert_eq!(rt; answers.parts, [1 << 32, (1 << 32) - 1, 1, 1 << 32]);
-    assert_eq!(rt; answers.error, Err(FileReconstructionError::IoError));
-    assert_eq!(rt;
-        answers.state,
-        Err(RunError::Error(FileReconstructionError::IoError))
-    );
-    assert_eq!(rt; answers.scheduled, Ok(12));
-    assert_eq!(rt; answers.counted, 9);
-    assert_eq!(rt; answers.calls.as_slice(), wanted.as_slice());
+    let (answers, calls) = one_run(&rt, rt.alloc())?;
+    expect_answers(&rt, &answers);
+    assert_eq!(rt; calls.as_slice(), wanted.as_slice());
+    Ok(())
+}
+
+#[test]
+fn a_run_that_keeps_no_calls_answers_the_same(rt: HostRuntime) -> Result<(), Fail> {
+    let answers = one_told_run(&rt, rt.alloc())?;
+    expect_answers(&rt, &answers);
     Ok(())
 }
 

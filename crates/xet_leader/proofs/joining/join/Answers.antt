@@ -1,5 +1,5 @@
 use Rattle.std.proofs.Common.{◌≡◌, inl, refl, rules}
-use Rattle.xet_leader.specs.JoinCalls.{Joining, Touching}
+use Rattle.xet_leader.specs.JoinCalls.{Touching}
 use Rattle.xet_leader.proofs.JoinRuns.{can_round, join_done, join_refused, led_by}
 use Rattle.xet_leader.proofs.JoinTurns.{join_ran}
 use Rattle.xet_leader.proofs.joining.join.Goals as goal

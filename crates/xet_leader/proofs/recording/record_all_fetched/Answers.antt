@@ -4,16 +4,16 @@ use Rattle.xet_leader.proofs.RoundRecords.{lanes_more, lanes_next, lanes_short}
 use Rattle.xet_leader.proofs.recording.record_all_fetched.Goals as goal
 
 pub record_fetched-requires : goal.record_fetched-requires
-record_fetched-requires c = lanes_next fetched_on c.args.ends.now c.loop-end.end-index c.loop-end.lane
+record_fetched-requires g c = lanes_next fetched_on c.args.ends.now c.loop-end.end-index c.loop-end.lane
     c.end-item.result _ c.args.core.now c.loop-end.core
     (search rules) c.end-item.is c.as_slice.ensures.value c.loop-end.invariant
 
 pub returns-in-Err : goal.returns-in-Err
-returns-in-Err c = lanes_short fetched_on c.args.ends.now c.loop-end.end-index c.loop-end.lane c.end-item.result _
+returns-in-Err g c = lanes_short fetched_on c.args.ends.now c.loop-end.end-index c.loop-end.lane c.end-item.result _
     c.args.core.now c.loop-end.core _ c.in-Err.error
     (search rules) c.end-item.is c.as_slice.ensures.value c.in-Err.ensures c.loop-end.invariant
 
 pub loop-end-preserved : goal.loop-end-preserved
-loop-end-preserved c = lanes_more fetched_on c.args.ends.now c.loop-end.end-index c.loop-end.lane c.end-item.result _
+loop-end-preserved g c = lanes_more fetched_on c.args.ends.now c.loop-end.end-index c.loop-end.lane c.end-item.result _
     c.args.core.now c.loop-end.core _ (search rules) c.end-item.is c.as_slice.ensures.value c.in-Ok.ensures
     c.loop-end.invariant

@@ -3,4 +3,4 @@ use Rattle.xet_leader.proofs.RoundRecords.{LanesLeft}
 use Rattle.xet_leader.proofs.recording.record_all_fetched.Given as goal
 
 abbrev pub invariant-loop-end : goal.invariant-loop-end
-invariant-loop-end l = LanesLeft fetched_on l.ends l.end-index l.lane l.initial.core l.core
+invariant-loop-end g l = LanesLeft fetched_on l.ends l.end-index l.lane l.initial.core l.core

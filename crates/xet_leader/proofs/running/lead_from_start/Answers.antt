@@ -12,12 +12,12 @@ returns-in-Err g c =
 pub returns : goal.returns
 returns g c =
     start_led g.S.Sink.told c.args.order.job _ c.args.core.now _ c.in-Ok.leader _ c.args.writer.now _
-    c.lead-led.result
+    c.lead.result
     refl c.requires.none c.requires.fresh c.in-Ok.ensures.starts c.requires.settings c.requires.some
-    c.lead-led.ensures.run
+    c.lead.ensures.run
 
-pub lead-led-requires-clause-steady : goal.lead-led-requires-clause-steady
-lead-led-requires-clause-steady g c κs within =
+pub lead-requires-clause-steady : goal.lead-requires-clause-steady
+lead-requires-clause-steady g c κs within =
     let a = c.args in
     let told = g.S.Sink.told in
     let b = told_of g.C.Client.told g.K.ChunkCache.told g.X.CancelSignal.told told g.B.BudgetSource.told a.clients.now

@@ -1,4 +1,4 @@
-use Rattle.xet_leader.proofs.TurnStarts.{start_fails, start_goes, start_stops}
+use Rattle.xet_leader.proofs.TurnStarts.{start_goes, start_stops}
 use Rattle.xet_leader.proofs.turns.ask_and_admit.Goals as goal
 
 pub returns-in-Ok-admit : goal.returns-in-Ok-admit

@@ -3,4 +3,4 @@ use Rattle.xet_ties.proofs.CallerLemmas.{SoFar}
 use Rattle.xet_parts.proofs.recorder.record_fetched.Given as goal
 
 abbrev pub invariant-loop-step : goal.invariant-loop-step
-invariant-loop-step l = SoFar (fetched_event l.lane) l.steps l.step-index l.initial.core l.core
+invariant-loop-step g l = SoFar (fetched_event l.lane) l.steps l.step-index l.initial.core l.core

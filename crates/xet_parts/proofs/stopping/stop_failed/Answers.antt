@@ -2,4 +2,4 @@ use Rattle.xet_parts.proofs.Running.{running_uncancelled}
 use Rattle.xet_parts.proofs.stopping.stop_failed.Goals as goal
 
 pub unreachable-requires : goal.unreachable-requires
-unreachable-requires c = c.in-Err-NotAllowed.ensures.refused (cc) (running_uncancelled c.args.core.now c.requires.running)
+unreachable-requires g c = c.in-Err-NotAllowed.ensures.refused (cc) (running_uncancelled c.args.core.now c.requires.running)
