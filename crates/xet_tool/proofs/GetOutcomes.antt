@@ -17,7 +17,8 @@ use Rattle.xet_tool.specs.declared.commands.get.wanted.Wanted.{Wanted}
 use Rattle.xet_tool.specs.declared.status.Status.{Status}
 use Rattle.xet_tool.specs.declared.status.Status.TheVariants.{Done, BadWords, BadStore, BadScript, NotFound, ReadFault, WriteFault, NoMemory, TooLong, BadBlock, BadSettings}
 use Rattle.xet_tool.specs.AnyBytes.{AnyCut, AnyGet, IsOfRun, last_line}
-use Rattle.xet_tool.specs.Document.{HasStore, NoStore, OfNoDocument}
+use Rattle.xet_document.specs.Document.{HasStore, NoStore}
+use Rattle.xet_tool.specs.Document.{OfNoDocument}
 use Rattle.xet_tool.specs.Ends.{IsTooLong, Told, WasReadToEnd}
 use Rattle.xet_tool.specs.commands.Get.{GetOutcome, IsCut, IsCutGet, OverStore, memory_text, settings_text}
 use Rattle.xet_tool.specs.Outcome.{Finished}

@@ -1,15 +1,8 @@
-mod ChunkEnds
-mod DigitPairs
-mod DocumentChunks
-mod DocumentMembers
-mod DocumentTerms
 mod GetNumbers
 mod GetOutcomes
-mod HashDigits
 mod HonestRefreshes
 mod OptionWords
 mod PrintedDigits
-mod StoreRefusals
 mod TapLanes
 mod TapMoves
 mod TapRuns

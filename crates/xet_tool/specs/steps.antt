@@ -1,6 +1,4 @@
 -- Working words of private functions.
-pub mod AddedMembers
-pub mod ChunkEnds
 pub mod LaterFlushes
 pub mod OwnTaps
 pub mod PrintedDigits

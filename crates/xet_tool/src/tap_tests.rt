@@ -7,7 +7,8 @@ use std::alloc::{AllocError, Global};
 use std::sync::Wait;
 use std::test::Fail;
 use std::thread::Threads;
-use xet_base::{ChunkRange, List, MerkleHash};
+use xet_base::{ChunkRange, MerkleHash};
+use xet_outside::Offsets;
 use xet_store::{BlockBytes, MemTap, ScriptTap, Served, Tap, VecSink, VecSource};
 
 // One xorb of `Hello`, `, `, `world` and `!`; a file of all, one of chunks that come again, and one of both ends.
@@ -53,13 +54,9 @@ fn printed<R: Threads + Wait + Sync, T: Tap + Send>(
 
 // A tap that hands one block on first, and 63 that hand each block on.
 fn lying_taps(alloc: Global, offsets: &[u32], bytes: &str) -> Result<Vec<ScriptTap>, Fail> {
-    let mut list = List::new(alloc);
-    for offset in offsets {
-        list.push(*offset)?;
-    }
     let mut blocks = Vec::new(alloc);
     blocks.push(BlockBytes {
-        offsets: list,
+        offsets: Offsets::from_vec(alloc, offsets.to_vec(alloc)?)?,
         bytes: Bytes::copy_from_slice(alloc, bytes.as_bytes())?,
     })?;
     let mut taps = Vec::new(alloc);

@@ -34,10 +34,10 @@ use xet_store::{Sink, Source, Tap};
 /// of `get` goes on each is owned by a connection, the first by those of the lanes, and handed back then; the others
 /// are as before, and with 1, 2, 4 and 8 and for `track` all are. Each tap is as honest afterwards as it was. What is
 /// said of the bytes of a store's file is said where those of the lanes hand each block on as it came, for all options.
-/// Without `cache`, over such taps that tell what passed, each chunk with a byte in the range passed one of them with
-/// status 0. Over taps of any kind that tell what passed and what they handed on, the digits of status 0 are those of
-/// all terms of the store's own plans in these blocks, which pass their tests, and with another status those of some
-/// first bytes; a cache may give other blocks that pass the tests.
+/// Over such taps that tell what passed, each chunk with a byte in the range passed one of them with status 0. Over
+/// taps of any kind that tell what passed and what they handed on, the digits of status 0 are those of all terms of
+/// the store's own plans in these blocks, which pass their tests, and with another status those of some first bytes;
+/// with `cache` the data of some of these blocks may be what a tap handed on earlier in this run.
 ///
 /// With 1, 2, 4 and 8, but 2 of `track`, that line and nothing else was printed. With 5 and 6 a prefix of one text was
 /// printed: of the text of another status, of which all that is said here holds; or of `error memory`, for `get` with

@@ -1,6 +1,5 @@
 -- What the functions that print texts and the command `get` say.
 use Rattle.std.specs.Prelude.{ℕ, ◌≡◌, ◌⊎◌, List, None, Some}
-use Rattle.serde_json.specs.Data.{Data}
 use Rattle.xet_base.specs.Store.{Store}
 use Rattle.xet_outside.specs.declared.sink.SinkError.{SinkError}
 use Rattle.xet_outside.specs.declared.sink.SinkError.TheVariants as sink_error
@@ -9,7 +8,6 @@ use Rattle.xet_store.specs.Taps.{TapTold}
 use Rattle.xet_tool.specs.declared.status.Status.{Status}
 use Rattle.xet_tool.specs.declared.status.Status.TheVariants.{Done, BadWords, BadStore, BadScript, NotFound, ReadFault, WriteFault, NoMemory, TooLong, BadBlock, BadSettings}
 use Rattle.xet_tool.specs.declared.commands.get.wanted.Wanted.{Wanted}
-use Rattle.xet_tool.specs.Document.{Reads}
 use Rattle.xet_tool.specs.AnyBytes.{AnyGet}
 use Rattle.xet_tool.specs.commands.Get.{IsCutGet, IsPrinted, IsRefused, settings_text}
 use Rattle.xet_tool.specs.Outcome.{Finished}
@@ -17,10 +15,6 @@ use Rattle.xet_tool.specs.Taps.{FromTaps, LanesHonest, TapsGoOn}
 use Rattle.xet_tool.specs.Texts.{line}
 use Rattle.xet_tool.specs.Wanted.{failing_setting}
 use Rattle.xet_tool.specs.steps.PrintedDigits.{AllPassed}
-
--- the text does not read as a JSON value
-abbrev pub NoData : List ℕ → Type 0
-NoData text = (d : Data) → Reads text d → ⊥
 
 -- the status after a failed write
 abbrev pub status_of : SinkError → Status

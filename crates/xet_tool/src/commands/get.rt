@@ -1,59 +1,29 @@
 //! The command `get`.
-ghost use Rattle.std.specs.Prelude.{◌≡◌, IfOk, MatchOption, length, map};
-ghost use Rattle.serde_json.specs.View.{view};
-ghost use Rattle.xet_tool.specs.Document.{HasStore, NoStore, Reads};
+ghost use Rattle.std.specs.Prelude.{◌≡◌, length, map};
 ghost use Rattle.xet_tool.specs.Ends.{input_limit};
 ghost use Rattle.xet_tool.specs.commands.Get.{GetOutcome};
 ghost use Rattle.xet_tool.specs.Outcome.{IsFlushed};
-ghost use Rattle.xet_tool.specs.steps.Printing.{GotFrom, NoData, PrintedWithin};
+ghost use Rattle.xet_tool.specs.steps.Printing.{GotFrom, PrintedWithin};
 
 mod connections;
 mod digits;
-mod document;
-mod hex_digits;
 mod numbers;
 pub mod options;
 mod tapped_client;
 pub mod wanted;
 
 use crate::commands::get::digits::{Printed, print_digits};
-use crate::commands::get::document::store_of;
 use crate::commands::get::wanted::Wanted;
 use crate::printing::{finish, say, say_after, stopped};
 use crate::reading::{LIMIT, ReadError, read_to_end};
 use crate::status::Status;
-use serde_json::Value;
 use std::alloc::Global;
 use std::sync::{Arc, Wait};
 use std::thread::Threads;
 use xet_base::OutOfMemory;
+use xet_document::store_of_text;
 use xet_run::{BookView, BudgetBook, BudgetSettings};
 use xet_store::{MemStore, Sink, Source, Tap};
-
-// The value of a text, or none where it is no JSON. The text's memory is given back.
-fn value_of(alloc: Global, text: Vec<u8>) -> Result<Option<Value>, OutOfMemory>
-    ensures { IfOk result (λ o. MatchOption o (NoData text.items) (λ v. Reads text.items (view v))) }
-{
-    match Value::from_slice(alloc, text.as_slice()) {
-        Ok(value) => Ok(Some(value)),
-        Err(error) => {
-            if error.is_memory() {
-                return Err(OutOfMemory);
-            }
-            Ok(None)
-        }
-    }
-}
-
-// The store of a text, where it has one.
-fn document_of(alloc: Global, text: Vec<u8>) -> Result<Option<MemStore>, OutOfMemory>
-    ensures { IfOk result (λ o. MatchOption o (NoStore text.items) (HasStore text.items)) }
-{
-    match value_of(alloc, text)? {
-        Some(value) => store_of(alloc, &value),
-        None => Ok(None),
-    }
-}
 
 // A view of a new book of running downloads, in which this one runs.
 fn book_view<R: Wait>(
@@ -139,7 +109,7 @@ pub fn get<R: Threads + Wait + Sync, I: Source, O: Sink, T: Tap + Send>(
         Err(ReadError::Fault) => return say(out, Status::ReadFault),
         Err(ReadError::TooLong) => return say(out, Status::TooLong),
     };
-    match document_of(alloc, text) {
+    match store_of_text(alloc, text) {
         Ok(Some(store)) => print_within(rt, alloc, wanted, &store, taps, out),
         Ok(None) => say(out, Status::BadStore),
         Err(_) => say(out, Status::NoMemory),

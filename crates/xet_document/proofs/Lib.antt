@@ -1,0 +1,14 @@
+mod Adding
+mod Arrays
+mod ChunkEnds
+mod DigitPairs
+mod DocumentChunks
+mod DocumentMembers
+mod DocumentTerms
+mod HashDigits
+mod Listings
+mod Objects
+mod Placing
+mod PlainDocuments
+mod StoreRefusals
+mod Terms

@@ -1,0 +1,170 @@
+-- A document with two keys, and the store that it lists.
+use Rattle.std.proofs.Common.{◌≡◌, ℕ, ◌<◌, List, [], ◌∷◌, false, codes, length, map, refl, ◌∙◌, ap, arith}
+use Rattle.std.specs.Prelude.{Option, Some, None, IsUtf8, option_and_then, option_map}
+use Rattle.json.specs.Token.{Token}
+use Rattle.json.specs.Lex.{tokens}
+use Rattle.json.specs.Json.{read_key}
+use Rattle.serde_json.specs.Data.{Data, null, boolean, number, string, array, object, Num, unsigned, negative, float, Items, no_items, item, Members, no_members, member, put}
+use Rattle.serde_json.specs.Find.{as_array, as_str, as_u64}
+use Rattle.serde_json.specs.Read.{read}
+use Rattle.serde_json.specs.Written.{has_float, items_have_float, members_have_float}
+use Rattle.xet_base.specs.HashText.{hash_of_text}
+use Rattle.xet_base.specs.declared.mdb_shard.Xorb.{Xorb}
+use Rattle.xet_base.specs.declared.stored.StoredFile.{StoredFile}
+use Rattle.xet_base.specs.declared.stored.StoredTerm.{StoredTerm}
+use Rattle.xet_base.specs.Store.{Store, IsValid}
+use Rattle.xet_document.specs.Document.{HasStore, chunk_of, chunks_of_items, file_of_member, files_of_members, number_of_data, term_of_items, terms_of_items, xorb_of_member, xorbs_of_members}
+use Rattle.xet_document.specs.declared.joined_chunks.JoinedChunks.{JoinedChunks}
+use Rattle.xet_document.specs.declared.joined_chunks.XorbPlace.{XorbPlace}
+use Rattle.xet_document.specs.declared.plain_files.ListedFile.{ListedFile}
+use Rattle.xet_document.specs.declared.plain_store.Listed.{Listed}
+use Rattle.xet_document.specs.steps.Placed.{placed_xorb}
+use Rattle.xet_document.specs.steps.Reads.{IsRead, Lists, ListsFile, ListsXorb, ReadsMembers, document_of, stored_file}
+use Rattle.xet_document.proofs.Objects.{reads_object, no_members_yet, member_more, members_read}
+
+-- ---- what is listed
+
+module _ {K : Type 0} (text_of : K → List ℕ) where
+  xorbs_listed : (j : JoinedChunks) (ms : Members) (es : List (K × XorbPlace)) → Lists text_of (ListsXorb j) ms es
+      → xorbs_of_members ms ≡ Some (map (λ e. placed_xorb j.bytes.items j.ends.items e.1) es)
+  xorbs_listed j no_members [] h = refl
+  xorbs_listed j no_members (e ∷ es) h = absurd h
+  xorbs_listed j (member k d ms) [] h = absurd h
+  xorbs_listed j (member k d ms) (e ∷ es) h = rw (h.1.1, xorbs_listed j ms es h.2) refl
+
+  files_listed : (ms : Members) (es : List (K × ListedFile)) → Lists text_of ListsFile ms es → files_of_members ms ≡ Some (map (λ e. stored_file e.1) es)
+  files_listed no_members [] h = refl
+  files_listed no_members (e ∷ es) h = absurd h
+  files_listed (member k d ms) [] h = absurd h
+  files_listed (member k d ms) (e ∷ es) h = rw (h.1, files_listed ms es h.2) refl
+
+-- ---- no float is listed
+
+-- what follows a value that is there
+inside : {A B : Type 0} (f : A → Option B) (o : Option A) (b : B) → option_and_then f o ≡ Some b → (a : A) × (o ≡ Some a) × (f a ≡ Some b)
+inside f None b e = absurd (cc)
+inside f (Some a) b e = (a, refl, e)
+
+under : {A B : Type 0} (f : A → B) (o : Option A) (b : B) → option_map f o ≡ Some b → (a : A) × (o ≡ Some a)
+under f None b e = absurd (cc)
+under f (Some a) b e = (a, refl)
+
+string_no_float : (d : Data) (s : List ℕ) → as_str d ≡ Some s → has_float d ≡ false
+string_no_float null s e = absurd (cc)
+string_no_float (boolean b) s e = absurd (cc)
+string_no_float (number n) s e = absurd (cc)
+string_no_float (string t) s e = refl
+string_no_float (array ds) s e = absurd (cc)
+string_no_float (object ms) s e = absurd (cc)
+
+unsigned_no_float : (n : Num) (v : ℕ) → as_u64 n ≡ Some v → has_float (number n) ≡ false
+unsigned_no_float (unsigned n) v e = refl
+unsigned_no_float (negative z) v e = absurd (cc)
+unsigned_no_float (float x) v e = absurd (cc)
+
+number_no_float : (d : Data) (v : ℕ) → number_of_data d ≡ Some v → has_float d ≡ false
+number_no_float null v e = absurd (cc)
+number_no_float (boolean b) v e = absurd (cc)
+number_no_float (number n) v e = let found = inside _ (as_u64 n) v e in unsigned_no_float n found.0 found.1
+number_no_float (string s) v e = absurd (cc)
+number_no_float (array ds) v e = absurd (cc)
+number_no_float (object ms) v e = absurd (cc)
+
+chunks_no_float : (ds : Items) (cs : List (List ℕ)) → chunks_of_items ds ≡ Some cs → items_have_float ds ≡ false
+chunks_no_float no_items cs e = refl
+chunks_no_float (item d ds) cs e =
+    let first = inside _ (chunk_of d) cs e in
+    let text = inside _ (as_str d) first.0 first.1 in
+    let rest = under _ (chunks_of_items ds) cs first.2 in
+    rw (string_no_float d text.0 text.1) (chunks_no_float ds rest.0 rest.1)
+
+-- an array has no float where its items have none
+array_no_float : (d : Data) (ds : Items) → as_array d ≡ Some ds → items_have_float ds ≡ false → has_float d ≡ false
+array_no_float null ds e f = absurd (cc)
+array_no_float (boolean b) ds e f = absurd (cc)
+array_no_float (number n) ds e f = absurd (cc)
+array_no_float (string s) ds e f = absurd (cc)
+array_no_float (array cs) ds e f = let same : cs ≡ ds = cc in rw same f
+array_no_float (object ms) ds e f = absurd (cc)
+
+term_no_float : (ds : Items) (t : StoredTerm) → term_of_items ds ≡ Some t → items_have_float ds ≡ false
+term_no_float no_items t e = absurd (cc)
+term_no_float (item x no_items) t e = absurd (cc)
+term_no_float (item x (item a no_items)) t e = absurd (cc)
+term_no_float (item x (item a (item b (item c ds)))) t e = absurd (cc)
+term_no_float (item x (item a (item b no_items))) t e =
+    let hash = inside _ (option_and_then hash_of_text (as_str x)) t e in
+    let text = inside hash_of_text (as_str x) hash.0 hash.1 in
+    let from = inside _ (number_of_data a) t hash.2 in
+    let to = under _ (number_of_data b) t from.2 in
+    rw (string_no_float x text.0 text.1, number_no_float a from.0 from.1, number_no_float b to.0 to.1) refl
+
+terms_no_float : (ds : Items) (ts : List StoredTerm) → terms_of_items ds ≡ Some ts → items_have_float ds ≡ false
+terms_no_float no_items ts e = refl
+terms_no_float (item d ds) ts e =
+    let first = inside _ (option_and_then term_of_items (as_array d)) ts e in
+    let own = inside term_of_items (as_array d) first.0 first.1 in
+    let rest = under _ (terms_of_items ds) ts first.2 in
+    rw (array_no_float d own.0 own.1 (term_no_float own.0 first.0 own.2)) (terms_no_float ds rest.0 rest.1)
+
+xorb_no_float : (k : List ℕ) (d : Data) (x : Xorb) → xorb_of_member k d ≡ Some x → has_float d ≡ false
+xorb_no_float k d x e =
+    let hash = inside _ (hash_of_text k) x e in
+    let chunks = under _ (option_and_then chunks_of_items (as_array d)) x hash.2 in
+    let own = inside chunks_of_items (as_array d) chunks.0 chunks.1 in
+    array_no_float d own.0 own.1 (chunks_no_float own.0 chunks.0 own.2)
+
+file_no_float : (k : List ℕ) (d : Data) (f : StoredFile) → file_of_member k d ≡ Some f → has_float d ≡ false
+file_no_float k d f e =
+    let hash = inside _ (hash_of_text k) f e in
+    let terms = under _ (option_and_then terms_of_items (as_array d)) f hash.2 in
+    let own = inside terms_of_items (as_array d) terms.0 terms.1 in
+    array_no_float d own.0 own.1 (terms_no_float own.0 terms.0 own.2)
+
+xorbs_no_float : (ms : Members) (xs : List Xorb) → xorbs_of_members ms ≡ Some xs → members_have_float ms ≡ false
+xorbs_no_float no_members xs e = refl
+xorbs_no_float (member k d ms) xs e =
+    let first = inside _ (xorb_of_member k d) xs e in
+    let rest = under _ (xorbs_of_members ms) xs first.2 in
+    rw (xorb_no_float k d first.0 first.1) (xorbs_no_float ms rest.0 rest.1)
+
+files_no_float : (ms : Members) (fs : List StoredFile) → files_of_members ms ≡ Some fs → members_have_float ms ≡ false
+files_no_float no_members fs e = refl
+files_no_float (member k d ms) fs e =
+    let first = inside _ (file_of_member k d) fs e in
+    let rest = under _ (files_of_members ms) fs first.2 in
+    rw (file_no_float k d first.0 first.1) (files_no_float ms rest.0 rest.1)
+
+-- ---- the whole
+
+in_order : (xs fs : Members) → object (put (codes "files") (object fs) (put (codes "xorbs") (object xs) no_members)) ≡ document_of xs fs
+in_order xs fs = refl
+
+-- the tokens of a document
+pub document_read : (text : List ℕ) (t u v w : List Token) (xs fs : Members) → tokens text ≡ Token.begin_object ∷ Token.key (codes "xorbs") ∷ Token.begin_object ∷ t
+    → ReadsMembers 125 t xs u → length u < length t → u ≡ Token.key (codes "files") ∷ Token.begin_object ∷ v
+    → ReadsMembers 125 v fs w → length w < length v → read_key w ≡ Some (None, []) → read text ≡ Some (document_of xs fs)
+document_read text t u v w xs fs opens xorbs less files_next files lesser over =
+    let inner = Token.key (codes "xorbs") ∷ Token.begin_object ∷ t in
+    let first = member_more 126 inner inner (Token.begin_object ∷ t) u no_members (codes "xorbs") (object xs) (no_members_yet 126 inner) refl (omega (arith, less)) (reads_object 126 t u xs (omega arith) xorbs) in
+    let next : read_key u ≡ Some (Some (codes "files"), Token.begin_object ∷ v) = ap read_key files_next in
+    let second = member_more 126 inner u (Token.begin_object ∷ v) w (put (codes "xorbs") (object xs) no_members) (codes "files") (object fs) first next (omega (arith, lesser)) (reads_object 126 v w fs (omega arith) files) in
+    let all = members_read 126 inner w [] (put (codes "files") (object fs) (put (codes "xorbs") (object xs) no_members)) second over in
+    let whole = reads_object 127 inner [] (put (codes "files") (object fs) (put (codes "xorbs") (object xs) no_members)) (omega arith) all.0 in
+    rw (opens, whole.reads) (whole.is ∙ ap Some (in_order xs fs))
+
+-- the store of what was read
+pub has_store : (text : List ℕ) (l : Listed) (s : Store) → IsUtf8 text → IsRead text l
+    → s.xorbs ≡ map (λ e. placed_xorb l.xorbs.joined.bytes.items l.xorbs.joined.ends.items e.1) l.xorbs.places.entries
+    → s.files ≡ map (λ e. stored_file e.1) l.files.entries → IsValid s → HasStore text s
+has_store text l s utf8 r xorbs files valid =
+    let xs = xorbs_listed (λ t. t.now) l.xorbs.joined r.xorb_members l.xorbs.places.entries r.xorbs in
+    let fs = files_listed (λ t. t.now) r.file_members l.files.entries r.files in record {
+      data_of = document_of r.xorb_members r.file_members;
+      reads = record { utf8 = utf8; value = r.reads };
+      store = record {
+        listed = rw (xs, fs, ← xorbs, ← files) refl;
+        no_float = rw (files_no_float r.file_members _ fs, xorbs_no_float r.xorb_members _ xs) refl;
+        valid = valid;
+      };
+    }

@@ -1,0 +1,45 @@
+use Rattle.std.proofs.Common.{◌≡◌, ◌∷◌, Some, None, ap, sym, length, rules, subst, arith}
+use Rattle.json.specs.Json.{read_key}
+use Rattle.json.specs.Token.{Token}
+use Rattle.serde_json.specs.Data.{array, no_members, put}
+use Rattle.xet_base.specs.HashText.{hash_of_text}
+use Rattle.xet_document.specs.steps.Reads.{Lists, ListsFile}
+use Rattle.xet_document.proofs.Arrays.{reads_array}
+use Rattle.xet_document.proofs.DocumentMembers.{file_is}
+use Rattle.xet_document.proofs.Listings.{lists_put}
+use Rattle.xet_document.proofs.Objects.{member_more, members_read, no_members_yet}
+use Rattle.xet_document.proofs.plain_files.read_files.Goals as goal
+
+pub members-init : goal.members-init
+members-init c = (no_members, no_members_yet 125 c.args.reader.now, rw c.new-found.ensures.empty tt)
+
+pub members-preserved : goal.members-preserved
+members-preserved c =
+    let l = c.members in
+    let key = c.in-Some.text in
+    let rest = c.next_key.new.self in
+    let hash = c.in-Some-hash_of.hash in
+    let terms = c.in_ok-terms.terms in
+    let read = c.in_ok-terms.ensures.terms in
+    let d = array read.0 in
+    let named : read_key l.reader ≡ Some (Some key.now, rest) = rw c.in-Some.is at c.in_ok-text.ensures.value in
+    let opens : rest ≡ Token.begin_array ∷ c.next.new.self = search rules in
+    let spelt : hash_of_text key.now ≡ Some hash = search rules in
+    let value = rw (← opens) at (reads_array 125 c.next.new.self c.read_terms.new.reader read.0 (omega arith) read.1) in (
+      put key.now d l.invariant.0,
+      member_more 125 c.args.reader.now l.reader rest c.read_terms.new.reader l.invariant.0 key.now d l.invariant.1 named (omega (arith, ap length opens, c.in_ok-terms.ensures.shorter)) value,
+      subst (Lists (λ t. t.now) ListsFile (put key.now d l.invariant.0)) (sym c.in_ok-insert.ensures.entries)
+          (lists_put (λ t. t.now) ListsFile l.invariant.0 l.found.entries key d _ l.invariant.2 (file_is key.now d hash terms spelt (sym read.2))),
+    )
+
+pub returns-clause-listed : goal.returns-clause-listed
+returns-clause-listed c =
+    let l = c.members in
+    let over : read_key l.reader ≡ Some (None, c.next_key.new.self) = rw c.in_default.is at c.in_ok-text.ensures.value in
+    (l.invariant.0, (members_read 125 c.args.reader.now l.reader c.next_key.new.self l.invariant.0 l.invariant.1 over).0, l.invariant.2)
+
+pub returns-clause-shorter : goal.returns-clause-shorter
+returns-clause-shorter c =
+    let l = c.members in
+    let over : read_key l.reader ≡ Some (None, c.next_key.new.self) = rw c.in_default.is at c.in_ok-text.ensures.value in
+    (members_read 125 c.args.reader.now l.reader c.next_key.new.self l.invariant.0 l.invariant.1 over).1

@@ -1,0 +1,42 @@
+use Rattle.std.proofs.Common.{◌≡◌, Some, None, sym, rules, subst}
+use Rattle.json.specs.Json.{read_key}
+use Rattle.serde_json.specs.Data.{no_members, put}
+use Rattle.xet_base.specs.HashText.{hash_of_text}
+use Rattle.xet_document.specs.steps.Reads.{Lists, ListsXorb}
+use Rattle.xet_document.proofs.Listings.{lists_put, lists_weaker}
+use Rattle.xet_document.proofs.Objects.{member_more, members_read, no_members_yet}
+use Rattle.xet_document.proofs.Placing.{lists_xorb, still_lists}
+use Rattle.xet_document.proofs.plain_xorbs.read_xorbs.Goals as goal
+
+pub members-init : goal.members-init
+members-init c = (no_members, no_members_yet 125 c.args.reader.now, rw c.new-places.ensures.empty tt)
+
+pub members-preserved : goal.members-preserved
+members-preserved c =
+    let l = c.members in
+    let key = c.in-Some.text in
+    let rest = c.next_key.new.self in
+    let place = c.in_ok-place.place in
+    let after = c.read_xorb.new.joined in
+    let read = c.in_ok-place.ensures in
+    let named : read_key l.reader ≡ Some (Some key.now, rest) = rw c.in-Some.is at c.in_ok-text.ensures.value in
+    let hash : hash_of_text key.now ≡ Some place.hash = search rules in
+    let lists = lists_xorb after key.now read.value.0 place read.placed hash read.value.2 in
+    let still = lists_weaker (λ t. t.now) (ListsXorb l.joined) (ListsXorb after) (still_lists l.joined after _ read.adds) l.invariant.0 l.places.entries l.invariant.2 in (
+      put key.now read.value.0 l.invariant.0,
+      member_more 125 c.args.reader.now l.reader rest c.read_xorb.new.reader l.invariant.0 key.now read.value.0 l.invariant.1 named read.shorter read.value.1,
+      subst (Lists (λ t. t.now) (ListsXorb after) (put key.now read.value.0 l.invariant.0)) (sym c.in_ok-insert.ensures.entries)
+          (lists_put (λ t. t.now) (ListsXorb after) l.invariant.0 l.places.entries key read.value.0 place still lists),
+    )
+
+pub returns-clause-listed : goal.returns-clause-listed
+returns-clause-listed c =
+    let l = c.members in
+    let over : read_key l.reader ≡ Some (None, c.next_key.new.self) = rw c.in_default.is at c.in_ok-text.ensures.value in
+    (l.invariant.0, (members_read 125 c.args.reader.now l.reader c.next_key.new.self l.invariant.0 l.invariant.1 over).0, l.invariant.2)
+
+pub returns-clause-shorter : goal.returns-clause-shorter
+returns-clause-shorter c =
+    let l = c.members in
+    let over : read_key l.reader ≡ Some (None, c.next_key.new.self) = rw c.in_default.is at c.in_ok-text.ensures.value in
+    (members_read 125 c.args.reader.now l.reader c.next_key.new.self l.invariant.0 l.invariant.1 over).1

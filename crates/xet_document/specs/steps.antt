@@ -1,0 +1,5 @@
+-- Working words of private functions.
+pub mod AddedMembers
+pub mod ChunkEnds
+pub mod Placed
+pub mod Reads

@@ -1,0 +1,32 @@
+-- What adding the members of a document to a store gives.
+use Rattle.std.specs.Prelude.{◌≡◌, ◌++◌, Bool, true, false, List, Option, Some, option_map}
+use Rattle.serde_json.specs.Data.{Members}
+use Rattle.xet_base.specs.declared.mdb_shard.Xorb.{Xorb}
+use Rattle.xet_base.specs.declared.stored.StoredFile.{StoredFile}
+use Rattle.xet_base.specs.Store.{Store, IsValid}
+use Rattle.xet_document.specs.Document.{xorbs_of_members, files_of_members}
+
+abbrev pub with_xorbs : Store → List Xorb → Store
+with_xorbs s xs = record s { xorbs = s.xorbs ++ xs }
+
+abbrev pub with_files : Store → List StoredFile → Store
+with_files s fs = record s { files = s.files ++ fs }
+
+-- the store with the listed xorbs behind its own, where all are listed in their form
+abbrev pub with_xorbs_of : Store → Members → Option Store
+with_xorbs_of s ms = option_map (with_xorbs s) (xorbs_of_members ms)
+
+-- the same of files
+abbrev pub with_files_of : Store → Members → Option Store
+with_files_of s ms = option_map (with_files s) (files_of_members ms)
+
+-- the listed xorbs were added, and the store is valid; or there is no valid store with them, whatever its files are
+abbrev pub AddsXorbs : Store → Members → Bool → Store → Type 0
+AddsXorbs s ms true t = (with_xorbs_of s ms ≡ Some t) × IsValid t
+AddsXorbs s ms false t = (u : Store) → with_xorbs_of s ms ≡ Some u
+    → (fs : List StoredFile) → IsValid (record u { files = fs }) → ⊥
+
+-- the same of files
+abbrev pub AddsFiles : Store → Members → Bool → Store → Type 0
+AddsFiles s ms true t = (with_files_of s ms ≡ Some t) × IsValid t
+AddsFiles s ms false t = (u : Store) → with_files_of s ms ≡ Some u → IsValid u → ⊥

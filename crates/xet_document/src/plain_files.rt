@@ -1,0 +1,121 @@
+//! The files of a document, read in one pass.
+ghost use Rattle.std.specs.Prelude.{◌≡◌, ◌∷◌, ◌<◌, Some, IfOk, IfSome, List as Items, OnOk, ℕ, length, map, option_and_then};
+ghost use Rattle.json.specs.Token.{number};
+ghost use Rattle.serde_json.specs.Data.{Data, Items as DataItems, Members, unsigned};
+ghost use Rattle.serde_json.specs.Find.{as_array};
+ghost use Rattle.serde_json.specs.Read.{number_of as written_number};
+ghost use Rattle.xet_store.specs.Refusals.{stored_term};
+ghost use Rattle.xet_document.specs.Document.{term_of_items, terms_of_items};
+ghost use Rattle.xet_document.specs.steps.Reads.{Lists, ListsFile, ReadsItems, ReadsMembers, ReadsValue};
+
+use crate::hex_digits::{LastHash, hash_of};
+use crate::unread::Unread;
+use fast_float::Numeral;
+use json::{Reader, Token};
+use std::alloc::Global;
+use std::collections::BTreeMap;
+use xet_base::{FileDataSequenceEntry, List, MerkleHash};
+
+/// A file that a document lists.
+#[derive(Drop)]
+pub(crate) struct ListedFile {
+    /// The hash.
+    pub(crate) hash: MerkleHash,
+    /// The terms, whose counts of bytes are 0.
+    pub(crate) terms: List<FileDataSequenceEntry>,
+}
+
+/// The files of an object that was opened, by the texts of their hashes.
+pub(crate) fn read_files<'a>(
+    alloc: Global,
+    reader: &mut Reader<'a>,
+) -> Result<BTreeMap<&'a str, ListedFile>, Unread>
+    ensures listed { IfOk result (λ found. (ms : Members) × ReadsMembers 125 reader.old ms reader.new
+        × Lists (λ text. text.now) ListsFile ms found.entries) }
+    ensures shorter { OnOk result (length reader.new < length reader.old) }
+{
+    let mut found = BTreeMap::new(alloc);
+    'members: while let Some(text) = reader.next_key()? {
+        let Some(hash) = hash_of(text) else {
+            return Err(Unread::NotPlain);
+        };
+        let Some(Token::BeginArray) = reader.next() else {
+            return Err(Unread::NotPlain);
+        };
+        let terms = read_terms(alloc, reader)?;
+        let file = ListedFile { hash, terms };
+        drop(found.insert(text, file)?);
+    }
+    Ok(found)
+}
+
+// The terms of an array that was opened.
+fn read_terms(alloc: Global, reader: &mut Reader<'_>) -> Result<List<FileDataSequenceEntry>, Unread>
+    ensures terms { IfOk result (λ terms. (ds : DataItems) × ReadsItems 124 reader.old ds reader.new
+        × (terms_of_items ds ≡ Some (map stored_term terms))) }
+    ensures shorter { OnOk result (length reader.new < length reader.old) }
+{
+    let mut terms = List::new(alloc);
+    let mut last = LastHash::of_text("");
+    'terms: while !reader.take_end_array() {
+        terms.push(read_term(reader, &mut last)?)?;
+    }
+    Ok(terms)
+}
+
+// A term: a xorb's hash, and the numbers of its first chunk and of the one after its last.
+fn read_term<'a>(
+    reader: &mut Reader<'a>,
+    last: &mut LastHash<'a>,
+) -> Result<FileDataSequenceEntry, Unread>
+    ensures term { IfOk result (λ term. (d : Data) × ReadsValue 124 reader.old d reader.new
+        × (option_and_then term_of_items (as_array d) ≡ Some (stored_term term))) }
+    ensures shorter { OnOk result (length reader.new < length reader.old) }
+{
+    let Some(Token::BeginArray) = reader.next() else {
+        return Err(Unread::NotPlain);
+    };
+    let Some(Token::String(text)) = reader.next() else {
+        return Err(Unread::NotPlain);
+    };
+    let Some(xorb) = last.hash_of(text) else {
+        return Err(Unread::NotPlain);
+    };
+    let from = read_number(reader)?;
+    let to = read_number(reader)?;
+    if !reader.take_end_array() {
+        return Err(Unread::NotPlain);
+    }
+    Ok(FileDataSequenceEntry {
+        xorb,
+        from,
+        to,
+        bytes: 0,
+    })
+}
+
+// A whole number below 2^32.
+fn read_number(reader: &mut Reader<'_>) -> Result<u32, Unread>
+    ensures { IfOk result (λ n. (digits : Items ℕ) × (reader.old ≡ number digits ∷ reader.new)
+        × (written_number digits ≡ Some (unsigned n))) }
+{
+    let Some(Token::Number(text)) = reader.next() else {
+        return Err(Unread::NotPlain);
+    };
+    match number_of(text) {
+        Some(number) => Ok(number),
+        None => Err(Unread::NotPlain),
+    }
+}
+
+// The number that a text without a sign writes.
+fn number_of(text: &str) -> Option<u32>
+    ensures { IfSome result (λ n. written_number text.now ≡ Some (unsigned n)) }
+{
+    let digits = text.as_bytes();
+    if *digits.first()? == b'-' {
+        return None;
+    }
+    let number = Numeral::scan(digits).to_u64()?;
+    u32::try_from(number).ok()
+}

@@ -1,0 +1,131 @@
+//! The store of a document that is written plainly, read in one pass.
+ghost use Rattle.std.specs.Prelude.{◌≡◌, ◌∷◌, All, IfOk, Ok, OnOk, map};
+ghost use Rattle.json.specs.Token.{begin_object, key as key_token};
+ghost use Rattle.xet_base.specs.Store.{IsValid};
+ghost use Rattle.xet_document.specs.Document.{HasStore};
+ghost use Rattle.xet_document.specs.steps.AddedMembers.{with_files, with_xorbs};
+ghost use Rattle.xet_document.specs.steps.Placed.{IsPlaced, placed_xorb};
+ghost use Rattle.xet_document.specs.steps.Reads.{IsRead, stored_file};
+
+use crate::joined_chunks::{JoinedChunks, xorb_at};
+use crate::plain_files::{ListedFile, read_files};
+use crate::plain_xorbs::{ListedXorbs, read_xorbs};
+use crate::unread::Unread;
+use bytes::Bytes;
+use json::{Reader, Scratch, Token};
+use std::alloc::Global;
+use std::collections::BTreeMap;
+use xet_store::{MemStore, StoreRefused};
+
+// What a document lists, by the texts of the hashes.
+#[derive(Drop)]
+pub(crate) struct Listed<'a> {
+    xorbs: ListedXorbs<'a>,
+    files: BTreeMap<&'a str, ListedFile>,
+}
+
+/// The store of a document with the keys "xorbs" and "files" in this order and no others, read in one pass.
+pub(crate) fn plain_store(alloc: Global, text: &[u8]) -> Result<MemStore, Unread>
+    ensures { IfOk result (HasStore text.now) }
+{
+    let Ok(text) = simdutf8::compat::from_utf8(text) else {
+        return Err(Unread::NotPlain);
+    };
+    let mut scratch = Scratch::new(alloc);
+    let listed = read_listed(alloc, text, &mut scratch)?;
+    let mut store = MemStore::new(alloc);
+    add_xorbs(alloc, listed.xorbs, &mut store)?;
+    add_files(alloc, listed.files, &mut store)?;
+    Ok(store)
+}
+
+// What a text lists.
+fn read_listed<'a>(
+    alloc: Global,
+    text: &'a str,
+    scratch: &'a mut Scratch,
+) -> Result<Listed<'a>, Unread>
+    ensures { IfOk result (IsRead text.now) }
+{
+    let mut reader = Reader::new(text, scratch)?;
+    open_object(&mut reader)?;
+    open_member(&mut reader, "xorbs")?;
+    let xorbs = read_xorbs(alloc, &mut reader, text.len() / 2)?;
+    open_member(&mut reader, "files")?;
+    let files = read_files(alloc, &mut reader)?;
+    let None = reader.next_key()? else {
+        return Err(Unread::NotPlain);
+    };
+    let None = reader.next() else {
+        return Err(Unread::NotPlain);
+    };
+    Ok(Listed { xorbs, files })
+}
+
+// Passes the brace that opens an object.
+fn open_object(reader: &mut Reader<'_>) -> Result<(), Unread>
+    ensures { OnOk result (reader.old ≡ begin_object ∷ reader.new) }
+{
+    let Some(Token::BeginObject) = reader.next() else {
+        return Err(Unread::NotPlain);
+    };
+    Ok(())
+}
+
+// Passes this key and the brace that opens its object.
+fn open_member(reader: &mut Reader<'_>, name: &str) -> Result<(), Unread>
+    ensures { OnOk result (reader.old ≡ key_token name.now ∷ begin_object ∷ reader.new) }
+{
+    let Some(key) = reader.next_key()? else {
+        return Err(Unread::NotPlain);
+    };
+    if key != name {
+        return Err(Unread::NotPlain);
+    }
+    open_object(reader)
+}
+
+// Whether the store took what was added to it.
+fn taken(answer: Result<(), StoreRefused>) -> Result<(), Unread>
+    ensures { OnOk result (answer ≡ Ok tt) }
+{
+    match answer {
+        Ok(()) => Ok(()),
+        Err(StoreRefused::OutOfMemory) => Err(Unread::OutOfMemory),
+        Err(_) => Err(Unread::NotPlain),
+    }
+}
+
+// Adds the listed xorbs.
+fn add_xorbs(alloc: Global, xorbs: ListedXorbs<'_>, store: &mut MemStore) -> Result<(), Unread>
+    requires valid { IsValid store.old }
+    requires placed { All (λ e. IsPlaced xorbs.joined.bytes.items xorbs.joined.ends.items e.1) xorbs.places.entries }
+    ensures added { let own = xorbs.entry in OnOk result (store.new ≡ with_xorbs store.old
+        (map (λ e. placed_xorb own.joined.bytes.items own.joined.ends.items e.1) own.places.entries)) }
+    ensures valid { OnOk result (IsValid store.new) }
+{
+    let ListedXorbs { joined, places } = xorbs;
+    let JoinedChunks { bytes, ends } = joined;
+    let bytes = Bytes::from_vec(bytes)?;
+    for (_, place) in places {
+        let xorb = xorb_at(alloc, &bytes, ends.as_slice(), place)?;
+        taken(store.add_joined(alloc, xorb))?;
+    }
+    Ok(())
+}
+
+// Adds the listed files.
+fn add_files(
+    alloc: Global,
+    files: BTreeMap<&str, ListedFile>,
+    store: &mut MemStore,
+) -> Result<(), Unread>
+    requires { IsValid store.old }
+    ensures added { OnOk result (store.new ≡ with_files store.old (map (λ e. stored_file e.1) files.entry.entries)) }
+    ensures valid { OnOk result (IsValid store.new) }
+{
+    for (_, file) in files {
+        taken(store.add_file(alloc, file.hash, file.terms))?;
+    }
+    Ok(())
+}

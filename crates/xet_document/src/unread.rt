@@ -1,0 +1,38 @@
+//! Why a document is not read as it stands.
+
+use json::Invalid;
+use std::alloc::{AllocError, AllocFailed};
+use xet_base::OutOfMemory;
+
+/// Why a document was not read in one pass.
+#[derive(Clone, Copy, PartialEq, Eq, Debug)]
+pub(crate) enum Unread {
+    /// Memory was refused.
+    OutOfMemory,
+    /// It hasn't the plain form, or it lists no valid store. The tree of its values tells.
+    NotPlain,
+}
+
+impl From<OutOfMemory> for Unread {
+    fn from(_error: OutOfMemory) -> Unread {
+        Unread::OutOfMemory
+    }
+}
+
+impl From<AllocError> for Unread {
+    fn from(_error: AllocError) -> Unread {
+        Unread::OutOfMemory
+    }
+}
+
+impl<T: Drop> From<AllocFailed<T>> for Unread {
+    fn from(_error: AllocFailed<T>) -> Unread {
+        Unread::OutOfMemory
+    }
+}
+
+impl From<Invalid> for Unread {
+    fn from(_error: Invalid) -> Unread {
+        Unread::NotPlain
+    }
+}

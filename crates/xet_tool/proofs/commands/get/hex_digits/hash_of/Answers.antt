@@ -1,6 +1,0 @@
-use Rattle.std.proofs.Common.{sym}
-use Rattle.xet_tool.proofs.HashDigits.{hash_else}
-use Rattle.xet_tool.proofs.commands.get.hex_digits.hash_of.Goals as goal
-
-pub returns-then-text-ne64 : goal.returns-then-text-ne64
-returns-then-text-ne64 c = sym (hash_else c.args.text.now c.if-text-ne64.true)
