@@ -1,9 +1,9 @@
 //! Lies of plans, refreshes, blocks and caches: each with the numbers of its test, and what was written.
-use crate::row::{ALL, Case, REPEATS, Row, by_four, check, whole};
+use crate::row::{ALL, Case, REPEATS, Row, by_four, check, run_row, whole};
 use std::test::Fail;
 use xet_base::FileRange;
 use xet_error::{Corruption, FileReconstructionError, Result};
-use xet_store::worked::{FILE_OF_ALL, FILE_OF_REPEATS, X1};
+use xet_store::worked::{FILE_OF_ALL, FILE_OF_REPEATS, FILE_OF_TWO_ENDS, X1};
 use xet_terms::ReconstructionConfig;
 
 // The file of all chunks, whose blocks may be tried twice.
@@ -177,6 +177,29 @@ fn refreshes(rt: HostRuntime) -> std::result::Result<(), Fail> {
         (planned(&[".xp"], FILE, &[(0, 4)]), Ok(13), ALL),
     ];
     check(&rt, rt.alloc(), &cases)
+}
+
+// Each block has tries of its own: two of one plan that expire in one round, for which the plan is asked again once,
+// and one of each of two plans.
+#[test]
+fn tries_are_counted_for_each_block(rt: HostRuntime) -> std::result::Result<(), Fail> {
+    let ends = Row {
+        file: FILE_OF_TWO_ENDS,
+        ..twice()
+    };
+    let all = by_four(&twice());
+    let rows: [(Row<'_>, &[&str], u64, &str); 2] = [
+        (ends, &[".xx"], 1, "Hello!"),
+        (all, &[".x...x"], 2, ALL),
+    ];
+    for (row, lanes, refreshes, taken) in rows {
+        let honest = run_row(&rt, rt.alloc(), &row)?;
+        let ended = run_row(&rt, rt.alloc(), &Row { lanes, ..row })?;
+        assert_eq!(rt; ended.answer, Ok(taken.len() as u64));
+        assert!(rt; ended.sink.taken() == taken.as_bytes());
+        assert_eq!(rt; ended.plans, honest.plans.saturating_add(refreshes));
+    }
+    Ok(())
 }
 
 // What passes its tests is written, whatever the store has.

@@ -10,8 +10,8 @@ use xet_base::{ChunkRange, FileRange, HttpRange, List, MerkleHash, OutOfMemory, 
 use xet_blocks::Steady;
 use xet_error::Result;
 use xet_outside::{
-    BlockBytes, ChunkCache, FetchEntry, FetchRange, NeverCancel, NoCache, Plan, PlanAnswer,
-    PlanTerm, PlanXorb, Sink,
+    BlockBytes, ChunkCache, FetchEntry, FetchRange, NeverCancel, NoCache, Offsets, Plan,
+    PlanAnswer, PlanTerm, PlanXorb, Sink,
 };
 use xet_reconstruct::{FileReconstructor, Gate};
 use xet_run::{FixedBudget, RunCore};
@@ -89,12 +89,8 @@ fn block(
     places: &[u32],
     bytes: &str,
 ) -> std::result::Result<BlockBytes, OutOfMemory> {
-    let mut offsets = List::new(alloc);
-    for place in places {
-        offsets.push(*place)?;
-    }
     Ok(BlockBytes {
-        offsets,
+        offsets: Offsets::from_vec(alloc, places.to_vec(alloc)?)?,
         bytes: Bytes::copy_from_slice(alloc, bytes.as_bytes())?,
     })
 }

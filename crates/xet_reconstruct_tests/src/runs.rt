@@ -13,7 +13,9 @@ use xet_reconstruct::OpenGate;
 use xet_run::{BookView, BudgetBook, BudgetSettings, Event, RunCore, ScriptBudget};
 use xet_sinks::{MemFile, VecSink};
 use xet_store::MemClient;
-use xet_store::worked::{FILE_OF_ALL, FILE_OF_NOTHING, FILE_OF_REPEATS, worked_store};
+use xet_store::worked::{
+    FILE_OF_ALL, FILE_OF_NOTHING, FILE_OF_REPEATS, FILE_OF_TWO_ENDS, worked_store,
+};
 use xet_terms::ReconstructionConfig;
 
 #[test]
@@ -120,6 +122,22 @@ fn rows_that_fail(rt: HostRuntime) -> std::result::Result<(), Fail> {
         ..all
     };
     let unknown = whole(MerkleHash([0xff; 32]));
+    // the second block's fetch and the write beside it
+    let both = Row {
+        lanes: &["...f"],
+        sink: "f",
+        ..by_four(&all)
+    };
+    // of two blocks of one round the first is out of tries, and the second one's fetch fails
+    let used_up = Row {
+        config: ReconstructionConfig { tries: 1, ..config },
+        lanes: &[".xf"],
+        ..whole(FILE_OF_TWO_ENDS)
+    };
+    let out_of_tries = Row {
+        lanes: &[".x"],
+        ..used_up
+    };
     let setting = |setting| Err(FileReconstructionError::ConfigurationError(setting));
     let cases = [
         (none, setting(Setting::NoConnection), ""),
@@ -127,6 +145,9 @@ fn rows_that_fail(rt: HostRuntime) -> std::result::Result<(), Fail> {
         (least_zero, setting(Setting::LeastZero), ""),
         (greatest_below, setting(Setting::GreatestBelowLeast), ""),
         (unknown, Err(FileReconstructionError::FileNotFound), ""),
+        (both, Err(FileReconstructionError::IoError), ""),
+        (used_up, Err(FileReconstructionError::ClientError), ""),
+        (out_of_tries, Err(FileReconstructionError::UrlExpired), ""),
     ];
     check(&rt, rt.alloc(), &cases)
 }
