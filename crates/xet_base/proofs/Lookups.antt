@@ -1,6 +1,6 @@
 -- What a look-up by a place finds.
 use Rattle.std.proofs.Common.{◌≡◌, ℕ, ◌<◌, Bool, true, false, List, length, get_or, refl, sym, ◌∙◌, ap, arith}
-use Rattle.std.specs.Prelude.{Option, Some, None, find, position, slice_get, option_and_then, is_some, IfSome}
+use Rattle.std.specs.Prelude.{Option, Some, None, find, position, slice_get, option_and_then, is_none, is_some, IfSome}
 use Rattle.std.specs.Option.{option_copied}
 use Rattle.std.specs.List.{position_or_len, list_any}
 use Rattle.std.proofs.lemmas.Bool.{lt-ltb, le-ltb}
@@ -31,6 +31,15 @@ position_none-find p xs h = go (list_any p xs) refl
     go : (b : Bool) → list_any p xs ≡ b → position p xs ≡ None
     go true e = let found = (find_some p xs e).1 in cc
     go false e = let n = place_none p xs e in rw (le-ltb (position_or_len p xs) (length xs) (omega (arith, n))) refl
+
+-- so there is no place exactly where nothing is found
+pub none_alike : {A : Type 0} (p : A → Bool) (xs : List A) → is_none (position p xs) ≡ is_none (find p xs)
+none_alike {A} p xs = go (position p xs) (find p xs) refl refl
+  where
+    go : (o : Option ℕ) (f : Option A) → position p xs ≡ o → find p xs ≡ f → is_none (position p xs) ≡ is_none (find p xs)
+    go None f h e = rw (h, find_none-position p xs h) refl
+    go (Some i) None h e = let none = position_none-find p xs e in cc
+    go (Some i) (Some x) h e = rw (h, e) refl
 
 -- the place that is found is inside the list, and its element passes
 pub position-found : {A : Type 0} (p : A → Bool) (xs : List A) (i : ℕ) → position p xs ≡ Some i → (i < length xs) × ((d : A) → p (get_or xs i d) ≡ true)

@@ -1,2 +1,3 @@
 pub mod KeyIndexes
+pub mod ShortLists
 pub mod Words

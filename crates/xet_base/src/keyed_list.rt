@@ -1,5 +1,5 @@
 //! A list whose values are found by their keys.
-ghost use Rattle.std.specs.Prelude.{◌≡◌, [], ◌∷◌, ◌++◌, None, OnOk, OnErr, Some, find, length, position, slice_get, slice_set};
+ghost use Rattle.std.specs.Prelude.{◌≡◌, [], ◌∷◌, ◌++◌, None, IfOk, OnOk, OnErr, Some, cond, find, is_none, length, position, slice_get, slice_set};
 ghost use Rattle.std.specs.Option.{option_copied};
 ghost use Rattle.std.specs.Ordering.{is_eq};
 ghost use Rattle.xet_base.specs.Hashes.{hash_eq};
@@ -108,6 +108,32 @@ impl<K: Ord + Copy, V: Keyed<K> + Drop> KeyedList<K, V> {
         self.values.push_reserved(value);
         Ok(())
     }
+
+    /// Adds a value at the end where no value has its key, and else drops it. Whether it was added. One walk down the
+    /// map where the key is new, and two where it is there.
+    ///
+    /// `OutOfMemory` where an allocation was refused, and then the list is as it was and the value is dropped.
+    pub fn push_new(&mut self, value: V) -> Result<bool, OutOfMemory>
+        ensures new { IfOk result (λ added. added
+            ≡ is_none (position (λ v. is_eq (K.cmp (V.key_of v) (V.key_of value))) self.old)) }
+        ensures list { IfOk result (λ added. self.new ≡ cond added (self.old ++ value ∷ []) self.old) }
+        ensures err { OnErr result (self.new ≡ self.old) }
+    {
+        let number = self.values.len();
+        self.values.reserve(1)?;
+        let key = value.key();
+        let Ok(there) = self.numbers.insert(key, number) else {
+            return Err(OutOfMemory);
+        };
+        let Some(found) = there else {
+            self.values.push_reserved(value);
+            return Ok(true);
+        };
+        if self.numbers.insert(key, found).is_err() {
+            return Err(OutOfMemory);
+        }
+        Ok(false)
+    }
 }
 
 impl<V: Keyed<MerkleHash>> KeyedList<MerkleHash, V> {
@@ -138,6 +164,18 @@ impl<V: Keyed<MerkleHash> + Drop> KeyedList<MerkleHash, V> {
         ensures err { OnErr result (self.new ≡ self.old) }
     {
         self.push(value)
+    }
+
+    /// Adds a value at the end where no value has its hash, and else drops it. Whether it was added.
+    ///
+    /// `OutOfMemory` where an allocation was refused, and then the list is as it was and the value is dropped.
+    pub fn add_new(&mut self, value: V) -> Result<bool, OutOfMemory>
+        ensures new { IfOk result (λ added. added
+            ≡ is_none (find (λ v. hash_eq (V.key_of v) (V.key_of value)) self.old)) }
+        ensures list { IfOk result (λ added. self.new ≡ cond added (self.old ++ value ∷ []) self.old) }
+        ensures err { OnErr result (self.new ≡ self.old) }
+    {
+        self.push_new(value)
     }
 }
 
@@ -183,6 +221,10 @@ mod tests {
         assert_eq!(rt; list.find(&sized(2, 0).hash).copied(), Some(sized(2, 2)));
         assert_eq!(rt; list.get(&sized(5, 0).hash).copied(), Some(sized(5, 3)));
         assert_eq!(rt; list.position(&sized(1, 0).hash), None);
+        assert!(rt; !list.add_new(sized(2, 9))?);
+        assert!(rt; list.add_new(sized(1, 4))?);
+        assert_eq!(rt; list.find(&sized(2, 0).hash).copied(), Some(sized(2, 2)));
+        assert_eq!(rt; list.number_of(&sized(1, 0).hash), Some(3));
         Ok(())
     }
 

@@ -1,12 +1,11 @@
 -- The references of blocks: a stable sort by their starts, and the lists of each block's terms.
 use Rattle.std.proofs.Common.{◌≡◌, ℕ, zero, suc, ◌+◌, ◌<◌, ◌≤◌, Bool, true, false, cond, not, ◌||◌, List, [], ◌∷◌, ◌++◌, filter, length, map, get_or, set, eqb, leb, ltb, nat_cmp, is_lt, refl, sym, ◌∙◌, ap, arith, inl, inr, suc-le-suc, zero-le}
-use Rattle.std.specs.Prelude.{All, Vec}
-use Rattle.std.specs.declared.alloc.Global.{Global}
+use Rattle.std.specs.Prelude.{All}
 use Rattle.std.specs.List.{enumerate_from, list_any, position_or_len}
 use Rattle.std.specs.List.Sorted.{ties, IsNonDecreasingBy, IsStableByKey}
 use Rattle.std.proofs.lemmas.Bool.{cases_Bool, cond-false, cond-true, eqb-true, eq-eqb, false≢true, leb-false, leb-true, ltb-false, or_parts}
 use Rattle.std.proofs.lemmas.Bool.Decides.{nat_tests}
-use Rattle.std.proofs.lemmas.List.{append-nil, get_or-map, get_or-set_other, get_or-set_same, length-set, map-append}
+use Rattle.std.proofs.lemmas.List.{append-nil, get_or_default, get_or-set_other, get_or-set_same, length-set, map-append}
 use Rattle.std.proofs.lemmas.List.Elements.{All-cons, All-head, All-tail, filter-append}
 use Rattle.xet_base.specs.Lists.{firsts}
 use Rattle.xet_outside.specs.declared.plan.PlanTerm.{PlanTerm}
@@ -14,7 +13,7 @@ use Rattle.xet_outside.specs.Plan.{Shape}
 use Rattle.xet_blocks.specs.declared.reconstruction_terms.plan_blocks.PlacedTerm.{PlacedTerm}
 use Rattle.xet_blocks.specs.declared.reconstruction_terms.xorb_block.XorbReference.{XorbReference}
 use Rattle.xet_blocks.specs.Blocks.{PlanBlock, blocks_of, same_block, term_block}
-use Rattle.xet_blocks.specs.steps.Planning.{HasChunks, HasReferences, lists_of, numbered_block, own_references, placed_term, with_references}
+use Rattle.xet_blocks.specs.steps.Planning.{HasChunks, HasReferences, numbered_block, own_references, placed_term, with_references}
 use Rattle.xet_blocks.specs.TermBlocks.{by_start, reference_of, with_reference, xorb_block, xorb_blocks}
 use Rattle.xet_blocks.specs.Chain.{last_end}
 use Rattle.xet_blocks.specs.PlanChecks.{unordered}
@@ -114,6 +113,12 @@ filter-with x r (y ∷ ys) = go (leb (start r) (start y)) refl (filter-with x r 
               ]
         ]
 
+-- fewer than two references stand by their starts
+pub few_by_start : (rs : List XorbReference) → length rs < 2 → rs ≡ by_start rs
+few_by_start [] h = refl
+few_by_start (r ∷ []) h = refl
+few_by_start (r ∷ s ∷ rs) h = absurd (omega (arith, h))
+
 filter-by_start : (x : XorbReference) (rs : List XorbReference) → filter (same_start x) (by_start rs) ≡ filter (same_start x) rs
 filter-by_start x [] = refl
 filter-by_start x (r ∷ rs) = filter-with x r (by_start rs) ∙ ap (λ l. cond (same_start x r) (r ∷ l) l) (filter-by_start x rs)
@@ -196,8 +201,8 @@ has_less ts n k j ls ms xs h e f = record {
 }
 
 -- a list by its number
-pub listed : (v : Vec (Vec XorbReference Global) Global) (k : ℕ) (w : Vec XorbReference Global) → k < length v.items → w ≡ get_or v.items k w → get_or (lists_of v) k [] ≡ w.items
-listed v k w l e = get_or-map (λ (w : Vec XorbReference Global). w.items) v.items k w [] l ∙ ap (λ (w : Vec XorbReference Global). w.items) (sym e)
+pub listed : (ls : List (List XorbReference)) (k : ℕ) (w : List XorbReference) → k < length ls → w ≡ get_or ls k w → get_or ls k [] ≡ w
+listed ls k w l e = get_or_default ls k [] w l ∙ sym e
 
 -- ---- the number of a block
 

@@ -1,8 +1,7 @@
 -- What look-ups in lists and in mapped lists answer.
 use Rattle.std.proofs.Common.{◌≡◌, ℕ, suc, ◌+◌, Bool, true, false, cond, not, ◌||◌, List, [], ◌∷◌, ◌++◌, map, filter, ltb, refl, sym, ◌∙◌, ap, arith, Some, None}
-use Rattle.std.specs.Prelude.{All, find, position, is_none, is_some, IsSome, Option, option_map, slice_get}
+use Rattle.std.specs.Prelude.{All, find, position, is_none, IsSome, Option, option_map, slice_get}
 use Rattle.std.specs.List.{list_any, position_or_len}
-use Rattle.std.proofs.lemmas.Bool.{false≢true}
 use Rattle.std.proofs.lemmas.List.{length-map}
 use Rattle.std.proofs.lemmas.List.Elements.{All-cons, All-filter, All-head, All-tail}
 use Rattle.xet_base.specs.Lists.{first_some, firsts}
@@ -73,13 +72,6 @@ any-find p (x ∷ xs) = go (p x) (any-find p xs)
 pub some_not_none : {A : Type 0} (o : Option A) → IsSome o → is_none o ≡ false
 some_not_none None h = cc
 some_not_none (Some x) h = refl
-
--- whether nothing is found, by what `is_none` answers
-pub found_none : {A B : Type 0} (f : A → B) (r : Option A) (o : Option B) (none : Bool) → option_map f r ≡ o → is_some r ≡ not none → is_none o ≡ none
-found_none f None o true e n = ap is_none (sym e)
-found_none f None o false e n = absurd (false≢true n)
-found_none f (Some x) o true e n = absurd (false≢true (sym n))
-found_none f (Some x) o false e n = ap is_none (sym e)
 
 -- what holds of all elements holds of the first ones
 pub firsts_all : {A : Type 0} (same : A → A → Bool) (P : A → Type 0) (xs : List A) → All P xs → All P (firsts same xs)

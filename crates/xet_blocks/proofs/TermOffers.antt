@@ -160,6 +160,13 @@ listed_new multi xs ys x made made' v w e none hash offers more =
           ∙ sym (ap (map (xorb_offers multi)) longer ∙ map-append (xorb_offers multi) (first_xorbs xs) (x ∷ []));
     }
 
+-- so the xorb is listed, whether or not it was added
+pub listed_more : (multi : Bool) (xs ys : List PlanXorb) (x : PlanXorb) (made made' : List XorbOffers) (v : XorbOffers) (added : Bool) → IsListed multi xs made → ys ≡ xs ++ x ∷ []
+    → is_none (find (λ (v : XorbOffers). hash_eq v.xorb x.xorb) made) ≡ added → v.xorb ≡ x.xorb → map offered v.offers ≡ xorb_offers multi x → made' ≡ cond added (made ++ v ∷ []) made
+    → IsListed multi ys made'
+listed_more multi xs ys x made made' v true w e none hash offers more = listed_new multi xs ys x made made' v w e none hash offers more
+listed_more multi xs ys x made made' v false w e there hash offers more = listed_seen multi xs ys x made made' w e there more
+
 -- ---- the offers of blocks
 
 abbrev lies : PlanTerm → Offered → Bool

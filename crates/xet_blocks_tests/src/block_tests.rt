@@ -6,7 +6,9 @@ use std::alloc::Global;
 use std::process::Abort;
 use std::sync::Arc;
 use std::test::Fail;
-use xet_base::{ChunkRange, FileRange, HttpRange, List, MerkleHash, OutOfMemory, Text, UniqueId};
+use xet_base::{
+    ChunkRange, FileRange, HttpRange, List, MerkleHash, OutOfMemory, ShortList, Text, UniqueId,
+};
 use xet_blocks::{
     ChunkOffsets, Corruption, DataSource, FileReconstructionError, FileTerm, RetrievalUrl,
     TermBlockRetrievalURLs, XorbBlock, XorbBlockData, XorbReference,
@@ -20,9 +22,9 @@ fn four_chunks(alloc: Global) -> Result<XorbBlock, OutOfMemory> {
 fn block_of(alloc: Global, chunk_ranges: &[ChunkRange]) -> Result<XorbBlock, OutOfMemory> {
     Ok(XorbBlock {
         xorb_hash: MerkleHash([17; 32]),
-        chunk_ranges: List::from_vec(chunk_ranges.to_vec(alloc)?),
+        chunk_ranges: ShortList::from_vec(chunk_ranges.to_vec(alloc)?),
         xorb_block_index: 0,
-        references: List::new(alloc),
+        references: ShortList::new(),
         uncompressed_size_if_known: None,
         kept: None,
     })
@@ -147,8 +149,7 @@ fn the_request_of_a_block(rt: HostRuntime) -> Result<(), Fail> {
     let alloc = rt.alloc();
     let mut retrieval_urls = List::new(alloc);
     for url in ["first", "second"] {
-        let mut ranges = List::new(alloc);
-        ranges.push(HttpRange::new(3, 16))?;
+        let ranges = ShortList::of_one(HttpRange::new(3, 16));
         let url = Text::from_string(String::from_str(alloc, url)?);
         retrieval_urls.push(RetrievalUrl { url, ranges })?;
     }

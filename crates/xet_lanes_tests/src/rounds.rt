@@ -11,7 +11,7 @@ use std::marker::Brand;
 use std::sync::Wait;
 use std::sync::ledger::{Blank, Ledger};
 use std::thread::Threads;
-use xet_base::{ChunkRange, FileRange, List, MerkleHash, OutOfMemory, Text, UniqueId};
+use xet_base::{ChunkRange, FileRange, List, MerkleHash, OutOfMemory, ShortList, Text, UniqueId};
 use xet_blocks::{DataSource, RetrievalUrl, TermBlockRetrievalURLs, XorbBlock};
 use xet_error::FileReconstructionError;
 use xet_lanes::{Fetch, Gate, Joined, LaneStep, fetch_and_write};
@@ -19,13 +19,11 @@ use xet_run::RunState;
 use xet_writers::{DataWriter, SequentialWriter};
 
 fn one_chunk(alloc: Global) -> Result<XorbBlock, OutOfMemory> {
-    let mut chunk_ranges = List::new(alloc);
-    chunk_ranges.push(ChunkRange::new(0, 1))?;
     Ok(XorbBlock {
         xorb_hash: MerkleHash([17; 32]),
-        chunk_ranges,
+        chunk_ranges: ShortList::of_one(ChunkRange::new(0, 1)),
         xorb_block_index: 0,
-        references: List::new(alloc),
+        references: ShortList::new(),
         uncompressed_size_if_known: None,
         kept: None,
     })
@@ -36,7 +34,7 @@ fn one_url(alloc: Global) -> Result<TermBlockRetrievalURLs, OutOfMemory> {
     let mut urls = List::new(alloc);
     urls.push(RetrievalUrl {
         url: Text::from_string(String::new(alloc)),
-        ranges: List::new(alloc),
+        ranges: ShortList::new(),
     })?;
     let id = UniqueId {
         plan: 1,

@@ -1,5 +1,5 @@
 //! Blocks that a connection served.
-use xet_base::{ChunkRange, List, MerkleHash};
+use xet_base::{ChunkRange, MerkleHash, ShortList};
 
 /// A block that a connection answered with bytes, by its request.
 ///
@@ -13,5 +13,5 @@ pub struct Served {
     /// The xorb's hash.
     pub xorb: MerkleHash,
     /// The ranges of its chunks, each half open.
-    pub ranges: List<ChunkRange>,
+    pub ranges: ShortList<ChunkRange>,
 }

@@ -1,5 +1,5 @@
 //! The events of a run.
-use xet_base::{ChunkRange, FileRange, List, MerkleHash};
+use xet_base::{ChunkRange, FileRange, List, MerkleHash, ShortList};
 use xet_error::FileReconstructionError;
 
 /// A term of a plan, as the core knows it. Its length is that of its bytes of the file.
@@ -21,7 +21,7 @@ pub struct PlannedBlock {
     /// The xorb.
     pub xorb: MerkleHash,
     /// Its chunk ranges, half open, in their order.
-    pub ranges: List<ChunkRange>,
+    pub ranges: ShortList<ChunkRange>,
 }
 
 /// One step of a run. A block is named by its plan and by its number among the plan's blocks. Lanes are numbered from

@@ -7,7 +7,7 @@ use std::process::Abort;
 use std::sync::ledger::{Blank, Ledger};
 use std::sync::{Arc, Wait};
 use std::test::Fail;
-use xet_base::{FileRange, List, MerkleHash, OutOfMemory};
+use xet_base::{FileRange, List, MerkleHash, OutOfMemory, ShortList};
 use xet_error::FileReconstructionError;
 use xet_run::{
     BookState, BookView, Budget, BudgetBook, BudgetSettings, BudgetSource, CallLog, CoreRefusal,
@@ -29,7 +29,7 @@ fn blocks(alloc: Global, count: u64) -> Result<List<PlannedBlock>, AllocError> {
     for _ in 0..count {
         blocks.push(PlannedBlock {
             xorb: MerkleHash([1; 32]),
-            ranges: List::new(alloc),
+            ranges: ShortList::new(),
         })?;
     }
     Ok(List::from_vec(blocks))

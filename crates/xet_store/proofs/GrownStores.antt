@@ -1,6 +1,6 @@
 -- A store with one more xorb or file.
-use Rattle.std.proofs.Common.{◌≡◌, ℕ, ◌^◌, ◌<◌, ◌≤◌, Bool, List, [], ◌∷◌, ◌++◌, length, get_or, refl, sym, ◌∙◌, ap, subst, arith}
-use Rattle.std.specs.Prelude.{Option, Some, None, IsSome, find, option_map, unwrap_or, slice_range, All, IsFalse}
+use Rattle.std.proofs.Common.{◌≡◌, ℕ, ◌^◌, ◌<◌, ◌≤◌, Bool, true, false, cond, List, [], ◌∷◌, ◌++◌, length, get_or, refl, sym, ◌∙◌, ap, subst, arith}
+use Rattle.std.specs.Prelude.{Option, Some, None, IsSome, is_none, find, option_map, unwrap_or, slice_range, All, IsFalse}
 use Rattle.std.specs.List.{concat, flat_map, sum_by}
 use Rattle.std.specs.Option.{option_or}
 use Rattle.std.proofs.lemmas.Bool.{false≢true}
@@ -139,3 +139,13 @@ module _ (s : Store) (f : StoredFile) where
         lengths = All-push (λ g. length (bytes_of (with_file s f) g.hash) < 2 ^ 64) s.files f old_lengths
             (let e = ap length (file_added new) ∙ length-terms s f.terms in omega (arith, e, short));
       }
+
+-- and with one that is added only where its hash is new
+pub valid_with_new : (s : Store) (x : Xorb) (xs : List Xorb) (added : Bool) → IsValid s → added ≡ is_none (xorb_of s x.hash)
+    → xs ≡ cond added (s.xorbs ++ x ∷ []) s.xorbs → IsValidXorb x → IsValid (record s { xorbs = xs })
+valid_with_new s x xs true valid new more is = rw more (valid_with_xorb s x valid (none (xorb_of s x.hash) (sym new)) is)
+  where
+    none : (o : Option Xorb) → is_none o ≡ true → o ≡ None
+    none None e = refl
+    none (Some y) e = absurd (false≢true e)
+valid_with_new s x xs false valid new more is = rw more valid

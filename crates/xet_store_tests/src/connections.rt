@@ -2,7 +2,7 @@
 use bytes::Bytes;
 use std::alloc::Global;
 use std::test::Fail;
-use xet_base::{ChunkRange, FileRange, List, Text, UniqueId};
+use xet_base::{ChunkRange, FileRange, ShortList, Text, UniqueId};
 use xet_store::worked::{FILE_OF_ALL, X1, worked_store};
 use xet_store::{
     BlockAnswer, BlockBytes, BlockRequest, Client, ClientError, ClientStep, MemClient, Offsets,
@@ -11,9 +11,9 @@ use xet_store::{
 
 // A request for these chunks of the first xorb, by the number of the first and of the one after the last.
 fn request(alloc: Global, ranges: &[(u32, u32)]) -> Result<BlockRequest, Fail> {
-    let mut chunks = List::new(alloc);
+    let mut chunks = ShortList::new();
     for (start, end) in ranges {
-        chunks.push(ChunkRange::new(*start, *end))?;
+        chunks.push(alloc, ChunkRange::new(*start, *end))?;
     }
     Ok(BlockRequest {
         acquisition: UniqueId {
@@ -24,7 +24,7 @@ fn request(alloc: Global, ranges: &[(u32, u32)]) -> Result<BlockRequest, Fail> {
         url: Text::from_string(String::from_str(alloc, "mem:1")?),
         xorb: X1,
         chunks,
-        bytes: List::new(alloc),
+        bytes: ShortList::new(),
     })
 }
 

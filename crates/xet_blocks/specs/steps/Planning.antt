@@ -1,7 +1,6 @@
 -- Blocks that entries offer, and the terms that are placed in them.
-use Rattle.std.specs.Prelude.{ℕ, ◌≡◌, ◌+◌, ◌-◌, ◌^◌, ◌<◌, ◌≤◌, Bool, false, Option, Some, None, List, [], ◌∷◌, ◌++◌, All, MatchOption, Vec, filter, length, map, min, nat_eq, position, slice_index_or}
+use Rattle.std.specs.Prelude.{ℕ, ◌≡◌, ◌+◌, ◌-◌, ◌^◌, ◌<◌, ◌≤◌, Bool, false, Option, Some, None, List, [], ◌∷◌, ◌++◌, All, MatchOption, filter, length, map, min, nat_eq, position, slice_index_or}
 use Rattle.std.specs.List.{enumerate_from, position_or_len}
-use Rattle.std.specs.declared.alloc.Global.{Global}
 use Rattle.xet_base.specs.declared.cas_types.FileRange.{FileRange}
 use Rattle.xet_outside.specs.declared.plan.Plan.{Plan}
 use Rattle.xet_outside.specs.declared.plan.PlanTerm.{PlanTerm}
@@ -108,10 +107,6 @@ terms_at end place o (t ∷ ts) =
 -- the references of the terms with a block's number, in the order of the terms
 abbrev pub own_references : List PlacedTerm → ℕ → List XorbReference
 own_references ts n = map (λ t. reference_of t.term) (filter (λ t. nat_eq t.block n) ts)
-
--- the references in each list
-abbrev pub lists_of : Vec (Vec XorbReference Global) Global → List (List XorbReference)
-lists_of v = map (λ w. w.items) v.items
 
 -- so many lists, which from a number on have the references of the terms with that number
 pub record HasReferences (ts : List PlacedTerm) (n from : ℕ) (lists : List (List XorbReference)) : Type 0 where

@@ -5,7 +5,7 @@ ghost use Rattle.xet_outside.specs.Plan.{shape};
 ghost use Rattle.xet_blocks.specs.Blocks.{range_bytes, transfer_sum};
 ghost use Rattle.xet_blocks.specs.Refusals.{IsRefusal};
 ghost use Rattle.xet_blocks.specs.steps.Offers.{xorb_place};
-ghost use Rattle.xet_blocks.specs.steps.Planning.{Fit, HasChunks, HasRanges, HasReferences, IsNumbered, IsPlaced, IsPlanned, IsToldApart, lists_of, numbered_block, plan_block, retrieval_url, terms_at, with_references};
+ghost use Rattle.xet_blocks.specs.steps.Planning.{Fit, HasChunks, HasRanges, HasReferences, IsNumbered, IsPlaced, IsPlanned, IsToldApart, numbered_block, plan_block, retrieval_url, terms_at, with_references};
 ghost use Rattle.xet_blocks.specs.TermBlocks.{by_start};
 ghost use Rattle.xet_blocks.specs.PlanChecks.{no_range_test, ranges_test};
 
@@ -17,7 +17,7 @@ use crate::reconstruction_terms::retrieval_urls::RetrievalUrl;
 use crate::reconstruction_terms::xorb_block::{XorbBlock, XorbReference};
 use std::alloc::Global;
 use std::mem;
-use xet_base::{ChunkRange, FileRange, HttpRange, List, OutOfMemory};
+use xet_base::{ChunkRange, FileRange, HttpRange, List, OutOfMemory, ShortList};
 use xet_error::{Corruption, FileReconstructionError};
 use xet_outside::{FetchRange, PlanTerm};
 
@@ -169,20 +169,21 @@ impl<'a> PlanBlocks<'a> {
     }
 
     /// The references of each block, in the order of the terms.
-    fn references(&self, alloc: Global) -> Result<Vec<Vec<XorbReference>>, OutOfMemory>
+    fn references(&self, alloc: Global) -> Result<Vec<ShortList<XorbReference>>, OutOfMemory>
         requires { All (λ t. t.block < length self.now.blocks) self.now.terms }
         ensures { IfOk result (λ references.
-            HasReferences self.now.terms (length self.now.blocks) 0 (lists_of references)) }
+            HasReferences self.now.terms (length self.now.blocks) 0 references.items) }
     {
         let mut references = Vec::with_capacity(alloc, self.blocks.len())?;
         for _ in self.blocks.as_slice() {
-            references.push(Vec::with_capacity(alloc, 1)?)?;
+            references.push(ShortList::new())?;
         }
         for placed in self.terms.as_slice() {
-            references[placed.block].push(XorbReference {
+            let reference = XorbReference {
                 term_chunks: placed.term.range,
                 uncompressed_size: placed.term.unpacked_length as usize,
-            })?;
+            };
+            references[placed.block].push(alloc, reference)?;
         }
         Ok(references)
     }
@@ -198,7 +199,7 @@ impl<'a> PlanBlocks<'a> {
         let mut references = self.references(alloc)?;
         let mut blocks = with_room(alloc, self.blocks.len())?;
         for (number, block) in self.blocks.as_slice().iter().enumerate() {
-            let own = mem::replace(&mut references[number], Vec::new(alloc));
+            let own = mem::replace(&mut references[number], ShortList::new());
             blocks.push(xorb_block(alloc, number, block, own)?)?;
         }
         Ok(blocks)
@@ -224,33 +225,40 @@ fn add_bytes(mut sum: u64, ranges: &[FetchRange]) -> u64
 }
 
 /// The byte ranges of fetch ranges.
-fn bytes_of(alloc: Global, ranges: &[FetchRange]) -> Result<List<HttpRange>, OutOfMemory>
+fn bytes_of(alloc: Global, ranges: &[FetchRange]) -> Result<ShortList<HttpRange>, OutOfMemory>
     ensures { IfOk result (λ made. made ≡ map (λ r. r.bytes) ranges.now) }
 {
-    let mut made = with_room(alloc, ranges.len())?;
+    let mut made = ShortList::new();
     for range in ranges {
-        made.push(range.bytes)?;
+        made.push(alloc, range.bytes)?;
     }
     Ok(made)
 }
 
 /// The chunk ranges of fetch ranges.
-fn chunks_of(alloc: Global, ranges: &[FetchRange]) -> Result<List<ChunkRange>, OutOfMemory>
+fn chunks_of(alloc: Global, ranges: &[FetchRange]) -> Result<ShortList<ChunkRange>, OutOfMemory>
     ensures { IfOk result (λ made. made ≡ map (λ r. r.chunks) ranges.now) }
 {
-    let mut made = with_room(alloc, ranges.len())?;
+    let mut made = ShortList::new();
     for range in ranges {
-        made.push(range.chunks)?;
+        made.push(alloc, range.chunks)?;
     }
     Ok(made)
 }
 
 /// The references by their starts; equal starts stay in their order.
-fn sorted_by_start(mut references: Vec<XorbReference>) -> Result<List<XorbReference>, OutOfMemory>
-    ensures { IfOk result (λ sorted. sorted ≡ by_start references.items) }
+fn sorted_by_start(
+    alloc: Global,
+    references: ShortList<XorbReference>,
+) -> Result<ShortList<XorbReference>, OutOfMemory>
+    ensures { IfOk result (λ sorted. sorted ≡ by_start references) }
 {
-    references.sort_by_key(|reference| reference.term_chunks.start)?;
-    Ok(List::from_vec(references))
+    if references.len() < 2 {
+        return Ok(references);
+    }
+    let mut sorted = Vec::from_slice(alloc, references.as_slice())?;
+    sorted.sort_by_key(|reference| reference.term_chunks.start)?;
+    Ok(ShortList::from_vec(sorted))
 }
 
 /// A block by its number, with the references of its terms and the size that they tell.
@@ -258,14 +266,14 @@ fn xorb_block(
     alloc: Global,
     number: usize,
     block: &OfferedBlock,
-    references: Vec<XorbReference>,
+    references: ShortList<XorbReference>,
 ) -> Result<XorbBlock, OutOfMemory>
     requires ascends { HasRanges block.now }
-    requires some { All (λ r. r.term_chunks.start < r.term_chunks.end) references.items }
-    ensures { IfOk result (λ made. made ≡ with_references references.items (number, plan_block block.now)) }
+    requires some { All (λ r. r.term_chunks.start < r.term_chunks.end) references }
+    ensures { IfOk result (λ made. made ≡ with_references references (number, plan_block block.now)) }
 {
     let chunk_ranges = chunks_of(alloc, block.offer.block)?;
-    let references = sorted_by_start(references)?;
+    let references = sorted_by_start(alloc, references)?;
     let uncompressed_size_if_known = XorbBlock::determine_size_if_possible(
         alloc,
         chunk_ranges.as_slice(),

@@ -253,9 +253,7 @@ impl<'a> PlanOffers<'a> {
     {
         let mut xorbs = KeyedList::new(alloc);
         for xorb in plan.xorbs.as_slice() {
-            if xorbs.find(&xorb.xorb).is_none() {
-                xorbs.add(XorbOffers::new(alloc, xorb, multirange)?)?;
-            }
+            xorbs.add_new(XorbOffers::new(alloc, xorb, multirange)?)?;
         }
         Ok(PlanOffers {
             plan,

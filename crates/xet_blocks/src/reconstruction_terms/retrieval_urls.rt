@@ -1,7 +1,7 @@
 //! The URLs of a plan's blocks.
 ghost use Rattle.std.specs.Prelude.{◌≡◌, ◌≤◌, Some, MatchOption, slice_get, length};
 
-use xet_base::{FileRange, HttpRange, List, MerkleHash, Text, UniqueId};
+use xet_base::{FileRange, HttpRange, List, MerkleHash, ShortList, Text, UniqueId};
 
 /// Where a block is fetched.
 ///
@@ -13,7 +13,7 @@ pub struct RetrievalUrl {
     pub url: Text,
     /// The half-open byte ranges that it serves, one for each chunk range of the block: places in the xorb's joined
     /// chunks.
-    pub ranges: List<HttpRange>,
+    pub ranges: ShortList<HttpRange>,
 }
 
 /// The URL of each block of a plan, in the order of the blocks, and the acquisition that they came with.

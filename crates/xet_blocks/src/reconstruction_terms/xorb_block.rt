@@ -17,7 +17,7 @@ use crate::reconstruction_terms::reached_sizes::{ReachedSizes, sizes_fit};
 use crate::reconstruction_terms::retrieval_urls::TermBlockRetrievalURLs;
 use bytes::Bytes;
 use std::alloc::Global;
-use xet_base::{ChunkRange, List, MerkleHash, OutOfMemory};
+use xet_base::{ChunkRange, MerkleHash, OutOfMemory, ShortList};
 use xet_error::{Corruption, FileReconstructionError, Result};
 use xet_outside::{BlockBytes, BlockRequest, Offsets};
 
@@ -51,11 +51,11 @@ pub struct XorbBlock {
     /// The xorb.
     pub xorb_hash: MerkleHash,
     /// The numbers of the block's chunks in the xorb, as half-open ranges.
-    pub chunk_ranges: List<ChunkRange>,
+    pub chunk_ranges: ShortList<ChunkRange>,
     /// The number of the block in its plan, from 0 in the order of first use.
     pub xorb_block_index: usize,
     /// The chunks of each of its terms, by their starts; equal starts are in the order of the terms.
-    pub references: List<XorbReference>,
+    pub references: ShortList<XorbReference>,
     /// How many bytes the block has, where its references tell it.
     pub uncompressed_size_if_known: Option<usize>,
     /// The block's data, once it is fetched.

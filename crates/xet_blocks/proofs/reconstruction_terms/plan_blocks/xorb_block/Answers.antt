@@ -16,11 +16,11 @@ determine_size_if_possible-requires-clause-ascend c =
 pub determine_size_if_possible-requires-clause-some : goal.determine_size_if_possible-requires-clause-some
 determine_size_if_possible-requires-clause-some c =
     subst (λ (rs : List XorbReference). All (λ r. r.term_chunks.start < r.term_chunks.end) rs) (sym (c.as_slice-2.ensures ∙ c.in_ok-references.ensures))
-    (all_by_start (λ r. r.term_chunks.start < r.term_chunks.end) c.args.references.items c.requires.some)
+    (all_by_start (λ r. r.term_chunks.start < r.term_chunks.end) c.args.references c.requires.some)
 
 pub determine_size_if_possible-requires-clause-sorted : goal.determine_size_if_possible-requires-clause-sorted
 determine_size_if_possible-requires-clause-sorted c =
-    subst (λ (rs : List XorbReference). IsNonDecreasingBy start rs) (sym (c.as_slice-2.ensures ∙ c.in_ok-references.ensures)) (by_start_rises c.args.references.items)
+    subst (λ (rs : List XorbReference). IsNonDecreasingBy start rs) (sym (c.as_slice-2.ensures ∙ c.in_ok-references.ensures)) (by_start_rises c.args.references)
 
 pub returns : goal.returns
 returns c =

@@ -1,10 +1,7 @@
 use Rattle.std.proofs.Common.{◌∙◌, ◌++◌, ◌∷◌, [], ◌<◌, List, ap, arith, get_or, length, set, subst, sym}
-use Rattle.std.specs.Prelude.{All, Vec}
-use Rattle.std.specs.declared.alloc.Global.{Global}
-use Rattle.std.proofs.lemmas.List.{length-map, map-set, take_more}
+use Rattle.std.specs.Prelude.{All}
+use Rattle.std.proofs.lemmas.List.{take_more}
 use Rattle.xet_blocks.specs.declared.reconstruction_terms.plan_blocks.PlacedTerm.{PlacedTerm}
-use Rattle.xet_blocks.specs.declared.reconstruction_terms.xorb_block.XorbReference.{XorbReference}
-use Rattle.xet_blocks.specs.steps.Planning.{lists_of}
 use Rattle.xet_blocks.specs.TermBlocks.{reference_of}
 use Rattle.xet_blocks.proofs.BlockReferences.{has_more, listed}
 use Rattle.xet_blocks.proofs.reconstruction_terms.plan_blocks.PlanBlocks.references.Goals as goal
@@ -22,9 +19,7 @@ loop-placed-preserved c =
     let n = length c.args.self.now.blocks in
     let all : All (λ t. t.block < n) items = subst (λ (l : List PlacedTerm). All (λ t. t.block < n) l) (sym c.as_slice-placed-items.ensures) c.requires in
     let low : t.block < n = all i no_term c.loop-placed-test.true in
-    let long = length-map v.items (λ (w : Vec XorbReference Global). w.items) in
     let has = c.loop-placed.invariant in
-    let at = listed v t.block c.index_mut.result.now (omega (arith, low, has.count)) c.index_mut.ensures.value in
-    has_more _ _ t n (lists_of v) _ has (take_more items i no_term c.loop-placed-test.true) low
-    (map-set (λ (w : Vec XorbReference Global). w.items) v.items t.block _
-    ∙ ap (set (lists_of v) t.block) (c.in_ok-push-2.ensures.items ∙ ap (λ l. l ++ reference_of t.term ∷ []) (sym at)))
+    let at = listed v.items t.block c.index_mut.result.now (omega (arith, low, has.count)) c.index_mut.ensures.value in
+    has_more _ _ t n v.items _ has (take_more items i no_term c.loop-placed-test.true) low
+    (ap (set v.items t.block) (c.in_ok-push-2.ensures.ok ∙ ap (λ l. l ++ reference_of t.term ∷ []) (sym at)))

@@ -1,11 +1,9 @@
 use Rattle.std.proofs.Common.{◌≡◌, ◌<◌, ◌++◌, ◌∷◌, [], ◌∙◌, arith, length, List, sym, ap, map, refl, subst, take}
-use Rattle.std.specs.Prelude.{All, Vec}
-use Rattle.std.specs.declared.alloc.Global.{Global}
+use Rattle.std.specs.Prelude.{All}
 use Rattle.std.specs.List.{enumerate_from}
-use Rattle.std.proofs.lemmas.List.{length-map, map-set}
 use Rattle.xet_blocks.specs.declared.reconstruction_terms.block_list.OfferedBlock.{OfferedBlock}
 use Rattle.xet_blocks.specs.declared.reconstruction_terms.xorb_block.XorbReference.{XorbReference}
-use Rattle.xet_blocks.specs.steps.Planning.{HasRanges, lists_of, numbered_block, own_references, plan_block, with_references}
+use Rattle.xet_blocks.specs.steps.Planning.{HasRanges, numbered_block, own_references, plan_block, with_references}
 use Rattle.xet_blocks.proofs.BlockWalk.{numbered-push}
 use Rattle.xet_blocks.proofs.BlockReferences.{has_less, listed, own_some}
 use Rattle.xet_blocks.proofs.reconstruction_terms.plan_blocks.PlanBlocks.xorb_blocks.Goals as goal
@@ -20,12 +18,11 @@ xorb_block-requires-clause-some c =
     let number = c.loop-number.number in
     let terms = c.args.self.now.terms in
     let v = c.loop-number.references in
-    let long = length-map v.items (λ (w : Vec XorbReference Global). w.items) in
     let has = c.loop-number.invariant.lists in
     let low : number < length c.args.self.now.blocks = rw (← c.as_slice-block-items.ensures) c.loop-number-test.true in
-    let own : c.replace-own.result.items ≡ own_references terms number =
-    ap (λ (w : Vec XorbReference Global). w.items) c.replace-own.ensures.value
-    ∙ sym (listed v number c.index_mut.result.now (omega (arith, low, has.count)) c.index_mut.ensures.value)
+    let own : c.replace-own.result ≡ own_references terms number =
+    c.replace-own.ensures.value
+    ∙ sym (listed v.items number c.index_mut.result.now (omega (arith, low, has.count)) c.index_mut.ensures.value)
     ∙ has.own number (omega arith) low in
     subst (λ (rs : List XorbReference). All (λ r. r.term_chunks.start < r.term_chunks.end) rs) (sym own) (own_some terms number c.requires.some)
 
@@ -38,16 +35,15 @@ loop-number-preserved c =
     let made = c.in_ok-xorb_block.field-0 in
     let done = c.loop-number.invariant.done in
     let v = c.loop-number.references in
-    let long = length-map v.items (λ (w : Vec XorbReference Global). w.items) in
     let has = c.loop-number.invariant.lists in
     let low : number < length c.args.self.now.blocks = rw (← c.as_slice-block-items.ensures) c.loop-number-test.true in
-    let own : c.replace-own.result.items ≡ own_references terms number =
-    ap (λ (w : Vec XorbReference Global). w.items) c.replace-own.ensures.value
-    ∙ sym (listed v number c.index_mut.result.now (omega (arith, low, has.count)) c.index_mut.ensures.value)
+    let own : c.replace-own.result ≡ own_references terms number =
+    c.replace-own.ensures.value
+    ∙ sym (listed v.items number c.index_mut.result.now (omega (arith, low, has.count)) c.index_mut.ensures.value)
     ∙ has.own number (omega arith) low in
     let here : made ≡ numbered_block terms (number, plan_block block) = c.in_ok-xorb_block.ensures ∙ ap (λ rs. with_references rs (number, plan_block block)) own in
     record {
-      lists = has_less terms _ number _ (lists_of v) _ _ has (map-set (λ (w : Vec XorbReference Global). w.items) v.items number _) refl;
+      lists = has_less terms _ number _ v.items _ _ has refl refl;
       done = c.in_ok-push.ensures.ok ∙ (λ i. done i ++ here i ∷ [])
           ∙ ap (λ (b : OfferedBlock). map (numbered_block terms) (enumerate_from 0 (map plan_block (take number items))) ++ numbered_block terms (number, plan_block b) ∷ []) c.block-item.is
           ∙ sym (numbered-push (numbered_block terms) items number block c.loop-number-test.true);
