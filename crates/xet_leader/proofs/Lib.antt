@@ -38,6 +38,7 @@ mod OfferLeads
 mod Offered
 mod OpenTerms
 mod PartMeasures
+mod PlaceLists
 mod PlainEvents
 mod PlanFacts
 mod PlanPlaces

@@ -28,9 +28,14 @@ abbrev pub with_places : List BlockAt → List BlockAt → List BlockAt
 with_places cs [] = cs
 with_places cs (d ∷ ds) = with_places (with_place cs d) ds
 
--- a table has the places that are listed, with plans that are counted from this number on
-abbrev pub AreListed : ℕ → BlockTable → List BlockAt → Type 0
-AreListed first t cs = (p b : ℕ) → kept_in t p b ≡ lists cs (record { plan = p + first; block = b })
+-- from which block on a table counts those of a plan: from this one those of the first plan, from 0 those of others
+abbrev pub base_of : ℕ → ℕ → ℕ
+base_of low p = cond (p == 0) low 0
+
+-- a table has the places that are listed, with plans that are counted from a number on and blocks from their base on
+abbrev pub AreListed : ℕ → ℕ → BlockTable → List BlockAt → Type 0
+AreListed first low t cs = (p b : ℕ)
+    → kept_in t p b ≡ lists cs (record { plan = p + first; block = b + base_of low p })
 
 -- ---- terms
 

@@ -52,7 +52,8 @@ fn lacked_blocks(
 ) -> Result<List<BlockAt>, OutOfMemory>
     ensures { IfOk result (λ found. found ≡ with_places [] (lacked skip count plans.now.items)) }
 {
-    let mut found = PlaceList::new(alloc, first_number(plans), count as usize);
+    let low = first_lacked(plans, skip, count);
+    let mut found = PlaceList::new(alloc, first_number(plans), low, count as usize);
     let mut ahead = skip;
     let mut left = count;
     let mut at = 0;
@@ -73,6 +74,23 @@ fn first_number(plans: &VecDeque<LedPlan>) -> u64 {
         Some(plan) => plan.number,
         None => 0,
     }
+}
+
+/// The first block that the first plan's terms lack: so many terms, after those that are passed over. Blocks are
+/// numbered in the order of their first terms, so no other one that is lacked has a lower number.
+fn first_lacked(plans: &VecDeque<LedPlan>, skip: u64, count: u64) -> usize {
+    let Some(plan) = plans.front() else {
+        return 0;
+    };
+    let terms = plan.block.terms.as_slice();
+    let start = terms.len().min(skip as usize);
+    let end = start + (terms.len() - start).min(count as usize);
+    for term in &terms[start..end] {
+        if lacks(plan, *term) {
+            return term.xorb_block;
+        }
+    }
+    0
 }
 
 /// Adds the blocks that some terms of a plan lack: so many terms, after those that are passed over.

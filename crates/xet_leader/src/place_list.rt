@@ -1,6 +1,6 @@
 //! Blocks in the order in which they are listed, each once.
-ghost use Rattle.std.specs.Prelude.{◌≡◌, [], OnOk};
-ghost use Rattle.xet_leader.specs.Lacking.{with_place};
+ghost use Rattle.std.specs.Prelude.{◌≡◌, [], OnErr, OnOk};
+ghost use Rattle.xet_leader.specs.Lacking.{base_of, lists, with_place};
 
 use crate::missing_blocks::BlockAt;
 use crate::room::vec_with_room;
@@ -10,12 +10,15 @@ use xet_base::{List, OutOfMemory};
 use xet_run::{BlockId, BlockTable};
 
 /// Blocks in the order in which they were added, each once, of plans from a number on. Whether a block is listed is
-/// found in a table, by its numbers. Contracts see it as the list of the blocks.
+/// found in a table, by its numbers, or by a walk over the list where it is one of the first plan below the first one
+/// that the table has. Contracts see it as the list of the blocks.
 #[derive(Drop)]
 pub(crate) struct PlaceList {
     places: Vec<BlockAt>,
     // no plan has a number below it
     first: u64,
+    // the first block that the table has of the first plan
+    low: usize,
     // what is listed, by plans that are counted from the first one
     listed: BlockTable,
 }
@@ -29,17 +32,19 @@ impl Model for PlaceList {
 
     ghost view = { λ s. s.places.items };
 
-    ghost invariant = { λ s. AreListed s.first s.listed s.places.items };
+    ghost invariant = { λ s. AreListed s.first s.low s.listed s.places.items };
 }
 
 impl PlaceList {
-    /// No blocks, with room for so many. No plan is to have a number below the first one.
-    pub(crate) fn new(alloc: Global, first: u64, count: usize) -> PlaceList
+    /// No blocks, with room for so many. No plan is to have a number below the first one, and few blocks of that one are
+    /// to have numbers below the low one.
+    pub(crate) fn new(alloc: Global, first: u64, low: usize, count: usize) -> PlaceList
         ensures { result ≡ [] }
     {
         PlaceList {
             places: vec_with_room(alloc, count),
             first,
+            low,
             listed: BlockTable::new(alloc),
         }
     }
@@ -52,6 +57,9 @@ impl PlaceList {
         let BlockAt { plan, block } = place;
         let Some(plan) = plan.checked_sub(self.first) else {
             return Err(OutOfMemory);
+        };
+        let Some(block) = block.checked_sub(base_of(self.low, plan)) else {
+            return add_below(&mut self.places, place);
         };
         let id = BlockId { plan, block };
         if self.listed.mark(id).kept {
@@ -69,4 +77,31 @@ impl PlaceList {
     {
         List::from_vec(self.places)
     }
+}
+
+/// From which block on the table counts those of a plan, which is counted from the first one.
+fn base_of(low: usize, plan: u64) -> usize
+    ensures { result ≡ base_of low plan }
+{
+    if plan == 0 { low } else { 0 }
+}
+
+/// Adds a block, where it isn't listed yet, as a walk over the list finds. `OutOfMemory` where memory was refused; then
+/// the list is as it was.
+fn add_below(places: &mut Vec<BlockAt>, place: BlockAt) -> Result<(), OutOfMemory>
+    ensures ok { OnOk result (places.new.items ≡ with_place places.old.items place) }
+    ensures err { OnErr result (places.new.items ≡ places.old.items) }
+{
+    if is_listed(places.as_slice(), place) {
+        return Ok(());
+    }
+    places.push(place)?;
+    Ok(())
+}
+
+/// Whether a block is listed.
+fn is_listed(places: &[BlockAt], place: BlockAt) -> bool
+    ensures { result ≡ lists places.now place }
+{
+    places.iter().any(|listed| listed.plan == place.plan && listed.block == place.block)
 }
