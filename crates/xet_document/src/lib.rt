@@ -13,3 +13,4 @@ mod unread;
 mod value_store;
 
 pub use text_store::store_of_text;
+pub use value_store::store_of;

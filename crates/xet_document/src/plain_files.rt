@@ -1,5 +1,5 @@
 //! The files of a document, read in one pass.
-ghost use Rattle.std.specs.Prelude.{◌≡◌, ◌∷◌, ◌<◌, Some, IfOk, IfSome, List as Items, OnOk, ℕ, length, map, option_and_then};
+ghost use Rattle.std.specs.Prelude.{◌≡◌, ◌∷◌, ◌<◌, Some, IfErr, IfOk, IfSome, List as Items, OnOk, ℕ, length, map, option_and_then};
 ghost use Rattle.json.specs.Token.{number};
 ghost use Rattle.serde_json.specs.Data.{Data, Items as DataItems, Members, unsigned};
 ghost use Rattle.serde_json.specs.Find.{as_array};
@@ -71,6 +71,7 @@ fn read_term<'a>(
     ensures term { IfOk result (λ term. (d : Data) × ReadsValue 124 reader.old d reader.new
         × (option_and_then term_of_items (as_array d) ≡ Some (stored_term term))) }
     ensures shorter { OnOk result (length reader.new < length reader.old) }
+    ensures refused { IfErr result (λ e. e ≡ Unread.NotPlain) }
 {
     let Some(Token::BeginArray) = reader.next() else {
         return Err(Unread::NotPlain);
@@ -96,8 +97,9 @@ fn read_term<'a>(
 
 // A whole number below 2^32.
 fn read_number(reader: &mut Reader<'_>) -> Result<u32, Unread>
-    ensures { IfOk result (λ n. (digits : Items ℕ) × (reader.old ≡ number digits ∷ reader.new)
+    ensures number { IfOk result (λ n. (digits : Items ℕ) × (reader.old ≡ number digits ∷ reader.new)
         × (written_number digits ≡ Some (unsigned n))) }
+    ensures refused { IfErr result (λ e. e ≡ Unread.NotPlain) }
 {
     let Some(Token::Number(text)) = reader.next() else {
         return Err(Unread::NotPlain);

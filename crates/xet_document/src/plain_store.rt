@@ -1,5 +1,5 @@
 //! The store of a document that is written plainly, read in one pass.
-ghost use Rattle.std.specs.Prelude.{◌≡◌, ◌∷◌, All, IfOk, Ok, OnOk, map};
+ghost use Rattle.std.specs.Prelude.{◌≡◌, ◌∷◌, All, Err, IfErr, IfOk, Ok, OnOk, map};
 ghost use Rattle.json.specs.Token.{begin_object, key as key_token};
 ghost use Rattle.xet_base.specs.Store.{IsValid};
 ghost use Rattle.xet_document.specs.Document.{HasStore};
@@ -64,7 +64,8 @@ fn read_listed<'a>(
 
 // Passes the brace that opens an object.
 fn open_object(reader: &mut Reader<'_>) -> Result<(), Unread>
-    ensures { OnOk result (reader.old ≡ begin_object ∷ reader.new) }
+    ensures opened { OnOk result (reader.old ≡ begin_object ∷ reader.new) }
+    ensures refused { IfErr result (λ e. e ≡ Unread.NotPlain) }
 {
     let Some(Token::BeginObject) = reader.next() else {
         return Err(Unread::NotPlain);
@@ -74,7 +75,8 @@ fn open_object(reader: &mut Reader<'_>) -> Result<(), Unread>
 
 // Passes this key and the brace that opens its object.
 fn open_member(reader: &mut Reader<'_>, name: &str) -> Result<(), Unread>
-    ensures { OnOk result (reader.old ≡ key_token name.now ∷ begin_object ∷ reader.new) }
+    ensures opened { OnOk result (reader.old ≡ key_token name.now ∷ begin_object ∷ reader.new) }
+    ensures refused { IfErr result (λ e. e ≡ Unread.NotPlain) }
 {
     let Some(key) = reader.next_key()? else {
         return Err(Unread::NotPlain);
@@ -87,7 +89,8 @@ fn open_member(reader: &mut Reader<'_>, name: &str) -> Result<(), Unread>
 
 // Whether the store took what was added to it.
 fn taken(answer: Result<(), StoreRefused>) -> Result<(), Unread>
-    ensures { OnOk result (answer ≡ Ok tt) }
+    ensures taken { OnOk result (answer ≡ Ok tt) }
+    ensures memory { result ≡ Err Unread.OutOfMemory → answer ≡ Err StoreRefused.OutOfMemory }
 {
     match answer {
         Ok(()) => Ok(()),

@@ -38,12 +38,13 @@ fn tree_store(alloc: Global, text: Vec<u8>) -> Result<Option<MemStore>, OutOfMem
 
 /// The store that a text lists as `{"xorbs":{HASH:[HEXCHUNK,..]},"files":{HASH:[[HASH,from,to],..]}}`, a JSON document.
 ///
-/// A text with these two keys in this order and no others is read in one pass, any other by the tree of its values,
-/// which takes longer and more memory.
+/// A text with these two keys in this order and no others is read in one pass where each xorb and each file in it has
+/// its form, also one that a later equal key replaces, and the store is valid; any other by the tree of its values, which
+/// takes longer and more memory.
 ///
-/// None exactly where the text is no JSON or hasn't this form (other keys are passed over), two keys of one object
-/// spell one hash, a number that is kept as a float stands anywhere in it, or the store isn't valid. Want of memory is
-/// the only error.
+/// None exactly where the text is no JSON or hasn't this form (other keys are passed over, and of equal keys the last
+/// counts), two different keys of xorbs or two of files spell one hash, a number that is kept as a float stands
+/// anywhere in its value, or the store isn't valid. Want of memory is the only error.
 pub fn store_of_text(alloc: Global, text: Vec<u8>) -> Result<Option<MemStore>, OutOfMemory>
     ensures { IfOk result (λ o. MatchOption o (NoStore text.items) (HasStore text.items)) }
 {
@@ -100,6 +101,7 @@ mod tests {
             r#"{"xorbs":{},"files":{},"other":[{"a":-1}]}"#,
             r#"{"files":{"<a":[["<1",0,1]]},"xorbs":{"<1":["21"]}}"#,
             r#"{"xorbs":{"<1":[""]},"xorbs":{},"files":{}}"#,
+            r#"{"xorbs":{"<1":[""],"<1":["21"]},"files":{"<a":[["<1",0,1]]}}"#,
         ];
         let others = [
             r#"{"xorbs":{},"files":{},"other":[{"a":1.0}]}"#,
@@ -108,6 +110,9 @@ mod tests {
             r#"{"xorbs":{"a":["21"]},"files":{}}"#,
             r#"{"xorbs":{"<a":["212"]},"files":{}}"#,
             r#"{"xorbs":{"<a":[""]},"files":{}}"#,
+            r#"{"xorbs":{"<a":["21"]},"files":{"<f":"1"}}"#,
+            r#"{"xorbs":{"<a":["21"]},"files":{"<f":[[1,0,1]]}}"#,
+            r#"{"xorbs":{"<a":["21"]},"files":{"<f":[["a",0,1]]}}"#,
             r#"{"xorbs":{"<a":["21"]},"files":{"<f":[["<a",0]]}}"#,
             r#"{"xorbs":{"<a":["21"]},"files":{"<f":[["<a",0,0]]}}"#,
             r#"{"xorbs":{"<a":["21"]},"files":{"<f":[["<a",0,2]]}}"#,

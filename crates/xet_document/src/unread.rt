@@ -1,4 +1,6 @@
 //! Why a document is not read as it stands.
+ghost use Rattle.std.specs.Prelude.{◌≡◌};
+ghost use Rattle.xet_document.specs.declared.unread.Unread.TheVariants as unread;
 
 use json::Invalid;
 use std::alloc::{AllocError, AllocFailed};
@@ -14,24 +16,32 @@ pub(crate) enum Unread {
 }
 
 impl From<OutOfMemory> for Unread {
+    ghost from_gives = { λ _ e. e ≡ unread.OutOfMemory };
+
     fn from(_error: OutOfMemory) -> Unread {
         Unread::OutOfMemory
     }
 }
 
 impl From<AllocError> for Unread {
+    ghost from_gives = { λ _ e. e ≡ unread.OutOfMemory };
+
     fn from(_error: AllocError) -> Unread {
         Unread::OutOfMemory
     }
 }
 
 impl<T: Drop> From<AllocFailed<T>> for Unread {
+    ghost from_gives = { λ _ e. e ≡ unread.OutOfMemory };
+
     fn from(_error: AllocFailed<T>) -> Unread {
         Unread::OutOfMemory
     }
 }
 
 impl From<Invalid> for Unread {
+    ghost from_gives = { λ _ e. e ≡ unread.NotPlain };
+
     fn from(_error: Invalid) -> Unread {
         Unread::NotPlain
     }

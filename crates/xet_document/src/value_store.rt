@@ -1,5 +1,5 @@
 //! Reads a store from a JSON document.
-ghost use Rattle.std.specs.Prelude.{◌≡◌, ◌≢◌, [], IfOk, MatchOption, cond, length, map, option_and_then, option_map};
+ghost use Rattle.std.specs.Prelude.{◌≡◌, ◌≢◌, [], IfErr, IfOk, MatchOption, cond, length, map, option_and_then, option_map};
 ghost use Rattle.serde_json.specs.Find.{as_array};
 ghost use Rattle.serde_json.specs.View.{items_view, members_view, view};
 ghost use Rattle.serde_json.specs.Written.{has_float};
@@ -156,8 +156,9 @@ fn terms_of(
 
 // Whether the store took what was added to it.
 fn was_added(answer: Result<(), StoreRefused>) -> Result<bool, OutOfMemory>
-    ensures { IfOk result (λ added. cond added (answer ≡ Ok tt)
+    ensures added { IfOk result (λ added. cond added (answer ≡ Ok tt)
         ((refused : StoreRefused) × (answer ≡ Err refused) × (refused ≢ StoreRefused.OutOfMemory))) }
+    ensures memory { IfErr result (λ _. answer ≡ Err StoreRefused.OutOfMemory) }
 {
     match answer {
         Ok(()) => Ok(true),
@@ -211,8 +212,9 @@ fn add_files(
 
 /// The store that a JSON value lists as `{"xorbs":{HASH:[HEXCHUNK,..]},"files":{HASH:[[HASH,from,to],..]}}`.
 ///
-/// None exactly where the value hasn't this form (other keys are passed over), two keys of one object spell one hash, a
-/// number that is kept as a float stands anywhere in the value, or the store isn't valid.
+/// None exactly where the value hasn't this form (other keys are passed over), two keys of xorbs or two of files spell
+/// one hash, a number that is kept as a float stands anywhere in the value, or the store isn't valid. Want of memory is
+/// the only error.
 pub fn store_of(alloc: Global, value: &Value) -> Result<Option<MemStore>, OutOfMemory>
     ensures { IfOk result (λ o. MatchOption o (IsNoDocument (view value.now)) (IsDocumentOf (view value.now))) }
 {

@@ -12,8 +12,8 @@ returns-clause-term c =
     let first : c.args.reader.now ≡ Token.begin_array ∷ c.next.new.self = search rules in
     let second : c.next.new.self ≡ Token.string text ∷ c.next-2.new.self = search rules in
     let hash : hash_of_text text ≡ Some c.in-Some.xorb = search rules in
-    let from = c.in_ok-from.ensures in
-    let to = c.in_ok-to.ensures in
+    let from = c.in_ok-from.ensures.number in
+    let to = c.in_ok-to.ensures.number in
     let read = term_items text from.0 to.0 c.in_ok-from.from c.in_ok-to.to c.next.new.self c.next-2.new.self c.read_number.new.reader c.read_number-2.new.reader c.take_end_array.new.self second from.1 to.1 from.2 to.2 c.if-not-take_end_array.ensures in (
       array (item (string text) (item (number (unsigned c.in_ok-from.from)) (item (number (unsigned c.in_ok-to.to)) no_items))),
       rw first (reads_array 124 c.next.new.self c.take_end_array.new.self _ (omega arith) read),

@@ -22,7 +22,7 @@ left c =
 pub returns-then-not-branch : goal.returns-then-not-branch
 returns-then-not-branch c =
     let here = (goal.at.returns-then-not-branch c).In-Some-2 in
-    let not_added = rw c.if-not-branch.true at c.in_ok-was_added.ensures in
+    let not_added = rw c.if-not-branch.true at c.in_ok-was_added.ensures.added in
     let why = why_refused _ _ c.add_joined.ensures.refused not_added in
     xorb_refused c.args.store.now c.loop-key.store (members_view c.args.members.now.entries) (string_bytes c.in-Some.key.now) (view c.in-Some.value.now) (members_view c.next.new.self) c.in-Some-2.xorb
     (left here) (is here) why.0 why.1
@@ -30,7 +30,7 @@ returns-then-not-branch c =
 pub loop-key-preserved : goal.loop-key-preserved
 loop-key-preserved c =
     let here = (goal.at.loop-key-preserved c).In-Some-2 in
-    let added : c.add_joined.result ≡ Ok tt = rw c.if-not-branch.false at c.in_ok-was_added.ensures in
+    let added : c.add_joined.result ≡ Ok tt = rw c.if-not-branch.false at c.in_ok-was_added.ensures.added in
     let now = rw added at c.add_joined.ensures.added in
     let accepted = rw added at c.add_joined.ensures.accepted in
     let more = xorbs_more c.args.store.now c.loop-key.store (members_view c.args.members.now.entries) (string_bytes c.in-Some.key.now) (view c.in-Some.value.now) (members_view c.next.new.self) c.in-Some-2.xorb (left here) (is here) in
