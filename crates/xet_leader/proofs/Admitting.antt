@@ -2,6 +2,7 @@
 use Rattle.std.proofs.Common.{◌≡◌, ℕ, ◌+◌, ◌-◌, ◌<◌, List, [], ◌∷◌, ◌++◌, length, take, refl, sym, subst, ◌∙◌, ap, arith, append_assoc, Some, Ok, Err}
 use Rattle.std.specs.Prelude.{Result, count_by}
 use Rattle.std.specs.List.{sum_by}
+use Rattle.std.proofs.Math.Nat.{min-le_left}
 use Rattle.std.proofs.lemmas.List.{append-nil}
 use Rattle.xet_error.specs.declared.error.FileReconstructionError.{FileReconstructionError}
 use Rattle.xet_error.specs.declared.error.FileReconstructionError.TheVariants as error
@@ -18,7 +19,7 @@ use Rattle.xet_ties.specs.Ties.{MayLeave, Slack}
 use Rattle.xet_ties.proofs.CallerLemmas.{short_leaves}
 use Rattle.xet_parts.specs.Admissions.{admits}
 use Rattle.xet_parts.proofs.CallerLemmas.{admits_counted, admits_planned, admitted_ties}
-use Rattle.xet_leader.specs.Admission.{AdmitFails, AdmitLeads, AdmitTurn, AdmittedTerms}
+use Rattle.xet_leader.specs.Admission.{AdmitFails, AdmitLeads, AdmitTurn, AdmittedTerms, at_once}
 use Rattle.xet_leader.specs.Led.{AreLedPlans, AreStale, IsLed, IsLedManager, Led}
 use Rattle.xet_leader.specs.Steady.{IsFailing, IsGoing, Loose, Moment}
 use Rattle.xet_leader.proofs.PlainEvents.{IsPlain, plain_manager, plain_plans, plain_running, plain_stale}
@@ -80,9 +81,11 @@ under_after g es (n ∷ ls) a p k =
 
 -- the leader, where so many are left
 led_after : (g : Setup) (b : RunTold) (es : List Event) (ls : List ℕ) (sl : Slack) (stale : List ℕ) (l : Led)
-    (left : ℕ) → length ls + left ≡ l.planned - l.admitted → IsLed g b es sl stale l
-    → IsLed g b (es ++ admits ls) sl stale (record l { admitted = l.planned - left })
+    (left : ℕ) → length ls + left ≡ at_once (l.planned - l.admitted) → IsLed g b es sl stale l
+    → IsLed g b (es ++ admits ls) sl stale
+    (record l { admitted = l.admitted + (at_once (l.planned - l.admitted) - left) })
 led_after g b es ls sl stale l left n a =
+    let most = min-le_left (l.planned - l.admitted) 8192 in
     let counted = admits_counted es ls in
     let same = ap length (admits_planned es ls) in
     let c = a.counted in
@@ -104,7 +107,7 @@ led_after g b es ls sl stale l left n a =
         planned_fits = c.planned_fits;
         admitted_are = omega (arith, counted, n, q, w);
         finished_within = omega (arith, n, f, w);
-        admitted_within = omega arith;
+        admitted_within = omega (arith, n, w, most);
         written_are = written_after es ls ∙ c.written_are
             ∙ ap (λ (ts : List Task). sum_by size (take l.finished ts)) (sym (admits_planned es ls));
       };
@@ -124,7 +127,7 @@ going g b m o l k before after fs at a s =
           s.ties;
       settled = s.settled;
       led = subst (λ (y : Led). IsLed g b fs s.slack o.stale y) (sym a.led)
-          (subst (λ (x : List Event). IsLed g b x s.slack o.stale (record l { admitted = l.planned - a.left }))
+          (subst (λ (x : List Event). IsLed g b x s.slack o.stale (record l { admitted = l.admitted + (at_once (l.planned - l.admitted) - a.left) }))
           (sym is) led);
       calm = s.calm;
       cache_tells = s.cache_tells;

@@ -10,7 +10,7 @@ use Rattle.xet_ties.specs.Setup.{Setup}
 use Rattle.xet_ties.specs.steps.Parts.{blocks_of_answer, terms_in}
 use Rattle.xet_parts.specs.Admissions.{admits}
 use Rattle.xet_leader.specs.declared.leader.Job.{Job}
-use Rattle.xet_leader.specs.Admission.{AdmittedTerms}
+use Rattle.xet_leader.specs.Admission.{AdmittedTerms, at_once}
 use Rattle.xet_leader.specs.Asking.{NoneAsked, OneAsked}
 use Rattle.xet_leader.specs.Led.{IsCounted, IsLedManager, Led, setup_of_job}
 use Rattle.xet_leader.specs.Measures.{measure}
@@ -46,12 +46,12 @@ pub admitted_falls : (g : Setup) (before after : LimitTold) (es fs : List Event)
 admitted_falls g before after es fs l k few counted a =
     go a.admits.admitted.limits a.admits.admitted.events a.admits.counted
   where
-    go : (ls : List ℕ) → fs ≡ es ++ admits ls → length ls + a.left ≡ l.planned - l.admitted
+    go : (ls : List ℕ) → fs ≡ es ++ admits ls → length ls + a.left ≡ at_once (l.planned - l.admitted)
         → (measure g fs k ≤ measure g es l) × (l.admitted < k.admitted → measure g fs k < measure g es l)
     go [] is count =
         let same : measure g fs k ≡ measure g es l = ap (λ (hs : List Event). measure g hs k) (is ∙ append-nil es)
         ∙ ap (λ (z : Led). measure g es z) a.led in
-        let now : k.admitted ≡ l.planned - a.left = ap (λ (z : Led). z.admitted) a.led in
+        let now : k.admitted ≡ l.admitted + (at_once (l.planned - l.admitted) - a.left) = ap (λ (z : Led). z.admitted) a.led in
         (omega (arith, same), λ more. absurd (omega (arith, now, count, more)))
     go (n ∷ ls) is count =
         let small : IsSmall g fs k = counted_small g fs k few counted in

@@ -2,7 +2,8 @@
 use Rattle.std.proofs.Common.{◌≡◌, ◌⊎◌, ℕ, ◌+◌, ◌-◌, ◌^◌, ◌<◌, ◌≤◌, Bool, true, false, List, [], ◌∷◌, ◌++◌, length, take, inl, inr, refl, sym, subst, ◌∙◌, ap, arith, ⊎_elim, Some, Ok, Err}
 use Rattle.std.specs.Prelude.{Option, MatchOption, count_by, slice_get}
 use Rattle.std.specs.List.{sum_by}
-use Rattle.std.proofs.lemmas.Bool.{cases_lt, eq-eqb, eqb-true}
+use Rattle.std.proofs.Math.Nat.{le-min}
+use Rattle.std.proofs.lemmas.Bool.{cases_lt, eq-eqb, eqb-true, false≢true}
 use Rattle.std.proofs.lemmas.List.{append-nil, append_assoc}
 use Rattle.std.proofs.lemmas.Option.{slice_get_cases}
 use Rattle.xet_outside.specs.Told.{ClientTold, SignalTold}
@@ -19,7 +20,7 @@ use Rattle.xet_ties.specs.Setup.{RunTold, Setup}
 use Rattle.xet_ties.specs.steps.Parts.{plan_event}
 use Rattle.xet_parts.specs.Admissions.{IsWaiting, admits}
 use Rattle.xet_leader.specs.declared.leader.Job.{Job}
-use Rattle.xet_leader.specs.Admission.{AdmitLeads, AdmitTurn, AdmittedTerms}
+use Rattle.xet_leader.specs.Admission.{AdmitLeads, AdmitTurn, AdmittedTerms, at_once}
 use Rattle.xet_leader.specs.Asking.{AskLeads, AskOk, AskTurn}
 use Rattle.xet_leader.specs.Led.{IsCounted, IsLedManager, Led, setup_of_job}
 use Rattle.xet_leader.specs.Measures.{measure}
@@ -83,21 +84,33 @@ none_refused left es [] w some r none waits = absurd (let e : left ≡ 0 = w in 
 none_refused left es (n ∷ []) w some r none waits = w.1 (r, may_admit es n none waits)
 none_refused left es (n ∷ k ∷ us) w some r none waits = w
 
+-- of terms that wait some may be admitted
+some_at_once : (waiting : ℕ) → 0 < waiting → 0 < at_once waiting
+some_at_once waiting some = le-min some (omega arith)
+
 -- a planned term that isn't written is admitted, or an admitted one isn't written
 has_work : (before after : LimitTold) (es fs : List Event) (l k : Led) → IsRunning fs → IsCounted fs k
-    → AdmittedTerms before after es fs l k → k.finished < k.planned → k.finished < k.admitted
-has_work before after es fs l k r c a open_still =
+    → l.finished ≤ l.admitted → AdmittedTerms before after es fs l k → k.finished < k.planned
+    → k.finished < k.admitted
+has_work before after es fs l k r c low a open_still =
     ⊎_elim (λ (h : k.finished < k.admitted). h)
     (λ (h : k.admitted ≤ k.finished).
     let within = c.finished_within in
     let planned_are = c.planned_are in
     let admitted_are = c.admitted_are in
-    let now : k.admitted ≡ l.planned - a.left = ap (λ (z : Led). z.admitted) a.led in
+    let now : k.admitted ≡ l.admitted + (at_once (l.planned - l.admitted) - a.left) =
+    ap (λ (z : Led). z.admitted) a.led in
     let as_before : k.planned ≡ l.planned = ap (λ (z : Led). z.planned) a.led in
+    let same : k.finished ≡ l.finished = ap (λ (z : Led). z.finished) a.led in
     let none = none_unwritten fs k c (omega (arith, h, within)) in
-    absurd (none_refused a.left fs a.admits.unused a.admits.waits
-    (omega (arith, now, as_before, h, open_still)) r none
-    (omega (arith, planned_are, admitted_are, h, open_still))))
+    absurd (⊎_elim
+    (λ (some : 0 < a.left).
+    none_refused a.left fs a.admits.unused a.admits.waits some r none
+    (omega (arith, planned_are, admitted_are, h, open_still)))
+    (λ (all : a.left ≤ 0).
+    let some = some_at_once (l.planned - l.admitted) (omega (arith, now, as_before, same, h, low, open_still)) in
+    omega (arith, now, same, h, low, all, some))
+    (cases_lt 0 a.left)))
     (cases_lt k.finished k.admitted)
 
 -- ---- all is finished
@@ -152,7 +165,7 @@ module _ (j : Job) (cs ns : List ClientTold) (x y : SignalTold) (before after : 
       (λ (e : k.planned ≤ k.finished). absurd (let same : k.finished ≡ k.planned = omega
       (arith, e, within, planned_within) in let yes = eq-eqb k.finished k.planned same in cc))
       (cases_lt k.finished k.planned) in
-      inr (omega (arith, stays, none), has_work before after gs fs h k u.led.running u.led.counted a less)
+      inr (omega (arith, stays, none), has_work before after gs fs h k u.led.running u.led.counted t.led.counted.finished_within a less)
   works b m true is o a s t u open_still =
       let g = setup_of_job j in
       let stays = (admitted_falls g before after gs fs h k few u.led.counted a).0 in
@@ -222,6 +235,62 @@ start_stops j cs ns x y before after es gs fs l h k asked e leads then m at seen
     let second = then (setup_of_job j) (asked_at m ns y gs) no_loose lim refl in
     record {
       part = record { ok = λ b s. tt; err = λ b s. second.err b (first.ok b s) };
+      same = tt;
+      done = λ b s. tt;
+      work = λ b s. tt;
+    }
+
+-- ---- without asking, where planned terms wait
+
+module _ (j : Job) (cs : List ClientTold) (x : SignalTold) (before after : LimitTold) (es fs : List Event) (l k : Led)
+    (m : Moment) (at : m.told.clients ≡ cs) (seen : m.told.signal ≡ x) (is : m.events ≡ es) where
+  -- the moment is that after asking for nothing
+  stood : (b : RunTold) → IsGoing (setup_of_job j) b m no_loose l
+      → IsGoing (setup_of_job j) b (asked_at m cs x es) no_loose l
+  stood b s =
+      subst (λ (n : Moment). IsGoing (setup_of_job j) b n no_loose l)
+      (λ i. record { told = record m.told { clients = at i; signal = seen i }; events = is i }) s
+
+  -- some are left, or are to be written
+  waiting_work : (b : RunTold) → j.config.tries < 2 ^ 32 → l.admitted < l.planned → AdmittedTerms before after es fs l k
+      → IsGoing (setup_of_job j) b m no_loose l
+      → IsGoing (setup_of_job j) b (started_at m cs x after fs) no_loose k
+      → LeavesWork (setup_of_job j) m.events fs l k
+  waiting_work b few waits a s u =
+      let g = setup_of_job j in
+      let stays = (admitted_falls g before after es fs l k few u.led.counted a).0 in
+      let same : measure g m.events l ≡ measure g es l = ap (λ (v : List Event). measure g v l) is in
+      let low = s.led.counted.finished_within in
+      let finished : k.finished ≡ l.finished = ap (λ (z : Led). z.finished) a.led in
+      let planned_are : k.planned ≡ l.planned = ap (λ (z : Led). z.planned) a.led in
+      inr (
+        omega (arith, stays, same),
+        has_work before after es fs l k u.led.running u.led.counted low a
+            (omega (arith, finished, planned_are, low, waits)),
+      )
+
+pub start_waits : (j : Job) (cs : List ClientTold) (x : SignalTold) (before after : LimitTold) (es fs : List Event)
+    (l k : Led) → j.config.tries < 2 ^ 32 → l.admitted < l.planned → AdmitTurn before after es fs l k (Ok tt)
+    → AdmitLeads before after es fs l k (Ok tt) → StartLeads j cs cs x x before after es fs l k (Ok false)
+start_waits j cs x before after es fs l k few waits u leads m at seen lim is =
+    let second = leads (setup_of_job j) (asked_at m cs x es) no_loose lim refl in
+    let goes : (b : RunTold) → IsGoing (setup_of_job j) b m no_loose l
+    → IsGoing (setup_of_job j) b (started_at m cs x after fs) no_loose k =
+    λ b s. second.ok b (stood j cs x before after es fs l k m at seen is b s) in
+    record {
+      part = record { ok = goes; err = λ b s. tt };
+      same = admit_writes_none before after es fs l k u.ok ∙ ap written (sym is);
+      done = λ b s all. absurd (false≢true all);
+      work = λ b s all. waiting_work j cs x before after es fs l k m at seen is b few waits u.ok s (goes b s);
+    }
+
+pub start_short : (j : Job) (cs : List ClientTold) (x : SignalTold) (before after : LimitTold) (es fs : List Event)
+    (l k : Led) (e : FileReconstructionError) → AdmitLeads before after es fs l k (Err e)
+    → StartLeads j cs cs x x before after es fs l k (Err e)
+start_short j cs x before after es fs l k e leads m at seen lim is =
+    let second = leads (setup_of_job j) (asked_at m cs x es) no_loose lim refl in
+    record {
+      part = record { ok = λ b s. tt; err = λ b s. second.err b (stood j cs x before after es fs l k m at seen is b s) };
       same = tt;
       done = λ b s. tt;
       work = λ b s. tt;

@@ -1,5 +1,5 @@
 -- What admitting the terms of a run does to its leader.
-use Rattle.std.specs.Prelude.{ℕ, ◌≡◌, ◌-◌, List, Result, OnOk, IfErr}
+use Rattle.std.specs.Prelude.{ℕ, ◌≡◌, ◌+◌, ◌-◌, List, Result, OnOk, IfErr, min}
 use Rattle.xet_error.specs.declared.error.FileReconstructionError.{FileReconstructionError}
 use Rattle.xet_run.specs.declared.event.Event.{Event}
 use Rattle.xet_run.specs.Budgets.{LimitTold}
@@ -8,11 +8,15 @@ use Rattle.xet_ties.specs.Setup.{Setup}
 use Rattle.xet_leader.specs.Led.{Led}
 use Rattle.xet_leader.specs.Steady.{LeadPart, Loose, Moment}
 
--- of the terms that waited so many are left
+-- of so many terms that wait these may be admitted at once
+abbrev pub at_once : ℕ → ℕ
+at_once waiting = min waiting 8192
+
+-- of the terms that might be admitted at once so many are left
 pub record AdmittedTerms (before after : LimitTold) (es fs : List Event) (l k : Led) : Type 0 where
   pub left : ℕ
-  pub admits : AdmitsOk before after es fs (l.planned - l.admitted) left
-  pub led : k ≡ record l { admitted = l.planned - left }
+  pub admits : AdmitsOk before after es fs (at_once (l.planned - l.admitted)) left
+  pub led : k ≡ record l { admitted = l.admitted + (at_once (l.planned - l.admitted) - left) }
 
 -- memory was wanting
 pub record AdmitFails (before after : LimitTold) (es fs : List Event) (l k : Led)

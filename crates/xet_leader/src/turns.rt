@@ -1,7 +1,8 @@
 //! Takes turns, until all is written.
-ghost use Rattle.std.specs.Prelude.{◌≡◌, ◌<◌, ◌^◌, length, map};
+ghost use Rattle.std.specs.Prelude.{◌≡◌, ◌<◌, ◌^◌, List, length, map};
 ghost use Rattle.xet_run.specs.Allowed.{IsRunning};
 ghost use Rattle.xet_ties.specs.Setup.{told_of};
+ghost use Rattle.xet_outside.specs.Told.{ClientTold, SignalTold};
 ghost use Rattle.xet_leader.specs.Led.{AreStale, IsLedManager, setup_of_job};
 ghost use Rattle.xet_leader.specs.Turns.{IsSteadyRun, LeadRun, StartLeads, TurnCall, all_done};
 ghost use Rattle.xet_leader.specs.Works.{CanWork, FirstSettled, WorkLeads};
@@ -275,9 +276,59 @@ fn start<
     }
 }
 
-/// Asks for the plan that is due, and then admits the planned terms that wait. True where none was due and all planned
-/// terms are written, so that the run is finished.
+/// Asks for the plan that is due, unless planned terms wait that aren't admitted, and then admits terms that wait. True
+/// where none was due and all planned terms are written, so that the run is finished.
 pub(crate) fn ask_and_admit<
+    R: Wait,
+    P: FetchPolicy,
+    C: Client,
+    X: CancelSignal,
+    B: BudgetSource,
+    E: EventLog,
+>(
+    rt: &R,
+    alloc: Global,
+    leader: &mut Leader<P>,
+    core: &mut RunCore<E>,
+    clients: &mut [C],
+    cancel: &mut X,
+    source: &mut B,
+    job: Job,
+) -> Result<bool>
+    requires some { 0 < length clients.old }
+    requires runs { IsRunning core.old }
+    requires led { IsLedManager (setup_of_job job) core.old leader.old.manager }
+    ensures { StartLeads job (map C.told clients.old) (map C.told clients.new) (X.told cancel.old) (X.told cancel.new)
+        (B.told source.old) (B.told source.new) core.old core.new leader.old leader.new result }
+{
+    if leader.admitted < leader.planned {
+        return admit_more(rt, leader, core, source, &job);
+    }
+    ask_then_admit(rt, alloc, leader, core, clients, cancel, source, job)
+}
+
+/// Admits more of the planned terms that wait. Never true: some of them are left, or are to be written.
+fn admit_more<R: Wait, P: FetchPolicy, B: BudgetSource, E: EventLog>(
+    rt: &R,
+    leader: &mut Leader<P>,
+    core: &mut RunCore<E>,
+    source: &mut B,
+    job: &Job,
+) -> Result<bool>
+    requires { leader.old.admitted < leader.old.planned }
+    ensures { (cs : List ClientTold) → (x : SignalTold) → StartLeads job.now cs cs x x (B.told source.old)
+        (B.told source.new) core.old core.new leader.old leader.new result }
+{
+    check_tries(job);
+    match admit(rt, leader, core, source) {
+        Ok(_) => Ok(false),
+        Err(error) => Err(error),
+    }
+}
+
+/// Asks for the plan that is due, and then admits terms that wait. True where none was due and all planned terms are
+/// written.
+fn ask_then_admit<
     R: Wait,
     P: FetchPolicy,
     C: Client,
