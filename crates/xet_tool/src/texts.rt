@@ -39,11 +39,12 @@ input of get:
   A CHUNK is a text of hexadecimal digits, two for each byte, and has at least one byte. A file
   is a list of terms: the hash of a xorb, and the numbers of its first chunk and of the one after
   its last, counted from 0. The file's bytes are those of its terms, one after another. Other
-  keys are passed over. It is no document of a store where a term is empty or not inside a xorb,
-  where two keys of xorbs or two of files spell one hash, or where a number anywhere has a
-  fraction or an exponent, needs more than 64 bits, or is -0.
-  The document is kept in memory with its store: mostly a few times its size, and up to a hundred
-  times where it is made to take as much as it can.
+  keys are passed over, and of equal keys the last counts. It is no document of a store where a
+  term is empty or not inside a xorb, where two keys of xorbs or two of files that differ spell
+  one hash, or where a number anywhere has a fraction or an exponent, needs more than 64 bits, or
+  is -0.
+  While it is read the document is in memory beside its store: mostly a few times its size, and
+  up to a hundred times where it is made to take as much as it can.
 
 input of track:
   A script on standard input, of at most 67108864 bytes: a call of a new tracker of uploads on
