@@ -77,7 +77,8 @@ fn first_number(plans: &VecDeque<LedPlan>) -> u64 {
 }
 
 /// The first block that the first plan's terms lack: so many terms, after those that are passed over. Blocks are
-/// numbered in the order of their first terms, so no other one that is lacked has a lower number.
+/// numbered in the order of their first terms, so no other one that is lacked has a lower number where no term is
+/// empty.
 fn first_lacked(plans: &VecDeque<LedPlan>, skip: u64, count: u64) -> usize {
     let Some(plan) = plans.front() else {
         return 0;
