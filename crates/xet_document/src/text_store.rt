@@ -39,8 +39,8 @@ fn tree_store(alloc: Global, text: Vec<u8>) -> Result<Option<MemStore>, OutOfMem
 /// The store that a text lists as `{"xorbs":{HASH:[HEXCHUNK,..]},"files":{HASH:[[HASH,from,to],..]}}`, a JSON document.
 ///
 /// A text with these two keys in this order and no others is read in one pass where each xorb and each file in it has
-/// its form, also one that a later equal key replaces, and the store is valid; any other by the tree of its values, which
-/// takes longer and more memory.
+/// its form, also one that a later equal key replaces, and the store is valid; any other by the tree of its values,
+/// which takes longer and more memory.
 ///
 /// None exactly where the text is no JSON or hasn't this form (other keys are passed over, and of equal keys the last
 /// counts), two different keys of xorbs or two of files spell one hash, a number that is kept as a float stands

@@ -12,9 +12,9 @@ use xet_run::{BudgetSource, EventLog, RunCore};
 /// again in the next turn.
 const AT_ONCE: u64 = 8192;
 
-/// Admits planned terms that wait, 8,192 at most, each under a limit that is asked for it, until none waits or the
-/// limit refuses one. `OutOfMemory` where memory was refused; the terms that were admitted before stay recorded. A run that goes on
-/// goes on after it, or is to stop with that error.
+/// Admits planned terms that wait, 8,192 at most, each under a limit that is asked for it, until none of these waits or
+/// the limit refuses one. `OutOfMemory` where memory was refused; the terms that were admitted before stay recorded. A
+/// run that goes on goes on after it, or is to stop with that error.
 ///
 /// In place of the semaphore of `file_reconstruction::file_reconstructor` of the Rust crate.
 pub fn admit<R: Wait, P: FetchPolicy, B: BudgetSource, E: EventLog>(

@@ -36,8 +36,8 @@ impl Model for PlaceList {
 }
 
 impl PlaceList {
-    /// No blocks, with room for so many. No plan is to have a number below the first one, and few blocks of that one are
-    /// to have numbers below the low one.
+    /// No blocks, with room for so many. No plan is to have a number below the first one, and few blocks of that plan
+    /// are to have numbers below the low one.
     pub(crate) fn new(alloc: Global, first: u64, low: usize, count: usize) -> PlaceList
         ensures { result ≡ [] }
     {
