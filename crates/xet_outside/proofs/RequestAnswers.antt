@@ -57,7 +57,7 @@ added_none {A = A} b n e = e ∙ same b
 -- ---- requests for blocks
 
 pub block_paired : (b n : ClientTold) (r : BlockRequest) (answer : Result BlockAnswer ClientError) → BlockCall b n r answer
-    → IsPaired b n (block_served r answer) (block_said answer)
+    → IsPaired b n (block_served r answer) (block_said r answer)
 block_paired b n r (Ok (Bytes bytes)) call = record { serves = call.served; says = call.said; paired = refl }
 block_paired b n r (Ok Expired) call = record { serves = added_none b.served n.served call.served; says = call.said; paired = refl }
 block_paired b n r (Err e) call = record {
@@ -116,8 +116,9 @@ pub query_answered : (b n : ClientTold) (f : MerkleHash) (q : FileRange) (a : Pl
 query_answered b n f q a call = record { asks = call.asked; says = call.said; answered = refl }
 
 pub block_unasked : (b n : ClientTold) (r : BlockRequest) (answer : Result BlockAnswer ClientError) → BlockCall b n r answer
-    → IsAnswered b n [] (block_said answer)
-block_unasked b n r (Ok a) call = record { asks = added_none b.asked n.asked call.asked; says = call.said; answered = refl }
+    → IsAnswered b n [] (block_said r answer)
+block_unasked b n r (Ok (Bytes bytes)) call = record { asks = added_none b.asked n.asked call.asked; says = call.said; answered = refl }
+block_unasked b n r (Ok Expired) call = record { asks = added_none b.asked n.asked call.asked; says = call.said; answered = refl }
 block_unasked b n r (Err e) call = record {
   asks = added_none b.asked n.asked call.asked;
   says = added_none b.said n.said call.unsaid;

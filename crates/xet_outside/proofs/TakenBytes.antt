@@ -54,7 +54,7 @@ pub rest_is : (piece : List ℕ) (at : ℕ) → take (length piece - at) (drop a
 rest_is piece at = rw (← length-drop at piece) (take-length (drop at piece))
 
 -- a write of the rest that failed, after the first bytes were taken
-pub wrote_err : (a b c : SinkTold) (piece : List ℕ) (at : ℕ) (e : SinkError) → at ≤ length piece → Took a.took b.took (take at piece) → b.flushed ≡ a.flushed → b.link ≡ a.link → a.faults ≤ b.faults → WriteCall b c (take (length piece - at) (drop at piece)) (Err e) → WroteAll a c piece (Err e)
+pub wrote_err : (a b c : SinkTold) (piece : List ℕ) (at : ℕ) (e : SinkError) → at ≤ length piece → Took a.took b.took (take at piece) → b.flushed ≡ a.flushed → b.link ≡ a.link → b.faults ≡ a.faults → WriteCall b c (take (length piece - at) (drop at piece)) (Err e) → WroteAll a c piece (Err e)
 wrote_err a b c piece at sink_error.OutOfMemory i t f g l h = record {
   took = tt;
   prefix = prefix_here a.took b.took c.took piece at i t (h.memory refl);
@@ -62,6 +62,8 @@ wrote_err a b c piece at sink_error.OutOfMemory i t f g l h = record {
   link = h.link ∙ g;
   faults = let m = h.faults in omega arith;
   failed = λ x. cc;
+  unfailed = tt;
+  short = λ _. h.short refl ∙ l;
 }
 wrote_err a b c piece at sink_error.Failed i t f g l h = record {
   took = tt;
@@ -70,4 +72,6 @@ wrote_err a b c piece at sink_error.Failed i t f g l h = record {
   link = h.link ∙ g;
   faults = let m = h.faults in omega arith;
   failed = λ _. let r = h.failed refl in omega arith;
+  unfailed = tt;
+  short = λ x. cc;
 }

@@ -28,7 +28,7 @@ put_some piece at n i l =
     omega arith
 
 -- the last piece, of which only a part was taken
-pub put_part : (a b c : SinkTold) (piece : List ℕ) (at n k : ℕ) → at < length piece → 0 < n → Took a.took b.took (take at piece) → b.flushed ≡ a.flushed → b.link ≡ a.link → a.faults ≤ b.faults → WriteCall b c (take n (drop at piece)) (Ok k) → WriteCall a c piece (Ok (at + k))
+pub put_part : (a b c : SinkTold) (piece : List ℕ) (at n k : ℕ) → at < length piece → 0 < n → Took a.took b.took (take at piece) → b.flushed ≡ a.flushed → b.link ≡ a.link → b.faults ≡ a.faults → WriteCall b c (take n (drop at piece)) (Ok k) → WriteCall a c piece (Ok (at + k))
 put_part a b c piece at n k i z t f g l h = record {
   count = put_within piece at n k (omega arith) h.count;
   some = λ _. let s = h.some (put_some piece at n i z) in omega arith;
@@ -39,6 +39,8 @@ put_part a b c piece at n k i z t f g l h = record {
   link = h.link ∙ g;
   faults = let m = h.faults in omega arith;
   failed = λ x. cc;
+  unfailed = h.unfailed ∙ l;
+  short = λ x. cc;
 }
 
 -- what is left begins with the next piece
@@ -69,13 +71,13 @@ below all p rest taken e l =
     omega arith
 
 -- the last piece, of which only a part was taken
-pub step_part : (a b c : SinkTold) (all p rest : List ℕ) (taken k : ℕ) → drop taken all ≡ p ++ rest → k < length p → Took a.took b.took (take taken all) → b.flushed ≡ a.flushed → b.link ≡ a.link → a.faults ≤ b.faults → WriteCall b c p (Ok k) → WriteCall a c all (Ok (taken + k))
+pub step_part : (a b c : SinkTold) (all p rest : List ℕ) (taken k : ℕ) → drop taken all ≡ p ++ rest → k < length p → Took a.took b.took (take taken all) → b.flushed ≡ a.flushed → b.link ≡ a.link → b.faults ≡ a.faults → WriteCall b c p (Ok k) → WriteCall a c all (Ok (taken + k))
 step_part a b c all p rest taken k e l t f g h w =
     let q = piece_is all p rest taken e in
     put_part a b c all taken (length p) k (below all p rest taken e (omega arith)) (omega arith) t f g h (rw q w)
 
 -- the piece that failed
-pub step_failed : (a b c : SinkTold) (all p rest : List ℕ) (taken : ℕ) → taken ≤ length all → drop taken all ≡ p ++ rest → Took a.took b.took (take taken all) → b.flushed ≡ a.flushed → b.link ≡ a.link → a.faults ≤ b.faults → WriteCall b c p (Err sink_error.Failed) → WriteCall a c all (Err sink_error.Failed)
+pub step_failed : (a b c : SinkTold) (all p rest : List ℕ) (taken : ℕ) → taken ≤ length all → drop taken all ≡ p ++ rest → Took a.took b.took (take taken all) → b.flushed ≡ a.flushed → b.link ≡ a.link → b.faults ≡ a.faults → WriteCall b c p (Err sink_error.Failed) → WriteCall a c all (Err sink_error.Failed)
 step_failed a b c all p rest taken i e t f g h w = record {
   count = tt;
   some = λ _. tt;
@@ -86,4 +88,6 @@ step_failed a b c all p rest taken i e t f g h w = record {
   link = w.link ∙ g;
   faults = let m = w.faults in omega arith;
   failed = λ _. let r = w.failed refl in omega arith;
+  unfailed = tt;
+  short = λ x. cc;
 }

@@ -11,15 +11,15 @@ use Rattle.xet_outside.specs.declared.plan.PlanAnswer.{PlanAnswer}
 use Rattle.xet_outside.specs.declared.said.Said.{Said}
 use Rattle.xet_outside.specs.declared.said.Said.TheVariants as said
 use Rattle.xet_outside.specs.declared.served.Served.{Served}
-use Rattle.xet_outside.specs.Told.{Added, ClientTold, Query, served_of}
+use Rattle.xet_outside.specs.Told.{Added, ClientTold, Query, said_to, served_of}
 
 -- ---- answers to requests for blocks
 
 -- the bytes of an answer, if it has some
 abbrev pub bytes_said : Said → List BlockBytes
 bytes_said (said.Plan a) = []
-bytes_said (said.Block (Bytes b)) = b ∷ []
-bytes_said (said.Block Expired) = []
+bytes_said (said.Block b) = b ∷ []
+bytes_said (said.Expired e) = []
 
 -- the answers with bytes, in order
 abbrev pub bytes_in : List Said → List BlockBytes
@@ -37,12 +37,25 @@ pub record IsPaired (before after : ClientTold) (served : List Served) (all : Li
   pub says : Added before.said after.said all
   pub paired : length served ≡ length (bytes_in all)
 
+-- ---- expired answers
+
+-- the request that an answer says to have expired, if it does
+abbrev pub late_said : Said → List Served
+late_said (said.Plan a) = []
+late_said (said.Block b) = []
+late_said (said.Expired e) = e ∷ []
+
+-- the requests that were answered as expired, in order
+abbrev pub late_in : List Said → List Served
+late_in all = flat_map late_said all
+
 -- ---- answers to queries
 
 -- the answer to a query, if it is one
 abbrev pub plans_said : Said → List PlanAnswer
 plans_said (said.Plan a) = a ∷ []
 plans_said (said.Block b) = []
+plans_said (said.Expired e) = []
 
 -- the answers to queries, in order
 abbrev pub plans_in : List Said → List PlanAnswer
@@ -69,9 +82,9 @@ block_served r (Ok Expired) = []
 block_served r (Err e) = []
 
 -- and to what was said
-abbrev pub block_said : Result BlockAnswer ClientError → List Said
-block_said (Ok a) = said.Block a ∷ []
-block_said (Err e) = []
+abbrev pub block_said : BlockRequest → Result BlockAnswer ClientError → List Said
+block_said r (Ok a) = said_to r a ∷ []
+block_said r (Err e) = []
 
 -- what a call of `plan` adds to what was said
 abbrev pub plan_said : Result PlanAnswer ClientError → List Said

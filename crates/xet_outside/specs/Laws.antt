@@ -15,7 +15,7 @@ use Rattle.xet_outside.specs.declared.served.Served.{Served}
 -- a call of `block` adds an answer with bytes for each served block that it adds
 abbrev pub BlocksPair : Type 0
 BlocksPair = (before after : ClientTold) (r : BlockRequest) (answer : Result BlockAnswer ClientError)
-    → BlockCall before after r answer → IsPaired before after (block_served r answer) (block_said answer)
+    → BlockCall before after r answer → IsPaired before after (block_served r answer) (block_said r answer)
 
 -- a call of `plan` adds neither
 abbrev pub PlansPair : Type 0
@@ -43,7 +43,7 @@ QueriesAnswered = (before after : ClientTold) (f : MerkleHash) (q : FileRange) (
 
 abbrev pub BlocksAnswerNoQuery : Type 0
 BlocksAnswerNoQuery = (before after : ClientTold) (r : BlockRequest) (answer : Result BlockAnswer ClientError)
-    → BlockCall before after r answer → IsAnswered before after [] (block_said answer)
+    → BlockCall before after r answer → IsAnswered before after [] (block_said r answer)
 
 -- calls in a row
 abbrev pub AnswersJoin : Type 0

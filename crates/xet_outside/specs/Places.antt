@@ -59,6 +59,8 @@ pub record PlaceCall (before after : SinkTold) (set : Placed → Placed)
   pub same : before_place after.link ≡ before_place before.link
   pub faults : before.faults ≤ after.faults
   pub failed : IsErrOf answer sink_error.Failed → Rose before.faults after.faults
+  pub unfailed : OnOk answer (after.faults ≡ before.faults)
+  pub short : IsErrOf answer sink_error.OutOfMemory → after.faults ≡ before.faults
 
 -- an empty content
 abbrev pub emptied : Placed → Placed

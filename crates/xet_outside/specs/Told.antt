@@ -81,9 +81,14 @@ to_store s = inr s ∷ []
 abbrev pub Query : Type 0
 Query = MerkleHash × FileRange
 
--- a block that was answered with bytes, by its request
+-- a block that was answered, by its request
 abbrev pub served_of : BlockRequest → Served
 served_of r = record { plan = r.acquisition.plan; index = r.index; xorb = r.xorb; ranges = r.chunks }
+
+-- what is said by an answer to this request: an expired one names it
+abbrev pub said_to : BlockRequest → BlockAnswer → Said
+said_to r (Bytes b) = said.Block b
+said_to r Expired = said.Expired (served_of r)
 
 pub record ClientTold : Type 0 where
   pub store : Option Store
@@ -135,7 +140,7 @@ pub record BlockCall (before after : ClientTold) (request : BlockRequest)
   pub store : after.store ≡ before.store
   pub honest : (s : Store) → before.store ≡ Some s → IfOk answer (IsHonestBlock s request)
   pub asked : after.asked ≡ before.asked
-  pub said : IfOk answer (λ a. Grew before.said after.said (said.Block a))
+  pub said : IfOk answer (λ a. Grew before.said after.said (said_to request a))
   pub unsaid : OnErr answer (after.said ≡ before.said)
   pub served : IfOk answer (ServedBy before after request)
   pub unserved : OnErr answer (after.served ≡ before.served)
@@ -213,6 +218,8 @@ pub record WriteCall (before after : SinkTold) (piece : List ℕ) (answer : Resu
   pub link : after.link ≡ before.link
   pub faults : before.faults ≤ after.faults
   pub failed : IsErrOf answer sink_error.Failed → Rose before.faults after.faults
+  pub unfailed : OnOk answer (after.faults ≡ before.faults)
+  pub short : IsErrOf answer sink_error.OutOfMemory → after.faults ≡ before.faults
 
 -- one call of `flush`
 pub record FlushCall (before after : SinkTold) (answer : Result (Unit {0}) SinkError) : Type 0 where
@@ -222,6 +229,8 @@ pub record FlushCall (before after : SinkTold) (answer : Result (Unit {0}) SinkE
   pub link : after.link ≡ before.link
   pub faults : before.faults ≤ after.faults
   pub failed : IsErrOf answer sink_error.Failed → Rose before.faults after.faults
+  pub unfailed : OnOk answer (after.faults ≡ before.faults)
+  pub short : IsErrOf answer sink_error.OutOfMemory → after.faults ≡ before.faults
 
 -- ---- signals
 
@@ -250,3 +259,4 @@ pub record ReadCall {E : Type 0} (before after : SourceTold) (into : List ℕ) (
   pub kept : OnErr answer (after.left ≡ before.left)
   pub faults : before.faults ≤ after.faults
   pub failed : OnErr answer (Rose before.faults after.faults)
+  pub unfailed : OnOk answer (after.faults ≡ before.faults)

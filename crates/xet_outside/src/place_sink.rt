@@ -11,12 +11,14 @@ use crate::sink::{Sink, SinkError};
 /// taken bytes.
 pub trait PlaceSink: Sink {
     /// Makes the content empty and the place 0, and leaves what was taken. `Failed` comes only where the count of
-    /// faults rose. A refused call leaves content and place, where they are told.
+    /// faults rose. An Ok and want of memory leave that count. A refused call leaves content and place, where they are
+    /// told.
     fn empty(&mut self) -> Result<(), SinkError>
         ensures { PlaceCall (Self.told self.old) (Self.told self.new) emptied result };
 
     /// Makes this the place, also past the content's end, and leaves the content and what was taken. `Failed` comes
-    /// only where the count of faults rose. A refused call leaves content and place, where they are told.
+    /// only where the count of faults rose. An Ok and want of memory leave that count. A refused call leaves content
+    /// and place, where they are told.
     fn seek(&mut self, place: u64) -> Result<(), SinkError>
         ensures { PlaceCall (Self.told self.old) (Self.told self.new) (at_place place) result };
 

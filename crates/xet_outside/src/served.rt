@@ -1,7 +1,7 @@
-//! Blocks that a connection served.
+//! Blocks that a connection was asked for.
 use xet_base::{ChunkRange, MerkleHash, ShortList};
 
-/// A block that a connection answered with bytes, by its request.
+/// A block that a connection answered with bytes, or as expired, by its request.
 ///
 /// The Rust crates have no such type.
 #[derive(Drop, Debug)]

@@ -23,17 +23,18 @@ pub trait Sink {
     ghost told: { Self → SinkTold };
 
     /// Takes a prefix of the piece, and answers its length: at least one byte of a nonempty piece. `Failed` comes only
-    /// where the count of faults rose, and then an unknown prefix was taken.
+    /// where the count of faults rose, and then an unknown prefix was taken. An Ok and want of memory leave that count.
     fn write(&mut self, piece: &[u8]) -> Result<usize, SinkError>
         ensures { WriteCall (told self.old) (told self.new) piece.now result };
 
-    /// Flushes all that was taken. `Failed` comes only where the count of faults rose. After an error as many of the
-    /// taken bytes are flushed as before.
+    /// Flushes all that was taken. `Failed` comes only where the count of faults rose. An Ok and want of memory leave
+    /// that count. After an error as many of the taken bytes are flushed as before.
     fn flush(&mut self) -> Result<(), SinkError>
         ensures { FlushCall (told self.old) (told self.new) result };
 
     /// Takes a prefix of the joined pieces, and answers its length: at least one byte, where they have any. `Failed`
-    /// comes only where the count of faults rose, and then an unknown prefix was taken.
+    /// comes only where the count of faults rose, and then an unknown prefix was taken. An Ok and want of memory leave
+    /// that count.
     ///
     /// Where a sink has no body of its own, the pieces are written one after another, up to one that isn't taken whole,
     /// that finds no memory after others were taken, or with which the count would not fit.

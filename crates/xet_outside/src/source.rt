@@ -21,7 +21,7 @@ pub trait Source {
     ghost told: { Self → SourceTold };
 
     /// Takes bytes into the front of the buffer, and answers how many. None for a nonempty buffer means the end of the
-    /// input. A fault comes only where the count of faults rose.
+    /// input. A fault comes only where the count of faults rose, and an Ok leaves that count.
     fn read(&mut self, into: &mut [u8]) -> Result<usize, SourceFault>
         ensures { ReadCall (told self.old) (told self.new) into.new result };
 }

@@ -106,4 +106,6 @@ passed s k n m piece answer h w =
       link = rw w.link refl;
       faults = w.faults;
       failed = w.failed;
+      unfailed = w.unfailed;
+      short = w.short;
     }

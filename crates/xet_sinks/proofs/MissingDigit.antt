@@ -17,6 +17,8 @@ settled_ok s k n m g at h l p = record {
   link = rw p.link refl;
   faults = p.faults;
   failed = λ x. cc;
+  unfailed = p.unfailed;
+  short = λ x. cc;
   whole = (refl, refl);
 }
 
@@ -29,5 +31,7 @@ settled_err s k n m g at h l p = record {
   link = rw p.link refl;
   faults = p.faults;
   failed = λ _. p.failed refl;
+  unfailed = tt;
+  short = λ x. cc;
   whole = tt;
 }

@@ -7,7 +7,7 @@ use Rattle.xet_sinks.specs.declared.pushing.Sent.TheVariants.{Memory, Fault}
 use Rattle.xet_sinks.specs.steps.Pushed.{Pushed}
 
 pub pushed_fault : (a b c : SinkTold) (piece : List ℕ) (at : ℕ) → at ≤ length piece
-    → Took a.took b.took (take at piece) → b.flushed ≡ a.flushed → b.link ≡ a.link → a.faults ≤ b.faults
+    → Took a.took b.took (take at piece) → b.flushed ≡ a.flushed → b.link ≡ a.link → b.faults ≡ a.faults
     → WriteCall b c (take (length piece - at) (drop at piece)) (Err sink_error.Failed) → Pushed a c piece Fault
 pushed_fault a b c piece at i t f g l h = record {
   took = prefix_more a.took b.took c.took piece at i t (let p = h.prefix refl in rw rest_is at p);
@@ -15,10 +15,11 @@ pushed_fault a b c piece at i t f g l h = record {
   link = h.link ∙ g;
   faults = let m = h.faults in omega arith;
   failed = λ _. let r = h.failed refl in omega arith;
+  unfailed = tt;
 }
 
 pub pushed_memory : (a b c : SinkTold) (piece : List ℕ) (at : ℕ) → at < length piece
-    → Took a.took b.took (take at piece) → b.flushed ≡ a.flushed → b.link ≡ a.link → a.faults ≤ b.faults
+    → Took a.took b.took (take at piece) → b.flushed ≡ a.flushed → b.link ≡ a.link → b.faults ≡ a.faults
     → WriteCall b c (take (length piece - at) (drop at piece)) (Err sink_error.OutOfMemory)
     → Pushed a c piece (Memory at)
 pushed_memory a b c piece at i t f g l h = record {
@@ -27,4 +28,5 @@ pushed_memory a b c piece at i t f g l h = record {
   link = h.link ∙ g;
   faults = let m = h.faults in omega arith;
   failed = λ x. cc;
+  unfailed = h.short refl ∙ l;
 }

@@ -31,6 +31,8 @@ sent_whole s k n m g f bs h w p =
         link = rw p.link refl;
         faults = p.faults;
         failed = λ x. cc;
+        unfailed = p.unfailed;
+        short = λ x. cc;
       },
       stands_even s.took k.took n.took m.took g f bs (2 * length bs) h w.bytes w.hex (omega arith) (omega arith) e,
     )
@@ -50,6 +52,8 @@ sent_none s k n m g f bs h w p =
         link = rw p.link refl;
         faults = p.faults;
         failed = λ x. cc;
+        unfailed = tt;
+        short = λ _. p.unfailed;
       },
       stands_even s.took k.took n.took m.took g f bs 0 h w.bytes w.hex (omega arith) refl p.took.1,
     )
@@ -70,6 +74,8 @@ sent_some s k n m g f bs j z h w p =
       link = rw p.link refl;
       faults = p.faults;
       failed = λ x. cc;
+      unfailed = p.unfailed;
+      short = λ x. cc;
     }
 
 pub sent_even : (s k n m : SinkTold) (g f bs : List ℕ) (j : ℕ) → 0 < j → j % 2 ≡ 0
@@ -117,6 +123,8 @@ sent_fault s k n m g f bs at h w p =
         link = rw p.link refl;
         faults = p.faults;
         failed = λ _. p.failed refl;
+        unfailed = tt;
+        short = λ x. cc;
       },
       stands_fault s.took k.took n.took m.took g f bs t.count at h w.bytes w.hex (omega arith) w.room t.took,
     )

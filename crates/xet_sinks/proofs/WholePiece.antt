@@ -59,7 +59,7 @@ put_some piece at n i l =
 
 -- the last piece, of which only a part was taken
 pub put_part : (a b c : SinkTold) (piece : List ℕ) (at n k : ℕ) → at < length piece → 0 < n
-    → Took a.took b.took (take at piece) → b.flushed ≡ a.flushed → b.link ≡ a.link → a.faults ≤ b.faults
+    → Took a.took b.took (take at piece) → b.flushed ≡ a.flushed → b.link ≡ a.link → b.faults ≡ a.faults
     → WriteCall b c (take n (drop at piece)) (Ok k) → WriteCall a c piece (Ok (at + k))
 put_part a b c piece at n k i z t f g l h = record {
   count = put_within piece at n k (omega arith) h.count;
@@ -71,6 +71,8 @@ put_part a b c piece at n k i z t f g l h = record {
   link = h.link ∙ g;
   faults = let m = h.faults in omega arith;
   failed = λ x. cc;
+  unfailed = h.unfailed ∙ l;
+  short = λ x. cc;
 }
 
 prefix_less : (b c : Option (List ℕ)) (xs : List ℕ) (n : ℕ) → TookPrefix b c (take n xs) → TookPrefix b c xs
@@ -81,7 +83,7 @@ prefix_less b c xs n p =
     record { count = p.count; within = omega arith; took = rw e at p.took }
 
 pub put_failed : (a b c : SinkTold) (piece : List ℕ) (at n : ℕ) → at < length piece
-    → Took a.took b.took (take at piece) → b.flushed ≡ a.flushed → b.link ≡ a.link → a.faults ≤ b.faults
+    → Took a.took b.took (take at piece) → b.flushed ≡ a.flushed → b.link ≡ a.link → b.faults ≡ a.faults
     → WriteCall b c (take n (drop at piece)) (Err sink_error.Failed) → WriteCall a c piece (Err sink_error.Failed)
 put_failed a b c piece at n i t f g l h = record {
   count = tt;
@@ -94,6 +96,8 @@ put_failed a b c piece at n i t f g l h = record {
   link = h.link ∙ g;
   faults = let m = h.faults in omega arith;
   failed = λ _. let r = h.failed refl in omega arith;
+  unfailed = tt;
+  short = λ x. cc;
 }
 
 -- a flush, with nothing missing
@@ -110,6 +114,8 @@ flush_call a s k n m g at stopped (Ok u) w h f =
       link = rw f.link w.link;
       faults = omega arith;
       failed = λ x. cc;
+      unfailed = f.unfailed ∙ w.unfailed;
+      short = λ x. cc;
     }
 flush_call a s k n m g at stopped (Err sink_error.OutOfMemory) w h f =
     let l = f.faults in
@@ -120,6 +126,8 @@ flush_call a s k n m g at stopped (Err sink_error.OutOfMemory) w h f =
       link = rw f.link w.link;
       faults = omega arith;
       failed = λ x. cc;
+      unfailed = tt;
+      short = λ _. f.short refl ∙ w.unfailed;
     }
 flush_call a s k n m g at stopped (Err sink_error.Failed) w h f =
     let l = f.faults in
@@ -130,6 +138,8 @@ flush_call a s k n m g at stopped (Err sink_error.Failed) w h f =
       link = rw f.link w.link;
       faults = omega arith;
       failed = λ x. let r = f.failed refl in omega arith;
+      unfailed = tt;
+      short = λ x. cc;
     }
 
 pub flush_text : (a s k n m : SinkTold) (g : List ℕ) (at : ℕ) (stopped : Bool) (answer : Result (Unit {0}) SinkError)

@@ -23,13 +23,13 @@ with_plan log q a = record { asked = log.asked ++ q ∷ []; said = log.said ++ p
 abbrev pub with_block : ClientLog → BlockRequest → BlockBytes → ClientLog
 with_block log r b = record {
   asked = log.asked;
-  said = log.said ++ block_said (Ok (Bytes b));
+  said = log.said ++ block_said r (Ok (Bytes b));
   served = log.served ++ block_served r (Ok (Bytes b));
 }
 
 -- the blocks that were given, as answers that were said
 abbrev front : List BlockBytes → List Said
-front gave = map (λ b. said.Block (Bytes b)) gave
+front gave = map (λ b. said.Block b) gave
 
 -- one more answer
 pub said_grew : (start : TapTold) (log after : ClientLog) (x : Said) → after.said ≡ log.said ++ x ∷ []
@@ -102,14 +102,14 @@ pub given_block : (start before now : TapTold) (log after : ClientLog) (r : Bloc
     → AreGiven (said_behind start after) now
 given_block start before now log after r block b e call g = rw e (more start.gave g ∙ sym call.gave)
   where
-    same : (bs : List BlockBytes) → bytes_in (front bs ++ (log.said ++ block_said (Ok (Bytes b)))) ≡ bytes_in
+    same : (bs : List BlockBytes) → bytes_in (front bs ++ (log.said ++ block_said r (Ok (Bytes b)))) ≡ bytes_in
         (front bs ++ log.said) ++ b ∷ []
-    same bs = ap bytes_in (sym (append_assoc (front bs) log.said (block_said (Ok (Bytes b)))))
-        ∙ bytes_both (front bs ++ log.said) (block_said (Ok (Bytes b)))
+    same bs = ap bytes_in (sym (append_assoc (front bs) log.said (block_said r (Ok (Bytes b)))))
+        ∙ bytes_both (front bs ++ log.said) (block_said r (Ok (Bytes b)))
 
     more : (o : Option (List BlockBytes)) → option_map bytes_in (option_map
         (λ bs. front bs ++ log.said) o) ≡ before.gave
-        → option_map bytes_in (option_map (λ bs. front bs ++ (log.said ++ block_said (Ok (Bytes b)))) o) ≡ option_map
+        → option_map bytes_in (option_map (λ bs. front bs ++ (log.said ++ block_said r (Ok (Bytes b)))) o) ≡ option_map
         (λ xs. xs ++ b ∷ []) before.gave
     more None h = ap (option_map (λ (xs : List BlockBytes). xs ++ b ∷ [])) h
     more (Some bs) h = ap (λ (l : List BlockBytes). Some l) (same bs)
@@ -120,9 +120,9 @@ pub honest_block : (s t : Store) (log after : ClientLog) (r : BlockRequest) (b :
     → PlansAreHonest s log.asked (plans_in log.said) → PlansAreHonest t after.asked (plans_in after.said)
 honest_block s t log after r b stays e h =
     let same : s ≡ t = cc in
-    let plans : plans_in (log.said ++ block_said (Ok (Bytes b))) ≡ plans_in log.said = plans_both log.said (block_said
+    let plans : plans_in (log.said ++ block_said r (Ok (Bytes b))) ≡ plans_in log.said = plans_both log.said (block_said r
     (Ok (Bytes b))) ∙ append-nil (plans_in log.said) in
-    rw e (subst (λ (u : Store). PlansAreHonest u log.asked (plans_in (log.said ++ block_said (Ok (Bytes b))))) same
+    rw e (subst (λ (u : Store). PlansAreHonest u log.asked (plans_in (log.said ++ block_said r (Ok (Bytes b))))) same
     (subst (λ (l : List PlanAnswer). PlansAreHonest s log.asked l) (sym plans) h))
 
 -- ---- what a caller has of it

@@ -1,5 +1,5 @@
 -- A connection by a script.
-use Rattle.std.specs.Prelude.{◌≡◌, Bool, true, false, Option, Some, Result, Ok, Err, IfOk, IfErr}
+use Rattle.std.specs.Prelude.{ℕ, ◌≡◌, ◌+◌, ◌-◌, ◌^◌, min, Bool, true, false, Option, Some, Result, Ok, Err, IfOk, IfErr}
 use Rattle.xet_base.specs.Store.{Store}
 use Rattle.xet_base.specs.declared.cas_types.FileRange.{FileRange}
 use Rattle.xet_base.specs.declared.merklehash.MerkleHash.{MerkleHash}
@@ -45,3 +45,17 @@ FollowsBlock s q (Some NoMemory) r = r ≡ Err client_error.OutOfMemory
 FollowsBlock s q (Some Expire) r = r ≡ Ok Expired
 FollowsBlock s q (Some (SayBlock b)) r = r ≡ Ok (Bytes b)
 FollowsBlock s q _ r = SaysBlock s q r
+
+-- a count with one more, or at its last value
+abbrev pub one_more : ℕ → ℕ
+one_more count = min (count + 1) (2 ^ 64 - 1)
+
+-- the count of faults after a call that follows a step
+abbrev pub faults_after : Option ClientStep → ℕ → ℕ
+faults_after (Some Fail) count = one_more count
+faults_after _ count = count
+
+-- the count of expired answers after a call for a block that follows a step
+abbrev pub expiries_after : Option ClientStep → ℕ → ℕ
+expiries_after (Some Expire) count = one_more count
+expiries_after _ count = count

@@ -2,7 +2,6 @@
 use Rattle.std.specs.Prelude.{ℕ, ◌≡◌, ◌++◌, Bool, true, cond, List, [], length, Option, Some, None, map, option_map, unwrap_or, Result, IfOk, OnOk, OnErr}
 use Rattle.xet_base.specs.declared.error.OutOfMemory.{OutOfMemory}
 use Rattle.xet_base.specs.Store.{Store}
-use Rattle.xet_outside.specs.declared.block.BlockAnswer.TheVariants.{Bytes}
 use Rattle.xet_outside.specs.declared.block.BlockBytes.{BlockBytes}
 use Rattle.xet_outside.specs.declared.block.BlockRequest.{BlockRequest}
 use Rattle.xet_outside.specs.declared.said.Said.{Said}
@@ -32,7 +31,7 @@ pub record PassCall (before after : TapTold) (request : BlockRequest) (block : B
 
 -- what a connection behind a tap said: what the tap had given before counts as said
 abbrev pub said_behind : TapTold → ClientLog → Option (List Said)
-said_behind start log = option_map (λ gave. map (λ b. said.Block (Bytes b)) gave ++ log.said) start.gave
+said_behind start log = option_map (λ gave. map (λ b. said.Block b) gave ++ log.said) start.gave
 
 -- how many blocks the tap had given, where it tells them
 abbrev pub given_count : TapTold → ℕ

@@ -50,7 +50,7 @@ impl ClientLog {
     pub fn and_block(&self, request: &BlockRequest, answer: &BlockAnswer) -> ClientLog
         ensures { result ≡ record {
           asked = self.now.asked;
-          said = self.now.said ++ block_said (Ok answer.now);
+          said = self.now.said ++ block_said request.now (Ok answer.now);
           served = self.now.served ++ block_served request.now (Ok answer.now);
         } }
     {

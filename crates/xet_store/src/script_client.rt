@@ -2,7 +2,7 @@
 ghost use Rattle.std.specs.Prelude.{◌≡◌, [], cond, drop, None, Some, slice_get, true};
 ghost use Rattle.std.specs.List.{list_any};
 ghost use Rattle.xet_outside.specs.Told.{BlockCall, PlanCall};
-ghost use Rattle.xet_store.specs.Scripts.{FollowsBlock, FollowsPlan, says};
+ghost use Rattle.xet_store.specs.Scripts.{FollowsBlock, FollowsPlan, expiries_after, faults_after, says};
 
 use crate::mem_client::MemClient;
 use crate::mem_store::MemStore;
@@ -49,9 +49,9 @@ fn speak(steps: &[ClientStep]) -> bool
     false
 }
 
-/// A fake: a connection to a store in memory that does at each of its first calls what a script says. Its counts of
-/// faults and of expired answers stand at their last value at most. It tells the store where no step answers something
-/// of its own, and no lists.
+/// A fake: a connection to a store in memory that does at each of its first calls what a script says. Each failure and
+/// each expired answer is counted, and nothing else; the counts stand at their last value at most. It tells the store
+/// where no step answers something of its own, and no lists.
 #[derive(Drop)]
 pub struct ScriptClient<'a> {
     inner: MemClient<'a>,
@@ -113,6 +113,10 @@ impl<'a> Client for ScriptClient<'a> {
             (⟦<ScriptClient<'a> as Client>⟧.told self.new) file.now range result }
         ensures follows { FollowsPlan self.old.inner.store.now file.now range
             (slice_get self.old.steps.items 0) result }
+        ensures faults { (⟦<ScriptClient<'a> as Client>⟧.told self.new).faults
+            ≡ faults_after (slice_get self.old.steps.items 0) (⟦<ScriptClient<'a> as Client>⟧.told self.old).faults }
+        ensures expiries { (⟦<ScriptClient<'a> as Client>⟧.told self.new).expiries
+            ≡ (⟦<ScriptClient<'a> as Client>⟧.told self.old).expiries }
         ensures store { self.new.inner.store.now ≡ self.old.inner.store.now }
         ensures steps { self.new.steps.items ≡ drop 1 self.old.steps.items }
     {
@@ -134,6 +138,11 @@ impl<'a> Client for ScriptClient<'a> {
             (⟦<ScriptClient<'a> as Client>⟧.told self.new) request.now result }
         ensures follows { FollowsBlock self.old.inner.store.now request.now
             (slice_get self.old.steps.items 0) result }
+        ensures faults { (⟦<ScriptClient<'a> as Client>⟧.told self.new).faults
+            ≡ faults_after (slice_get self.old.steps.items 0) (⟦<ScriptClient<'a> as Client>⟧.told self.old).faults }
+        ensures expiries { (⟦<ScriptClient<'a> as Client>⟧.told self.new).expiries
+            ≡ expiries_after (slice_get self.old.steps.items 0)
+            (⟦<ScriptClient<'a> as Client>⟧.told self.old).expiries }
         ensures store { self.new.inner.store.now ≡ self.old.inner.store.now }
         ensures steps { self.new.steps.items ≡ drop 1 self.old.steps.items }
     {

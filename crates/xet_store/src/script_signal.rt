@@ -1,6 +1,7 @@
 //! A signal by a script.
-ghost use Rattle.std.specs.Prelude.{◌≡◌, Some, false, unwrap_or, slice_get};
+ghost use Rattle.std.specs.Prelude.{◌≡◌, Some, cond, false, unwrap_or, slice_get};
 ghost use Rattle.xet_outside.specs.Told.{AskCall};
+ghost use Rattle.xet_store.specs.Scripts.{one_more};
 
 use xet_outside::CancelSignal;
 
@@ -29,11 +30,13 @@ impl ScriptSignal {
 impl CancelSignal for ScriptSignal {
     ghost told = { λ s. record { asks = Some s.asks; yes = s.yes } };
 
-    /// The answer that stands in the list at the number of earlier asks, and no after the last. The list stays.
+    /// The answer that stands in the list at the number of earlier asks, and no after the last. The list stays, and
+    /// each yes is counted once.
     fn asked(&mut self) -> bool
         ensures call { AskCall (⟦<ScriptSignal as CancelSignal>⟧.told self.old)
             (⟦<ScriptSignal as CancelSignal>⟧.told self.new) result }
         ensures answer { result ≡ unwrap_or (slice_get self.old.answers.items self.old.asks) false }
+        ensures yes { self.new.yes ≡ cond result (one_more self.old.yes) self.old.yes }
         ensures same { self.new.answers ≡ self.old.answers }
     {
         let answer = answer_at(self.answers.as_slice(), self.asks);

@@ -2,7 +2,7 @@
 use bytes::Bytes;
 use std::alloc::Global;
 use std::test::Fail;
-use xet_base::{ChunkRange, FileRange, ShortList, Text, UniqueId};
+use xet_base::{ChunkRange, FileRange, SharedText, ShortList, UniqueId};
 use xet_store::worked::{FILE_OF_ALL, X1, worked_store};
 use xet_store::{
     BlockAnswer, BlockBytes, BlockRequest, Client, ClientError, ClientStep, MemClient, Offsets,
@@ -21,7 +21,7 @@ fn request(alloc: Global, ranges: &[(u32, u32)]) -> Result<BlockRequest, Fail> {
             refresh: 0,
         },
         index: 0,
-        url: Text::from_string(String::from_str(alloc, "mem:1")?),
+        url: SharedText::from_string(alloc, String::from_str(alloc, "mem:1")?)?,
         xorb: X1,
         chunks,
         bytes: ShortList::new(),

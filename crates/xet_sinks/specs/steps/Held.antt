@@ -20,5 +20,7 @@ pub record WroteOut (before after : SinkTold) (buffer : List ℕ) (out : ℕ) (s
   pub link : after.link ≡ before.link
   pub faults : before.faults ≤ after.faults
   pub failed : IsErrOf answer sink_error.Failed → Rose before.faults after.faults
+  pub unfailed : OnOk answer (after.faults ≡ before.faults)
+  pub short : IsErrOf answer sink_error.OutOfMemory → after.faults ≡ before.faults
   pub empty : OnOk answer ((buffer ≡ []) × (out ≡ 0))
   pub whole : OnOk answer (stopped ≡ false)

@@ -10,6 +10,12 @@ TookSo before after piece Whole = Took before after piece
 TookSo before after piece (Memory k) = (k < length piece) × Took before after (take k piece)
 TookSo before after piece Fault = TookPrefix before after piece
 
+-- only a fault leaves another count of faults
+abbrev pub KeepsFaults : ℕ → ℕ → Sent → Type 0
+KeepsFaults before after Whole = after ≡ before
+KeepsFaults before after (Memory k) = after ≡ before
+KeepsFaults before after Fault = Unit {0}
+
 -- what the loop over one piece did
 pub record Pushed (before after : SinkTold) (piece : List ℕ) (answer : Sent) : Type 0 where
   pub took : TookSo before.took after.took piece answer
@@ -17,3 +23,4 @@ pub record Pushed (before after : SinkTold) (piece : List ℕ) (answer : Sent) :
   pub link : after.link ≡ before.link
   pub faults : before.faults ≤ after.faults
   pub failed : answer ≡ Fault → Rose before.faults after.faults
+  pub unfailed : KeepsFaults before.faults after.faults answer

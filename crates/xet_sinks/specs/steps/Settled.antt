@@ -12,4 +12,6 @@ pub record Settled (before after : SinkTold) (at : ℕ) (stopped : Bool)
   pub link : after.link ≡ before.link
   pub faults : before.faults ≤ after.faults
   pub failed : IsErrOf answer sink_error.Failed → Rose before.faults after.faults
+  pub unfailed : OnOk answer (after.faults ≡ before.faults)
+  pub short : IsErrOf answer sink_error.OutOfMemory → after.faults ≡ before.faults
   pub whole : OnOk answer ((at ≡ 0) × (stopped ≡ false))

@@ -12,5 +12,5 @@ invariant-loop-piece g l =
       took : Took (told l.fn.self).took (told l.self).took (take l.taken (concat l.pieces));
       flushed : (told l.self).flushed ≡ (told l.fn.self).flushed;
       link : (told l.self).link ≡ (told l.fn.self).link;
-      faults : (told l.fn.self).faults ≤ (told l.self).faults;
+      faults : (told l.self).faults ≡ (told l.fn.self).faults;
     }

@@ -14,7 +14,7 @@ invariant-loop-taken g l =
       took : Took b.took n.took (take l.taken l.piece);
       flushed : n.flushed ≡ b.flushed;
       link : n.link ≡ b.link;
-      faults : b.faults ≤ n.faults;
+      faults : n.faults ≡ b.faults;
       runs : l.self.stopped ≡ true → l.initial.self.stopped ≡ true;
     }
 

@@ -15,4 +15,5 @@ returns-clause-call c =
       kept = search rules;
       faults = search rules;
       failed = search rules;
+      unfailed = search rules;
     }

@@ -68,7 +68,7 @@ module _ {M : Type 1} {𝓤 : Ura M} (𝓛 : Logic 𝓤) (at_mem : Memory → SP
         let r : Val = vptr a.1.1.0.ref_ptr.0 a.1.1.0.ref_ptr.1 in
         let log : (ClientLog.the_row).Denot = record {
           asked = a.0.now.asked;
-          said = a.0.now.said ++ block_said (Ok a.1.1.0.now);
+          said = a.0.now.said ++ block_said a.1.0.now (Ok a.1.1.0.now);
           served = a.0.now.served ++ block_served a.1.0.now (Ok a.1.1.0.now);
         } in
         qed 𝓛 ((raw toks ⊛ ‵ (owns (types_at ended.signature.params z.0.0) a vss)) ∷ raw
