@@ -10,10 +10,10 @@ use Rattle.std.proofs.lemmas.List.Elements.{All-cons, All-head, All-tail, filter
 use Rattle.xet_base.specs.Lists.{firsts}
 use Rattle.xet_outside.specs.declared.plan.PlanTerm.{PlanTerm}
 use Rattle.xet_outside.specs.Plan.{Shape}
-use Rattle.xet_blocks.specs.declared.reconstruction_terms.plan_blocks.PlacedTerm.{PlacedTerm}
 use Rattle.xet_blocks.specs.declared.reconstruction_terms.xorb_block.XorbReference.{XorbReference}
 use Rattle.xet_blocks.specs.Blocks.{PlanBlock, blocks_of, same_block, term_block}
-use Rattle.xet_blocks.specs.steps.Planning.{HasChunks, HasReferences, numbered_block, own_references, placed_term, with_references}
+use Rattle.xet_blocks.specs.steps.Planning.{HasChunks, HasReferences, PlacedTerm, numbered_block, own_references, with_references}
+use Rattle.xet_blocks.proofs.PlacedTerms.{placed_term}
 use Rattle.xet_blocks.specs.TermBlocks.{by_start, reference_of, with_reference, xorb_block, xorb_blocks}
 use Rattle.xet_blocks.specs.Chain.{last_end}
 use Rattle.xet_blocks.specs.PlanChecks.{unordered}
@@ -329,11 +329,11 @@ numbered_blocks p multi ts e =
     none = record { xorb = record { 0 = [] }; ranges = [] }
 
 -- the references of a block's terms have chunks
-pub own_some : (ts : List PlacedTerm) (n : ℕ) → All HasChunks ts → All (λ r. r.term_chunks.start < r.term_chunks.end) (own_references ts n)
+pub own_some : (ts : List PlacedTerm) (n : ℕ) → All (λ t. HasChunks t.term) ts → All (λ r. r.term_chunks.start < r.term_chunks.end) (own_references ts n)
 own_some [] n h = λ k d l. absurd (omega arith)
-own_some (t ∷ ts) n h = go (eqb t.block n) (All-head HasChunks t ts h) (own_some ts n (All-tail HasChunks t ts h))
+own_some (t ∷ ts) n h = go (eqb t.block n) (All-head (λ (t : PlacedTerm). HasChunks t.term) t ts h) (own_some ts n (All-tail (λ (t : PlacedTerm). HasChunks t.term) t ts h))
   where
-    go : (b : Bool) → HasChunks t → All (λ r. r.term_chunks.start < r.term_chunks.end) (own_references ts n)
+    go : (b : Bool) → HasChunks t.term → All (λ r. r.term_chunks.start < r.term_chunks.end) (own_references ts n)
         → All (λ r. r.term_chunks.start < r.term_chunks.end) (map (λ (t : PlacedTerm). reference_of t.term) (cond b (t ∷ filter (λ t. eqb t.block n) ts) (filter (λ t. eqb t.block n) ts)))
     go true some next = All-cons (λ r. r.term_chunks.start < r.term_chunks.end) (reference_of t.term) (own_references ts n) some next
     go false some next = next

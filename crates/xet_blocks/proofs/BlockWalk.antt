@@ -17,12 +17,12 @@ use Rattle.xet_outside.specs.declared.plan.Plan.{Plan}
 use Rattle.xet_outside.specs.declared.plan.PlanTerm.{PlanTerm}
 use Rattle.xet_outside.specs.declared.plan.PlanXorb.{PlanXorb}
 use Rattle.xet_outside.specs.Plan.{Shape, shape, xorb_shape}
-use Rattle.xet_blocks.specs.declared.reconstruction_terms.plan_blocks.PlacedTerm.{PlacedTerm}
+use Rattle.xet_blocks.specs.declared.reconstruction_terms.plan_blocks.TermStart.{TermStart}
 use Rattle.xet_blocks.specs.declared.reconstruction_terms.plan_blocks.PlanBlocks.{PlanBlocks}
 use Rattle.xet_blocks.specs.declared.reconstruction_terms.block_list.OfferedBlock.{OfferedBlock}
 use Rattle.xet_blocks.specs.Blocks.{PlanBlock, block_of_term, block_ranges, blocks_of, entry_blocks, lies_in, range_eq, same_block, start_index, term_block}
-use Rattle.xet_blocks.specs.steps.Offers.{Candidate, Offered, candidates, entry_candidates, offer_of_term, offered, ranges_block, xorb_offers, xorb_place}
-use Rattle.xet_blocks.specs.steps.BlockKeys.{key_of, place_of_key, same_key}
+use Rattle.xet_blocks.specs.steps.Offers.{Candidate, Offered, candidates, entry_candidates, offer_of_term, ranges_block, xorb_offers, xorb_place}
+use Rattle.xet_blocks.specs.steps.BlockKeys.{IsBlockOf, key_of, place_of_key, same_key}
 use Rattle.xet_blocks.specs.steps.Planning.{HasChunks, HasRanges, IsNumbered, IsOfTerm, IsPlaced, IsPlanned, IsToldApart, number_in, plan_block}
 use Rattle.xet_blocks.specs.TermBlocks.{block_url}
 use Rattle.xet_blocks.specs.PlanChecks.{failed_ranges, ranges_test, unordered}
@@ -130,27 +130,30 @@ told_apart p multi b bs of all k d l = two (get_or bs k d) b (all k d l) of
     xorb_of t o None e h = cc
     xorb_of t o (Some x) e h = (x, e)
 
-    at : (a b : OfferedBlock) (x : IsOfTerm p multi a) (y : IsOfTerm p multi b) (f : Option PlanXorb) → option_and_then (in_xorb x.term) f ≡ Some (offered a.offer)
-        → option_and_then (in_xorb y.term) f ≡ Some (offered b.offer)
-        → eqb a.offer.number b.offer.number ≡ pointwise range_eq (block_ranges (plan_block a)) (block_ranges (plan_block b))
+    at : (a b : OfferedBlock) (x : IsOfTerm p multi a) (y : IsOfTerm p multi b) (f : Option PlanXorb) → option_and_then (in_xorb x.term) f ≡ Some x.offer
+        → option_and_then (in_xorb y.term) f ≡ Some y.offer
+        → eqb a.number b.number ≡ pointwise range_eq (block_ranges (plan_block a)) (block_ranges (plan_block b))
     at a b x y None e g = cc
-    at a b x y (Some z) e g = numbers_tell x.term y.term 0 (candidates multi z) (offered a.offer) (offered b.offer) e g
+    at a b x y (Some z) e g =
+        let ranges : List FetchRange → List FetchRange → Bool = λ rs ss. pointwise range_eq (map (λ r. r.chunks) rs) (map (λ r. r.chunks) ss) in
+        (λ i. eqb (x.block.number i) (y.block.number i)) ∙ numbers_tell x.term y.term 0 (candidates multi z) x.offer y.offer e g
+        ∙ (λ i. ranges (sym x.block.ranges i) (sym y.block.ranges i))
 
     two : (a b : OfferedBlock) → IsOfTerm p multi a → IsOfTerm p multi b → same_key (key_of a) (key_of b) ≡ same_block (plan_block a) (plan_block b)
     two a b x y =
-        let first = xorb_of x.term (offered a.offer) (find (λ z. hash_eq z.xorb x.term.xorb) p.xorbs) refl x.offer in
-        let second = xorb_of y.term (offered b.offer) (find (λ z. hash_eq z.xorb y.term.xorb) p.xorbs) refl y.offer in
-        let places : eqb a.place b.place ≡ hash_eq a.xorb b.xorb =
-        (λ i. eqb (x.place i) (y.place i)) ∙ places_tell p x.term.xorb y.term.xorb first.0 second.0 first.1 second.1 ∙ (λ i. hash_eq (sym x.xorb i) (sym y.xorb i)) in
-        ap (λ c. c && eqb a.offer.number b.offer.number) places ∙ go (hash_eq a.xorb b.xorb) refl
+        let first = xorb_of x.term x.offer (find (λ z. hash_eq z.xorb x.term.xorb) p.xorbs) refl x.found in
+        let second = xorb_of y.term y.offer (find (λ z. hash_eq z.xorb y.term.xorb) p.xorbs) refl y.found in
+        let places : eqb a.place b.place ≡ hash_eq a.xorb.now b.xorb.now =
+        (λ i. eqb (x.block.place i) (y.block.place i)) ∙ places_tell p x.term.xorb y.term.xorb first.0 second.0 first.1 second.1 ∙ (λ i. hash_eq (sym x.block.xorb i) (sym y.block.xorb i)) in
+        ap (λ c. c && eqb a.number b.number) places ∙ go (hash_eq a.xorb.now b.xorb.now) refl
       where
-        go : (c : Bool) → hash_eq a.xorb b.xorb ≡ c → (c && eqb a.offer.number b.offer.number) ≡ (c && pointwise range_eq (block_ranges (plan_block a)) (block_ranges (plan_block b)))
+        go : (c : Bool) → hash_eq a.xorb.now b.xorb.now ≡ c → (c && eqb a.number b.number) ≡ (c && pointwise range_eq (block_ranges (plan_block a)) (block_ranges (plan_block b)))
         go false e = refl
         go true e =
-            let same : a.xorb ≡ b.xorb = hash_eq-true a.xorb b.xorb e in
-            let hashes : x.term.xorb ≡ y.term.xorb = sym x.xorb ∙ same ∙ y.xorb in
+            let same : a.xorb.now ≡ b.xorb.now = hash_eq-true a.xorb.now b.xorb.now e in
+            let hashes : x.term.xorb ≡ y.term.xorb = sym x.block.xorb ∙ same ∙ y.block.xorb in
             at a b x y (find (λ z. hash_eq z.xorb y.term.xorb) p.xorbs)
-            (sym (ap (λ (h : MerkleHash). option_and_then (in_xorb x.term) (find (λ z. hash_eq z.xorb h) p.xorbs)) hashes) ∙ x.offer) y.offer
+            (sym (ap (λ (h : MerkleHash). option_and_then (in_xorb x.term) (find (λ z. hash_eq z.xorb h) p.xorbs)) hashes) ∙ x.found) y.found
 
 -- ---- the URL of a block
 
@@ -266,13 +269,12 @@ url_of_offer p multi t o h = ap (λ f. unwrap_or f []) (go p.xorbs h)
 
 -- the blocks and the places of these terms
 pub record IsWalk (p : Plan) (multi : Bool) (ts : List PlanTerm) (s : PlanBlocks) : Type 0 where
-  pub walked : IsWalked same_block same_block-own same_block-chain (map plan_block s.blocks) (map (λ t. t.block) s.terms) (map (term_block (shape p) multi) ts)
-  pub terms : map (λ t. t.term) s.terms ≡ ts
-  pub starts : map (λ t. t.start_index) s.terms ≡ map (start_of (shape p) multi) ts
-  pub urls : map (λ b. b.offer.url.now) s.blocks ≡ map (λ b. block_url p multi (plan_block b)) s.blocks
+  pub walked : IsWalked same_block same_block-own same_block-chain (map plan_block s.blocks) (map (λ t. t.block) s.starts) (map (term_block (shape p) multi) ts)
+  pub starts : map (λ t. t.start_index) s.starts ≡ map (start_of (shape p) multi) ts
+  pub urls : map (λ b. b.url.now) s.blocks ≡ map (λ b. block_url p multi (plan_block b)) s.blocks
   pub of_terms : All (IsOfTerm p multi) s.blocks
   pub ascend : All HasRanges s.blocks
-  pub some : All HasChunks s.terms
+  pub some : All HasChunks ts
 
 walked_to : (fs fs' : List PlanBlock) (ps ps' : List ℕ) (xs xs' : List PlanBlock) → IsWalked same_block same_block-own same_block-chain fs ps xs → fs ≡ fs' → ps ≡ ps' → xs ≡ xs' → IsWalked same_block same_block-own same_block-chain fs' ps' xs'
 walked_to fs fs' ps ps' xs xs' w e f g =
@@ -281,32 +283,31 @@ walked_to fs fs' ps ps' xs xs' w e f g =
     (subst (λ (l : List PlanBlock). IsWalked same_block same_block-own same_block-chain fs ps l) g w))
 
 -- one more term, with its block's number
-pub walk_more : (p : Plan) (multi : Bool) (ts ts' : List PlanTerm) (before now : PlanBlocks) (t : PlanTerm) (b : OfferedBlock) → IsWalk p multi ts before → ts' ≡ ts ++ t ∷ [] → b.xorb ≡ t.xorb → b.place ≡ xorb_place p t.xorb
-    → offer_of_term p multi t ≡ Some (offered b.offer) → IsPlaced before now t b → ranges_test (shape p) multi ≡ None → IsWalk p multi ts' now
-walk_more p multi ts ts' before now t b w more hash at_place found added passed =
+pub walk_more : (p : Plan) (multi : Bool) (ts ts' : List PlanTerm) (before now : PlanBlocks) (t : PlanTerm) (o : Offered) (b : OfferedBlock) → IsWalk p multi ts before → ts' ≡ ts ++ t ∷ []
+    → IsBlockOf t.xorb (xorb_place p t.xorb) o b → offer_of_term p multi t ≡ Some o → IsPlaced before now t o b → ranges_test (shape p) multi ≡ None → IsWalk p multi ts' now
+walk_more p multi ts ts' before now t o b w more of found added passed =
     let fits : t.range.start < 2 ^ 32 = added.fits in
-    let longer : now.terms ≡ before.terms ++ placed ∷ [] = added.terms in
-    let at = start_of_offer p multi t (offered b.offer) passed (omega (arith, fits)) found in
+    let longer : now.starts ≡ before.starts ++ placed ∷ [] = added.starts in
+    let at = start_of_offer p multi t o passed (omega (arith, fits)) found in
     let start : placed.start_index ≡ start_of (shape p) multi t = omega (arith, at.0, at.1, at.2, fits) in
     record {
       walked = go (number_in before.blocks b) refl added.numbered longer;
-      terms = ap (λ (l : List PlacedTerm). map (λ t. t.term) l) longer ∙ map-append (λ (t : PlacedTerm). t.term) before.terms (placed ∷ []) ∙ ap (λ (l : List PlanTerm). l ++ t ∷ []) w.terms ∙ sym more;
-      starts = ap (λ (l : List PlacedTerm). map (λ t. t.start_index) l) longer ∙ map-append (λ (t : PlacedTerm). t.start_index) before.terms (placed ∷ [])
+      starts = ap (λ (l : List TermStart). map (λ t. t.start_index) l) longer ∙ map-append (λ (t : TermStart). t.start_index) before.starts (placed ∷ [])
           ∙ (λ i. w.starts i ++ start i ∷ []) ∙ sym (ap (λ (l : List PlanTerm). map (start_of (shape p) multi) l) more ∙ map-append (start_of (shape p) multi) ts (t ∷ []));
       urls = urls (number_in before.blocks b) added.numbered;
-      of_terms = more_of (IsOfTerm p multi) (number_in before.blocks b) added.numbered w.of_terms (record { term = t; xorb = hash; place = at_place; offer = found });
-      ascend = more_of HasRanges (number_in before.blocks b) added.numbered w.ascend (offer_ascends p multi t (offered b.offer) passed found);
-      some = subst (λ (l : List PlacedTerm). All HasChunks l) (sym longer) (All-push HasChunks before.terms placed w.some (some_of_offer p multi t (offered b.offer) found));
+      of_terms = more_of (IsOfTerm p multi) (number_in before.blocks b) added.numbered w.of_terms (record { term = t; offer = o; found = found; block = of });
+      ascend = more_of HasRanges (number_in before.blocks b) added.numbered w.ascend (subst (λ (rs : List FetchRange). unordered 0 rs ≡ false) (sym of.ranges) (offer_ascends p multi t o passed found));
+      some = subst (λ (l : List PlanTerm). All HasChunks l) (sym more) (All-push HasChunks ts t w.some (some_of_offer p multi t o found));
     }
   where
     n : ℕ
     n = added.number
 
-    placed : PlacedTerm
-    placed = record { term = t; block = n; start_index = min (b.offer.before + (t.range.start - b.offer.range.chunks.start)) (2 ^ 64 - 1) }
+    placed : TermStart
+    placed = record { block = n; start_index = min (o.before + (t.range.start - o.range.chunks.start)) (2 ^ 64 - 1) }
 
     block : term_block (shape p) multi t ≡ plan_block b
-    block = term_block_of_offer p multi t (offered b.offer) found ∙ ap (λ (h : MerkleHash). ranges_block h b.offer.block.now) (sym hash)
+    block = term_block_of_offer p multi t o found ∙ (λ i. ranges_block (sym of.xorb i) (sym of.ranges i))
 
     blocks : map (term_block (shape p) multi) ts ++ plan_block b ∷ [] ≡ map (term_block (shape p) multi) ts'
     blocks = ap (λ (x : PlanBlock). map (term_block (shape p) multi) ts ++ x ∷ []) (sym block) ∙ sym (ap (λ (l : List PlanTerm). map (term_block (shape p) multi) l) more ∙ map-append (term_block (shape p) multi) ts (t ∷ []))
@@ -318,53 +319,51 @@ walk_more p multi ts ts' before now t b w more hash at_place found added passed 
     more_of P None (added, last) all one = subst (λ (l : List OfferedBlock). All P l) (sym added) (All-push P before.blocks b all one)
     more_of P (Some i) (kept, here) all one = subst (λ (l : List OfferedBlock). All P l) (sym kept) all
 
-    go : (f : Option ℕ) → number_in before.blocks b ≡ f → Numbered f → now.terms ≡ before.terms ++ placed ∷ []
-        → IsWalked same_block same_block-own same_block-chain (map plan_block now.blocks) (map (λ t. t.block) now.terms) (map (term_block (shape p) multi) ts')
+    go : (f : Option ℕ) → number_in before.blocks b ≡ f → Numbered f → now.starts ≡ before.starts ++ placed ∷ []
+        → IsWalked same_block same_block-own same_block-chain (map plan_block now.blocks) (map (λ t. t.block) now.starts) (map (term_block (shape p) multi) ts')
     go None none (added, last) longer =
         let count : n ≡ length (map plan_block before.blocks) = last ∙ sym (length-map before.blocks plan_block) in
-        walked_to (map plan_block before.blocks ++ plan_block b ∷ []) (map plan_block now.blocks) (map (λ t. t.block) before.terms ++ n ∷ []) (map (λ t. t.block) now.terms)
+        walked_to (map plan_block before.blocks ++ plan_block b ∷ []) (map plan_block now.blocks) (map (λ t. t.block) before.starts ++ n ∷ []) (map (λ t. t.block) now.starts)
         (map (term_block (shape p) multi) ts ++ plan_block b ∷ []) (map (term_block (shape p) multi) ts')
-        (walked_new same_block same_block-own same_block-chain (map plan_block before.blocks) (map (λ t. t.block) before.terms) (map (term_block (shape p) multi) ts) (plan_block b) n count w.walked none)
+        (walked_new same_block same_block-own same_block-chain (map plan_block before.blocks) (map (λ t. t.block) before.starts) (map (term_block (shape p) multi) ts) (plan_block b) n count w.walked none)
         (sym (ap (λ (l : List OfferedBlock). map plan_block l) added ∙ map-append plan_block before.blocks (b ∷ [])))
-        (sym (ap (λ (l : List PlacedTerm). map (λ t. t.block) l) longer ∙ map-append (λ (t : PlacedTerm). t.block) before.terms (placed ∷ [])))
+        (sym (ap (λ (l : List TermStart). map (λ t. t.block) l) longer ∙ map-append (λ (t : TermStart). t.block) before.starts (placed ∷ [])))
         blocks
     go (Some i) some (kept, here) longer =
-        walked_to (map plan_block before.blocks) (map plan_block now.blocks) (map (λ t. t.block) before.terms ++ i ∷ []) (map (λ t. t.block) now.terms)
+        walked_to (map plan_block before.blocks) (map plan_block now.blocks) (map (λ t. t.block) before.starts ++ i ∷ []) (map (λ t. t.block) now.starts)
         (map (term_block (shape p) multi) ts ++ plan_block b ∷ []) (map (term_block (shape p) multi) ts')
-        (walked_found same_block same_block-own same_block-chain (map plan_block before.blocks) (map (λ t. t.block) before.terms) (map (term_block (shape p) multi) ts) (plan_block b) i w.walked some)
+        (walked_found same_block same_block-own same_block-chain (map plan_block before.blocks) (map (λ t. t.block) before.starts) (map (term_block (shape p) multi) ts) (plan_block b) i w.walked some)
         (sym (ap (λ (l : List OfferedBlock). map plan_block l) kept))
-        (ap (λ (j : ℕ). map (λ t. t.block) before.terms ++ j ∷ []) (sym here) ∙ sym (ap (λ (l : List PlacedTerm). map (λ t. t.block) l) longer ∙ map-append (λ (t : PlacedTerm). t.block) before.terms (placed ∷ [])))
+        (ap (λ (j : ℕ). map (λ t. t.block) before.starts ++ j ∷ []) (sym here) ∙ sym (ap (λ (l : List TermStart). map (λ t. t.block) l) longer ∙ map-append (λ (t : TermStart). t.block) before.starts (placed ∷ [])))
         blocks
 
-    urls : (f : Option ℕ) → Numbered f → map (λ b. b.offer.url.now) now.blocks ≡ map (λ b. block_url p multi (plan_block b)) now.blocks
+    urls : (f : Option ℕ) → Numbered f → map (λ b. b.url.now) now.blocks ≡ map (λ b. block_url p multi (plan_block b)) now.blocks
     urls None (added, last) =
         let all : now.blocks ≡ before.blocks ++ b ∷ [] = added in
-        let here : b.offer.url.now ≡ block_url p multi (plan_block b) =
-        sym (url_of_offer p multi t (offered b.offer) found) ∙ ap (λ (h : MerkleHash). block_url p multi (ranges_block h b.offer.block.now)) (sym hash) in
-        ap (λ (l : List OfferedBlock). map (λ b. b.offer.url.now) l) all ∙ map-append (λ (b : OfferedBlock). b.offer.url.now) before.blocks (b ∷ [])
+        let here : b.url.now ≡ block_url p multi (plan_block b) =
+        of.url ∙ sym (url_of_offer p multi t o found) ∙ (λ i. block_url p multi (ranges_block (sym of.xorb i) (sym of.ranges i))) in
+        ap (λ (l : List OfferedBlock). map (λ b. b.url.now) l) all ∙ map-append (λ (b : OfferedBlock). b.url.now) before.blocks (b ∷ [])
         ∙ (λ i. w.urls i ++ here i ∷ [])
         ∙ sym (ap (λ (l : List OfferedBlock). map (λ b. block_url p multi (plan_block b)) l) all ∙ map-append (λ (b : OfferedBlock). block_url p multi (plan_block b)) before.blocks (b ∷ []))
     urls (Some i) (kept, here) =
-        ap (λ (l : List OfferedBlock). map (λ b. b.offer.url.now) l) kept ∙ w.urls ∙ sym (ap (λ (l : List OfferedBlock). map (λ b. block_url p multi (plan_block b)) l) kept)
+        ap (λ (l : List OfferedBlock). map (λ b. b.url.now) l) kept ∙ w.urls ∙ sym (ap (λ (l : List OfferedBlock). map (λ b. block_url p multi (plan_block b)) l) kept)
 
 -- ---- its end
 
-placed_of : (fs : List PlanBlock) (p : Shape) (multi : Bool) (ps : List PlacedTerm) (ts : List PlanTerm) → map (λ t. t.block) ps ≡ map (place same_block fs) (map (term_block p multi) ts) → map (λ t. t.term) ps ≡ ts
-    → map (λ t. t.start_index) ps ≡ map (start_of p multi) ts → ps ≡ map (λ t. record { term = t; block = place same_block fs (term_block p multi t); start_index = start_of p multi t }) ts
-placed_of fs p multi [] [] a b c = refl
-placed_of fs p multi [] (t ∷ ts) a b c = cc
-placed_of fs p multi (x ∷ xs) [] a b c = cc
-placed_of fs p multi (x ∷ xs) (t ∷ ts) a b c =
-    let term : x.term ≡ t = cc in
+starts_of : (fs : List PlanBlock) (p : Shape) (multi : Bool) (ss : List TermStart) (ts : List PlanTerm) → map (λ t. t.block) ss ≡ map (place same_block fs) (map (term_block p multi) ts)
+    → map (λ t. t.start_index) ss ≡ map (start_of p multi) ts → ss ≡ map (λ t. record { block = place same_block fs (term_block p multi t); start_index = start_of p multi t }) ts
+starts_of fs p multi [] [] a b = refl
+starts_of fs p multi [] (t ∷ ts) a b = cc
+starts_of fs p multi (x ∷ xs) [] a b = cc
+starts_of fs p multi (x ∷ xs) (t ∷ ts) a b =
     let number : x.block ≡ place same_block fs (term_block p multi t) = cc in
     let start : x.start_index ≡ start_of p multi t = cc in
     let a' : map (λ t. t.block) xs ≡ map (place same_block fs) (map (term_block p multi) ts) = cc in
-    let b' : map (λ t. t.term) xs ≡ ts = cc in
-    let c' : map (λ t. t.start_index) xs ≡ map (start_of p multi) ts = cc in
-    let next = placed_of fs p multi xs ts a' b' c' in
-    λ i. record { term = term i; block = number i; start_index = start i } ∷ next i
+    let b' : map (λ t. t.start_index) xs ≡ map (start_of p multi) ts = cc in
+    let next = starts_of fs p multi xs ts a' b' in
+    λ i. record { block = number i; start_index = start i } ∷ next i
 
-placed_within : (fs : List PlanBlock) (n : ℕ) → n ≡ length fs → (ps : List PlacedTerm) (xs : List PlanBlock) → map (λ t. t.block) ps ≡ map (place same_block fs) xs → AllFound same_block fs xs → All (λ t. t.block < n) ps
+placed_within : (fs : List PlanBlock) (n : ℕ) → n ≡ length fs → (ps : List TermStart) (xs : List PlanBlock) → map (λ t. t.block) ps ≡ map (place same_block fs) xs → AllFound same_block fs xs → All (λ t. t.block < n) ps
 placed_within fs n e [] xs a h k d l = absurd (omega arith)
 placed_within fs n e (p ∷ ps) [] a h k d l = cc
 placed_within fs n e (p ∷ ps) (x ∷ xs) a h zero d l =
@@ -377,14 +376,14 @@ placed_within fs n e (p ∷ ps) (x ∷ xs) a h (suc k) d l =
 pub walk_planned : (p : Plan) (multi : Bool) (ts : List PlanTerm) (s : PlanBlocks) → IsWalk p multi ts s → ts ≡ p.terms → IsPlanned p multi s
 walk_planned p multi ts s w e =
     let all : map plan_block s.blocks ≡ blocks_of (shape p) multi = w.walked.firsts_are ∙ ap (λ (l : List PlanTerm). firsts same_block (map (term_block (shape p) multi) l)) e in
-    let placed_in : List PlanBlock → PlanTerm → PlacedTerm = λ fs t. record { term = t; block = place same_block fs (term_block (shape p) multi t); start_index = start_of (shape p) multi t } in
+    let start_in : List PlanBlock → PlanTerm → TermStart = λ fs t. record { block = place same_block fs (term_block (shape p) multi t); start_index = start_of (shape p) multi t } in
     record {
       blocks = all;
-      terms = placed_of (map plan_block s.blocks) (shape p) multi s.terms ts w.walked.places_are w.terms w.starts ∙ (λ i. map (placed_in (all i)) (e i));
+      starts = starts_of (map plan_block s.blocks) (shape p) multi s.starts ts w.walked.places_are w.starts ∙ (λ i. map (start_in (all i)) (e i));
       urls = w.urls;
-      within = placed_within (map plan_block s.blocks) (length s.blocks) (sym (length-map s.blocks plan_block)) s.terms (map (term_block (shape p) multi) ts) w.walked.places_are w.walked.all_found;
+      within = placed_within (map plan_block s.blocks) (length s.blocks) (sym (length-map s.blocks plan_block)) s.starts (map (term_block (shape p) multi) ts) w.walked.places_are w.walked.all_found;
       ascend = w.ascend;
-      some = w.some;
+      some = subst (λ (l : List PlanTerm). All HasChunks l) e w.some;
     }
 
 -- ---- a term lies in a range exactly where it has an offer

@@ -8,6 +8,7 @@ mod ChainSums
 mod ChainsExist
 mod ChunkNumbers
 mod ChunkRuns
+mod EntryOffers
 mod EqualBlocks
 mod FirstFailures
 mod HonestBlockTests
@@ -18,6 +19,7 @@ mod KnownSizes
 mod Lookups
 mod NearXorbs
 mod OfferOrder
+mod PlacedTerms
 mod ReachedSums
 mod ServedChunks
 mod TermBlockAnswers

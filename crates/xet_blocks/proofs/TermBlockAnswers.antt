@@ -3,6 +3,7 @@ use Rattle.std.proofs.Common.{◌≡◌, ◌⊎◌, inl, inr, ℕ, ◌+◌, ◌-
 use Rattle.std.specs.Prelude.{IfOk, IfErr, Option, find, min, option_map, position}
 use Rattle.std.specs.List.{enumerate_from, list_any}
 use Rattle.std.proofs.lemmas.Bool.{or_parts, ltb-false, leb-false}
+use Rattle.std.proofs.lemmas.List.{length-map}
 use Rattle.xet_base.specs.declared.cas_types.FileRange.{FileRange}
 use Rattle.xet_base.specs.Lists.{first_some}
 use Rattle.xet_base.proofs.CallerLemmas.{position_no}
@@ -17,13 +18,13 @@ use Rattle.xet_error.specs.declared.error.Corruption.TheVariants.{Offset, Positi
 use Rattle.xet_error.specs.declared.error.FileReconstructionError.{FileReconstructionError}
 use Rattle.xet_error.specs.declared.error.FileReconstructionError.TheVariants as error
 use Rattle.xet_blocks.specs.declared.reconstruction_terms.file_term.TermBlock.{TermBlock}
-use Rattle.xet_blocks.specs.declared.reconstruction_terms.plan_blocks.PlacedTerm.{PlacedTerm}
 use Rattle.xet_blocks.specs.declared.reconstruction_terms.plan_blocks.PlanBlocks.{PlanBlocks}
+use Rattle.xet_blocks.specs.declared.reconstruction_terms.plan_blocks.TermStart.{TermStart}
 use Rattle.xet_blocks.specs.declared.reconstruction_terms.block_list.OfferedBlock.{OfferedBlock}
 use Rattle.xet_blocks.specs.declared.reconstruction_terms.retrieval_urls.RetrievalUrl.{RetrievalUrl}
 use Rattle.xet_blocks.specs.declared.reconstruction_terms.retrieval_urls.TermBlockRetrievalURLs.{TermBlockRetrievalURLs}
 use Rattle.xet_blocks.specs.Blocks.{PlanBlock, transfer_sum}
-use Rattle.xet_blocks.specs.steps.Planning.{Fit, IsMadeOf, IsPlanned, numbered_block, placed_term, plan_block, retrieval_url, terms_at}
+use Rattle.xet_blocks.specs.steps.Planning.{Fit, IsMadeOf, IsPlanned, PlacedTerm, numbered_block, plan_block, retrieval_url, term_start, terms_at, with_starts}
 use Rattle.xet_blocks.specs.PlanQuery.{PlanQuery}
 use Rattle.xet_blocks.specs.Refusals.{IsRefusal}
 use Rattle.xet_blocks.specs.TermBlockCalls.{Answer, FromAnswer, FromSaid, FromTerms, FromTested, TermBlockCall, TermBlockCause}
@@ -32,6 +33,7 @@ use Rattle.xet_blocks.specs.Terms.{file_term, terms_from}
 use Rattle.xet_blocks.specs.PlanChecks.{ends, entry_tests, failed_test, no_range_test, no_xorb_test, offset_test, place_tests, position_test, ranges_test, sizes, sizes_from, trim_test}
 use Rattle.xet_blocks.proofs.TermEnds.{sizes_from-zero, too_far}
 use Rattle.xet_blocks.proofs.BlockReferences.{numbered_blocks}
+use Rattle.xet_blocks.proofs.PlacedTerms.{placed_term, with_starts-map}
 
 -- ---- an accepted plan fits
 
@@ -91,17 +93,13 @@ places_fit p q passes = fits_from q.start p.offset_into_first_range p.terms (fir
         go false h = refl
         go true h = cc
 
--- the terms of planned blocks are the plan's
-pub planned_terms : (p : Plan) (multi : Bool) (s : PlanBlocks) → IsPlanned p multi s → map (λ t. t.term) s.terms ≡ p.terms
-planned_terms p multi s planned = ap (λ (l : List PlacedTerm). map (λ t. t.term) l) planned.terms ∙ go p.terms
-  where
-    go : (ts : List PlanTerm) → map (λ t. t.term) (map (placed_term (shape p) multi) ts) ≡ ts
-    go [] = refl
-    go (t ∷ ts) = ap (λ l. t ∷ l) (go ts)
+-- a plan whose terms have places fits
+pub planned_fits : (p : Plan) (q : FileRange) → first_some (place_tests (shape p) q) ≡ None → Fit q.start p.offset_into_first_range p.terms
+planned_fits p q passed = places_fit p q (places_pass (shape p) q passed)
 
-pub planned_fits : (p : Plan) (q : FileRange) (multi : Bool) (s : PlanBlocks) → first_some (place_tests (shape p) q) ≡ None → IsPlanned p multi s → Fit q.start p.offset_into_first_range (map (λ t. t.term) s.terms)
-planned_fits p q multi s passed planned =
-    subst (λ (l : List PlanTerm). Fit q.start p.offset_into_first_range l) (sym (planned_terms p multi s planned)) (places_fit p q (places_pass (shape p) q passed))
+-- each term of a plan has a start
+pub planned_starts : (p : Plan) (multi : Bool) (s : PlanBlocks) → IsPlanned p multi s → length s.starts ≡ length p.terms
+planned_starts p multi s planned = ap (λ (l : List TermStart). length l) planned.starts ∙ length-map p.terms (term_start (shape p) multi)
 
 -- ---- the tests of a plan's entries, one after another
 
@@ -158,25 +156,28 @@ terms_at-placed p q multi place o (t ∷ ts) =
 abbrev url_of_block : Plan → Bool → PlanBlock → RetrievalUrl
 url_of_block p multi b = record { url = block_url p multi b; ranges = map (λ r. r.bytes) b.ranges }
 
-urls_are : (p : Plan) (multi : Bool) (bs : List OfferedBlock) → map (λ b. b.offer.url.now) bs ≡ map (λ b. block_url p multi (plan_block b)) bs → map retrieval_url bs ≡ map (url_of_block p multi) (map plan_block bs)
+urls_are : (p : Plan) (multi : Bool) (bs : List OfferedBlock) → map (λ b. b.url.now) bs ≡ map (λ b. block_url p multi (plan_block b)) bs → map retrieval_url bs ≡ map (url_of_block p multi) (map plan_block bs)
 urls_are p multi [] h = refl
 urls_are p multi (b ∷ bs) h =
-    let here : b.offer.url.now ≡ block_url p multi (plan_block b) = cc in
-    let rest : map (λ b. b.offer.url.now) bs ≡ map (λ b. block_url p multi (plan_block b)) bs = cc in
+    let here : b.url.now ≡ block_url p multi (plan_block b) = cc in
+    let rest : map (λ b. b.url.now) bs ≡ map (λ b. block_url p multi (plan_block b)) bs = cc in
     let next = urls_are p multi bs rest in
-    λ i. record { url = here i; ranges = map (λ r. r.bytes) b.offer.block.now } ∷ next i
+    λ i. record { url = here i; ranges = map (λ r. r.bytes) b.ranges.now } ∷ next i
 
-pub made_is : (p : Plan) (query : PlanQuery) (s : PlanBlocks) (u : TermBlockRetrievalURLs) (b : TermBlock) → IsPlanned p query.multirange s → IsMadeOf query.range p.offset_into_first_range s u b
+pub made_is : (p : Plan) (query : PlanQuery) (s : PlanBlocks) (u : TermBlockRetrievalURLs) (b : TermBlock) → IsPlanned p query.multirange s → IsMadeOf p query.range s u b
     → u ≡ record { file_hash = query.file; byte_range = covered (shape p) query.range; acquisition_id = query.id; retrieval_urls = map retrieval_url s.blocks } → IsTermBlock p query b
 made_is p query s u b planned made with_urls =
     let q = query.range in
     let multi = query.multirange in
+    let placed : with_starts p.terms s.starts ≡ map (placed_term (shape p) multi) p.terms =
+    ap (λ (l : List TermStart). with_starts p.terms l) planned.starts ∙ with_starts-map (term_start (shape p) multi) p.terms in
     let urls : b.urls ≡ record { file_hash = query.file; byte_range = covered (shape p) q; acquisition_id = query.id; retrieval_urls = map retrieval_url s.blocks } = made.urls ∙ with_urls in
     record {
       range = made.range ∙ ap (λ (u : TermBlockRetrievalURLs). u.byte_range) with_urls;
       transfer = made.transfer ∙ ap (λ l. min (transfer_sum l) (2 ^ 64 - 1)) planned.blocks;
-      terms = made.terms ∙ ap (λ (l : List PlacedTerm). terms_at q.end q.start p.offset_into_first_range l) planned.terms ∙ terms_at-placed (shape p) q multi q.start p.offset_into_first_range p.terms;
-      blocks = made.blocks ∙ ap (λ (l : List PlanBlock). map (numbered_block s.terms) (enumerate_from 0 l)) planned.blocks ∙ numbered_blocks (shape p) multi s.terms planned.terms;
+      terms = made.terms ∙ ap (λ (l : List PlacedTerm). terms_at q.end q.start p.offset_into_first_range l) placed ∙ terms_at-placed (shape p) q multi q.start p.offset_into_first_range p.terms;
+      blocks = made.blocks ∙ ap (λ (l : List PlanBlock). map (numbered_block (with_starts p.terms s.starts)) (enumerate_from 0 l)) planned.blocks
+          ∙ numbered_blocks (shape p) multi (with_starts p.terms s.starts) placed;
       urls = ap (λ (u : TermBlockRetrievalURLs). u.retrieval_urls) urls ∙ urls_are p multi s.blocks planned.urls ∙ ap (map (url_of_block p multi)) planned.blocks;
       of_file = ap (λ (u : TermBlockRetrievalURLs). u.file_hash) urls;
       of_query = ap (λ (u : TermBlockRetrievalURLs). u.byte_range) urls ∙ sym (made.range ∙ ap (λ (u : TermBlockRetrievalURLs). u.byte_range) with_urls);

@@ -17,8 +17,9 @@ use Rattle.xet_outside.specs.declared.plan.PlanXorb.{PlanXorb}
 use Rattle.xet_outside.specs.Plan.{XorbShape, shape, xorb_shape}
 use Rattle.xet_blocks.proofs.Lookups.{any-find, any-map, find-append, find-map, find-place, find_passes, position-map}
 use Rattle.xet_blocks.specs.Blocks.{PlanBlock, block_of_term, entry_blocks, lies_in, plan_xorb_of}
-use Rattle.xet_blocks.specs.declared.reconstruction_terms.plan_offers.Offer.{Offer}
+use Rattle.xet_blocks.specs.declared.reconstruction_terms.listed_offers.Offer.{Offer}
 use Rattle.xet_blocks.specs.declared.reconstruction_terms.plan_offers.XorbOffers.{XorbOffers}
+use Rattle.xet_blocks.specs.steps.OfferLists.{offers_of}
 use Rattle.xet_blocks.specs.steps.Offers.{Candidate, Offered, candidates, entry_candidates, first_xorbs, offer_of_term, offered, offers_from, ranges_block, ranges_from, xorb_offers, xorb_place}
 
 -- ---- the first xorbs
@@ -119,7 +120,7 @@ places_tell p h k x y e f = go (hash_eq h k) refl (eqb (xorb_place p h) (xorb_pl
 -- the offers of the first xorbs
 pub record IsListed (multi : Bool) (xs : List PlanXorb) (made : List XorbOffers) : Type 0 where
   pub hashed : map (λ x. x.xorb) made ≡ map (λ x. x.xorb) (first_xorbs xs)
-  pub listed : map (λ x. map offered x.offers) made ≡ map (xorb_offers multi) (first_xorbs xs)
+  pub listed : map (λ x. offers_of x.offers) made ≡ map (xorb_offers multi) (first_xorbs xs)
 
 -- whether a hash is among the first xorbs
 seen : (xs : List PlanXorb) (made : List XorbOffers) (h : MerkleHash) → map (λ x. x.xorb) made ≡ map (λ x. x.xorb) (first_xorbs xs)
@@ -145,24 +146,24 @@ listed_seen multi xs ys x made made' w e there same =
     let kept : first_xorbs ys ≡ first_xorbs xs = more_first xs ys x made false w.hashed e there in
     record {
       hashed = ap (λ (l : List XorbOffers). map (λ x. x.xorb) l) same ∙ w.hashed ∙ ap (map (λ x. x.xorb)) (sym kept);
-      listed = ap (λ (l : List XorbOffers). map (λ x. map offered x.offers) l) same ∙ w.listed ∙ ap (map (xorb_offers multi)) (sym kept);
+      listed = ap (λ (l : List XorbOffers). map (λ x. offers_of x.offers) l) same ∙ w.listed ∙ ap (map (xorb_offers multi)) (sym kept);
     }
 
 -- a new one is added at the end
 pub listed_new : (multi : Bool) (xs ys : List PlanXorb) (x : PlanXorb) (made made' : List XorbOffers) (v : XorbOffers) → IsListed multi xs made → ys ≡ xs ++ x ∷ []
-    → is_none (find (λ (v : XorbOffers). hash_eq v.xorb x.xorb) made) ≡ true → v.xorb ≡ x.xorb → map offered v.offers ≡ xorb_offers multi x → made' ≡ made ++ v ∷ [] → IsListed multi ys made'
+    → is_none (find (λ (v : XorbOffers). hash_eq v.xorb x.xorb) made) ≡ true → v.xorb ≡ x.xorb → offers_of v.offers ≡ xorb_offers multi x → made' ≡ made ++ v ∷ [] → IsListed multi ys made'
 listed_new multi xs ys x made made' v w e none hash offers more =
     let longer : first_xorbs ys ≡ first_xorbs xs ++ x ∷ [] = more_first xs ys x made true w.hashed e none in
     record {
       hashed = ap (λ (l : List XorbOffers). map (λ x. x.xorb) l) more ∙ map-append (λ (x : XorbOffers). x.xorb) made (v ∷ []) ∙ (λ i. w.hashed i ++ hash i ∷ [])
           ∙ sym (ap (map (λ x. x.xorb)) longer ∙ map-append (λ x. x.xorb) (first_xorbs xs) (x ∷ []));
-      listed = ap (λ (l : List XorbOffers). map (λ x. map offered x.offers) l) more ∙ map-append (λ (x : XorbOffers). map offered x.offers) made (v ∷ []) ∙ (λ i. w.listed i ++ offers i ∷ [])
+      listed = ap (λ (l : List XorbOffers). map (λ x. offers_of x.offers) l) more ∙ map-append (λ (x : XorbOffers). offers_of x.offers) made (v ∷ []) ∙ (λ i. w.listed i ++ offers i ∷ [])
           ∙ sym (ap (map (xorb_offers multi)) longer ∙ map-append (xorb_offers multi) (first_xorbs xs) (x ∷ []));
     }
 
 -- so the xorb is listed, whether or not it was added
 pub listed_more : (multi : Bool) (xs ys : List PlanXorb) (x : PlanXorb) (made made' : List XorbOffers) (v : XorbOffers) (added : Bool) → IsListed multi xs made → ys ≡ xs ++ x ∷ []
-    → is_none (find (λ (v : XorbOffers). hash_eq v.xorb x.xorb) made) ≡ added → v.xorb ≡ x.xorb → map offered v.offers ≡ xorb_offers multi x → made' ≡ cond added (made ++ v ∷ []) made
+    → is_none (find (λ (v : XorbOffers). hash_eq v.xorb x.xorb) made) ≡ added → v.xorb ≡ x.xorb → offers_of v.offers ≡ xorb_offers multi x → made' ≡ cond added (made ++ v ∷ []) made
     → IsListed multi ys made'
 listed_more multi xs ys x made made' v true w e none hash offers more = listed_new multi xs ys x made made' v w e none hash offers more
 listed_more multi xs ys x made made' v false w e there hash offers more = listed_seen multi xs ys x made made' w e there more

@@ -1,6 +1,7 @@
 pub mod Ascents
 -- The words of private functions.
 pub mod BlockKeys
+pub mod OfferLists
 pub mod Offers
 pub mod Planning
 pub mod Reached

@@ -7,7 +7,8 @@ use std::process::Abort;
 use std::sync::Arc;
 use std::test::Fail;
 use xet_base::{
-    ChunkRange, FileRange, HttpRange, List, MerkleHash, OutOfMemory, ShortList, Text, UniqueId,
+    ChunkRange, FileRange, HttpRange, List, MerkleHash, OutOfMemory, SharedText, ShortList,
+    UniqueId,
 };
 use xet_blocks::{
     ChunkOffsets, Corruption, DataSource, FileReconstructionError, FileTerm, RetrievalUrl,
@@ -150,7 +151,7 @@ fn the_request_of_a_block(rt: HostRuntime) -> Result<(), Fail> {
     let mut retrieval_urls = List::new(alloc);
     for url in ["first", "second"] {
         let ranges = ShortList::of_one(HttpRange::new(3, 16));
-        let url = Text::from_string(String::from_str(alloc, url)?);
+        let url = SharedText::from_string(alloc, String::from_str(alloc, url)?)?;
         retrieval_urls.push(RetrievalUrl { url, ranges })?;
     }
     let id = UniqueId {

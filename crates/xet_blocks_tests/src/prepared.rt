@@ -1,7 +1,7 @@
 //! A connection with a prepared answer, and the plans that it gives.
 use std::alloc::Global;
 use std::test::Fail;
-use xet_base::{ChunkRange, FileRange, HttpRange, List, MerkleHash, Text, UniqueId};
+use xet_base::{ChunkRange, FileRange, HttpRange, List, MerkleHash, SharedText, UniqueId};
 use xet_blocks::{TermBlock, retrieve_file_term_block};
 use xet_outside::{
     BlockAnswer, BlockRequest, Client, ClientError, FetchEntry, FetchRange, Plan, PlanAnswer,
@@ -96,7 +96,7 @@ fn xorb_entries(alloc: Global, text: &str) -> Result<List<FetchEntry>, Fail> {
     let mut fetch = List::new(alloc);
     for entry in text.split(',') {
         fetch.push(FetchEntry {
-            url: Text::from_string(String::from_str(alloc, entry.trim())?),
+            url: SharedText::from_string(alloc, String::from_str(alloc, entry.trim())?)?,
             ranges: fetch_ranges(alloc, entry)?,
         })?;
     }

@@ -75,40 +75,40 @@ queries_both : (r : Refresh) (ps qs : List Plan) (ys : List Query) → (refresh_
 queries_both r [] qs ys = refl
 queries_both r (p ∷ ps) qs ys = ap (λ (l : List Query). refresh_query r ∷ l) (queries_both r ps qs ys)
 
-saids_both : (ps qs : List Plan) (all : List Said) → (refreshed ps ++ []) ++ (refreshed qs ++ all) ≡ refreshed (ps ++ qs) ++ all
-saids_both [] qs all = refl
-saids_both (p ∷ ps) qs all = ap (λ (l : List Said). said.Block Expired ∷ said.Plan (Found p) ∷ l) (saids_both ps qs all)
+saids_both : (e : Served) (ps qs : List Plan) (all : List Said) → (refreshed e ps ++ []) ++ (refreshed e qs ++ all) ≡ refreshed e (ps ++ qs) ++ all
+saids_both e [] qs all = refl
+saids_both e (p ∷ ps) qs all = ap (λ (l : List Said). said.Expired e ∷ said.Plan (Found p) ∷ l) (saids_both e ps qs all)
 
 -- the first answer with bytes is the last one
-pub bytes_own : (ps : List Plan) (e : Served) (bytes : BlockBytes) → AnswerTo (e ∷ []) (refreshed ps ++ said.Block (Bytes bytes) ∷ []) e bytes
+pub bytes_own : (ps : List Plan) (e : Served) (bytes : BlockBytes) → AnswerTo (e ∷ []) (refreshed e ps ++ said.Block bytes ∷ []) e bytes
 bytes_own ps e bytes = record { place = 0; entry = refl; bytes = go ps }
   where
-    go : (ps : List Plan) → slice_get (bytes_in (refreshed ps ++ said.Block (Bytes bytes) ∷ [])) 0 ≡ Some bytes
+    go : (ps : List Plan) → slice_get (bytes_in (refreshed e ps ++ said.Block bytes ∷ [])) 0 ≡ Some bytes
     go [] = refl
     go (p ∷ ps) = go ps
 
 -- each answer to a query stands at its query's place
-pub query_own : (r : Refresh) (ps : List Plan) (a : PlanAnswer) → AnswerToQuery (refresh_queries r ps ++ refresh_query r ∷ []) (refreshed ps ++ said.Block Expired ∷ said.Plan a ∷ []) (refresh_query r) a
-query_own r ps a = record { place = length ps; query = asked ps; answer = said_at ps }
+pub query_own : (r : Refresh) (e : Served) (ps : List Plan) (a : PlanAnswer) → AnswerToQuery (refresh_queries r ps ++ refresh_query r ∷ []) (refreshed e ps ++ said.Expired e ∷ said.Plan a ∷ []) (refresh_query r) a
+query_own r e ps a = record { place = length ps; query = asked ps; answer = said_at ps }
   where
     asked : (ps : List Plan) → slice_get (refresh_queries r ps ++ refresh_query r ∷ []) (length ps) ≡ Some (refresh_query r)
     asked [] = refl
     asked (p ∷ ps) = asked ps
 
-    said_at : (ps : List Plan) → slice_get (plans_in (refreshed ps ++ said.Block Expired ∷ said.Plan a ∷ [])) (length ps) ≡ Some a
+    said_at : (ps : List Plan) → slice_get (plans_in (refreshed e ps ++ said.Expired e ∷ said.Plan a ∷ [])) (length ps) ≡ Some a
     said_at [] = refl
     said_at (p ∷ ps) = said_at ps
 
-pub plan_own : (r : Refresh) (ps : List Plan) (asked : List Query) (all : List Said) (k : ℕ) (p : Plan) → slice_get ps k ≡ Some p
-    → AnswerToQuery (refresh_queries r ps ++ asked) (refreshed ps ++ all) (refresh_query r) (Found p)
-plan_own r ps asked all k p h = record { place = k; query = asked_at ps k h; answer = said_at ps k h }
+pub plan_own : (r : Refresh) (e : Served) (ps : List Plan) (asked : List Query) (all : List Said) (k : ℕ) (p : Plan) → slice_get ps k ≡ Some p
+    → AnswerToQuery (refresh_queries r ps ++ asked) (refreshed e ps ++ all) (refresh_query r) (Found p)
+plan_own r e ps asked all k p h = record { place = k; query = asked_at ps k h; answer = said_at ps k h }
   where
     asked_at : (ps : List Plan) (k : ℕ) → slice_get ps k ≡ Some p → slice_get (refresh_queries r ps ++ asked) k ≡ Some (refresh_query r)
     asked_at [] k h = absurd (cc)
     asked_at (q ∷ ps) zero h = refl
     asked_at (q ∷ ps) (suc k) h = asked_at ps k h
 
-    said_at : (ps : List Plan) (k : ℕ) → slice_get ps k ≡ Some p → slice_get (plans_in (refreshed ps ++ all)) k ≡ Some (Found p)
+    said_at : (ps : List Plan) (k : ℕ) → slice_get ps k ≡ Some p → slice_get (plans_in (refreshed e ps ++ all)) k ≡ Some (Found p)
     said_at [] k h = absurd (cc)
     said_at (q ∷ ps) zero h = ap (λ (p : Plan). Some (Found p)) (same_Some q p h)
     said_at (q ∷ ps) (suc k) h = said_at ps k h
@@ -139,25 +139,25 @@ keeps_both a b c x y =
 own_same : (x : XorbBlock) (t u : TermBlockRetrievalURLs) → u.acquisition_id.plan ≡ t.acquisition_id.plan → own_entry u x ≡ own_entry t x
 own_same x t u e = ap (λ (k : ℕ). let s : Served = record { plan = k; index = x.xorb_block_index; xorb = x.xorb_hash; ranges = x.chunk_ranges } in s) e
 
-module _ (r : Refresh) (x : XorbBlock) (t u v : TermBlockRetrievalURLs) (b m n : ClientTold) (ps qs : List Plan) (base : Tried r t u b m ps [] [] []) where
-  tried_both : (asked : List Query) (all : List Said) (served : List Served) → Tried r u v m n qs asked all served → Tried r t v b n (ps ++ qs) asked all served
+module _ (r : Refresh) (x : XorbBlock) (t u v : TermBlockRetrievalURLs) (b m n : ClientTold) (ps qs : List Plan) (base : Tried r x t u b m ps [] [] []) where
+  own_both : own_entry u x ≡ own_entry t x
+  own_both = own_same x t u (ap (λ (w : TermBlockRetrievalURLs). w.acquisition_id.plan) base.table ∙ renewed_plan r.multirange t ps)
+
+  tried_both : (asked : List Query) (all : List Said) (served : List Served) → Tried r x u v m n qs asked all served → Tried r x t v b n (ps ++ qs) asked all served
   tried_both asked all served y = record {
     keeps = keeps_both b m n base.keeps y.keeps;
     passes = All-append (PassesRefresh r) ps qs base.passes y.passes;
     honest = λ s told. All-append (λ (p : Plan). IsHonest s r.file r.range (Found p)) ps qs (base.honest s told) (y.honest s (base.keeps.store ∙ told));
     table = y.table ∙ ap (λ (w : TermBlockRetrievalURLs). renewed r.multirange w qs) base.table ∙ renewed_both r.multirange t ps qs;
     asks = subst (λ (l : List Query). Added b.asked n.asked l) (queries_both r ps qs asked) (added_both b.asked m.asked n.asked (refresh_queries r ps ++ []) (refresh_queries r qs ++ asked) base.asks y.asks);
-    says = subst (λ (l : List Said). Added b.said n.said l) (saids_both ps qs all) (added_both b.said m.said n.said (refreshed ps ++ []) (refreshed qs ++ all) base.says y.says);
+    says = subst (λ (l : List Said). Added b.said n.said l) (saids_both (own_entry t x) ps qs all) (added_both b.said m.said n.said (refreshed (own_entry t x) ps ++ []) (refreshed (own_entry t x) qs ++ all) base.says (subst (λ (e : Served). Added m.said n.said (refreshed e qs ++ all)) own_both y.says));
     serves = added_both b.served m.served n.served [] served base.serves y.serves;
     rose = subst (λ (k : ℕ). RoseBy k b.expiries n.expiries) (sym (length-append ps qs)) (rose_more (length ps) (length qs) b.expiries m.expiries n.expiries base.rose y.rose);
   }
 
-  own_both : own_entry u x ≡ own_entry t x
-  own_both = own_same x t u (ap (λ (w : TermBlockRetrievalURLs). w.acquisition_id.plan) base.table ∙ renewed_plan r.multirange t ps)
-
   gave_both : (bytes : BlockBytes) → GaveBytes r x u v m n qs bytes → GaveBytes r x t v b n (ps ++ qs) bytes
   gave_both bytes g = record {
-    tried = tried_both [] (said.Block (Bytes bytes) ∷ []) (own_entry t x ∷ []) (subst (λ (e : Served). Tried r u v m n qs [] (said.Block (Bytes bytes) ∷ []) (e ∷ [])) own_both g.tried);
+    tried = tried_both [] (said.Block bytes ∷ []) (own_entry t x ∷ []) (subst (λ (e : Served). Tried r x u v m n qs [] (said.Block bytes ∷ []) (e ∷ [])) own_both g.tried);
     answer = bytes_own (ps ++ qs) (own_entry t x) bytes;
     honest = λ s told holds. g.honest s (base.keeps.store ∙ told) holds;
   }
@@ -165,25 +165,25 @@ module _ (r : Refresh) (x : XorbBlock) (t u v : TermBlockRetrievalURLs) (b m n :
   data_both : (g : Fetched) → GaveData r x u v m n qs g → GaveData r x t v b n (ps ++ qs) g
   data_both g y = record { gave = gave_both g.bytes y.gave; passes = y.passes; made = y.made }
 
-  unrefreshed_both : Unrefreshed r u v m n qs → Unrefreshed r t v b n (ps ++ qs)
-  unrefreshed_both y = record { asked = y.asked; may = y.may; tried = tried_both y.asked (said.Block Expired ∷ []) [] y.tried }
+  unrefreshed_both : Unrefreshed r x u v m n qs → Unrefreshed r x t v b n (ps ++ qs)
+  unrefreshed_both y = record { asked = y.asked; may = y.may; tried = tried_both y.asked (said.Expired (own_entry t x) ∷ []) [] (subst (λ (e : Served). Tried r x u v m n qs y.asked (said.Expired e ∷ []) []) own_both y.tried) }
 
-  replied_both : (a : PlanAnswer) → Replied r u v m n qs a → Replied r t v b n (ps ++ qs) a
+  replied_both : (a : PlanAnswer) → Replied r x u v m n qs a → Replied r x t v b n (ps ++ qs) a
   replied_both a y = record {
-    tried = tried_both (refresh_query r ∷ []) (said.Block Expired ∷ said.Plan a ∷ []) [] y.tried;
-    own = query_own r (ps ++ qs) a;
+    tried = tried_both (refresh_query r ∷ []) (said.Expired (own_entry t x) ∷ said.Plan a ∷ []) [] (subst (λ (e : Served). Tried r x u v m n qs (refresh_query r ∷ []) (said.Expired e ∷ said.Plan a ∷ []) []) own_both y.tried);
+    own = query_own r (own_entry t x) (ps ++ qs) a;
     honest = λ s told. y.honest s (base.keeps.store ∙ told);
   }
 
-  refused_both : (e : FileReconstructionError) → Refused r u v m n qs e → Refused r t v b n (ps ++ qs) e
+  refused_both : (e : FileReconstructionError) → Refused r x u v m n qs e → Refused r x t v b n (ps ++ qs) e
   refused_both e y = record { answer = y.answer; replied = replied_both y.answer y.replied; refused = y.refused }
 
-  lapsed_both : Lapsed r u v m n qs → Lapsed r t v b n (ps ++ qs)
+  lapsed_both : Lapsed r x u v m n qs → Lapsed r x t v b n (ps ++ qs)
   lapsed_both y =
       let xr = base.rose in
       let yr = y.rose in
       let count = length-append ps qs in
-      record { tried = tried_both [] (said.Block Expired ∷ []) [] y.tried; rose = omega (arith, count) }
+      record { tried = tried_both [] (said.Expired (own_entry t x) ∷ []) [] (subst (λ (e : Served). Tried r x u v m n qs [] (said.Expired e ∷ []) []) own_both y.tried); rose = omega (arith, count) }
 
   dishonest_both : IsDishonest r x m → IsDishonest r x b
   dishonest_both d s told honest = d s (base.keeps.store ∙ told) honest
@@ -191,18 +191,18 @@ module _ (r : Refresh) (x : XorbBlock) (t u v : TermBlockRetrievalURLs) (b m n :
   fail_both : (left tries : ℕ) → 0 < left → length ps + left ≡ tries → (e : FileReconstructionError) → FetchesFail r x left u v m n qs e → FetchesFail r x tries t v b n (ps ++ qs) e
   fail_both left tries some sum error.OutOfMemory h = go h
     where
-      go : ((length qs < left) × (Tried r u v m n qs [] [] [] ⊎ ((bytes : BlockBytes) × GaveBytes r x u v m n qs bytes)))
-          ⊎ ((length qs + 1 < left) × (Unrefreshed r u v m n qs ⊎ ((a : PlanAnswer) × Replied r u v m n qs a)))
-          → ((length (ps ++ qs) < tries) × (Tried r t v b n (ps ++ qs) [] [] [] ⊎ ((bytes : BlockBytes) × GaveBytes r x t v b n (ps ++ qs) bytes)))
-          ⊎ ((length (ps ++ qs) + 1 < tries) × (Unrefreshed r t v b n (ps ++ qs) ⊎ ((a : PlanAnswer) × Replied r t v b n (ps ++ qs) a)))
+      go : ((length qs < left) × (Tried r x u v m n qs [] [] [] ⊎ ((bytes : BlockBytes) × GaveBytes r x u v m n qs bytes)))
+          ⊎ ((length qs + 1 < left) × (Unrefreshed r x u v m n qs ⊎ ((a : PlanAnswer) × Replied r x u v m n qs a)))
+          → ((length (ps ++ qs) < tries) × (Tried r x t v b n (ps ++ qs) [] [] [] ⊎ ((bytes : BlockBytes) × GaveBytes r x t v b n (ps ++ qs) bytes)))
+          ⊎ ((length (ps ++ qs) + 1 < tries) × (Unrefreshed r x t v b n (ps ++ qs) ⊎ ((a : PlanAnswer) × Replied r x t v b n (ps ++ qs) a)))
       go (inl (few, inl y)) = let count = length-append ps qs in inl (omega (arith, count), inl (tried_both [] [] [] y))
       go (inl (few, inr (bytes, y))) = let count = length-append ps qs in inl (omega (arith, count), inr (bytes, gave_both bytes y))
       go (inr (few, inl y)) = let count = length-append ps qs in inr (omega (arith, count), inl (unrefreshed_both y))
       go (inr (few, inr (a, y))) = let count = length-append ps qs in inr (omega (arith, count), inr (a, replied_both a y))
   fail_both left tries some sum error.ClientError (rose, h) = (rose_before b.faults m.faults n.faults base.keeps.faults rose, go h)
     where
-      go : ((length qs < left) × Tried r u v m n qs [] [] []) ⊎ ((length qs + 1 < left) × Unrefreshed r u v m n qs)
-          → ((length (ps ++ qs) < tries) × Tried r t v b n (ps ++ qs) [] [] []) ⊎ ((length (ps ++ qs) + 1 < tries) × Unrefreshed r t v b n (ps ++ qs))
+      go : ((length qs < left) × Tried r x u v m n qs [] [] []) ⊎ ((length qs + 1 < left) × Unrefreshed r x u v m n qs)
+          → ((length (ps ++ qs) < tries) × Tried r x t v b n (ps ++ qs) [] [] []) ⊎ ((length (ps ++ qs) + 1 < tries) × Unrefreshed r x t v b n (ps ++ qs))
       go (inl (few, y)) = let count = length-append ps qs in inl (omega (arith, count), tried_both [] [] [] y)
       go (inr (few, y)) = let count = length-append ps qs in inr (omega (arith, count), unrefreshed_both y)
   fail_both left tries some sum error.FileNotFound (d, few, y) = let count = length-append ps qs in (dishonest_both d, omega (arith, count), refused_both error.FileNotFound y)
@@ -210,8 +210,8 @@ module _ (r : Refresh) (x : XorbBlock) (t u v : TermBlockRetrievalURLs) (b m n :
   fail_both left tries some sum error.IoError h = h
   fail_both left tries some sum (error.CorruptedReconstruction k) (d, h) = (dishonest_both d, go h)
     where
-      go : ((length qs < left) × GaveBad r x u v m n qs k) ⊎ ((length qs + 1 < left) × Refused r u v m n qs (error.CorruptedReconstruction k))
-          → ((length (ps ++ qs) < tries) × GaveBad r x t v b n (ps ++ qs) k) ⊎ ((length (ps ++ qs) + 1 < tries) × Refused r t v b n (ps ++ qs) (error.CorruptedReconstruction k))
+      go : ((length qs < left) × GaveBad r x u v m n qs k) ⊎ ((length qs + 1 < left) × Refused r x u v m n qs (error.CorruptedReconstruction k))
+          → ((length (ps ++ qs) < tries) × GaveBad r x t v b n (ps ++ qs) k) ⊎ ((length (ps ++ qs) + 1 < tries) × Refused r x t v b n (ps ++ qs) (error.CorruptedReconstruction k))
       go (inl (few, y)) = let count = length-append ps qs in inl (omega (arith, count), record { bytes = y.bytes; gave = gave_both y.bytes y.gave; fails = y.fails })
       go (inr (few, y)) = let count = length-append ps qs in inr (omega (arith, count), refused_both (error.CorruptedReconstruction k) y)
   fail_both left tries some sum (error.ConfigurationError s) (e, none, same, kept) = absurd (omega (arith, none, some))
@@ -238,9 +238,12 @@ own_of x urls r h = by_url (slice_get urls.retrieval_urls x.xorb_block_index) h
     by_url None h = absurd h
     by_url (Some u) h = ap served_of h
 
+late_grew : (x : XorbBlock) (t : TermBlockRetrievalURLs) (b n : ClientTold) → (q : Requested x t b n (Ok Expired)) → Grew b.said n.said (said.Expired (own_entry t x))
+late_grew x t b n q = subst (λ (e : Served). Grew b.said n.said (said.Expired e)) (own_of x t q.request q.own) q.call.said
+
 module _ (r : Refresh) (x : XorbBlock) (t : TermBlockRetrievalURLs) (b n : ClientTold) where
-  nothing : n ≡ b → Tried r t t b n [] [] [] []
-  nothing same = subst (λ (n : ClientTold). Tried r t t b n [] [] [] []) (sym same) (record {
+  nothing : n ≡ b → Tried r x t t b n [] [] [] []
+  nothing same = subst (λ (n : ClientTold). Tried r x t t b n [] [] [] []) (sym same) (record {
     keeps = keeps_self b;
     passes = All-nil (PassesRefresh r);
     honest = λ s told. All-nil (λ (p : Plan). IsHonest s r.file r.range (Found p));
@@ -254,7 +257,7 @@ module _ (r : Refresh) (x : XorbBlock) (t : TermBlockRetrievalURLs) (b n : Clien
   call_keeps : (q : BlockRequest) (a : Result BlockAnswer ClientError) → BlockCall b n q a → FetchesKeep b n
   call_keeps q a c = record { store = c.store; faults = c.faults; expiries = c.expiries; link = c.link }
 
-  tried_call : (q : BlockRequest) (a : Result BlockAnswer ClientError) → BlockCall b n q a → (all : List Said) (served : List Served) → Added b.said n.said all → Added b.served n.served served → Tried r t t b n [] [] all served
+  tried_call : (q : BlockRequest) (a : Result BlockAnswer ClientError) → BlockCall b n q a → (all : List Said) (served : List Served) → Added b.said n.said all → Added b.served n.served served → Tried r x t t b n [] [] all served
   tried_call q a c all served says serves =
       let later = c.expiries in
       record {
@@ -268,12 +271,12 @@ module _ (r : Refresh) (x : XorbBlock) (t : TermBlockRetrievalURLs) (b n : Clien
         rose = omega arith;
       }
 
-  unanswered : (f : ClientError) → Requested x t b n (Err f) → Tried r t t b n [] [] [] []
+  unanswered : (f : ClientError) → Requested x t b n (Err f) → Tried r x t t b n [] [] [] []
   unanswered f q = tried_call q.request (Err f) q.call [] [] (added_none b.said n.said q.call.unsaid) (added_none b.served n.served q.call.unserved)
 
   gave : (bytes : BlockBytes) → Requested x t b n (Ok (Bytes bytes)) → GaveBytes r x t t b n [] bytes
   gave bytes q = record {
-    tried = tried_call q.request (Ok (Bytes bytes)) q.call (said.Block (Bytes bytes) ∷ []) (own_entry t x ∷ []) q.call.said (subst (λ (e : Served). Grew b.served n.served e) (own_of x t q.request q.own) q.call.served);
+    tried = tried_call q.request (Ok (Bytes bytes)) q.call (said.Block bytes ∷ []) (own_entry t x ∷ []) q.call.said (subst (λ (e : Served). Grew b.served n.served e) (own_of x t q.request q.own) q.call.served);
     answer = bytes_own [] (own_entry t x) bytes;
     honest = λ s told holds.
         let a = asks x t q.request q.own in
@@ -281,8 +284,8 @@ module _ (r : Refresh) (x : XorbBlock) (t : TermBlockRetrievalURLs) (b n : Clien
         rw (a.xorb, a.chunks) at (q.call.honest s told inside);
   }
 
-  expired : Requested x t b n (Ok Expired) → Tried r t t b n [] [] (said.Block Expired ∷ []) []
-  expired q = tried_call q.request (Ok Expired) q.call (said.Block Expired ∷ []) [] q.call.said (added_none b.served n.served q.call.served)
+  expired : Requested x t b n (Ok Expired) → Tried r x t t b n [] [] (said.Expired (own_entry t x) ∷ []) []
+  expired q = tried_call q.request (Ok Expired) q.call (said.Expired (own_entry t x) ∷ []) [] (late_grew x t b n q) (added_none b.served n.served q.call.served)
 
   bad : (left : ℕ) → 0 < left → (bytes : BlockBytes) (e : FileReconstructionError) → GaveBytes r x t t b n [] bytes → (o : Option Corruption) → failed_check x bytes ≡ o → MatchOption o ⊥ (λ k. e ≡ error.CorruptedReconstruction k) → FetchesFail r x left t t b n [] e
   bad left some bytes e g None same h = absurd h
@@ -385,7 +388,7 @@ module _ (x : XorbBlock) (left : ℕ) (t u : TermBlockRetrievalURLs) (b m n : Cl
 
   -- what was asked, said and served, where a refresh adds these
   tried_refresh : (answer : Result (Unit {0}) FileReconstructionError) → RefreshCall t u m n id xs multi answer → (asked : List Query) (answers : List Said)
-      → Added m.asked n.asked asked → Added m.said n.said answers → Tried R t t b n [] asked (said.Block Expired ∷ answers) []
+      → Added m.asked n.asked asked → Added m.said n.said answers → Tried R x t t b n [] asked (said.Expired (own_entry t x) ∷ answers) []
   tried_refresh answer h asked answers asks says =
       let before = c.call.expiries in
       let later = h.may.expiries in
@@ -395,7 +398,7 @@ module _ (x : XorbBlock) (left : ℕ) (t u : TermBlockRetrievalURLs) (b m n : Cl
         honest = λ s told. All-nil (λ (p : Plan). IsHonest s R.file R.range (Found p));
         table = refl;
         asks = added_both b.asked m.asked n.asked [] asked (added_none b.asked m.asked c.call.asked) asks;
-        says = added_both b.said m.said n.said (said.Block Expired ∷ []) answers c.call.said says;
+        says = added_both b.said m.said n.said (said.Expired (own_entry t x) ∷ []) answers (late_grew x t b m c) says;
         serves = added_none b.served n.served (h.may.served ∙ c.call.served);
         rose = omega arith;
       }
@@ -427,7 +430,7 @@ module _ (x : XorbBlock) (left : ℕ) (t u : TermBlockRetrievalURLs) (b m n : Cl
               honest = λ s told. all_one (λ (p : Plan). IsHonest s R.file R.range (Found p)) p (made.answered.honest s (told_later (Ok tt) h s told));
               table = is.1 ∙ ap (λ (l : List RetrievalUrl). record t { acquisition_id = next_id t.acquisition_id; retrieval_urls = l }) made.urls;
               asks = added_both b.asked m.asked n.asked [] (refresh_query R ∷ []) (added_none b.asked m.asked c.call.asked) made.answered.asked;
-              says = added_both b.said m.said n.said (said.Block Expired ∷ []) (said.Plan (Found p) ∷ []) c.call.said made.answered.said;
+              says = added_both b.said m.said n.said (said.Expired (own_entry t x) ∷ []) (said.Plan (Found p) ∷ []) (late_grew x t b m c) made.answered.said;
               serves = added_none b.served n.served (h.may.served ∙ c.call.served);
               rose = rose_later b.expiries m.expiries n.expiries first later;
             },
@@ -435,32 +438,32 @@ module _ (x : XorbBlock) (left : ℕ) (t u : TermBlockRetrievalURLs) (b m n : Cl
         );
       }
 
-  asked_alone : (answer : Result (Unit {0}) FileReconstructionError) → RefreshCall t u m n id xs multi answer → Grew m.asked n.asked (refresh_query R) → n.said ≡ m.said → Unrefreshed R t t b n []
+  asked_alone : (answer : Result (Unit {0}) FileReconstructionError) → RefreshCall t u m n id xs multi answer → Grew m.asked n.asked (refresh_query R) → n.said ≡ m.said → Unrefreshed R x t t b n []
   asked_alone answer h grew same = record { asked = refresh_query R ∷ []; may = inr refl; tried = tried_refresh answer h (refresh_query R ∷ []) [] grew (added_none m.said n.said same) }
 
-  unasked : (answer : Result (Unit {0}) FileReconstructionError) → RefreshCall t u m n id xs multi answer → n.asked ≡ m.asked → n.said ≡ m.said → Unrefreshed R t t b n []
+  unasked : (answer : Result (Unit {0}) FileReconstructionError) → RefreshCall t u m n id xs multi answer → n.asked ≡ m.asked → n.said ≡ m.said → Unrefreshed R x t t b n []
   unasked answer h none same = record { asked = []; may = inl refl; tried = tried_refresh answer h [] [] (added_none m.asked n.asked none) (added_none m.said n.said same) }
 
   -- nothing was said
-  unsaid : (answer : Result (Unit {0}) FileReconstructionError) → RefreshCall t u m n id xs multi answer → n.said ≡ m.said → Unrefreshed R t t b n []
+  unsaid : (answer : Result (Unit {0}) FileReconstructionError) → RefreshCall t u m n id xs multi answer → n.said ≡ m.said → Unrefreshed R x t t b n []
   unsaid answer h same = go h.may.asks
     where
-      go : AskedAtMostOnce m n (refresh_query R) → Unrefreshed R t t b n []
+      go : AskedAtMostOnce m n (refresh_query R) → Unrefreshed R x t t b n []
       go (inl (a, y)) = asked_alone answer h y.asked same
       go (inr (inl (grew, none))) = asked_alone answer h grew same
       go (inr (inr (none, also))) = unasked answer h none same
 
-  replied : (answer : Result (Unit {0}) FileReconstructionError) → RefreshCall t u m n id xs multi answer → (a : PlanAnswer) → QueryAnswered m n (refresh_query R) a → Replied R t t b n [] a
+  replied : (answer : Result (Unit {0}) FileReconstructionError) → RefreshCall t u m n id xs multi answer → (a : PlanAnswer) → QueryAnswered m n (refresh_query R) a → Replied R x t t b n [] a
   replied answer h a y = record {
     tried = tried_refresh answer h (refresh_query R ∷ []) (said.Plan a ∷ []) y.asked y.said;
-    own = query_own R [] a;
+    own = query_own R (own_entry t x) [] a;
     honest = λ s told. y.honest s (told_later answer h s told);
   }
 
-  refused : (answer : Result (Unit {0}) FileReconstructionError) (e : FileReconstructionError) → RefreshCall t u m n id xs multi answer → IsRefused R m n e → Refused R t t b n [] e
+  refused : (answer : Result (Unit {0}) FileReconstructionError) (e : FileReconstructionError) → RefreshCall t u m n id xs multi answer → IsRefused R m n e → Refused R x t t b n [] e
   refused answer e h is = record { answer = is.answer; replied = replied answer h is.answer is.answered; refused = is.refused }
 
-  dishonest : (e : FileReconstructionError) → Refused R t t b n [] e → IsDishonest R x b
+  dishonest : (e : FileReconstructionError) → Refused R x t t b n [] e → IsDishonest R x b
   dishonest e y s told honest =
       let none : refusal_of R.range R.multirange R.blocks y.answer ≡ None = honest.refreshes y.answer (y.replied.honest s told) in
       let some = y.refused in
@@ -469,7 +472,7 @@ module _ (x : XorbBlock) (left : ℕ) (t u : TermBlockRetrievalURLs) (b m n : Cl
   unrefreshed_ends : (e : FileReconstructionError) → RefreshCall t u m n id xs multi (Err e) → FetchesFail R x left t t b n [] e
   unrefreshed_ends error.OutOfMemory h = inr (more, go h.may.asks)
     where
-      go : AskedAtMostOnce m n (refresh_query R) → Unrefreshed R t t b n [] ⊎ ((a : PlanAnswer) × Replied R t t b n [] a)
+      go : AskedAtMostOnce m n (refresh_query R) → Unrefreshed R x t t b n [] ⊎ ((a : PlanAnswer) × Replied R x t t b n [] a)
       go (inl (a, y)) = inr (a, replied (Err error.OutOfMemory) h a y)
       go (inr (inl (grew, same))) = inl (asked_alone (Err error.OutOfMemory) h grew same)
       go (inr (inr (none, same))) = inl (unasked (Err error.OutOfMemory) h none same)
@@ -515,7 +518,7 @@ refresh_fits t u b n id xs multi (Ok x) k c h w = go (nat_eq t.acquisition_id.pl
 
 pub record IsFetching (r : Refresh) (x : XorbBlock) (t u : TermBlockRetrievalURLs) (b n : ClientTold) (k tries : ℕ) : Type 0 where
   pub plans : List Plan
-  pub tried : Tried r t u b n plans [] [] []
+  pub tried : Tried r x t u b n plans [] [] []
   pub count : length plans ≡ k
   pub table : TableKeeps r t u
   pub in_table : x.xorb_block_index < length u.retrieval_urls

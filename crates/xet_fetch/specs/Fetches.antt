@@ -3,7 +3,6 @@
 use Rattle.std.specs.Prelude.{ℕ, ◌≡◌, ◌⊎◌, ◌+◌, ◌-◌, ◌^◌, ◌<◌, ◌≤◌, Bool, List, [], ◌∷◌, ◌++◌, length, map, min, All, Some, None, Result, Ok, Err}
 use Rattle.std.specs.List.{flat_map}
 use Rattle.xet_base.specs.Store.{Store}
-use Rattle.xet_outside.specs.declared.block.BlockAnswer.TheVariants.{Bytes, Expired}
 use Rattle.xet_outside.specs.declared.block.BlockBytes.{BlockBytes}
 use Rattle.xet_outside.specs.declared.plan.Plan.{Plan}
 use Rattle.xet_outside.specs.declared.plan.PlanAnswer.{PlanAnswer}
@@ -48,11 +47,7 @@ refresh_query r = (r.file, r.range)
 abbrev pub refresh_queries : Refresh → List Plan → List Query
 refresh_queries r ps = map (λ p. refresh_query r) ps
 
--- expired answers, each with the plan that was then said to the query of its refresh
-abbrev pub refreshed : List Plan → List Said
-refreshed ps = flat_map (λ p. said.Block Expired ∷ said.Plan (Found p) ∷ []) ps
-
--- the entry of a block of this table among the served ones
+-- the entry of a block of this table, as a connection tells it
 abbrev pub own_entry : TermBlockRetrievalURLs → XorbBlock → Served
 own_entry t x = record {
   plan = t.acquisition_id.plan;
@@ -60,6 +55,10 @@ own_entry t x = record {
   xorb = x.xorb_hash;
   ranges = x.chunk_ranges;
 }
+
+-- expired answers to requests for a block, each with the plan that was then said to the query of its refresh
+abbrev pub refreshed : Served → List Plan → List Said
+refreshed e ps = flat_map (λ p. said.Expired e ∷ said.Plan (Found p) ∷ []) ps
 
 -- ---- what fetches leave
 
@@ -82,29 +81,30 @@ pub record TableKeeps (r : Refresh) (t u : TermBlockRetrievalURLs) : Type 0 wher
 
 -- ---- tries
 
--- tries that expired, each followed by a refresh by one of these plans, which passed its tests and gave the table its
--- URLs; and then one more, in which these were asked, said and served
-pub record Tried (r : Refresh) (t u : TermBlockRetrievalURLs) (before after : ClientTold) (plans : List Plan)
-    (asked : List Query) (all : List Said) (served : List Served) : Type 0 where
+-- tries of this block that expired, each followed by a refresh by one of these plans, which passed its tests and gave
+-- the table its URLs; and then one more, in which these were asked, said and served
+pub record Tried (r : Refresh) (x : XorbBlock) (t u : TermBlockRetrievalURLs) (before after : ClientTold)
+    (plans : List Plan) (asked : List Query) (all : List Said) (served : List Served) : Type 0 where
   pub keeps : FetchesKeep before after
   pub passes : All (PassesRefresh r) plans
   pub honest : (s : Store) → before.store ≡ Some s → All (λ p. IsHonest s r.file r.range (Found p)) plans
   pub table : u ≡ renewed r.multirange t plans
   pub asks : Added before.asked after.asked (refresh_queries r plans ++ asked)
-  pub says : Added before.said after.said (refreshed plans ++ all)
+  pub says : Added before.said after.said (refreshed (own_entry t x) plans ++ all)
   pub serves : Added before.served after.served served
   pub rose : RoseBy (length plans) before.expiries after.expiries
 
 -- the last request has no answer
-abbrev pub Unanswered : Refresh → TermBlockRetrievalURLs → TermBlockRetrievalURLs → ClientTold → ClientTold → List Plan
-    → Type 0
-Unanswered r t u before after plans = Tried r t u before after plans [] [] []
+abbrev pub Unanswered : Refresh → XorbBlock → TermBlockRetrievalURLs → TermBlockRetrievalURLs → ClientTold → ClientTold
+    → List Plan → Type 0
+Unanswered r x t u before after plans = Tried r x t u before after plans [] [] []
 
 -- these bytes were said to the block's own request, and over a store they are the block's
 pub record GaveBytes (r : Refresh) (x : XorbBlock) (t u : TermBlockRetrievalURLs) (before after : ClientTold)
     (plans : List Plan) (bytes : BlockBytes) : Type 0 where
-  pub tried : Tried r t u before after plans [] (said.Block (Bytes bytes) ∷ []) (own_entry t x ∷ [])
-  pub answer : AnswerTo (own_entry t x ∷ []) (refreshed plans ++ said.Block (Bytes bytes) ∷ []) (own_entry t x) bytes
+  pub tried : Tried r x t u before after plans [] (said.Block bytes ∷ []) (own_entry t x ∷ [])
+  pub answer : AnswerTo (own_entry t x ∷ []) (refreshed (own_entry t x) plans ++ said.Block bytes ∷ [])
+      (own_entry t x) bytes
   pub honest : (s : Store) → before.store ≡ Some s → Holds s x.xorb_hash x.chunk_ranges
       → bytes ≡ block_of s x.xorb_hash x.chunk_ranges
 
@@ -123,32 +123,33 @@ pub record GaveBad (r : Refresh) (x : XorbBlock) (t u : TermBlockRetrievalURLs) 
   pub fails : failed_check x bytes ≡ Some test
 
 -- the last answer expired, and no other was asked for
-pub record Lapsed (r : Refresh) (t u : TermBlockRetrievalURLs) (before after : ClientTold)
+pub record Lapsed (r : Refresh) (x : XorbBlock) (t u : TermBlockRetrievalURLs) (before after : ClientTold)
     (plans : List Plan) : Type 0 where
-  pub tried : Tried r t u before after plans [] (said.Block Expired ∷ []) []
+  pub tried : Tried r x t u before after plans [] (said.Expired (own_entry t x) ∷ []) []
   pub rose : RoseBy (length plans + 1) before.expiries after.expiries
 
 -- the last answer expired, and its refresh, which found no memory or met a fault, was told nothing: its query may have
 -- been asked, and the table is that of the refreshes before
-pub record Unrefreshed (r : Refresh) (t u : TermBlockRetrievalURLs) (before after : ClientTold)
+pub record Unrefreshed (r : Refresh) (x : XorbBlock) (t u : TermBlockRetrievalURLs) (before after : ClientTold)
     (plans : List Plan) : Type 0 where
   pub asked : List Query
   pub may : (asked ≡ []) ⊎ (asked ≡ refresh_query r ∷ [])
-  pub tried : Tried r t u before after plans asked (said.Block Expired ∷ []) []
+  pub tried : Tried r x t u before after plans asked (said.Expired (own_entry t x) ∷ []) []
 
 -- the last answer expired, and this was said to the query of its refresh: the table is that of the refreshes before
-pub record Replied (r : Refresh) (t u : TermBlockRetrievalURLs) (before after : ClientTold)
+pub record Replied (r : Refresh) (x : XorbBlock) (t u : TermBlockRetrievalURLs) (before after : ClientTold)
     (plans : List Plan) (answer : PlanAnswer) : Type 0 where
-  pub tried : Tried r t u before after plans (refresh_query r ∷ []) (said.Block Expired ∷ said.Plan answer ∷ []) []
+  pub tried : Tried r x t u before after plans (refresh_query r ∷ [])
+      (said.Expired (own_entry t x) ∷ said.Plan answer ∷ []) []
   pub own : AnswerToQuery (refresh_queries r plans ++ refresh_query r ∷ [])
-      (refreshed plans ++ said.Block Expired ∷ said.Plan answer ∷ []) (refresh_query r) answer
+      (refreshed (own_entry t x) plans ++ said.Expired (own_entry t x) ∷ said.Plan answer ∷ []) (refresh_query r) answer
   pub honest : (s : Store) → before.store ≡ Some s → IsHonest s r.file r.range answer
 
 -- what was said to the query of the last refresh is refused with this error
-pub record Refused (r : Refresh) (t u : TermBlockRetrievalURLs) (before after : ClientTold)
+pub record Refused (r : Refresh) (x : XorbBlock) (t u : TermBlockRetrievalURLs) (before after : ClientTold)
     (plans : List Plan) (e : FileReconstructionError) : Type 0 where
   pub answer : PlanAnswer
-  pub replied : Replied r t u before after plans answer
+  pub replied : Replied r x t u before after plans answer
   pub refused : refusal_of r.range r.multirange r.blocks answer ≡ Some e
 
 -- ---- errors
@@ -168,25 +169,25 @@ IsDishonest r x before = (s : Store) → before.store ≡ Some s → IsHonestFor
 abbrev pub FoundNoMemory : Refresh → XorbBlock → ℕ → TermBlockRetrievalURLs → TermBlockRetrievalURLs → ClientTold
     → ClientTold → List Plan → Type 0
 FoundNoMemory r x tries t u before after plans =
-    ((length plans < tries) × (Unanswered r t u before after plans
+    ((length plans < tries) × (Unanswered r x t u before after plans
     ⊎ ((bytes : BlockBytes) × GaveBytes r x t u before after plans bytes)))
-    ⊎ ((length plans + 1 < tries) × (Unrefreshed r t u before after plans
-    ⊎ ((answer : PlanAnswer) × Replied r t u before after plans answer)))
+    ⊎ ((length plans + 1 < tries) × (Unrefreshed r x t u before after plans
+    ⊎ ((answer : PlanAnswer) × Replied r x t u before after plans answer)))
 
 -- how fetches with so many tries ended in an error, after tries that expired and were refreshed by these plans
 abbrev pub FetchesFail : Refresh → XorbBlock → ℕ → TermBlockRetrievalURLs → TermBlockRetrievalURLs → ClientTold
     → ClientTold → List Plan → FileReconstructionError → Type 0
 FetchesFail r x tries t u before after plans error.OutOfMemory = FoundNoMemory r x tries t u before after plans
 FetchesFail r x tries t u before after plans error.ClientError =
-    Rose before.faults after.faults × (((length plans < tries) × Unanswered r t u before after plans)
-    ⊎ ((length plans + 1 < tries) × Unrefreshed r t u before after plans))
+    Rose before.faults after.faults × (((length plans < tries) × Unanswered r x t u before after plans)
+    ⊎ ((length plans + 1 < tries) × Unrefreshed r x t u before after plans))
 FetchesFail r x tries t u before after plans error.FileNotFound =
-    IsDishonest r x before × (length plans + 1 < tries) × Refused r t u before after plans error.FileNotFound
+    IsDishonest r x before × (length plans + 1 < tries) × Refused r x t u before after plans error.FileNotFound
 FetchesFail r x tries t u before after plans error.UrlExpired =
-    (length plans + 1 ≡ tries) × Lapsed r t u before after plans
+    (length plans + 1 ≡ tries) × Lapsed r x t u before after plans
 FetchesFail r x tries t u before after plans (error.CorruptedReconstruction k) =
     IsDishonest r x before × (((length plans < tries) × GaveBad r x t u before after plans k)
-    ⊎ ((length plans + 1 < tries) × Refused r t u before after plans (error.CorruptedReconstruction k)))
+    ⊎ ((length plans + 1 < tries) × Refused r x t u before after plans (error.CorruptedReconstruction k)))
 FetchesFail r x tries t u before after plans (error.ConfigurationError e) =
     (e ≡ setting.NoTries) × (tries ≡ 0) × (u ≡ t) × (after ≡ before)
 FetchesFail r x tries t u before after plans error.IoError = ⊥

@@ -9,6 +9,7 @@ use Rattle.xet_outside.specs.declared.plan.Plan.{Plan}
 use Rattle.xet_outside.specs.declared.plan.PlanAnswer.TheVariants.{Found}
 use Rattle.xet_outside.specs.Plan.{Shape, block_of, plan_of}
 use Rattle.xet_outside.specs.declared.said.Said.{Said}
+use Rattle.xet_outside.specs.declared.served.Served.{Served}
 use Rattle.xet_outside.specs.Answers.{AnswerToQuery}
 use Rattle.xet_outside.specs.Told.{Holds, IsHonest, Query}
 use Rattle.xet_blocks.specs.declared.reconstruction_terms.file_term.FileTerm.{FileTerm}
@@ -60,9 +61,9 @@ HonestTables = (s : Store) → IsValid s → (p : Plan) (query : PlanQuery) (b :
 
 -- each plan by which a table was refreshed was said to the query of its refresh, whatever was asked and said afterwards
 abbrev pub RefreshesAnswered : Type 0
-RefreshesAnswered = (r : Refresh) (plans : List Plan) (asked : List Query) (all : List Said) (k : ℕ) (p : Plan)
-    → slice_get plans k ≡ Some p
-    → AnswerToQuery (refresh_queries r plans ++ asked) (refreshed plans ++ all) (refresh_query r) (Found p)
+RefreshesAnswered = (r : Refresh) (e : Served) (plans : List Plan) (asked : List Query) (all : List Said) (k : ℕ)
+    (p : Plan) → slice_get plans k ≡ Some p
+    → AnswerToQuery (refresh_queries r plans ++ asked) (refreshed e plans ++ all) (refresh_query r) (Found p)
 
 -- a call of `request` for the block by this table never answers that there is none
 abbrev pub CanBeRequested : TermBlockRetrievalURLs → XorbBlock → Type 0

@@ -88,7 +88,7 @@ impl<'a, C: Client> URLProvider for XorbURLProvider<'a, C> {
         let Some((id, found)) = self.url_info.get_retrieval_url(self.xorb_block_index) else {
             unreachable!()
         };
-        let url = found.url.clone()?;
+        let url = found.url.copied()?;
         let ranges = found.ranges.copied(alloc)?;
         self.last = id;
         Ok(RetrievalUrl { url, ranges })

@@ -1,3 +1,4 @@
 mod Asking
 pub mod CallerLemmas
 mod Managing
+mod Newest

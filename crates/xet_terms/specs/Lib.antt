@@ -3,4 +3,3 @@ pub mod Managers
 pub mod NextTerms
 pub mod Queries
 pub mod Settings
-pub mod steps

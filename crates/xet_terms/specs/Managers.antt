@@ -1,8 +1,10 @@
 -- What contracts see of a manager, and what its calls do.
 use Rattle.std.specs.Prelude.{ℕ, ◌≡◌, ◌⊎◌, ◌+◌, ◌-◌, ◌*◌, ◌<◌, ◌≤◌, ◌^◌, Bool, true, false, ◌&&◌, ◌||◌, List, [], ◌∷◌, ◌++◌, cond, nat_lt, nat_le, max, min, length, filter, take, drop, Option, Some, None}
 use Rattle.xet_base.specs.declared.cas_types.FileRange.{FileRange}
+use Rattle.xet_base.specs.declared.item_id.UniqueID.{UniqueID}
 use Rattle.xet_base.specs.declared.merklehash.MerkleHash.{MerkleHash}
 use Rattle.xet_error.specs.declared.error.FileReconstructionError.{FileReconstructionError}
+use Rattle.xet_terms.specs.declared.planned_bytes.PlannedBytes.{PlannedBytes}
 use Rattle.xet_terms.specs.declared.reconstruction_config.ReconstructionConfig.{ReconstructionConfig}
 use Rattle.xet_blocks.specs.declared.reconstruction_terms.file_term.TermBlock.{TermBlock}
 use Rattle.xet_terms.specs.Queries.{CutFrom, end_from}
@@ -27,6 +29,10 @@ pub record Manager : Type 0 where
   pub handed_end : ℕ
   -- the first error of `next_file_terms`
   pub failed : Option FileReconstructionError
+  -- what the plans that were taken come to
+  pub planned : PlannedBytes
+  -- the item to which that is reported, where there is one
+  pub progress : Option UniqueID
 
 -- a sum, which stays at the type's end
 abbrev pub bounded : ℕ → ℕ
@@ -86,9 +92,21 @@ known_after known q (Some b) = cond (nat_lt b.byte_range.end q.end) b.byte_range
 abbrev pub without_past : ℕ → ℕ → List FileRange → List FileRange
 without_past asked known qs = take asked qs ++ filter (λ q. nat_lt q.start known) (drop asked qs)
 
+-- what no plan comes to
+abbrev pub none_planned : PlannedBytes
+none_planned = record { bytes = 0; transfer_bytes = 0; is_final = false }
+
+-- sums with a plan's bytes and transfer bytes more; a query past the end makes them final
+abbrev pub planned_with : PlannedBytes → Option TermBlock → PlannedBytes
+planned_with sums None = record sums { is_final = true }
+planned_with sums (Some plan) = record sums {
+  bytes = bounded (sums.bytes + (plan.byte_range.end - plan.byte_range.start));
+  transfer_bytes = bounded (sums.transfer_bytes + plan.transfer_bytes);
+}
+
 -- a manager before a query is scheduled
-abbrev pub empty_manager : MerkleHash → FileRange → ReconstructionConfig → Manager
-empty_manager file range c = record {
+abbrev pub empty_manager : MerkleHash → FileRange → ReconstructionConfig → Option UniqueID → Manager
+empty_manager file range c progress = record {
   file = file;
   range = range;
   least = c.min_reconstruction_fetch_size;
@@ -103,12 +121,14 @@ empty_manager file range c = record {
   waiting = [];
   handed_end = range.start;
   failed = None;
+  planned = none_planned;
+  progress = progress;
 }
 
 -- a manager at first: one query of the least size, and then one of twice that size
-abbrev pub begun : MerkleHash → FileRange → ReconstructionConfig → Manager
-begun file range c =
-    let m = empty_manager file range c in
+abbrev pub begun : MerkleHash → FileRange → ReconstructionConfig → Option UniqueID → Manager
+begun file range c progress =
+    let m = empty_manager file range c progress in
     let n = record m { queries = scheduled m m.least } in
     record n { queries = scheduled n (bounded (n.least * 2)) }
 
@@ -139,8 +159,12 @@ settled m known early = record m {
   ended = m.ended || early;
 }
 
--- a manager after the answer to its oldest asked query
-abbrev pub accepted : Manager → FileRange → Option TermBlock → Manager
-accepted m q answer =
+-- a manager with the answer to its oldest asked query, which is not counted in what is planned
+abbrev pub with_answer : Manager → FileRange → Option TermBlock → Manager
+with_answer m q answer =
     settled (record m { waiting = waiting_after m.waiting answer }) (known_after m.known_end q answer)
     (ends_early q answer)
+
+-- a manager after the answer to its oldest asked query
+abbrev pub accepted : Manager → FileRange → Option TermBlock → Manager
+accepted m q answer = record (with_answer m q answer) { planned = planned_with m.planned answer }

@@ -1,8 +1,8 @@
 //! Cuts a range of a file into queries, and hands their plans out in order.
-ghost use Rattle.std.specs.Prelude.{◌≡◌, ◌+◌, ◌<◌, ◌≤◌, ◌||◌, ◌&&◌, nat_le, ℕ, [], ◌∷◌, Bool, false, true, OnOk, OnErr, IfOk, IfErr, Err, Some, None, Ok, nat_lt, slice_get, length, MatchOption, IfSome, IfNone, min, ◌⊎◌};
+ghost use Rattle.std.specs.Prelude.{◌≡◌, ◌+◌, ◌-◌, ◌<◌, ◌≤◌, ◌||◌, ◌&&◌, nat_le, ℕ, [], ◌∷◌, Bool, false, true, OnOk, OnErr, IfOk, IfErr, Err, Some, None, Ok, nat_lt, slice_get, length, MatchOption, IfSome, IfNone, min, ◌⊎◌};
 ghost use Rattle.std.specs.List.Sorted.{IsNonDecreasingBy, IsPartitionPoint};
 ghost use Rattle.xet_outside.specs.Told.{ClientTold};
-ghost use Rattle.xet_terms.specs.Managers.{IsCovered, IsManager, Manager, PassesKnownEnd, ReachesEnd, accepted, begun, cut_at, ends_early, looked_ahead, scheduled, scheduled_end, settled};
+ghost use Rattle.xet_terms.specs.Managers.{IsCovered, IsManager, Manager, PassesKnownEnd, ReachesEnd, accepted, begun, cut_at, ends_early, looked_ahead, scheduled, scheduled_end, settled, with_answer};
 ghost use Rattle.xet_terms.specs.NextTerms.{AskCall, DueCall, NextCall, reopened};
 ghost use Rattle.xet_terms.specs.Queries.{CutFrom, end_from};
 ghost use Rattle.xet_terms.specs.Settings.{failing_size};
@@ -75,6 +75,8 @@ impl<P: FetchPolicy> Model for ReconstructionTermManager<P> {
       waiting = m.waiting.items;
       handed_end = m.handed_end;
       failed = m.failed;
+      planned = m.planned;
+      progress = m.progress;
     } };
 
     ghost invariant = { λ m. IsManager (record {
@@ -92,6 +94,8 @@ impl<P: FetchPolicy> Model for ReconstructionTermManager<P> {
       waiting = m.waiting.items;
       handed_end = m.handed_end;
       failed = m.failed;
+      planned = m.planned;
+      progress = m.progress;
     }) };
 }
 
@@ -113,7 +117,7 @@ impl<P: FetchPolicy + Drop> ReconstructionTermManager<P> {
         ensures fails { MatchOption (failing_size config.now)
             (IfErr result (λ e. e ≡ FileReconstructionError.OutOfMemory))
             (λ s. result ≡ Err (FileReconstructionError.ConfigurationError s)) }
-        ensures begun { IfOk result (λ m. m ≡ begun file_hash file_byte_range config.now) }
+        ensures begun { IfOk result (λ m. m ≡ begun file_hash file_byte_range config.now progress) }
     {
         if let Some(setting) = config.failing_size() {
             return Err(FileReconstructionError::ConfigurationError(setting));
@@ -183,6 +187,14 @@ impl<P: FetchPolicy> ReconstructionTermManager<P> {
         Some(block)
     }
 
+    /// The answered plan with terms that was taken last and not handed out; none exactly where none waits.
+    pub fn newest(&self) -> Option<&TermBlock>
+        ensures { MatchOption result (self.now.waiting ≡ [])
+            (λ b. slice_get self.now.waiting (length self.now.waiting - 1) ≡ Some b.now) }
+    {
+        self.waiting.back()
+    }
+
     /// Looks at the buffer and schedules at most one query: nothing where the queries reach the known end, or where a
     /// plan waits and enough bytes are planned ahead; else one of as many bytes as are missing.
     ///
@@ -239,7 +251,7 @@ impl<P: FetchPolicy> ReconstructionTermManager<P> {
         taken
     }
 
-    /// Takes an answer, as `accept` does, and reports nothing.
+    /// Takes an answer, as `accept` does, and neither counts nor reports it.
     fn take(&mut self, due: PlanDue, answer: Option<TermBlock>) -> Result<()>
         requires asked { self.old.answered < self.old.asked }
         requires oldest { slice_get self.old.queries self.old.answered ≡ Some due.query }
@@ -249,7 +261,7 @@ impl<P: FetchPolicy> ReconstructionTermManager<P> {
         ensures other { IfErr result (λ e. (PassesKnownEnd self.old due.query answer → ⊥)
             → e ≡ FileReconstructionError.OutOfMemory) }
         ensures kept { OnErr result (self.new ≡ self.old) }
-        ensures ok { OnOk result (self.new ≡ accepted self.old due.query answer) }
+        ensures ok { OnOk result (self.new ≡ with_answer self.old due.query answer) }
     {
         let known = self.known_end;
         let Some(block) = answer else {
@@ -300,9 +312,10 @@ impl<P: FetchPolicy> ReconstructionTermManager<P> {
         }
     }
 
-    /// Reports what is planned, once an answer was taken.
+    /// Counts what is planned and reports it, once an answer was taken.
     fn report<R: Wait>(&mut self, rt: &R, planned: PlannedBytes, taken: Result<()>)
-        ensures { self.new ≡ self.old }
+        ensures counted { OnOk taken (self.new ≡ record self.old { planned = planned }) }
+        ensures kept { OnErr taken (self.new ≡ self.old) }
     {
         if taken.is_ok() {
             self.planned = planned;

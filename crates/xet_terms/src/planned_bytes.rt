@@ -1,6 +1,6 @@
 //! What of the plans that were taken is reported.
-ghost use Rattle.std.specs.Prelude.{◌≡◌, false};
-ghost use Rattle.xet_terms.specs.steps.Planned.{planned_with};
+ghost use Rattle.std.specs.Prelude.{◌≡◌};
+ghost use Rattle.xet_terms.specs.Managers.{none_planned, planned_with};
 
 use std::sync::Wait;
 use xet_blocks::TermBlock;
@@ -18,7 +18,7 @@ pub(crate) struct PlannedBytes {
 impl PlannedBytes {
     /// Those of no plan.
     pub(crate) fn new() -> PlannedBytes
-        ensures { result ≡ record { bytes = 0; transfer_bytes = 0; is_final = false } }
+        ensures { result ≡ none_planned }
     {
         PlannedBytes {
             bytes: 0,

@@ -3,7 +3,7 @@ use bytes::Bytes;
 use std::alloc::Global;
 use std::collections::VecDeque;
 use std::test::Fail;
-use xet_base::{ChunkRange, HttpRange, List, MerkleHash, Text};
+use xet_base::{ChunkRange, HttpRange, List, MerkleHash, SharedText};
 use xet_outside::{
     BlockBytes, FetchEntry, FetchRange, Offsets, Plan, PlanAnswer, PlanTerm, PlanXorb,
 };
@@ -71,7 +71,7 @@ fn fetch_ranges(alloc: Global, text: &str) -> Result<List<FetchRange>, Fail> {
 fn fetch_entry(alloc: Global, text: &str) -> Result<FetchEntry, Fail> {
     let (url, ranges) = text.split_once('=').ok_or("no URL")?;
     Ok(FetchEntry {
-        url: Text::from_string(String::from_str(alloc, url.trim())?),
+        url: SharedText::from_string(alloc, String::from_str(alloc, url.trim())?)?,
         ranges: fetch_ranges(alloc, ranges)?,
     })
 }

@@ -3,10 +3,20 @@ use Rattle.std.specs.Prelude.{ℕ, ◌≡◌, ◌&&◌, Bool, Option, None, List
 use Rattle.std.specs.declared.alloc.Global.{Global}
 use Rattle.xet_blocks.specs.declared.reconstruction_terms.block_list.BlockKey.{BlockKey}
 use Rattle.xet_blocks.specs.declared.reconstruction_terms.block_list.OfferedBlock.{OfferedBlock}
+use Rattle.xet_base.specs.declared.merklehash.MerkleHash.{MerkleHash}
+use Rattle.xet_blocks.specs.steps.Offers.{Offered}
+
+-- the block is that of an offer of the xorb with this hash and number
+pub record IsBlockOf (h : MerkleHash) (at : ℕ) (o : Offered) (b : OfferedBlock) : Type 0 where
+  pub xorb : b.xorb.now ≡ h
+  pub place : b.place ≡ at
+  pub number : b.number ≡ o.number
+  pub ranges : b.ranges.now ≡ o.block
+  pub url : b.url.now ≡ o.url
 
 -- the number of the block's xorb, and the block's own among those of the xorb
 abbrev pub key_of : OfferedBlock → BlockKey
-key_of b = record { place = b.place; number = b.offer.number }
+key_of b = record { place = b.place; number = b.number }
 
 -- two keys are equal
 abbrev pub same_key : BlockKey → BlockKey → Bool

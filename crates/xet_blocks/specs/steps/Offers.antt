@@ -1,5 +1,5 @@
 -- The ranges that the entries of a plan's xorbs offer, each with its block and its URL.
-use Rattle.std.specs.Prelude.{ℕ, ◌+◌, ◌-◌, ◌^◌, Bool, cond, List, [], ◌∷◌, ◌++◌, length, map, find, min, Option, option_and_then}
+use Rattle.std.specs.Prelude.{ℕ, ◌+◌, ◌-◌, ◌^◌, Bool, false, cond, List, [], ◌∷◌, ◌++◌, length, map, find, min, Option, option_and_then}
 use Rattle.std.specs.List.{flat_map, position_or_len}
 use Rattle.xet_base.specs.declared.merklehash.MerkleHash.{MerkleHash}
 use Rattle.xet_base.specs.Hashes.{hash_eq}
@@ -9,7 +9,7 @@ use Rattle.xet_outside.specs.declared.plan.FetchRange.{FetchRange}
 use Rattle.xet_outside.specs.declared.plan.Plan.{Plan}
 use Rattle.xet_outside.specs.declared.plan.PlanTerm.{PlanTerm}
 use Rattle.xet_outside.specs.declared.plan.PlanXorb.{PlanXorb}
-use Rattle.xet_blocks.specs.declared.reconstruction_terms.plan_offers.Offer.{Offer}
+use Rattle.xet_blocks.specs.declared.reconstruction_terms.listed_offers.Offer.{Offer}
 use Rattle.xet_blocks.specs.Blocks.{PlanBlock, lies_in}
 
 -- a range that is offered: its URL, the ranges of its block, the number of the block's first range among those of the
@@ -49,6 +49,10 @@ offers_from n (c ∷ cs) = ranges_from n c.0 c.1 0 c.1 ++ offers_from (n + lengt
 
 abbrev pub xorb_offers : Bool → PlanXorb → List Offered
 xorb_offers multi x = offers_from 0 (candidates multi x)
+
+-- what one entry offers where each of its ranges is a block
+abbrev pub entry_offers : FetchEntry → List Offered
+entry_offers e = offers_from 0 (entry_candidates false e)
 
 -- of the xorbs with one hash the first alone
 abbrev pub first_xorbs : List PlanXorb → List PlanXorb

@@ -7,58 +7,72 @@ use Rattle.xet_outside.specs.declared.plan.PlanTerm.{PlanTerm}
 use Rattle.xet_outside.specs.Plan.{Shape, shape}
 use Rattle.xet_blocks.specs.declared.reconstruction_terms.file_term.FileTerm.{FileTerm}
 use Rattle.xet_blocks.specs.declared.reconstruction_terms.file_term.TermBlock.{TermBlock}
-use Rattle.xet_blocks.specs.declared.reconstruction_terms.plan_blocks.PlacedTerm.{PlacedTerm}
 use Rattle.xet_blocks.specs.declared.reconstruction_terms.plan_blocks.PlanBlocks.{PlanBlocks}
+use Rattle.xet_blocks.specs.declared.reconstruction_terms.plan_blocks.TermStart.{TermStart}
 use Rattle.xet_blocks.specs.declared.reconstruction_terms.block_list.OfferedBlock.{OfferedBlock}
 use Rattle.xet_blocks.specs.declared.reconstruction_terms.retrieval_urls.RetrievalUrl.{RetrievalUrl}
 use Rattle.xet_blocks.specs.declared.reconstruction_terms.retrieval_urls.TermBlockRetrievalURLs.{TermBlockRetrievalURLs}
 use Rattle.xet_blocks.specs.declared.reconstruction_terms.xorb_block.XorbBlock.{XorbBlock}
 use Rattle.xet_blocks.specs.declared.reconstruction_terms.xorb_block.XorbReference.{XorbReference}
 use Rattle.xet_blocks.specs.Blocks.{PlanBlock, block_ranges, blocks_of, same_block, start_index, term_block, transfer_sum}
-use Rattle.xet_blocks.specs.steps.BlockKeys.{key_of, same_key}
-use Rattle.xet_blocks.specs.steps.Offers.{offer_of_term, offered, ranges_block, xorb_place}
+use Rattle.xet_blocks.specs.steps.BlockKeys.{IsBlockOf, key_of, same_key}
+use Rattle.xet_blocks.specs.steps.Offers.{Offered, offer_of_term, ranges_block, xorb_place}
 use Rattle.xet_blocks.specs.PlanChecks.{unordered}
 use Rattle.xet_blocks.specs.TermBlocks.{block_url, by_start, known_size, reference_of}
 
 -- the block as one of the plan
 abbrev pub plan_block : OfferedBlock → PlanBlock
-plan_block b = ranges_block b.xorb b.offer.block.now
+plan_block b = ranges_block b.xorb.now b.ranges.now
 
 -- the block's URL and what it serves
 abbrev pub retrieval_url : OfferedBlock → RetrievalUrl
-retrieval_url b = record { url = b.offer.url.now; ranges = map (λ r. r.bytes) b.offer.block.now }
+retrieval_url b = record { url = b.url.now; ranges = map (λ r. r.bytes) b.ranges.now }
 
--- a term with its block's number, and how many of the block's chunks come before it
-abbrev pub placed_term : Shape → Bool → PlanTerm → PlacedTerm
-placed_term p multi t = record {
-  term = t;
+-- where a term of a plan starts
+abbrev pub term_start : Shape → Bool → PlanTerm → TermStart
+term_start p multi t = record {
   block = position_or_len (λ b. same_block b (term_block p multi t)) (blocks_of p multi);
   start_index = start_index (block_ranges (term_block p multi t)) t.range.start;
 }
 
+-- a term with its block's number, and how many of the block's chunks come before it
+pub record PlacedTerm : Type 0 where
+  pub term : PlanTerm
+  pub block : ℕ
+  pub start_index : ℕ
+
+abbrev pub with_start : PlanTerm → TermStart → PlacedTerm
+with_start t s = record { term = t; block = s.block; start_index = s.start_index }
+
+-- terms with where they start
+abbrev pub with_starts : List PlanTerm → List TermStart → List PlacedTerm
+with_starts [] ss = []
+with_starts (t ∷ ts) [] = []
+with_starts (t ∷ ts) (s ∷ ss) = with_start t s ∷ with_starts ts ss
+
 -- the block is that of the offer of some term
 pub record IsOfTerm (p : Plan) (multi : Bool) (b : OfferedBlock) : Type 0 where
   pub term : PlanTerm
-  pub xorb : b.xorb ≡ term.xorb
-  pub place : b.place ≡ xorb_place p term.xorb
-  pub offer : offer_of_term p multi term ≡ Some (offered b.offer)
+  pub offer : Offered
+  pub found : offer_of_term p multi term ≡ Some offer
+  pub block : IsBlockOf term.xorb (xorb_place p term.xorb) offer b
 
 -- a block's ranges are nonempty, and each starts at or after the end of the one before it
 abbrev pub HasRanges : OfferedBlock → Type 0
-HasRanges b = unordered 0 b.offer.block.now ≡ false
+HasRanges b = unordered 0 b.ranges.now ≡ false
 
 -- a term has chunks
-abbrev pub HasChunks : PlacedTerm → Type 0
-HasChunks t = t.term.range.start < t.term.range.end
+abbrev pub HasChunks : PlanTerm → Type 0
+HasChunks t = t.range.start < t.range.end
 
--- the blocks of a plan, each with its URL, and its terms
+-- the blocks of a plan, each with its URL, and where its terms start
 pub record IsPlanned (p : Plan) (multi : Bool) (s : PlanBlocks) : Type 0 where
   pub blocks : map plan_block s.blocks ≡ blocks_of (shape p) multi
-  pub terms : s.terms ≡ map (placed_term (shape p) multi) p.terms
-  pub urls : map (λ b. b.offer.url.now) s.blocks ≡ map (λ b. block_url p multi (plan_block b)) s.blocks
-  pub within : All (λ t. t.block < length s.blocks) s.terms
+  pub starts : s.starts ≡ map (term_start (shape p) multi) p.terms
+  pub urls : map (λ b. b.url.now) s.blocks ≡ map (λ b. block_url p multi (plan_block b)) s.blocks
+  pub within : All (λ t. t.block < length s.blocks) s.starts
   pub ascend : All HasRanges s.blocks
-  pub some : All HasChunks s.terms
+  pub some : All HasChunks p.terms
 
 -- the keys tell a block from these as its xorb and ranges do
 abbrev pub IsToldApart : OfferedBlock → List OfferedBlock → Type 0
@@ -74,14 +88,13 @@ IsNumbered before after b n =
     MatchOption (number_in before b) ((after ≡ before ++ b ∷ []) × (n ≡ length before))
     (λ i. (after ≡ before) × (n ≡ i))
 
--- a term that lies in a range of a block is added with the block's number
-pub record IsPlaced (before after : PlanBlocks) (t : PlanTerm) (b : OfferedBlock) : Type 0 where
+-- a term that lies in an offered range is added with the number of its block
+pub record IsPlaced (before after : PlanBlocks) (t : PlanTerm) (o : Offered) (b : OfferedBlock) : Type 0 where
   pub number : ℕ
   pub numbered : IsNumbered before.blocks after.blocks b number
-  pub terms : after.terms ≡ before.terms ++ record {
-    term = t;
+  pub starts : after.starts ≡ before.starts ++ record {
     block = number;
-    start_index = min (b.offer.before + (t.range.start - b.offer.range.chunks.start)) (2 ^ 64 - 1);
+    start_index = min (o.before + (t.range.start - o.range.chunks.start)) (2 ^ 64 - 1);
   } ∷ []
   pub fits : t.range.start < 2 ^ 32
 
@@ -128,11 +141,12 @@ with_references rs b = record {
 abbrev pub numbered_block : List PlacedTerm → ℕ × PlanBlock → XorbBlock
 numbered_block ts b = with_references (own_references ts b.0) b
 
--- the parts of a block of terms, made of these blocks and with these URLs
-pub record IsMadeOf (q : FileRange) (offset : ℕ) (s : PlanBlocks) (u : TermBlockRetrievalURLs)
+-- the parts of a block of terms, made of a plan and these blocks of it and with these URLs
+pub record IsMadeOf (p : Plan) (q : FileRange) (s : PlanBlocks) (u : TermBlockRetrievalURLs)
     (b : TermBlock) : Type 0 where
   pub range : b.byte_range ≡ u.byte_range
   pub transfer : b.transfer_bytes ≡ min (transfer_sum (map plan_block s.blocks)) (2 ^ 64 - 1)
-  pub terms : b.terms ≡ terms_at q.end q.start offset s.terms
-  pub blocks : b.blocks ≡ map (numbered_block s.terms) (enumerate_from 0 (map plan_block s.blocks))
+  pub terms : b.terms ≡ terms_at q.end q.start p.offset_into_first_range (with_starts p.terms s.starts)
+  pub blocks : b.blocks
+      ≡ map (numbered_block (with_starts p.terms s.starts)) (enumerate_from 0 (map plan_block s.blocks))
   pub urls : b.urls ≡ u

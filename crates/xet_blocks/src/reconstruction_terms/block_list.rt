@@ -1,12 +1,14 @@
 //! The blocks that a plan's terms use, each found by its key.
 ghost use Rattle.std.specs.Prelude.{◌≡◌, ◌++◌, ◌∷◌, ◌<◌, ℕ, [], IfOk, None, OnErr, OnOk, Some, cond, length, nat_eq, slice_index_or};
 ghost use Rattle.xet_blocks.specs.declared.reconstruction_terms.block_list.BlockKey.{BlockKey};
-ghost use Rattle.xet_blocks.specs.steps.BlockKeys.{key_of, number_at, place_of_key, row_at, rows_of, same_key};
+ghost use Rattle.xet_blocks.specs.steps.BlockKeys.{IsBlockOf, key_of, number_at, place_of_key, row_at, rows_of, same_key};
+ghost use Rattle.xet_blocks.specs.steps.Offers.{offered};
 
-use crate::reconstruction_terms::plan_offers::Offer;
+use crate::reconstruction_terms::listed_offers::Offer;
 use std::alloc::Global;
 use std::marker::Model;
-use xet_base::{MerkleHash, OutOfMemory};
+use xet_base::{MerkleHash, OutOfMemory, SharedText};
+use xet_outside::FetchRange;
 
 /// What tells a term's block from others: the number of its xorb, and its number among the blocks that the xorb
 /// offers. A term lies in no block before its own, so that the blocks of two terms with different numbers have
@@ -17,23 +19,39 @@ pub(crate) struct BlockKey {
     number: usize,
 }
 
-/// A block of a xorb, by one of its ranges.
+/// A block of a xorb.
 #[derive(Clone, Copy)]
 pub(crate) struct OfferedBlock<'a> {
-    pub(crate) xorb: MerkleHash,
+    pub(crate) xorb: &'a MerkleHash,
     /// The number of the xorb among those of the plan.
-    pub(crate) place: usize,
-    pub(crate) offer: Offer<'a>,
+    place: usize,
+    /// The number of the block's first range among all that the xorb offers.
+    number: usize,
+    pub(crate) ranges: &'a [FetchRange],
+    pub(crate) url: &'a SharedText,
 }
 
 impl<'a> OfferedBlock<'a> {
+    /// The block of an offer, of the xorb with this number among those of the plan.
+    pub(crate) fn new(xorb: &'a MerkleHash, place: usize, offer: &Offer<'a>) -> OfferedBlock<'a>
+        ensures { IsBlockOf xorb.now place (offered offer.now) result }
+    {
+        OfferedBlock {
+            xorb,
+            place,
+            number: offer.number,
+            ranges: offer.block,
+            url: offer.url,
+        }
+    }
+
     /// Its key.
     pub(crate) fn key(&self) -> BlockKey
         ensures { result ≡ key_of self.now }
     {
         BlockKey {
             place: self.place,
-            number: self.offer.number,
+            number: self.number,
         }
     }
 }

@@ -1,5 +1,5 @@
 //! The terms of a file in a range, and how a query's answer is made into them.
-ghost use Rattle.std.specs.Prelude.{◌≡◌, ◌≤◌, ◌⊎◌, ◌<◌, length, map, slice_range, All, IfErr, IfOk, MatchResult, None};
+ghost use Rattle.std.specs.Prelude.{◌≡◌, ◌≤◌, ◌⊎◌, ◌<◌, length, slice_range, All, IfErr, IfOk, MatchResult, None};
 ghost use Rattle.xet_base.specs.Lists.{first_some};
 ghost use Rattle.xet_outside.specs.Plan.{shape};
 ghost use Rattle.xet_error.specs.declared.error.FileReconstructionError.TheVariants as error;
@@ -193,7 +193,7 @@ fn answer_plan(
         FileReconstructionError::CorruptedReconstruction,
     )?;
     let urls = TermBlockRetrievalURLs::new(file_hash, byte_range, id, blocks.urls(alloc)?);
-    let made = term_block(alloc, &blocks, query, plan.offset_into_first_range, urls)?;
+    let made = term_block(alloc, plan, &blocks, query, urls)?;
     Ok(Some(made))
 }
 
@@ -209,25 +209,26 @@ fn plan_blocks(alloc: Global, plan: &Plan, multirange: bool) -> Result<PlanBlock
     PlanBlocks::new(alloc, &offers, xorbs.as_slice())
 }
 
-/// A block of terms with these URLs, of listed blocks and an offset into the first term.
+/// A block of terms with these URLs, of a plan's listed blocks.
 fn term_block(
     alloc: Global,
+    plan: &Plan,
     blocks: &PlanBlocks,
     query: FileRange,
-    offset: u64,
     urls: TermBlockRetrievalURLs,
 ) -> std::result::Result<TermBlock, OutOfMemory>
-    requires fit { Fit query.start offset (map (λ t. t.term) blocks.now.terms) }
-    requires within { All (λ t. t.block < length blocks.now.blocks) blocks.now.terms }
+    requires started { length blocks.now.starts ≡ length plan.now.terms }
+    requires fit { Fit query.start plan.now.offset_into_first_range plan.now.terms }
+    requires within { All (λ s. s.block < length blocks.now.blocks) blocks.now.starts }
     requires ascend { All HasRanges blocks.now.blocks }
-    requires some { All HasChunks blocks.now.terms }
-    ensures { IfOk result (IsMadeOf query offset blocks.now urls) }
+    requires some { All HasChunks plan.now.terms }
+    ensures { IfOk result (IsMadeOf plan.now query blocks.now urls) }
 {
     Ok(TermBlock {
         byte_range: urls.byte_range,
         transfer_bytes: blocks.transfer_bytes(),
-        terms: blocks.file_terms(alloc, query, offset)?,
-        blocks: blocks.xorb_blocks(alloc)?,
+        terms: blocks.file_terms(alloc, plan, query)?,
+        blocks: blocks.xorb_blocks(alloc, plan)?,
         urls,
     })
 }

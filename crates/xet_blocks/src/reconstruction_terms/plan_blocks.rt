@@ -4,41 +4,41 @@ ghost use Rattle.std.specs.List.{enumerate_from};
 ghost use Rattle.xet_outside.specs.Plan.{shape};
 ghost use Rattle.xet_blocks.specs.Blocks.{range_bytes, transfer_sum};
 ghost use Rattle.xet_blocks.specs.Refusals.{IsRefusal};
-ghost use Rattle.xet_blocks.specs.steps.Offers.{xorb_place};
-ghost use Rattle.xet_blocks.specs.steps.Planning.{Fit, HasChunks, HasRanges, HasReferences, IsNumbered, IsPlaced, IsPlanned, IsToldApart, numbered_block, plan_block, retrieval_url, terms_at, with_references};
+ghost use Rattle.xet_blocks.specs.steps.Offers.{offered, xorb_place};
+ghost use Rattle.xet_blocks.specs.steps.Planning.{Fit, HasChunks, HasRanges, HasReferences, IsNumbered, IsPlaced, IsPlanned, IsToldApart, numbered_block, with_starts, plan_block, retrieval_url, terms_at, with_references};
 ghost use Rattle.xet_blocks.specs.TermBlocks.{by_start};
 ghost use Rattle.xet_blocks.specs.PlanChecks.{no_range_test, ranges_test};
 
 use crate::reconstruction_terms::block_list::{BlockList, OfferedBlock};
 use crate::reconstruction_terms::file_term::FileTerm;
+use crate::reconstruction_terms::listed_offers::Offer;
 use crate::reconstruction_terms::lists::with_room;
-use crate::reconstruction_terms::plan_offers::{Offer, PlanOffers};
+use crate::reconstruction_terms::plan_offers::PlanOffers;
 use crate::reconstruction_terms::retrieval_urls::RetrievalUrl;
 use crate::reconstruction_terms::xorb_block::{XorbBlock, XorbReference};
 use std::alloc::Global;
 use std::mem;
 use xet_base::{ChunkRange, FileRange, HttpRange, List, OutOfMemory, ShortList};
 use xet_error::{Corruption, FileReconstructionError};
-use xet_outside::{FetchRange, PlanTerm};
+use xet_outside::{FetchRange, Plan, PlanTerm};
 
-/// A term of a plan, the number of its block, and how many of the block's chunks come before it.
+/// Where a term starts: the number of its block, and how many of the block's chunks come before it.
 #[derive(Clone, Copy)]
-pub(crate) struct PlacedTerm {
-    term: PlanTerm,
+pub(crate) struct TermStart {
     block: usize,
     start_index: usize,
 }
 
-/// The terms of a plan, and their blocks in the order of first use.
+/// The blocks of a plan in the order of first use, and where each of its terms starts in them.
 #[derive(Drop)]
 pub(crate) struct PlanBlocks<'a> {
     blocks: BlockList<'a>,
-    terms: List<PlacedTerm>,
+    starts: List<TermStart>,
 }
 
 impl<'a> PlanBlocks<'a> {
-    /// The terms of a plan and their blocks, given the number of each term's xorb. Tests that each term lies in a range
-    /// of its xorb.
+    /// The blocks of a plan's terms, given the number of each term's xorb. Tests that each term lies in a range of its
+    /// xorb.
     pub(crate) fn new(
         alloc: Global,
         offers: &PlanOffers<'a>,
@@ -62,7 +62,8 @@ impl<'a> PlanBlocks<'a> {
                 return Err(FileReconstructionError::CorruptedReconstruction(failed));
             };
             near = offer.number.saturating_add(1);
-            made.add_term(alloc, term, place, offer)?;
+            let block = OfferedBlock::new(&term.xorb, place, &offer);
+            made.add_term(alloc, term, &offer, block)?;
         }
         Ok(made)
     }
@@ -70,32 +71,29 @@ impl<'a> PlanBlocks<'a> {
     /// No terms, with room for so many, each with a block of its own.
     fn with_room(alloc: Global, terms: usize) -> Result<PlanBlocks<'a>, OutOfMemory>
         ensures blocks { IfOk result (λ made. made.blocks ≡ []) }
-        ensures terms { IfOk result (λ made. made.terms ≡ []) }
+        ensures starts { IfOk result (λ made. made.starts ≡ []) }
     {
         Ok(PlanBlocks {
             blocks: BlockList::with_room(alloc, terms)?,
-            terms: with_room(alloc, terms)?,
+            starts: with_room(alloc, terms)?,
         })
     }
 
-    /// Adds a term that lies in this range of the xorb with this number.
+    /// Adds a term that lies in an offered range, given the block of that.
     fn add_term(
         &mut self,
         alloc: Global,
         term: &PlanTerm,
-        place: usize,
-        offer: Offer<'a>,
+        offer: &Offer,
+        block: OfferedBlock<'a>,
     ) -> Result<(), OutOfMemory>
-        requires inside { offer.range.chunks.start ≤ term.now.range.start }
-        requires apart { IsToldApart (record { xorb = term.now.xorb; place = place; offer = offer }) self.old.blocks }
-        ensures { OnOk result (IsPlaced self.old self.new term.now
-            (record { xorb = term.now.xorb; place = place; offer = offer.entry })) }
+        requires inside { offer.now.range.chunks.start ≤ term.now.range.start }
+        requires apart { IsToldApart block self.old.blocks }
+        ensures { OnOk result (IsPlaced self.old self.new term.now (offered offer.now) block.entry) }
     {
-        let xorb = term.xorb;
-        let block = self.number_of(alloc, OfferedBlock { xorb, place, offer })?;
+        let block = self.number_of(alloc, block)?;
         let inside = u64::from(first_chunk(term) - offer.range.chunks.start);
-        self.terms.push(PlacedTerm {
-            term: *term,
+        self.starts.push(TermStart {
             block,
             start_index: offer.before.saturating_add(inside) as usize,
         })?;
@@ -106,7 +104,7 @@ impl<'a> PlanBlocks<'a> {
     fn number_of(&mut self, alloc: Global, block: OfferedBlock<'a>) -> Result<usize, OutOfMemory>
         requires { IsToldApart block self.old.blocks }
         ensures number { IfOk result (IsNumbered self.old.blocks self.new.blocks block.entry) }
-        ensures terms { self.new.terms ≡ self.old.terms }
+        ensures starts { self.new.starts ≡ self.old.starts }
     {
         if let Some(number) = self.blocks.position(block.key()) {
             return Ok(number);
@@ -122,7 +120,7 @@ impl<'a> PlanBlocks<'a> {
     {
         let mut sum = 0u64;
         for block in self.blocks.as_slice() {
-            sum = add_bytes(sum, block.offer.block);
+            sum = add_bytes(sum, block.ranges);
         }
         sum
     }
@@ -133,34 +131,37 @@ impl<'a> PlanBlocks<'a> {
     {
         let mut urls = with_room(alloc, self.blocks.len())?;
         for block in self.blocks.as_slice() {
-            let url = block.offer.url.clone()?;
-            let ranges = bytes_of(alloc, block.offer.block)?;
+            let url = block.url.copied()?;
+            let ranges = bytes_of(alloc, block.ranges)?;
             urls.push(RetrievalUrl { url, ranges })?;
         }
         Ok(urls)
     }
 
-    /// The terms, where the first stands at the query's start and without so many bytes at its front. Each is cut at
-    /// the query's end.
+    /// The terms of the plan, which starts at the query's start with its first term. Each is cut at the query's end.
     pub(crate) fn file_terms(
         &self,
         alloc: Global,
+        plan: &Plan,
         query: FileRange,
-        mut offset: u64,
     ) -> Result<List<FileTerm>, OutOfMemory>
-        requires { Fit query.start offset (map (λ t. t.term) self.now.terms) }
-        ensures { IfOk result (λ terms. terms ≡ terms_at query.end query.start offset self.now.terms) }
+        requires started { length self.now.starts ≡ length plan.now.terms }
+        requires fit { Fit query.start plan.now.offset_into_first_range plan.now.terms }
+        ensures { IfOk result (λ terms. terms ≡ terms_at query.end query.start plan.now.offset_into_first_range
+            (with_starts plan.now.terms self.now.starts)) }
     {
-        let mut terms = with_room(alloc, self.terms.len())?;
+        let mut terms = with_room(alloc, plan.terms.len())?;
+        let starts = self.starts.as_slice();
         let mut place = query.start;
-        for placed in self.terms.as_slice() {
-            let end = place + (u64::from(placed.term.unpacked_length) - offset);
+        let mut offset = plan.offset_into_first_range;
+        for (number, term) in plan.terms.as_slice().iter().enumerate() {
+            let end = place + (u64::from(term.unpacked_length) - offset);
             terms.push(FileTerm {
                 byte_range: FileRange::new(place, end.min(query.end)),
-                xorb_chunk_range: placed.term.range,
-                xorb_block_start_index: placed.start_index,
+                xorb_chunk_range: term.range,
+                xorb_block_start_index: starts[number].start_index,
                 offset_into_first_range: offset,
-                xorb_block: placed.block,
+                xorb_block: starts[number].block,
             })?;
             place = end;
             offset = 0;
@@ -168,35 +169,46 @@ impl<'a> PlanBlocks<'a> {
         Ok(terms)
     }
 
-    /// The references of each block, in the order of the terms.
-    fn references(&self, alloc: Global) -> Result<Vec<ShortList<XorbReference>>, OutOfMemory>
-        requires { All (λ t. t.block < length self.now.blocks) self.now.terms }
-        ensures { IfOk result (λ references.
-            HasReferences self.now.terms (length self.now.blocks) 0 references.items) }
+    /// The references of each block, in the order of the plan's terms.
+    fn references(
+        &self,
+        alloc: Global,
+        plan: &Plan,
+    ) -> Result<Vec<ShortList<XorbReference>>, OutOfMemory>
+        requires started { length self.now.starts ≡ length plan.now.terms }
+        requires within { All (λ s. s.block < length self.now.blocks) self.now.starts }
+        ensures { IfOk result (λ references. HasReferences
+            (with_starts plan.now.terms self.now.starts) (length self.now.blocks) 0 references.items) }
     {
         let mut references = Vec::with_capacity(alloc, self.blocks.len())?;
         for _ in self.blocks.as_slice() {
             references.push(ShortList::new())?;
         }
-        for placed in self.terms.as_slice() {
+        let starts = self.starts.as_slice();
+        for (number, term) in plan.terms.as_slice().iter().enumerate() {
             let reference = XorbReference {
-                term_chunks: placed.term.range,
-                uncompressed_size: placed.term.unpacked_length as usize,
+                term_chunks: term.range,
+                uncompressed_size: term.unpacked_length as usize,
             };
-            references[placed.block].push(alloc, reference)?;
+            references[starts[number].block].push(alloc, reference)?;
         }
         Ok(references)
     }
 
     /// The blocks with their references and the sizes that these tell, before they are fetched.
-    pub(crate) fn xorb_blocks(&self, alloc: Global) -> Result<List<XorbBlock>, OutOfMemory>
-        requires within { All (λ t. t.block < length self.now.blocks) self.now.terms }
+    pub(crate) fn xorb_blocks(
+        &self,
+        alloc: Global,
+        plan: &Plan,
+    ) -> Result<List<XorbBlock>, OutOfMemory>
+        requires started { length self.now.starts ≡ length plan.now.terms }
+        requires within { All (λ s. s.block < length self.now.blocks) self.now.starts }
         requires ascend { All HasRanges self.now.blocks }
-        requires some { All HasChunks self.now.terms }
-        ensures { IfOk result (λ made.
-            made ≡ map (numbered_block self.now.terms) (enumerate_from 0 (map plan_block self.now.blocks))) }
+        requires some { All HasChunks plan.now.terms }
+        ensures { IfOk result (λ made. made ≡ map (numbered_block (with_starts plan.now.terms self.now.starts))
+            (enumerate_from 0 (map plan_block self.now.blocks))) }
     {
-        let mut references = self.references(alloc)?;
+        let mut references = self.references(alloc, plan)?;
         let mut blocks = with_room(alloc, self.blocks.len())?;
         for (number, block) in self.blocks.as_slice().iter().enumerate() {
             let own = mem::replace(&mut references[number], ShortList::new());
@@ -272,7 +284,7 @@ fn xorb_block(
     requires some { All (λ r. r.term_chunks.start < r.term_chunks.end) references }
     ensures { IfOk result (λ made. made ≡ with_references references (number, plan_block block.now)) }
 {
-    let chunk_ranges = chunks_of(alloc, block.offer.block)?;
+    let chunk_ranges = chunks_of(alloc, block.ranges)?;
     let references = sorted_by_start(alloc, references)?;
     let uncompressed_size_if_known = XorbBlock::determine_size_if_possible(
         alloc,
@@ -280,7 +292,7 @@ fn xorb_block(
         references.as_slice(),
     )?;
     Ok(XorbBlock {
-        xorb_hash: block.xorb,
+        xorb_hash: *block.xorb,
         chunk_ranges,
         xorb_block_index: number,
         references,

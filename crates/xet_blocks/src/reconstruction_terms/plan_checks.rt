@@ -17,7 +17,7 @@ use xet_error::{Corruption, FileReconstructionError};
 use xet_outside::{FetchRange, Plan, PlanXorb};
 
 /// Whether a range is empty or reversed, or starts before the one before it ends.
-fn is_unordered(ranges: &[FetchRange]) -> bool
+pub(crate) fn is_unordered(ranges: &[FetchRange]) -> bool
     ensures { result ≡ unordered 0 ranges.now }
 {
     let mut low = 0;

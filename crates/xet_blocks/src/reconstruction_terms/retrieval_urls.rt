@@ -1,7 +1,7 @@
 //! The URLs of a plan's blocks.
 ghost use Rattle.std.specs.Prelude.{◌≡◌, ◌≤◌, Some, MatchOption, slice_get, length};
 
-use xet_base::{FileRange, HttpRange, List, MerkleHash, ShortList, Text, UniqueId};
+use xet_base::{FileRange, HttpRange, List, MerkleHash, SharedText, ShortList, UniqueId};
 
 /// Where a block is fetched.
 ///
@@ -10,7 +10,7 @@ use xet_base::{FileRange, HttpRange, List, MerkleHash, ShortList, Text, UniqueId
 #[derive(Drop, Debug)]
 pub struct RetrievalUrl {
     /// The URL of the plan's entry that offers the block.
-    pub url: Text,
+    pub url: SharedText,
     /// The half-open byte ranges that it serves, one for each chunk range of the block: places in the xorb's joined
     /// chunks.
     pub ranges: ShortList<HttpRange>,

@@ -135,7 +135,7 @@ impl XorbBlock {
         let Some((acquisition, found)) = urls.get_retrieval_url(self.xorb_block_index) else {
             return Ok(None);
         };
-        let url = found.url.clone()?;
+        let url = found.url.copied()?;
         let chunks = self.chunk_ranges.copied(alloc)?;
         let bytes = found.ranges.copied(alloc)?;
         Ok(Some(BlockRequest {

@@ -46,7 +46,7 @@ abbrev pub TryEnds : Refresh → XorbBlock → ℕ → TermBlockRetrievalURLs �
     → Result (Option Fetched) FileReconstructionError → Type 0
 TryEnds r x left t u before after (Ok (Some fetched)) = GaveData r x t u before after [] fetched
 TryEnds r x left t u before after (Ok None) =
-    (1 < left) × ((plan : Plan) × Tried r t u before after (plan ∷ []) [] [] [])
+    (1 < left) × ((plan : Plan) × Tried r x t u before after (plan ∷ []) [] [] [])
 TryEnds r x left t u before after (Err e) = FetchesFail r x left t u before after [] e
 
 pub record TryCall (r : Refresh) (x : XorbBlock) (left : ℕ) (t u : TermBlockRetrievalURLs)

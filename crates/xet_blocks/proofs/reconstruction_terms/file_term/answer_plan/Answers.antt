@@ -4,14 +4,17 @@ use Rattle.xet_outside.specs.Plan.{shape}
 use Rattle.xet_blocks.specs.PlanChecks.{place_tests}
 use Rattle.xet_blocks.specs.PlanQuery.{PlanQuery}
 use Rattle.xet_blocks.specs.TermBlocks.{covered}
-use Rattle.xet_blocks.proofs.TermBlockAnswers.{from_made, made_is, planned_fits}
+use Rattle.xet_blocks.proofs.TermBlockAnswers.{from_made, made_is, planned_fits, planned_starts}
 use Rattle.xet_blocks.proofs.reconstruction_terms.file_term.answer_plan.Goals as goal
+
+pub term_block-requires-clause-started : goal.term_block-requires-clause-started
+term_block-requires-clause-started c = planned_starts c.args.plan.now c.args.multirange c.in_ok-blocks.blocks c.in_ok-blocks.ensures.planned.1
 
 pub term_block-requires-clause-fit : goal.term_block-requires-clause-fit
 term_block-requires-clause-fit c =
     let plan = c.args.plan.now in
     let passed : first_some (place_tests (shape plan) c.args.query) ≡ None = search rules in
-    planned_fits plan c.args.query c.args.multirange c.in_ok-blocks.blocks passed c.in_ok-blocks.ensures.planned.1
+    planned_fits plan c.args.query passed
 
 pub returns : goal.returns
 returns c =

@@ -11,7 +11,7 @@ use Rattle.xet_blocks.proofs.reconstruction_terms.plan_blocks.xorb_block.Goals a
 
 pub determine_size_if_possible-requires-clause-ascend : goal.determine_size_if_possible-requires-clause-ascend
 determine_size_if_possible-requires-clause-ascend c =
-    subst (λ (rs : List ChunkRange). Ascend 0 (last_end rs) rs) (sym (c.as_slice.ensures ∙ c.in_ok-chunk_ranges.ensures)) (block_ascends 0 c.args.block.now.offer.block.now c.requires.ascends)
+    subst (λ (rs : List ChunkRange). Ascend 0 (last_end rs) rs) (sym (c.as_slice.ensures ∙ c.in_ok-chunk_ranges.ensures)) (block_ascends 0 c.args.block.now.ranges.now c.requires.ascends)
 
 pub determine_size_if_possible-requires-clause-some : goal.determine_size_if_possible-requires-clause-some
 determine_size_if_possible-requires-clause-some c =
@@ -28,7 +28,7 @@ returns c =
     let references = c.in_ok-references.ensures in
     let size = c.in_ok-uncompressed_size_if_known.ensures ∙ (λ i. known_size ((c.as_slice.ensures ∙ chunks) i) ((c.as_slice-2.ensures ∙ references) i)) in
     λ i. record {
-      xorb_hash = c.args.block.now.xorb;
+      xorb_hash = c.args.block.now.xorb.now;
       chunk_ranges = chunks i;
       xorb_block_index = c.args.number;
       references = references i;

@@ -22,6 +22,8 @@ returns-clause-ok g c =
       waiting = i.waiting.items;
       handed_end = i.handed_end;
       failed = i.failed;
+      planned = i.planned;
+      progress = i.progress;
     } in
     let n : Manager = c.schedule.new.self in
     let a : ℕ = c.prefetch_buffer_size.result in

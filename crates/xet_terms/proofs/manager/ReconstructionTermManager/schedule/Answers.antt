@@ -21,6 +21,8 @@ invariant_of-self g c =
       waiting = i.waiting.items;
       handed_end = i.handed_end;
       failed = i.failed;
+      planned = i.planned;
+      progress = i.progress;
     } in
     let start : c.scheduled_end-start.result ≡ scheduled_end m = search rules in
     let end : c.cut_end-end.result ≡ cut_end m c.args.size = search rules in

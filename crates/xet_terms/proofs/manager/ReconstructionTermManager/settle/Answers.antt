@@ -26,6 +26,8 @@ invariant_of-self g c =
       waiting = i.waiting.items;
       handed_end = i.handed_end;
       failed = i.failed;
+      planned = i.planned;
+      progress = i.progress;
     } in
     rw (c.truncate.ensures.items, c.either-self-inside.ensures) (accept_keeps m c.count_below-kept.result c.args.known c.args.early i.waiting.items c.self.invariant (rw (← c.self.view_is) at c.requires.asked) (rw (← c.self.view_is) at c.requires.open))
 
@@ -58,4 +60,6 @@ returns g c =
       waiting = i.waiting.items;
       handed_end = i.handed_end;
       failed = i.failed;
+      planned = i.planned;
+      progress = i.progress;
     } in m) stay)

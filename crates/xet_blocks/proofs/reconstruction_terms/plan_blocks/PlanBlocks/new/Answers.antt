@@ -1,4 +1,4 @@
-use Rattle.std.proofs.Common.{◌≡◌, ◌∙◌, ◌<◌, [], ℕ, Bool, List, ap, get_or, length, map, refl, sym, take, None, Some}
+use Rattle.std.proofs.Common.{◌≡◌, ◌∙◌, ◌<◌, [], ℕ, Bool, List, ap, get_or, length, map, subst, sym, take, None, Some}
 use Rattle.std.specs.Prelude.{is_none, option_map, position}
 use Rattle.std.proofs.lemmas.List.{get_or-map, take_all, take_more}
 use Rattle.xet_outside.specs.declared.plan.PlanTerm.{PlanTerm}
@@ -6,6 +6,7 @@ use Rattle.xet_outside.specs.Plan.{shape}
 use Rattle.xet_error.specs.declared.error.Corruption.TheVariants.{NoRange}
 use Rattle.xet_blocks.specs.Blocks.{block_of_term}
 use Rattle.xet_blocks.specs.PlanChecks.{no_range_test}
+use Rattle.xet_blocks.specs.steps.BlockKeys.{IsBlockOf}
 use Rattle.xet_blocks.specs.steps.Offers.{offered, offer_of_term, xorb_place}
 use Rattle.xet_blocks.proofs.BlockWalk.{has_no_offer, has_offer, starts_in_offer, told_apart, walk_more, walk_planned}
 use Rattle.xet_blocks.proofs.FirstFailures.{first_here, first_more, first_never, refuses}
@@ -50,9 +51,11 @@ add_term-requires-clause-apart c =
     let items = c.as_slice-term-items.result.now in
     let i = c.loop-number.number in
     let term = get_or items i no_term in
+    let offer = offered c.in-Some.offer in
+    let block = c.new-block.result in
     let at = placed (λ t. xorb_place plan t.xorb) c.args.xorbs.now plan.terms items i c.requires.numbered c.as_slice-term-items.ensures c.loop-number-test.true in
-    told_apart plan multi (record { xorb = term.xorb; place = get_or c.args.xorbs.now i 0; offer = c.in-Some.offer }) c.loop-number.made.blocks
-    (record { term = term; xorb = refl; place = at; offer = sym c.in-Some.ensures }) c.loop-number.invariant.walk.of_terms
+    let of : IsBlockOf term.xorb (xorb_place plan term.xorb) offer block = subst (λ (n : ℕ). IsBlockOf term.xorb n offer block) at c.new-block.ensures in
+    told_apart plan multi block c.loop-number.made.blocks (record { term = term; offer = offer; found = sym c.in-Some.ensures; block = of }) c.loop-number.invariant.walk.of_terms
 
 pub loop-number-preserved : goal.loop-number-preserved
 loop-number-preserved c =
@@ -61,12 +64,15 @@ loop-number-preserved c =
     let items = c.as_slice-term-items.result.now in
     let i = c.loop-number.number in
     let term = get_or items i no_term in
-    let found : offer_of_term plan multi term ≡ Some (offered c.in-Some.offer) = sym c.in-Some.ensures in
+    let offer = offered c.in-Some.offer in
+    let block = c.new-block.result in
+    let found : offer_of_term plan multi term ≡ Some offer = sym c.in-Some.ensures in
     let at = placed (λ t. xorb_place plan t.xorb) c.args.xorbs.now plan.terms items i c.requires.numbered c.as_slice-term-items.ensures c.loop-number-test.true in
+    let of : IsBlockOf term.xorb (xorb_place plan term.xorb) offer block = subst (λ (n : ℕ). IsBlockOf term.xorb n offer block) at c.new-block.ensures in
     record {
-      walk = walk_more plan multi (take i items) _ c.loop-number.made c.add_term.new.self term (record { xorb = term.xorb; place = get_or c.args.xorbs.now i 0; offer = c.in-Some.offer })
-          c.loop-number.invariant.walk (take_more items i no_term c.loop-number-test.true) refl at found c.in_ok-add_term.ensures c.requires.ordered;
-      first = first_more (λ t. is_none (block_of_term (shape plan) multi t)) items i no_term c.loop-number-test.true (has_offer plan multi term (offered c.in-Some.offer) found) c.loop-number.invariant.first;
+      walk = walk_more plan multi (take i items) _ c.loop-number.made c.add_term.new.self term offer block
+          c.loop-number.invariant.walk (take_more items i no_term c.loop-number-test.true) of found c.in_ok-add_term.ensures c.requires.ordered;
+      first = first_more (λ t. is_none (block_of_term (shape plan) multi t)) items i no_term c.loop-number-test.true (has_offer plan multi term offer found) c.loop-number.invariant.first;
     }
 
 pub returns-clause-planned : goal.returns-clause-planned

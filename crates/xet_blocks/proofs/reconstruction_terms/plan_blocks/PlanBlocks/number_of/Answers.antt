@@ -10,10 +10,10 @@ pub returns-in-Some : goal.returns-in-Some
 returns-in-Some c =
     let blocks = c.args.self.now.blocks in
     let at : place_of_key blocks (key_of c.args.block) ≡ Some c.in-Some.number = ap (place_of_key blocks) (sym c.key.ensures) ∙ sym c.in-Some.ensures in
-    record { number = numbered_found blocks blocks c.args.block c.in-Some.number c.requires at refl; terms = refl }
+    record { number = numbered_found blocks blocks c.args.block c.in-Some.number c.requires at refl; starts = refl }
 
 pub returns : goal.returns
 returns c =
     let blocks = c.args.self.now.blocks in
     let none : place_of_key blocks (key_of c.args.block) ≡ None = ap (place_of_key blocks) (sym c.key.ensures) ∙ sym c.in_default.ensures in
-    record { number = numbered_new blocks _ c.args.block c.len-number.result c.requires none c.in_ok-push.ensures.ok c.len-number.ensures; terms = refl }
+    record { number = numbered_new blocks _ c.args.block c.len-number.result c.requires none c.in_ok-push.ensures.ok c.len-number.ensures; starts = refl }

@@ -3,8 +3,9 @@ use Rattle.std.specs.Prelude.{All}
 use Rattle.std.specs.List.{enumerate_from}
 use Rattle.xet_blocks.specs.declared.reconstruction_terms.block_list.OfferedBlock.{OfferedBlock}
 use Rattle.xet_blocks.specs.declared.reconstruction_terms.xorb_block.XorbReference.{XorbReference}
-use Rattle.xet_blocks.specs.steps.Planning.{HasRanges, numbered_block, own_references, plan_block, with_references}
+use Rattle.xet_blocks.specs.steps.Planning.{HasRanges, numbered_block, own_references, plan_block, with_references, with_starts}
 use Rattle.xet_blocks.proofs.BlockWalk.{numbered-push}
+use Rattle.xet_blocks.proofs.PlacedTerms.{some_with_starts}
 use Rattle.xet_blocks.proofs.BlockReferences.{has_less, listed, own_some}
 use Rattle.xet_blocks.proofs.reconstruction_terms.plan_blocks.PlanBlocks.xorb_blocks.Goals as goal
 
@@ -16,7 +17,7 @@ xorb_block-requires-clause-ascends c =
 pub xorb_block-requires-clause-some : goal.xorb_block-requires-clause-some
 xorb_block-requires-clause-some c =
     let number = c.loop-number.number in
-    let terms = c.args.self.now.terms in
+    let terms = with_starts c.args.plan.now.terms c.args.self.now.starts in
     let v = c.loop-number.references in
     let has = c.loop-number.invariant.lists in
     let low : number < length c.args.self.now.blocks = rw (← c.as_slice-block-items.ensures) c.loop-number-test.true in
@@ -24,14 +25,14 @@ xorb_block-requires-clause-some c =
     c.replace-own.ensures.value
     ∙ sym (listed v.items number c.index_mut.result.now (omega (arith, low, has.count)) c.index_mut.ensures.value)
     ∙ has.own number (omega arith) low in
-    subst (λ (rs : List XorbReference). All (λ r. r.term_chunks.start < r.term_chunks.end) rs) (sym own) (own_some terms number c.requires.some)
+    subst (λ (rs : List XorbReference). All (λ r. r.term_chunks.start < r.term_chunks.end) rs) (sym own) (own_some terms number (some_with_starts c.args.plan.now.terms c.args.self.now.starts c.requires.some))
 
 pub loop-number-preserved : goal.loop-number-preserved
 loop-number-preserved c =
     let items = c.as_slice-block-items.result.now in
     let number = c.loop-number.number in
     let block = c.block-item.result in
-    let terms = c.args.self.now.terms in
+    let terms = with_starts c.args.plan.now.terms c.args.self.now.starts in
     let made = c.in_ok-xorb_block.field-0 in
     let done = c.loop-number.invariant.done in
     let v = c.loop-number.references in

@@ -5,7 +5,7 @@ use Rattle.std.proofs.lemmas.Option.{slice_get-map, slice_get_past, slice_get_re
 use Rattle.xet_blocks.specs.declared.reconstruction_terms.plan_offers.XorbOffers.{XorbOffers}
 use Rattle.xet_blocks.specs.Blocks.{lies_in}
 use Rattle.xet_blocks.specs.steps.Offers.{Offered, offered, offer_of_term}
-use Rattle.xet_blocks.proofs.Lookups.{find-map}
+use Rattle.xet_blocks.specs.steps.OfferLists.{offers_of}
 use Rattle.xet_blocks.proofs.TermOffers.{offer_at}
 use Rattle.xet_blocks.proofs.reconstruction_terms.plan_offers.PlanOffers.find.Goals as goal
 
@@ -18,12 +18,12 @@ returns c =
     let got : slice_get offers.xorbs number ≡ Some xorb =
     ap (λ l. slice_get l number) (sym c.as_slice.ensures)
     ∙ slice_get_read c.as_slice.result.now (length c.as_slice.result.now) number xorb refl (ltb-true number (length c.as_slice.result.now) (sym c.in_ok-get.ensures.lookup.0)) c.in_ok-get.ensures.lookup.1 in
-    let lists : Option (List Offered) = slice_get (map (λ (x : XorbOffers). map offered x.offers) offers.xorbs) number in
-    let list : lists ≡ Some (map offered xorb.offers) = slice_get-map (λ (x : XorbOffers). map offered x.offers) offers.xorbs number ∙ ap (λ o. option_map (λ (x : XorbOffers). map offered x.offers) o) got in
-    let found : offer_of_term offers.plan.now offers.multirange term ≡ find (λ o. lies_in term o.range) (map offered xorb.offers) =
-    offer_at offers.plan.now offers.multirange (map (λ (x : XorbOffers). map offered x.offers) offers.xorbs) offers.offered term number c.requires
+    let lists : Option (List Offered) = slice_get (map (λ (x : XorbOffers). offers_of x.offers) offers.xorbs) number in
+    let list : lists ≡ Some (offers_of xorb.offers) = slice_get-map (λ (x : XorbOffers). offers_of x.offers) offers.xorbs number ∙ ap (λ o. option_map (λ (x : XorbOffers). offers_of x.offers) o) got in
+    let found : offer_of_term offers.plan.now offers.multirange term ≡ find (λ o. lies_in term o.range) (offers_of xorb.offers) =
+    offer_at offers.plan.now offers.multirange (map (λ (x : XorbOffers). offers_of x.offers) offers.xorbs) offers.offered term number c.requires
     ∙ ap (λ o. option_and_then (λ os. find (λ o. lies_in term o.range) os) o) list in
-    ap (λ o. option_map offered o) c.find.ensures ∙ sym (found ∙ find-map offered (λ o. lies_in term o.range) xorb.offers)
+    c.find.ensures ∙ sym found
 
 pub returns-in_err-get : goal.returns-in_err-get
 returns-in_err-get c =
@@ -31,6 +31,6 @@ returns-in_err-get c =
     let term = c.args.term.now in
     let number = c.args.xorb in
     let got : slice_get offers.xorbs number ≡ None = ap (λ l. slice_get l number) (sym c.as_slice.ensures) ∙ slice_get_past c.as_slice.result.now number c.in_err-get.ensures.lookup.3 in
-    let found = offer_at offers.plan.now offers.multirange (map (λ (x : XorbOffers). map offered x.offers) offers.xorbs) offers.offered term number c.requires in
+    let found = offer_at offers.plan.now offers.multirange (map (λ (x : XorbOffers). offers_of x.offers) offers.xorbs) offers.offered term number c.requires in
     ap (λ o. option_map offered o) c.from_residual.ensures
-    ∙ sym (found ∙ ap (λ o. option_and_then (λ os. find (λ o. lies_in term o.range) os) o) (slice_get-map (λ (x : XorbOffers). map offered x.offers) offers.xorbs number ∙ ap (λ o. option_map (λ (x : XorbOffers). map offered x.offers) o) got))
+    ∙ sym (found ∙ ap (λ o. option_and_then (λ os. find (λ o. lies_in term o.range) os) o) (slice_get-map (λ (x : XorbOffers). offers_of x.offers) offers.xorbs number ∙ ap (λ o. option_map (λ (x : XorbOffers). offers_of x.offers) o) got))

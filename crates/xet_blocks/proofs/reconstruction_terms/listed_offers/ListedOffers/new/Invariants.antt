@@ -1,7 +1,7 @@
 use Rattle.std.proofs.Common.{◌≡◌, ◌++◌, drop, length, map}
 use Rattle.std.specs.List.{flat_map}
 use Rattle.xet_blocks.specs.steps.Offers.{entry_candidates, offered, offers_from}
-use Rattle.xet_blocks.proofs.reconstruction_terms.plan_offers.XorbOffers.new.Given as goal
+use Rattle.xet_blocks.proofs.reconstruction_terms.listed_offers.ListedOffers.new.Given as goal
 
 abbrev pub invariant-loop-entry : goal.invariant-loop-entry
 invariant-loop-entry l =

@@ -1,6 +1,6 @@
 use Rattle.xet_outside.specs.declared.plan.FetchRange.{FetchRange}
 use Rattle.xet_blocks.proofs.TermOffers.{more_range}
-use Rattle.xet_blocks.proofs.reconstruction_terms.plan_offers.XorbOffers.add_ranges.Goals as goal
+use Rattle.xet_blocks.proofs.reconstruction_terms.listed_offers.ListedOffers.add_ranges.Goals as goal
 
 -- what the code reads past the ranges
 abbrev no_range : FetchRange

@@ -1,7 +1,7 @@
 use Rattle.std.proofs.Common.{leb, rules}
 use Rattle.std.proofs.lemmas.List.Sorted.{IsPartitionPoint-from_clause}
 use Rattle.xet_blocks.proofs.AscendingSearch.{ends_part}
-use Rattle.xet_blocks.proofs.reconstruction_terms.plan_offers.count_before.Goals as goal
+use Rattle.xet_blocks.proofs.reconstruction_terms.listed_offers.count_before.Goals as goal
 
 pub returns : goal.returns
 returns c =

@@ -3,10 +3,10 @@ use Rattle.std.specs.Prelude.{IfSome, Option, find, slice_get}
 use Rattle.std.specs.Bool.{then_some}
 use Rattle.std.proofs.lemmas.Bool.{ltb-true}
 use Rattle.std.proofs.lemmas.Option.{slice_get_read}
-use Rattle.xet_blocks.specs.declared.reconstruction_terms.plan_offers.Offer.{Offer}
+use Rattle.xet_blocks.specs.declared.reconstruction_terms.listed_offers.Offer.{Offer}
 use Rattle.xet_blocks.specs.Blocks.{lies_in}
 use Rattle.xet_blocks.proofs.AscendingSearch.{find_there}
-use Rattle.xet_blocks.proofs.reconstruction_terms.plan_offers.offer_at.Goals as goal
+use Rattle.xet_blocks.proofs.reconstruction_terms.listed_offers.offer_at.Goals as goal
 
 -- what a test keeps
 kept : (b : Bool) (x : Offer) (P : Offer → Type 0) → (b ≡ true → P x) → IfSome (then_some b x) P

@@ -1,6 +1,6 @@
 use Rattle.std.proofs.Common.{◌≡◌, ◌++◌, drop, map}
 use Rattle.xet_blocks.specs.steps.Offers.{offered, ranges_from}
-use Rattle.xet_blocks.proofs.reconstruction_terms.plan_offers.XorbOffers.add_block.Given as goal
+use Rattle.xet_blocks.proofs.reconstruction_terms.listed_offers.ListedOffers.add_block.Given as goal
 
 abbrev pub invariant-loop-range : goal.invariant-loop-range
 invariant-loop-range l =

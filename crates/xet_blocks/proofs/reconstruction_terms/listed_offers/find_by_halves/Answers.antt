@@ -2,10 +2,10 @@ use Rattle.std.proofs.Common.{◌≡◌, ◌∙◌, sym, refl, ap, Bool, cond, l
 use Rattle.std.specs.Prelude.{Option, option_and_then, slice_get}
 use Rattle.std.proofs.lemmas.Bool.{ltb-true}
 use Rattle.std.proofs.lemmas.Option.{slice_get_past, slice_get_read}
-use Rattle.xet_blocks.specs.declared.reconstruction_terms.plan_offers.Offer.{Offer}
+use Rattle.xet_blocks.specs.declared.reconstruction_terms.listed_offers.Offer.{Offer}
 use Rattle.xet_blocks.specs.Blocks.{lies_in}
 use Rattle.xet_blocks.proofs.AscendingSearch as ascending
-use Rattle.xet_blocks.proofs.reconstruction_terms.plan_offers.find_by_halves.Goals as goal
+use Rattle.xet_blocks.proofs.reconstruction_terms.listed_offers.find_by_halves.Goals as goal
 
 pub returns : goal.returns
 returns c =

@@ -1,6 +1,6 @@
 use Rattle.std.proofs.Common.{◌≡◌, ◌++◌, ◌∷◌, [], drop, length, map}
 use Rattle.xet_blocks.specs.steps.Offers.{offered, offers_from}
-use Rattle.xet_blocks.proofs.reconstruction_terms.plan_offers.XorbOffers.add_ranges.Given as goal
+use Rattle.xet_blocks.proofs.reconstruction_terms.listed_offers.ListedOffers.add_ranges.Given as goal
 
 abbrev pub invariant-loop-number : goal.invariant-loop-number
 invariant-loop-number l =

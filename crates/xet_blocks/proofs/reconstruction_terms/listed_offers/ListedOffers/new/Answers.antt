@@ -2,7 +2,7 @@ use Rattle.std.proofs.Common.{◌∙◌, ◌++◌, ap, length, map}
 use Rattle.xet_outside.specs.declared.plan.FetchEntry.{FetchEntry}
 use Rattle.xet_blocks.specs.steps.Offers.{entry_candidates, offered, offers_from}
 use Rattle.xet_blocks.proofs.TermOffers.{more_entry}
-use Rattle.xet_blocks.proofs.reconstruction_terms.plan_offers.XorbOffers.new.Goals as goal
+use Rattle.xet_blocks.proofs.reconstruction_terms.listed_offers.ListedOffers.new.Goals as goal
 
 pub loop-entry-preserved : goal.loop-entry-preserved
 loop-entry-preserved c =
