@@ -31,10 +31,6 @@ answer_fails m q (Some b) e past other = by (nat_le m.known_end q.start) refl
         inr (le, is)
     by false h = inl (other (λ le. absurd (let gt = leb-false m.known_end q.start h in omega arith)))
 
--- memory was wanting for the terms and blocks
-pub taken_short : (m : Manager) (es : List Event) (q : FileRange) (t : Option TermBlock) → TakenCall m m es es q t (Err error.OutOfMemory)
-taken_short m es q t = record { ok = tt; err = record { fails = inl refl; unrecorded = refl; left = inl refl } }
-
 -- the manager didn't take it
 pub taken_refused : (m now : Manager) (es : List Event) (q : FileRange) (t : Option TermBlock) (e : FileReconstructionError)
     → (PassesKnownEnd m q t → ◌≡◌ {A = Result (Unit {0}) FileReconstructionError} (Err e) (Err (error.CorruptedReconstruction (PastKnownEnd m.known_end q.start))))

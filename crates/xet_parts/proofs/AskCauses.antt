@@ -24,7 +24,7 @@ use Rattle.xet_history.specs.Queries.{CutFrom}
 use Rattle.xet_history.specs.TrueHistory.{queries}
 use Rattle.xet_terms.specs.Managers.{IsManager, Manager, PassesKnownEnd}
 use Rattle.xet_ties.specs.Causes.{Cause, SomeFailed, SomeRose}
-use Rattle.xet_ties.specs.InCall.{Exchange}
+use Rattle.xet_ties.specs.InCall.{Exchange, Place}
 use Rattle.xet_ties.specs.Saids.{InStep}
 use Rattle.xet_ties.specs.Setup.{AllTell, IsOver, RunTold, Setup}
 use Rattle.xet_ties.specs.steps.Moves.{heard_first}
@@ -37,7 +37,7 @@ use Rattle.xet_parts.specs.PlanAsks.{AskPlanCall, PlanFails, QueryFails}
 -- ---- counts
 
 -- the faults of the first connection rose since the start, where they rose in a call
-pub first_rose : (es : List Event) (bs : List ClientTold) (c n : ClientTold) (cs : List ClientTold) (hs : List (List Served)) (ks : List ℕ) → EachLane es 0 bs (c ∷ cs) hs ks → Rose c.faults n.faults → SomeRose bs (n ∷ cs)
+pub first_rose : (es : List Event) (bs : List ClientTold) (c n : ClientTold) (cs : List ClientTold) (hs : List (List Served)) (ks : List (List Place)) → EachLane es 0 bs (c ∷ cs) hs ks → Rose c.faults n.faults → SomeRose bs (n ∷ cs)
 first_rose es [] c n cs hs ks t r = absurd t
 first_rose es (b ∷ bs) c n cs [] ks t r = absurd t
 first_rose es (b ∷ bs) c n cs (h ∷ hs) [] t r = absurd t

@@ -4,24 +4,26 @@ ghost use Rattle.xet_run.specs.Allowed.{IsAllowed};
 ghost use Rattle.xet_run.specs.Events.{plan_count};
 ghost use Rattle.xet_ties.specs.steps.Records.{Recorded};
 
-use xet_base::{FileRange, List};
+use std::alloc::Global;
+use xet_base::FileRange;
 use xet_error::{FileReconstructionError, Result};
-use xet_run::{CoreRefusal, Event, EventLog, PlannedBlock, PlannedTerm, RunCore};
+use xet_run::{CoreRefusal, Event, EventLog, PlanSource, RunCore};
 
-/// Records the plan of a query under the next number, with its terms and blocks. `OutOfMemory` where memory was
-/// refused, and then nothing is recorded.
-pub fn add_planned<E: EventLog>(
+/// Records the plan of a query under the next number, with the terms and blocks of its source. `OutOfMemory` where
+/// memory was refused, and then nothing is recorded.
+pub fn add_planned<E: EventLog, S: PlanSource>(
+    alloc: Global,
     core: &mut RunCore<E>,
     query: FileRange,
-    terms: List<PlannedTerm>,
-    blocks: List<PlannedBlock>,
+    source: &S,
 ) -> Result<()>
-    requires { IsAllowed core.old (Event.Planned (plan_count core.old + 1) query terms blocks) }
+    requires { IsAllowed core.old
+        (Event.Planned (plan_count core.old + 1) query (S.terms source.now) (S.blocks source.now)) }
     ensures recorded { Recorded core.old core.new
-        (Event.Planned (plan_count core.old + 1) query terms blocks ∷ []) result }
+        (Event.Planned (plan_count core.old + 1) query (S.terms source.now) (S.blocks source.now) ∷ []) result }
     ensures kept { OnErr result (core.new ≡ core.old) }
 {
-    match core.planned(query, terms, blocks) {
+    match core.planned(alloc, query, source) {
         Ok(()) => Ok(()),
         Err(CoreRefusal::OutOfMemory) => Err(FileReconstructionError::OutOfMemory),
         Err(CoreRefusal::NotAllowed) => unreachable!(),

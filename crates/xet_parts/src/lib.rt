@@ -3,6 +3,7 @@
 #![tactic(auto)]
 
 pub mod admission;
+mod answered_plan;
 pub mod due_query;
 pub mod event_calls;
 pub mod look;

@@ -1,20 +1,21 @@
 //! Asks for the plan of a query.
-ghost use Rattle.std.specs.Prelude.{◌≡◌, ◌<◌, map, Some, IfOk, slice_get};
+ghost use Rattle.std.specs.Prelude.{◌≡◌, ◌<◌, List, Option, Some, is_some, map, not, slice_get};
 ghost use Rattle.xet_run.specs.Allowed.{IsAllowed};
 ghost use Rattle.xet_history.specs.TrueHistory.{planned_term};
-ghost use Rattle.xet_terms.specs.Managers.{PassesKnownEnd};
+ghost use Rattle.xet_terms.specs.Managers.{PassesKnownEnd, waiting_after};
 ghost use Rattle.xet_ties.specs.Saids.{planned_of};
 ghost use Rattle.xet_ties.specs.steps.Parts.{blocks_of_answer, plan_event, terms_in};
 ghost use Rattle.xet_parts.specs.PlanAsks.{AskPlanCall, PlansAllowed, TakenCall};
 
+use crate::answered_plan::AnsweredPlan;
 use crate::event_calls::add_planned;
 use std::alloc::Global;
 use std::sync::Wait;
-use xet_base::{FileRange, List, MerkleHash, OutOfMemory};
-use xet_blocks::{FetchPolicy, FileTerm, TermBlock, XorbBlock, retrieve_file_term_block};
-use xet_error::{FileReconstructionError, Result};
+use xet_base::MerkleHash;
+use xet_blocks::{FetchPolicy, TermBlock, retrieve_file_term_block};
+use xet_error::Result;
 use xet_outside::Client;
-use xet_run::{EventLog, PlannedBlock, PlannedTerm, RunCore};
+use xet_run::{EventLog, RunCore};
 use xet_terms::{PlanDue, ReconstructionTermManager};
 
 /// Asks a connection once for the plan of the query that counts as asked and has no answer, gives the answer to the
@@ -63,65 +64,28 @@ fn take_answer<R: Wait, P: FetchPolicy, E: EventLog>(
         → IsAllowed core.old (plan_event core.old due.query answer) }
     ensures { TakenCall manager.old manager.new core.old core.new due.query answer result }
 {
-    let (terms, blocks) = match parts_of(alloc, &answer) {
-        Ok(parts) => parts,
-        Err(_) => return Err(FileReconstructionError::OutOfMemory),
-    };
+    let past_end = answer.is_none();
     match manager.accept(rt, due, answer) {
-        Ok(()) => add_planned(core, due.query, terms, blocks),
+        Ok(()) => add_planned(alloc, core, due.query, &taken_plan(manager, past_end)),
         Err(error) => Err(error),
     }
 }
 
-/// The terms and blocks that an answer to a query has, as the core has them; none past the end.
-fn parts_of(
-    alloc: Global,
-    answer: &Option<TermBlock>,
-) -> std::result::Result<(List<PlannedTerm>, List<PlannedBlock>), OutOfMemory>
-    ensures { IfOk result (λ o. (o.0 ≡ terms_in answer.now) × (o.1 ≡ blocks_of_answer answer.now)) }
+/// The plan that the manager took last; none where the answer was past the end.
+fn taken_plan<P: FetchPolicy>(
+    manager: &ReconstructionTermManager<P>,
+    past_end: bool,
+) -> AnsweredPlan<'_>
+    ensures { (before : List TermBlock) (answer : Option TermBlock) → is_some answer ≡ not past_end
+        → manager.now.waiting ≡ waiting_after before answer
+        → (map planned_term result.terms.now ≡ terms_in answer)
+        × (map planned_of result.blocks.now ≡ blocks_of_answer answer) }
 {
-    match answer {
-        None => Ok((List::new(alloc), List::new(alloc))),
-        Some(block) => {
-            let terms = planned_terms(alloc, block.terms.as_slice())?;
-            let blocks = planned_blocks(alloc, block.blocks.as_slice())?;
-            Ok((terms, blocks))
-        }
+    if past_end {
+        return AnsweredPlan::past_end();
     }
-}
-
-/// The terms of a plan as the core has them.
-fn planned_terms(
-    alloc: Global,
-    terms: &[FileTerm],
-) -> std::result::Result<List<PlannedTerm>, OutOfMemory>
-    ensures { IfOk result (λ ts. ts ≡ map planned_term terms.now) }
-{
-    let mut planned = List::from_vec(Vec::with_capacity(alloc, terms.len())?);
-    for term in terms {
-        planned.push(PlannedTerm {
-            byte_range: term.byte_range,
-            block: term.xorb_block,
-            start_index: term.xorb_block_start_index,
-            offset: term.offset_into_first_range,
-        })?;
+    match manager.newest() {
+        Some(newest) => AnsweredPlan::of(newest),
+        None => AnsweredPlan::past_end(),
     }
-    Ok(planned)
-}
-
-/// The blocks of a plan as the core has them.
-fn planned_blocks(
-    alloc: Global,
-    blocks: &[XorbBlock],
-) -> std::result::Result<List<PlannedBlock>, OutOfMemory>
-    ensures { IfOk result (λ bs. bs ≡ map planned_of blocks.now) }
-{
-    let mut planned = List::from_vec(Vec::with_capacity(alloc, blocks.len())?);
-    for block in blocks {
-        planned.push(PlannedBlock {
-            xorb: block.xorb_hash,
-            ranges: block.chunk_ranges.copied(alloc)?,
-        })?;
-    }
-    Ok(planned)
 }

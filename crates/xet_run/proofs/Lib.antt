@@ -7,6 +7,7 @@ mod Fronts
 mod Histories
 mod Kept
 mod Keys
+mod Plans
 mod Push
 mod Replays
 mod Scripts

@@ -4,6 +4,7 @@ ghost use Rattle.xet_run.specs.declared.core_refusal.CoreRefusal.TheVariants.{Ou
 
 use std::alloc::AllocError;
 use thiserror::Error;
+use xet_base::OutOfMemory as NoMemory;
 
 /// Why a core didn't add an event. It prints its variant's name.
 #[derive(Clone, Copy, PartialEq, Eq, Debug, Drop, Error)]
@@ -20,6 +21,14 @@ impl From<AllocError> for CoreRefusal {
     ghost from_gives = { λ _ refusal. refusal ≡ OutOfMemory };
 
     fn from(_: AllocError) -> CoreRefusal {
+        CoreRefusal::OutOfMemory
+    }
+}
+
+impl From<NoMemory> for CoreRefusal {
+    ghost from_gives = { λ _ refusal. refusal ≡ OutOfMemory };
+
+    fn from(_: NoMemory) -> CoreRefusal {
         CoreRefusal::OutOfMemory
     }
 }

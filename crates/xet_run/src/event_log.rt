@@ -1,11 +1,13 @@
 //! Where the events of a run go: into memory, where they can be read, or to proofs alone.
-ghost use Rattle.std.specs.Prelude.{◌≡◌, ◌+◌, ◌-◌, ◌^◌, ◌<◌, ◌≤◌, ℕ, List, [], ◌∷◌, ◌++◌, OnOk, vec_len, vec_capacity};
+ghost use Rattle.std.specs.Prelude.{◌≡◌, ◌+◌, ◌-◌, ◌^◌, ◌<◌, ◌≤◌, ℕ, List, [], ◌∷◌, ◌++◌, OnOk, OnErr, vec_len, vec_capacity};
 ghost use base.Fml.{ftrue};
 ghost use Rattle.xet_run.specs.declared.event.Event.{Event as EventValue};
 
 use crate::event::Event;
+use crate::plan_source::{PlanSource, copied_blocks, copied_terms};
 use std::alloc::{AllocError, Global};
 use std::marker::Model;
+use xet_base::{FileRange, OutOfMemory};
 
 /// Takes the events of a run, one behind the other.
 pub trait EventLog: Drop {
@@ -28,6 +30,20 @@ pub trait EventLog: Drop {
     fn push_reserved(&mut self, event: Event)
         requires { 0 < room self.old }
         ensures { events self.new ≡ events self.old ++ event ∷ [] };
+
+    /// Takes the event of a query's plan, for which there is room, with the terms and blocks of the source. An error
+    /// where an allocation was refused, and then the events stay.
+    fn push_planned<S: PlanSource>(
+        &mut self,
+        alloc: Global,
+        plan: u64,
+        query: FileRange,
+        source: &S,
+    ) -> Result<(), OutOfMemory>
+        requires { 0 < room self.old }
+        ensures added { OnOk result (events self.new ≡ events self.old
+            ++ Event.Planned plan query (S.terms source.now) (S.blocks source.now) ∷ []) }
+        ensures kept { OnErr result (events self.new ≡ events self.old) };
 }
 
 /// Events that are kept in memory.
@@ -53,6 +69,24 @@ impl EventLog for KeptEvents {
 
     fn push_reserved(&mut self, event: Event) {
         self.kept.push_reserved(event);
+    }
+
+    fn push_planned<S: PlanSource>(
+        &mut self,
+        alloc: Global,
+        plan: u64,
+        query: FileRange,
+        source: &S,
+    ) -> Result<(), OutOfMemory> {
+        let terms = copied_terms(alloc, source)?;
+        let blocks = copied_blocks(alloc, source)?;
+        self.kept.push_reserved(Event::Planned {
+            plan,
+            query,
+            terms,
+            blocks,
+        });
+        Ok(())
     }
 }
 
@@ -80,6 +114,14 @@ impl ToldEvents {
     {
         ToldEvents {}
     }
+
+    /// These events and that of a query's plan, with the terms and blocks of the source.
+    fn and_planned<S: PlanSource>(&self, _plan: u64, _query: &FileRange, _source: &S) -> ToldEvents
+        ensures { result.told ≡ self.now.told
+            ++ Event.Planned _plan _query.now (S.terms _source.now) (S.blocks _source.now) ∷ [] }
+    {
+        ToldEvents {}
+    }
 }
 
 impl EventLog for ToldEvents {
@@ -97,5 +139,16 @@ impl EventLog for ToldEvents {
 
     fn push_reserved(&mut self, event: Event) {
         *self = self.and(&event);
+    }
+
+    fn push_planned<S: PlanSource>(
+        &mut self,
+        _alloc: Global,
+        plan: u64,
+        query: FileRange,
+        source: &S,
+    ) -> Result<(), OutOfMemory> {
+        *self = self.and_planned(plan, &query, source);
+        Ok(())
     }
 }

@@ -1,6 +1,7 @@
 //! What a core knows of its history without a look through it.
-ghost use Rattle.std.specs.Prelude.{◌≡◌, ◌+◌, ◌-◌, ◌<◌, ◌≤◌, ◌^◌, ◌&&◌, ℕ, not, [], true, false, OnOk, OnErr, ◌++◌, map, slice_get, unwrap_or};
+ghost use Rattle.std.specs.Prelude.{◌≡◌, ◌+◌, ◌-◌, ◌<◌, ◌≤◌, ◌^◌, ◌&&◌, ℕ, not, [], true, false, OnOk, OnErr, ◌++◌, length, map, slice_get, unwrap_or};
 ghost use Rattle.std.specs.BTreeSet as sorted;
+ghost use Rattle.std.specs.VecDeque.{deque_len, deque_capacity};
 ghost use Rattle.std.specs.Ordering.{nat_cmp};
 ghost use Rattle.xet_run.specs.Allowed.{Adjoin};
 ghost use Rattle.xet_run.specs.Events.{last_of};
@@ -8,7 +9,7 @@ ghost use Rattle.xet_run.specs.BlockTables.{Keeps, SameMarks, end_in, kept_in};
 ghost use Rattle.xet_run.specs.steps.Index.{ends_after, IsIndexed, waiting_in, IsAdmitted, SameIndex, finished};
 
 use crate::block_table::{BlockId, BlockTable};
-use crate::event::PlannedTerm;
+use crate::plan_source::PlanSource;
 use std::alloc::{AllocError, Global};
 use std::collections::{BTreeSet, VecDeque};
 use xet_error::FileReconstructionError;
@@ -115,13 +116,32 @@ impl Index {
         Ok(())
     }
 
-    /// Puts the terms of a plan behind those that wait.
-    pub(crate) fn queue(&mut self, plan: u64, terms: &[PlannedTerm]) -> Result<(), AllocError>
-        ensures ok { OnOk result (self.new.waiting.items ≡ self.old.waiting.items ++ waiting_in plan terms.now) }
-        ensures err { OnErr result (self.new.waiting.items ≡ self.old.waiting.items) }
+    /// Makes room for so many waiting terms more.
+    pub(crate) fn make_room(&mut self, terms: usize) -> Result<(), AllocError>
+        ensures room { OnOk result (deque_len self.new.waiting + terms ≤ deque_capacity self.new.waiting) }
+        ensures same { self.new.waiting.items ≡ self.old.waiting.items }
         ensures rest { self.new ≡ record self.old { waiting = self.new.waiting } }
     {
-        queue_terms(&mut self.waiting, plan, terms)
+        self.waiting.reserve(terms)
+    }
+
+    /// Counts a plan, and puts its terms behind those that wait.
+    pub(crate) fn add_plan<S: PlanSource>(&mut self, plan: u64, source: &S)
+        requires { deque_len self.old.waiting + length (S.terms source.now) ≤ deque_capacity self.old.waiting }
+        ensures waiting { self.new.waiting.items
+            ≡ self.old.waiting.items ++ waiting_in plan (S.terms source.now) }
+        ensures end { (place : ℕ) → unwrap_or self.new.planned_end place
+            ≡ last_of (unwrap_or self.old.planned_end place) (map (λ t. t.byte_range.end) (S.terms source.now)) }
+        ensures fits { unwrap_or self.new.planned_end 0 < 2 ^ 64 }
+        ensures rest { self.new ≡ record self.old {
+          plans = plan;
+          planned_end = self.new.planned_end;
+          waiting = self.new.waiting;
+        } }
+    {
+        queue_terms(&mut self.waiting, plan, source);
+        self.plans = plan;
+        self.planned_end = end_after(self.planned_end, source);
     }
 
     /// Moves the first waiting term to those that are admitted.
@@ -168,37 +188,30 @@ impl Index {
 }
 
 /// Puts the terms of a plan behind those that wait.
-fn queue_terms(
-    waiting: &mut VecDeque<WaitingTerm>,
-    plan: u64,
-    terms: &[PlannedTerm],
-) -> Result<(), AllocError>
-    ensures ok { OnOk result (waiting.new.items ≡ waiting.old.items ++ waiting_in plan terms.now) }
-    ensures err { OnErr result (waiting.new.items ≡ waiting.old.items) }
+fn queue_terms<S: PlanSource>(waiting: &mut VecDeque<WaitingTerm>, plan: u64, source: &S)
+    requires { deque_len waiting.old + length (S.terms source.now) ≤ deque_capacity waiting.old }
+    ensures { waiting.new.items ≡ waiting.old.items ++ waiting_in plan (S.terms source.now) }
 {
-    waiting.reserve(terms.len())?;
-    let before = waiting.len();
-    for term in terms {
+    for at in 0..source.term_count() {
+        let term = source.term(at);
         let id = BlockId {
             plan,
             block: term.block,
         };
         let length = term.byte_range.end.saturating_sub(term.byte_range.start);
-        if waiting.push_back(WaitingTerm { id, length }).is_err() {
-            waiting.truncate(before);
-            return Err(AllocError);
-        }
+        waiting.push_back_reserved(WaitingTerm { id, length });
     }
-    Ok(())
 }
 
-/// Whether the terms adjoin from this place on, none is reversed and each has one of so many blocks.
-pub(crate) fn adjoin(terms: &[PlannedTerm], place: u64, blocks: usize) -> bool
-    ensures yes { result ≡ true → Adjoin place blocks terms.now }
-    ensures no { result ≡ false → Adjoin place blocks terms.now → ⊥ }
+/// Whether the terms of a plan adjoin from this place on, none is reversed and each has one of its blocks.
+pub(crate) fn adjoin<S: PlanSource>(source: &S, place: u64) -> bool
+    ensures yes { result ≡ true → Adjoin place (length (S.blocks source.now)) (S.terms source.now) }
+    ensures no { result ≡ false → Adjoin place (length (S.blocks source.now)) (S.terms source.now) → ⊥ }
 {
+    let blocks = source.block_count();
     let mut end = place;
-    for term in terms {
+    for at in 0..source.term_count() {
+        let term = source.term(at);
         if term.byte_range.start != end || term.byte_range.end < end || term.block >= blocks {
             return false;
         }
@@ -207,14 +220,14 @@ pub(crate) fn adjoin(terms: &[PlannedTerm], place: u64, blocks: usize) -> bool
     true
 }
 
-/// Where all planned terms end, with these after those that were planned before.
-pub(crate) fn end_after(before: Option<u64>, terms: &[PlannedTerm]) -> Option<u64>
+/// Where all planned terms end, with those of this plan after those that were planned before.
+fn end_after<S: PlanSource>(before: Option<u64>, source: &S) -> Option<u64>
     ensures end { (place : ℕ) → unwrap_or result place
-        ≡ last_of (unwrap_or before place) (map (λ t. t.byte_range.end) terms.now) }
+        ≡ last_of (unwrap_or before place) (map (λ t. t.byte_range.end) (S.terms source.now)) }
     ensures fits { unwrap_or result 0 < 2 ^ 64 }
 {
-    match terms.last().copied() {
-        Some(term) => Some(term.byte_range.end),
+    match source.term_count().checked_sub(1) {
+        Some(last) => Some(source.term(last).byte_range.end),
         None => before,
     }
 }

@@ -7,12 +7,13 @@ ghost use Rattle.xet_run.specs.steps.Index.{waiting_of};
 
 use crate::block_table::BlockId;
 use crate::core_refusal::CoreRefusal;
-use crate::event::{Event, PlannedBlock, PlannedTerm};
+use crate::event::Event;
 use crate::event_log::{EventLog, KeptEvents};
-use crate::index::{Index, WaitingTerm, adjoin, end_after};
+use crate::index::{Index, WaitingTerm, adjoin};
+use crate::plan_source::PlanSource;
 use std::alloc::Global;
 use std::marker::Model;
-use xet_base::{FileRange, List};
+use xet_base::FileRange;
 use xet_error::FileReconstructionError;
 
 /// A run's history: each of its events was allowed after those before it. Contracts see it as the list of its events.
@@ -21,7 +22,7 @@ use xet_error::FileReconstructionError;
 /// isn't allowed after the history, `OutOfMemory` where an allocation was refused (and where `u64::MAX` plans have the
 /// numbers that there are). None looks through the history: it takes constant time, amortized over the plans and their
 /// blocks, or logarithmic time in the stale plans (`expired`, `refreshed`), and `planned` besides linear time in its
-/// terms.
+/// terms, and in its blocks where events are kept.
 ///
 /// Its log takes the events: `KeptEvents` keeps them to be read, `ToldEvents` tells them to proofs alone. Over that one
 /// a core takes memory for what its calls look up alone: terms that wait or aren't wholly written, the marks of blocks,
@@ -103,39 +104,36 @@ impl<E: EventLog> RunCore<E> {
         self.index.first_error
     }
 
-    /// Records the plan of a query, with its terms and blocks; its number is the next one. A query past the file's end
-    /// is a plan without terms. It takes room for the events that terms and blocks have in a run that goes well.
+    /// Records the plan of a query, with the terms and blocks of its source; its number is the next one. A query past
+    /// the file's end is a plan without terms. A log that keeps events takes room for those that terms and blocks have
+    /// in a run that goes well, and copies the terms and blocks.
     ///
     /// Allowed where no Fail or Cancel came, the terms adjoin from where the planned terms end (from the query's start
     /// where nothing is planned yet), none is reversed, and each has one of the blocks.
-    pub fn planned(
+    pub fn planned<S: PlanSource>(
         &mut self,
+        alloc: Global,
         query: FileRange,
-        terms: List<PlannedTerm>,
-        blocks: List<PlannedBlock>,
+        source: &S,
     ) -> Result<(), CoreRefusal>
-        ensures { Adds self.old self.new (Event.Planned (plan_count self.old + 1) query terms blocks) result }
+        ensures { Adds self.old self.new
+            (Event.Planned (plan_count self.old + 1) query (S.terms source.now) (S.blocks source.now)) result }
     {
         if self.index.first_error.is_some() {
             return Err(CoreRefusal::NotAllowed);
         }
         let place = self.index.planned_end.unwrap_or(query.start);
-        if !adjoin(terms.as_slice(), place, blocks.len()) {
+        if !adjoin(source, place) {
             return Err(CoreRefusal::NotAllowed);
         }
         let Some(plan) = self.index.plans.checked_add(1) else {
             return Err(CoreRefusal::OutOfMemory);
         };
-        self.log.reserve(event_room(terms.len(), blocks.len()))?;
-        self.index.queue(plan, terms.as_slice())?;
-        self.index.plans = plan;
-        self.index.planned_end = end_after(self.index.planned_end, terms.as_slice());
-        self.log.push_reserved(Event::Planned {
-            plan,
-            query,
-            terms,
-            blocks,
-        });
+        let terms = source.term_count();
+        self.log.reserve(event_room(terms, source.block_count()))?;
+        self.index.make_room(terms)?;
+        self.log.push_planned(alloc, plan, query, source)?;
+        self.index.add_plan(plan, source);
         Ok(())
     }
 

@@ -11,8 +11,8 @@ use xet_base::{FileRange, List, MerkleHash, OutOfMemory, ShortList};
 use xet_error::FileReconstructionError;
 use xet_run::{
     BookState, BookView, Budget, BudgetBook, BudgetSettings, BudgetSource, CallLog, CoreRefusal,
-    EventLog, FixedBudget, KeptCalls, KeptEvents, PlannedBlock, PlannedTerm, RunBook, RunCall,
-    RunCore, RunError, RunPass, RunState, ScriptBudget, ToldCalls, ToldEvents,
+    EventLog, FixedBudget, KeptCalls, KeptEvents, ListedPlan, PlannedBlock, PlannedTerm, RunBook,
+    RunCall, RunCore, RunError, RunPass, RunState, ScriptBudget, ToldCalls, ToldEvents,
 };
 
 fn term(start: u64, end: u64, block: usize) -> PlannedTerm {
@@ -41,8 +41,11 @@ fn two_terms<E: EventLog>(
     core: &mut RunCore<E>,
 ) -> Result<Result<(), CoreRefusal>, AllocError> {
     let terms = vec![in alloc; term(0, 6, 0), term(6, 12, 0)]?;
-    let blocks = blocks(alloc, 1)?;
-    Ok(core.planned(FileRange::new(0, 12), List::from_vec(terms), blocks))
+    let plan = ListedPlan {
+        terms: List::from_vec(terms),
+        blocks: blocks(alloc, 1)?,
+    };
+    Ok(core.planned(alloc, FileRange::new(0, 12), &plan))
 }
 
 /// Each event where it is allowed and where it isn't, over a core without events.
