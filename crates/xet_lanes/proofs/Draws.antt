@@ -1,6 +1,6 @@
 -- One more drawn number keeps what is said of a lane's steps.
 use Rattle.std.proofs.Common.{ℕ, ◌≡◌, ◌⊎◌, ◌-◌, ◌<◌, true, false, List, [], ◌∷◌, ◌++◌, length, map, zero, suc, refl, sym, ap, ◌∙◌, subst, arith, length-append, Option, Some, None, get_or, inl, inr}
-use Rattle.std.specs.Prelude.{All, IsSome, Result, Ok, Err, slice_get}
+use Rattle.std.specs.Prelude.{All, Bool, IfSome, IsSome, Result, Ok, Err, slice_get}
 use Rattle.std.specs.Result.{is_err}
 use Rattle.std.proofs.lemmas.List.{map-append}
 use Rattle.std.proofs.lemmas.List.Elements.{All-push}
@@ -9,11 +9,13 @@ use Rattle.xet_outside.specs.Told.{ClientTold}
 use Rattle.xet_error.specs.declared.error.FileReconstructionError.{FileReconstructionError}
 use Rattle.xet_claims.specs.declared.claim_rule.View.{View}
 use Rattle.xet_claims.specs.ClaimViews.{gained, halted, missed, saw}
+use Rattle.xet_run.specs.declared.run_call.RunCall.{RunCall}
+use Rattle.xet_run.specs.declared.run_call.RunCall.TheVariants as call
 use Rattle.xet_ties.specs.declared.lane_step.LaneStep.{LaneStep}
 use Rattle.xet_ties.specs.Lanes.{AreAt, Ask, IsFor, LaneDid, LaneDrew}
 use Rattle.xet_lanes.specs.declared.lane.Fetch.{Fetch}
 use Rattle.xet_lanes.specs.Fetches.{LaneCall, NoneFailed, NoneFailedBefore, ask_of, error_at, last_error}
-use Rattle.xet_lanes.specs.steps.Drawn.{HasEnded, HasStopped}
+use Rattle.xet_lanes.specs.steps.Drawn.{HasEnded, HasStopped, HasTold, calm_check, told_last}
 use Rattle.xet_lanes.proofs.LaneSteps.{before_none, before_snoc, last_snoc, more_drawn, none_snoc, none_yet, one_more}
 
 -- as many steps as numbers, none of them failed
@@ -158,6 +160,47 @@ pub over_stops : (fs : List Ask) (b n : ClientTold) (v w : View) (ss : List Lane
     → HasStopped false w ss
 over_stops fs b n v w ss d =
     (λ (short : false ≡ true). cc, λ some. absurd (no_error (last_error ss) (none_last ss d.good) some))
+
+-- ---- what the run was told
+
+-- a lane none of whose steps failed has no error to tell
+none_told : (short : Bool) (last : Option RunCall) (ss : List LaneStep) → NoneFailed ss → HasTold short last ss
+none_told short last ss good = record {
+  error = subst (λ (o : Option FileReconstructionError). IfSome o (λ e. last ≡ Some (told_last short e)))
+      (sym (none_last ss good)) tt;
+}
+
+pub drawing_told : (short : Bool) (last : Option RunCall) (fs : List Ask) (b n : ClientTold) (drawn : List ℕ)
+    (ss : List LaneStep) → Drawing fs b n drawn ss → HasTold short last ss
+drawing_told short last fs b n drawn ss d = none_told short last ss d.good
+
+pub refused_told : (short : Bool) (last : Option RunCall) (fs : List Ask) (b m n : ClientTold) (drawn : List ℕ)
+    (xs ys : List LaneStep) (a : Ask) (answer : Result (Unit {0}) OutOfMemory) → Drawing fs b m drawn xs
+    → LaneCall m n xs ys a answer → is_err answer ≡ true → HasTold short last ys
+refused_told short last fs b m n drawn xs ys a (Ok u) d c h = cc
+refused_told short last fs b m n drawn xs ys a (Err u) d c h =
+    none_told short last ys (subst (λ (l : List LaneStep). NoneFailed l) (sym c.refused.1) d.good)
+
+-- the error of the last step was told, or memory ran out for that
+told_by : (short : Bool) (before last : Option RunCall) (e : FileReconstructionError) → before ≡ Some calm_check
+    → (short ≡ true → last ≡ before) → (short ≡ false → last ≡ Some (call.SetError e))
+    → last ≡ Some (told_last short e)
+told_by true before last e seen same told = same refl ∙ seen
+told_by false before last e seen same told = told refl
+
+pub step_told : (short : Bool) (before last : Option RunCall) (e : FileReconstructionError) (ss : List LaneStep)
+    → last_error ss ≡ Some e → before ≡ Some calm_check → (short ≡ true → last ≡ before)
+    → (short ≡ false → last ≡ Some (call.SetError e)) → HasTold short last ss
+step_told short before last e ss failed seen same told = record {
+  error = subst (λ (o : Option FileReconstructionError). IfSome o (λ x. last ≡ Some (told_last short x))) (sym failed)
+      (told_by short before last e seen same told);
+}
+
+-- the run was told this, or nothing
+pub told_or_same : (short : Bool) (before last : Option RunCall) (c : RunCall) → (short ≡ true → last ≡ before)
+    → (short ≡ false → last ≡ Some c) → (last ≡ Some c) ⊎ (last ≡ before)
+told_or_same true before last c same told = inr (same refl)
+told_or_same false before last c same told = inl (told refl)
 
 -- what a claim pass knows after it drew, and after it also stopped the others
 pub drew_one : (v w : View) (k : ℕ) → w ≡ gained v k → w.drawn ≡ v.drawn ++ k ∷ []

@@ -10,7 +10,7 @@ use Rattle.xet_outside.specs.declared.served.Served.{Served}
 use Rattle.xet_outside.proofs.CallerLemmas.{added_none}
 use Rattle.xet_ties.specs.declared.lane_step.LaneStep.{LaneStep}
 use Rattle.xet_ties.specs.declared.lane_step.LaneStep.TheVariants as step
-use Rattle.xet_ties.specs.Lanes.{AnswerStep, AreOf, Ask, HidesNone, IsFor, IsHidden, LaneDid, StepDid, entries_in, entries_of, may_hide}
+use Rattle.xet_ties.specs.Lanes.{AnswerStep, AreOf, Ask, HidesNone, IsFor, IsHidden, LaneDid, StepDid, entries_in, entries_of, lates_in, lates_of, may_hide}
 use Rattle.xet_ties.proofs.CallerLemmas.{one_more as lane_more, step_did}
 use Rattle.xet_lanes.specs.Fetches.{LaneCall, NoneFailed, NoneFailedBefore, error_at, error_in, last_error}
 
@@ -28,6 +28,13 @@ entries_more [] rest [] e = refl
 entries_more [] rest (s ∷ ss) e = absurd (omega arith)
 entries_more (a ∷ qs) rest [] e = refl
 entries_more (a ∷ qs) rest (s ∷ ss) e = ap (λ l. entries_in a s ++ l) (entries_more qs rest ss (omega arith))
+
+lates_more : (qs rest : List Ask) (ss : List LaneStep) → length qs ≡ length ss
+    → lates_of (qs ++ rest) ss ≡ lates_of qs ss
+lates_more [] rest [] e = refl
+lates_more [] rest (s ∷ ss) e = absurd (omega arith)
+lates_more (a ∷ qs) rest [] e = refl
+lates_more (a ∷ qs) rest (s ∷ ss) e = ap (λ l. lates_in a s ++ l) (lates_more qs rest ss (omega arith))
 
 hides : (s : LaneStep) → error_in s ≡ None → may_hide s ≡ false
 hides (step.Served p k d) e = refl
@@ -131,6 +138,6 @@ more_drawn b n qs rest ss d len =
       at_most = more_hidden qs rest ss d.hidden len d.at_most;
       none = d.none;
       once = d.once;
-      late = d.late;
+      late = d.late ∙ sym (lates_more qs rest ss len);
       expired = d.expired;
     }

@@ -1,10 +1,11 @@
 //! A lane that draws the numbers of a round's fetches.
-ghost use Rattle.std.specs.Prelude.{◌≡◌, ◌∷◌, [], All, false, length, map, true};
+ghost use Rattle.std.specs.Prelude.{◌≡◌, ◌⊎◌, ◌∷◌, [], All, Some, false, length, map, true};
 ghost use Rattle.xet_claims.specs.ClaimPasses.{IsFresh, IsPassOf, pass_view};
 ghost use Rattle.xet_claims.specs.ClaimViews.{halted};
+ghost use Rattle.xet_run.specs.declared.run_call.RunCall.TheVariants as call;
 ghost use Rattle.xet_ties.specs.Lanes.{IsFor, LaneDrew};
 ghost use Rattle.xet_lanes.specs.Fetches.{NoneFailedBefore, ask_of};
-ghost use Rattle.xet_lanes.specs.steps.Drawn.{AllDrew, AllReady, HasEnded, HasStopped, IsNext, work};
+ghost use Rattle.xet_lanes.specs.steps.Drawn.{AllDrew, AllReady, HasEnded, HasSeen, HasStopped, HasTold, IsNext, work};
 
 use crate::gate::Gate;
 use crate::jobs::LaneJob;
@@ -53,6 +54,7 @@ pub(crate) fn next_number<R: Wait, L: Ledger>(
     requires fresh { IsFresh claim.old }
     ensures of { IsPassOf claims.now claim.new }
     ensures next { IsNext claims.now.count (pass_view claim.old) (pass_view claim.new) result }
+    ensures seen { HasSeen result run.new.last }
     ensures parts { run.new.share.parts ≡ run.old.share.parts }
 {
     let seen = state.check_run_state(rt, run);
@@ -72,7 +74,8 @@ pub(crate) fn next_number<R: Wait, L: Ledger>(
     }
 }
 
-/// Stops the other lanes, and then tells the run why. True where memory ran out.
+/// Stops the other lanes, and then tells the run why, as the pass's last call. True where memory ran out; then the run
+/// was told nothing.
 fn stop_others<R: Wait, L: Ledger>(
     rt: &R,
     claims: &Claims,
@@ -84,6 +87,9 @@ fn stop_others<R: Wait, L: Ledger>(
     requires of { IsPassOf claims.now claim.old }
     ensures of { IsPassOf claims.now claim.new }
     ensures stopped { pass_view claim.new ≡ halted (pass_view claim.old) }
+    ensures told { result ≡ false → run.new.last ≡ Some (call.SetError error) }
+    ensures short { result ≡ true → (run.new.share.amount ≡ run.old.share.amount)
+        × (run.new.last ≡ run.old.last) }
     ensures parts { run.new.share.parts ≡ run.old.share.parts }
 {
     claims.stop(claim);
@@ -101,6 +107,8 @@ fn stop_short<R: Wait, L: Ledger>(
     requires of { IsPassOf claims.now claim.old }
     ensures of { IsPassOf claims.now claim.new }
     ensures stopped { pass_view claim.new ≡ halted (pass_view claim.old) }
+    ensures told { (run.new.last ≡ Some (call.SetError FileReconstructionError.OutOfMemory))
+        ⊎ (run.new.last ≡ run.old.last) }
     ensures parts { run.new.share.parts ≡ run.old.share.parts }
     ensures short { result ≡ true }
 {
@@ -132,6 +140,7 @@ fn draw_all<R: Wait, C: Client, G: Gate, L: Ledger>(
     ensures last { NoneFailedBefore lane.new.steps.items }
     ensures ended { HasEnded result (pass_view claim.new) lane.new.steps.items }
     ensures stops { HasStopped result (pass_view claim.new) lane.new.steps.items }
+    ensures told { HasTold result run.new.last lane.new.steps.items }
 {
     let (rt, claims, state) = (shared.rt, shared.claims, shared.state);
     for _ in 0..u64::MAX {
@@ -162,9 +171,10 @@ pub(crate) fn draw_alone<R: Wait, C: Client, G: Gate, L: Ledger>(
         (work job.old.claim job.old.run.share.parts job.old.steps.items job.old.short ∷ []) }
     requires count { shared.now.claims.now.count ≡ length shared.now.fetches.now }
     requires asks { All IsFor (map ask_of shared.now.fetches.now) }
-    ensures { AllDrew shared.now.claims.now (map ask_of shared.now.fetches.now)
+    ensures drew { AllDrew shared.now.claims.now (map ask_of shared.now.fetches.now)
         (C.told client.old ∷ []) (C.told client.new ∷ [])
         (work job.new.claim job.new.run.share.parts job.new.steps.items job.new.short ∷ []) }
+    ensures told { HasTold job.new.short job.new.run.last job.new.steps.items }
 {
     let mut lane = Lane::with_room(shared.alloc, client, shared.room);
     let short = draw_all(shared, &mut lane, &mut job.claim, &mut job.run);

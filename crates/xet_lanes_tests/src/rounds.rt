@@ -11,7 +11,9 @@ use std::marker::Brand;
 use std::sync::Wait;
 use std::sync::ledger::{Blank, Ledger};
 use std::thread::Threads;
-use xet_base::{ChunkRange, FileRange, List, MerkleHash, OutOfMemory, ShortList, Text, UniqueId};
+use xet_base::{
+    ChunkRange, FileRange, List, MerkleHash, OutOfMemory, SharedText, ShortList, UniqueId,
+};
 use xet_blocks::{DataSource, RetrievalUrl, TermBlockRetrievalURLs, XorbBlock};
 use xet_error::FileReconstructionError;
 use xet_lanes::{Fetch, Gate, Joined, LaneStep, fetch_and_write};
@@ -33,7 +35,7 @@ fn one_chunk(alloc: Global) -> Result<XorbBlock, OutOfMemory> {
 fn one_url(alloc: Global) -> Result<TermBlockRetrievalURLs, OutOfMemory> {
     let mut urls = List::new(alloc);
     urls.push(RetrievalUrl {
-        url: Text::from_string(String::new(alloc)),
+        url: SharedText::from_string(alloc, String::new(alloc))?,
         ranges: ShortList::new(),
     })?;
     let id = UniqueId {

@@ -38,7 +38,7 @@ use Rattle.xet_run.specs.Events.{Task, is_stale, last_of, plan_count, planned, t
 use Rattle.xet_run.proofs.CallerLemmas.{planned-push}
 use Rattle.xet_history.specs.TrueHistory.{IsTrueEvent, planned_block, planned_term, queries}
 use Rattle.xet_ties.specs.History.{actual_range, range_at}
-use Rattle.xet_ties.specs.InCall.{Exchange}
+use Rattle.xet_ties.specs.InCall.{Exchange, Place}
 use Rattle.xet_ties.specs.Saids.{FirstRenewed, InStep, IsCutAnswer, IsMadeOf, IsMadeOfPlan, IsPlanAccepted, planned_of}
 use Rattle.xet_ties.specs.Setup.{AllTell, RunTold, Setup}
 use Rattle.xet_ties.specs.steps.Moves.{QueryStep, heard_first}
@@ -157,12 +157,12 @@ made_starts g es q n ts bs a first_is starts m =
 -- ---- the first connection
 
 -- it tells the store that it told at the start
-first_store : (es : List Event) (b : ClientTold) (bs : List ClientTold) (m : ClientTold) (ms : List ClientTold) (hs : List (List Served)) (ks : List ℕ) → EachLane es 0 (b ∷ bs) (m ∷ ms) hs ks → m.store ≡ b.store
+first_store : (es : List Event) (b : ClientTold) (bs : List ClientTold) (m : ClientTold) (ms : List ClientTold) (hs : List (List Served)) (ks : List (List Place)) → EachLane es 0 (b ∷ bs) (m ∷ ms) hs ks → m.store ≡ b.store
 first_store es b bs m ms [] ks t = absurd t
 first_store es b bs m ms (h ∷ hs) [] t = absurd t
 first_store es b bs m ms (h ∷ hs) (k ∷ ks) t = t.0.goes_on.store
 
-pub first_tells : (s : Store) (es : List Event) (bs : List ClientTold) (m : ClientTold) (ms : List ClientTold) (hs : List (List Served)) (ks : List ℕ) → EachLane es 0 bs (m ∷ ms) hs ks → AllTell s bs → m.store ≡ Some s
+pub first_tells : (s : Store) (es : List Event) (bs : List ClientTold) (m : ClientTold) (ms : List ClientTold) (hs : List (List Served)) (ks : List (List Place)) → EachLane es 0 bs (m ∷ ms) hs ks → AllTell s bs → m.store ≡ Some s
 first_tells s es [] m ms hs ks t a = absurd t
 first_tells s es (b ∷ bs) m ms hs ks t a = first_store es b bs m ms hs ks t ∙ a.0
 

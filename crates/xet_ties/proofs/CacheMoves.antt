@@ -24,7 +24,7 @@ use Rattle.xet_ties.specs.InCall.{Look, EachGrew, Exchange}
 use Rattle.xet_ties.specs.Gains.{GrewBy}
 use Rattle.xet_ties.specs.Ties.{IsEntryOf, Slack, Ties, gave, is_look, is_one, is_range, lacks, missed, IsTaken}
 use Rattle.xet_ties.proofs.Lanes.{served_same}
-use Rattle.xet_ties.proofs.Lates.{expired_same}
+use Rattle.xet_ties.proofs.Lates.{expired_same, late_push}
 use Rattle.xet_ties.proofs.Pushes.{first_push, limited_same, offered_push, polled_push, grew_by_more, recorded_same, stored_same, taken_push, tried_push, true_same, cuts_same, lost_push, starts_same}
 use Rattle.xet_ties.proofs.Numbers.{heard_push}
 use Rattle.xet_ties.proofs.Told.{if_some}
@@ -125,6 +125,7 @@ tie_missed g b n es sl to x r given l miss t = record {
   stored = t.stored;
   served = t.served;
   expired = t.expired;
+  late_planned = t.late_planned;
   heard_served = t.heard_served;
   asked = t.asked;
   heard_asked = t.heard_asked;
@@ -180,6 +181,7 @@ tie_cached g b n es sl to p k x r entry l at t =
       stored = stored_same g.file es e b.clients refl t.stored;
       served = served_same es e sl.hidden sl.late b.clients n.clients (λ l. refl) (λ l. refl) (λ p k. refl) (λ m. tt) t.served;
       expired = expired_same es e 0 sl.heard sl.late (λ l w. refl) t.expired;
+      late_planned = late_push es e sl.heard t.late_planned;
       heard_served = heard_served_same es e 0 sl.heard sl.hidden (λ l w. refl) t.heard_served;
       asked = first_push g.file es e sl.lost sl.lost b.clients n.clients refl t.asked;
       heard_asked = heard_push g.file es e sl.lost sl.lost sl.heard refl t.heard_asked;
@@ -236,6 +238,7 @@ tie_put g b n es sl to due p d t = record {
   stored = t.stored;
   served = t.served;
   expired = t.expired;
+  late_planned = t.late_planned;
   heard_served = t.heard_served;
   asked = t.asked;
   heard_asked = t.heard_asked;

@@ -8,7 +8,7 @@ pub use Rattle.xet_ties.proofs.Starts.{tie_start, runs, tie_stop, tie_cancel, ti
 pub use Rattle.xet_ties.proofs.Starts.{none_hidden, short_leaves, steady_leaves, steady_ends, setup_of, settings_are}
 pub use Rattle.xet_ties.proofs.Starts.{admits_none, admits_one, admits_asked}
 -- what connections said of expired URLs
-pub use Rattle.xet_ties.proofs.Lates.{none_late, expired_same, expired_query}
+pub use Rattle.xet_ties.proofs.Lates.{none_late, expired_same, expired_query, late_push, late_query}
 -- the ties after one step
 pub use Rattle.xet_ties.proofs.Moves.{tie_event, tie_poll, tie_limit, tie_admit, tie_window, tie_fail, tie_short}
 pub use Rattle.xet_ties.proofs.CacheMoves.{tie_missed, tie_cached, tie_put}

@@ -3,6 +3,7 @@ use Rattle.std.proofs.Common.{◌≡◌, ℕ, ◌+◌, ◌≤◌, min, List, [],
 use Rattle.std.specs.Prelude.{IsSome, count_by, drop, option_map, All}
 use Rattle.std.proofs.lemmas.List.{append-nil}
 use Rattle.xet_base.specs.Store.{Store, file_of}
+use Rattle.xet_outside.specs.Answers.{late_in}
 use Rattle.xet_outside.specs.Told.{ClientTold, Query}
 use Rattle.xet_outside.specs.declared.served.Served.{Served}
 use Rattle.xet_run.specs.declared.event.Event.{Event}
@@ -16,11 +17,11 @@ use Rattle.xet_base.specs.declared.merklehash.MerkleHash.{MerkleHash}
 use Rattle.xet_ties.specs.History.{IsNumberedNext, IsOneCached, IsRenewed, asked_by, served_by, fetches, IsWithin}
 use Rattle.xet_ties.specs.steps.Moves.{EachJoined, FirstQuery, JoinStep, QueryStep, no_hidden, no_late, heard_first, heard_join}
 use Rattle.xet_ties.specs.Setup.{AllTell, ClientGoesOn, IsOver, RunTold, Setup, download_of, most_lanes}
-use Rattle.xet_ties.specs.Ties.{AllAre, EachUnasked, all_of, is_pair, EachLane, FirstAsked, FirstStarts, IsLane, Slack, Ties, IsLost, IsPlannedEntry, IsNextQuery, EachServed}
+use Rattle.xet_ties.specs.Ties.{EachUnasked, NoneLate, all_of, is_pair, EachLane, FirstAsked, FirstStarts, IsLane, Slack, Ties, IsLost, IsPlannedEntry, IsNextQuery, EachServed}
 use Rattle.xet_ties.proofs.Lanes.{served_same}
-use Rattle.xet_ties.specs.InCall.{expired_said}
+use Rattle.xet_ties.specs.InCall.{Place}
 use Rattle.xet_ties.proofs.Gains.{gained_more}
-use Rattle.xet_ties.proofs.Lates.{expired_join, expired_query, expired_same, joined_late, none_late}
+use Rattle.xet_ties.proofs.Lates.{expired_join, expired_query, expired_same, joined_late, late_join, late_push, late_query, none_late}
 use Rattle.xet_ties.proofs.Pushes.{first_push, limited_same, looked_push, offered_push, polled_push, recorded_same, taken_push, tried_push, true_push, cuts_push}
 use Rattle.xet_ties.proofs.Numbers.{heard_joined, heard_push, heard_query}
 use Rattle.xet_ties.proofs.Telling.{each-push}
@@ -46,14 +47,14 @@ goes_then b m n p q = record {
   expiries = let x = p.expiries in let y = q.expiries in omega (arith, x, y);
 }
 
-lane_query : (es : List Event) (l : ℕ) (b m n : ClientTold) (h : List Served) (k : ℕ) (qs : List Query) (all : List Said) → QueryStep m n qs all → IsLane es l b m h k → IsLane es l b n h k
+lane_query : (es : List Event) (l : ℕ) (b m n : ClientTold) (h : List Served) (k : List Place) (qs : List Query) (all : List Said) → QueryStep m n qs all → IsLane es l b m h k → IsLane es l b n h k
 lane_query es l b m n h k qs all s t = record {
   goes_on = goes_then b m n t.goes_on s.goes_on;
   served = s.served ∙ t.served;
   expired = let x = t.expired in let y = s.goes_on.expiries in omega (arith, x, y);
 }
 
-lanes_query : (es : List Event) (q : List Query) (all : List Said) (bs ms ns : List ClientTold) (hs : List (List Served)) (ks : List ℕ) → FirstQuery ms ns q all → EachLane es 0 bs ms hs ks → EachLane es 0 bs ns hs ks
+lanes_query : (es : List Event) (q : List Query) (all : List Said) (bs ms ns : List ClientTold) (hs : List (List Served)) (ks : List (List Place)) → FirstQuery ms ns q all → EachLane es 0 bs ms hs ks → EachLane es 0 bs ns hs ks
 lanes_query es q all [] [] ns hs ks f t = absurd f
 lanes_query es q all (b ∷ bs) [] ns hs ks f t = absurd f
 lanes_query es q all bs (m ∷ ms) [] hs ks f t = absurd f
@@ -76,7 +77,7 @@ asked_query f es q all lost (b ∷ bs) (m ∷ ms) (n ∷ ns) s t = (
     twice None = refl
     twice (Some ys) = ap (λ (z : List Query). Some z) (append_assoc ys (asked_by f es ++ lost) (q) ∙ ap (λ (z : List Query). ys ++ z) (append_assoc (asked_by f es) lost (q)))
 
-first_late : (ms ns : List ClientTold) (qs : List Query) (all : List Said) → FirstQuery ms ns qs all → count_by expired_said all ≡ 0
+first_late : (ms ns : List ClientTold) (qs : List Query) (all : List Said) → FirstQuery ms ns qs all → late_in all ≡ []
 first_late [] ns qs all f = absurd f
 first_late (m ∷ ms) [] qs all f = absurd f
 first_late (m ∷ ms) (n ∷ ns) qs all f = f.0.late
@@ -101,6 +102,7 @@ tie_query g b n es sl to qs all s l t = record {
   stored = t.stored;
   served = record { lanes = lanes_query es qs all b.clients n.clients to sl.hidden sl.late s t.served.lanes; once = t.served.once; planned = t.served.planned; on_lanes = t.served.on_lanes; past = past_query b.clients n.clients to qs all s t.served.past };
   expired = expired_query es qs all sl.heard sl.late (first_late n.clients to qs all s) t.expired;
+  late_planned = late_query es qs all sl.heard (first_late n.clients to qs all s) t.late_planned;
   heard_served = heard_served_query es qs all sl.heard sl.hidden t.heard_served;
   asked = asked_query g.file es qs all sl.lost b.clients n.clients to s t.asked;
   heard_asked = heard_query g.file es qs all sl.lost sl.heard t.heard_asked;
@@ -140,6 +142,7 @@ tie_planned g b n es sl spare plan query terms blocks lost polls next within sta
       stored = λ s tell k. stored s tell;
       served = served_same es e sl.hidden sl.late b.clients n.clients (λ l. refl) (λ l. refl) (λ p k. refl) (λ m. tt) t.served;
       expired = expired_same es e 0 sl.heard sl.late (λ l w. refl) t.expired;
+      late_planned = late_push es e sl.heard t.late_planned;
       heard_served = heard_served_same es e 0 sl.heard sl.hidden (λ l w. refl) t.heard_served;
       asked = first_push g.file es e sl.lost [] b.clients n.clients lost t.asked;
       heard_asked = heard_push g.file es e sl.lost [] sl.heard lost t.heard_asked;
@@ -162,7 +165,7 @@ tie_planned g b n es sl spare plan query terms blocks lost polls next within sta
 
 -- ---- joins
 
-lane_join : (es : List Event) (l : ℕ) (b m n : ClientTold) (h : List Served) (a : List Said) (k : ℕ) → JoinStep m n h a k → IsLane es l b m [] 0 → IsLane es l b n h k
+lane_join : (es : List Event) (l : ℕ) (b m n : ClientTold) (h : List Served) (a : List Said) (k : List Place) → JoinStep m n h a k → IsLane es l b m [] [] → IsLane es l b n h k
 lane_join es l b m n h a k s t = record {
   goes_on = goes_then b m n t.goes_on s.goes_on;
   served = s.pairs.serves ∙ ap (λ (o : Option (List Served)). option_map (λ xs. xs ++ h) o) t.served ∙ twice b.served;
@@ -173,7 +176,7 @@ lane_join es l b m n h a k s t = record {
     twice None = refl
     twice (Some ys) = ap (λ (z : List Served). Some z) (append_assoc ys (served_by l es ++ []) h ∙ ap (λ (z : List Served). ys ++ (z ++ h)) (append-nil (served_by l es)))
 
-lanes_join : (es : List Event) (l : ℕ) (bs ms ns : List ClientTold) (hs : List (List Served)) (alls : List (List Said)) (ks : List ℕ) → EachJoined ms ns hs alls ks → EachLane es l bs ms (no_hidden bs) (no_late bs) → EachLane es l bs ns hs ks
+lanes_join : (es : List Event) (l : ℕ) (bs ms ns : List ClientTold) (hs : List (List Served)) (alls : List (List Said)) (ks : List (List Place)) → EachJoined ms ns hs alls ks → EachLane es l bs ms (no_hidden bs) (no_late bs) → EachLane es l bs ns hs ks
 lanes_join es l [] [] [] [] [] [] j t = tt
 lanes_join es l (b ∷ bs) (m ∷ ms) (n ∷ ns) (h ∷ hs) (a ∷ alls) (k ∷ ks) j t = (lane_join es l b m n h a k j.0 t.0, lanes_join es (l + 1) bs ms ns hs alls ks j.1 t.1)
 lanes_join es l [] [] [] [] [] (k ∷ ks) j t = absurd j
@@ -187,7 +190,7 @@ lanes_join es l (b ∷ bs) (m ∷ ms) (n ∷ ns) [] alls ks j t = absurd j
 lanes_join es l (b ∷ bs) (m ∷ ms) (n ∷ ns) (h ∷ hs) [] ks j t = absurd j
 lanes_join es l (b ∷ bs) (m ∷ ms) (n ∷ ns) (h ∷ hs) (a ∷ alls) [] j t = absurd j
 
-unasked_join : (bs ms ns : List ClientTold) (hs : List (List Served)) (alls : List (List Said)) (ks : List ℕ) → EachJoined ms ns hs alls ks → EachUnasked bs ms → EachUnasked bs ns
+unasked_join : (bs ms ns : List ClientTold) (hs : List (List Served)) (alls : List (List Said)) (ks : List (List Place)) → EachJoined ms ns hs alls ks → EachUnasked bs ms → EachUnasked bs ns
 unasked_join [] [] [] hs alls ks j t = tt
 unasked_join [] [] (n ∷ ns) hs alls ks j t = absurd j
 unasked_join [] (m ∷ ms) ns hs alls ks j t = absurd t
@@ -198,7 +201,7 @@ unasked_join (b ∷ bs) (m ∷ ms) (n ∷ ns) (h ∷ hs) [] ks j t = absurd j
 unasked_join (b ∷ bs) (m ∷ ms) (n ∷ ns) (h ∷ hs) (a ∷ alls) [] j t = absurd j
 unasked_join (b ∷ bs) (m ∷ ms) (n ∷ ns) (h ∷ hs) (a ∷ alls) (k ∷ ks) j t = (j.0.asked ∙ t.0, unasked_join bs ms ns hs alls ks j.1 t.1)
 
-asked_join : (f : MerkleHash) (es : List Event) (lost : List Query) (bs ms ns : List ClientTold) (hs : List (List Served)) (alls : List (List Said)) (ks : List ℕ) → EachJoined ms ns hs alls ks → FirstAsked f es lost bs ms → FirstAsked f es lost bs ns
+asked_join : (f : MerkleHash) (es : List Event) (lost : List Query) (bs ms ns : List ClientTold) (hs : List (List Served)) (alls : List (List Said)) (ks : List (List Place)) → EachJoined ms ns hs alls ks → FirstAsked f es lost bs ms → FirstAsked f es lost bs ns
 asked_join f es lost [] ms ns hs alls ks j t = absurd t
 asked_join f es lost (b ∷ bs) [] ns hs alls ks j t = absurd t
 asked_join f es lost (b ∷ bs) (m ∷ ms) [] hs alls ks j t = absurd j
@@ -208,10 +211,10 @@ asked_join f es lost (b ∷ bs) (m ∷ ms) (n ∷ ns) (h ∷ hs) (a ∷ alls) []
 asked_join f es lost (b ∷ bs) (m ∷ ms) (n ∷ ns) (h ∷ hs) (a ∷ alls) (k ∷ ks) j t = (record { asked = j.0.asked ∙ t.0.asked }, unasked_join bs ms ns hs alls ks j.1 t.1)
 
 -- the lanes came back from a join
-pub tie_join : (g : Setup) (b n : RunTold) (es : List Event) (sl : Slack) (to : List ClientTold) (hs : List (List Served)) (alls : List (List Said)) (ks : List ℕ) → EachJoined n.clients to hs alls ks
-    → ((p k : ℕ) → count_by (fetches p k) es + count_by (is_pair p k) (all_of hs) ≤ 1) → All (IsPlannedEntry es) (all_of hs) → drop most_lanes to ≡ drop most_lanes n.clients → sl.hidden ≡ no_hidden b.clients → sl.late ≡ no_late b.clients
+pub tie_join : (g : Setup) (b n : RunTold) (es : List Event) (sl : Slack) (to : List ClientTold) (hs : List (List Served)) (alls : List (List Said)) (ks : List (List Place)) → EachJoined n.clients to hs alls ks
+    → ((p k : ℕ) → count_by (fetches p k) es + count_by (is_pair p k) (all_of hs) ≤ 1) → All (IsPlannedEntry es) (all_of hs) → All (λ all. All (IsPlannedEntry es) (late_in all)) alls → drop most_lanes to ≡ drop most_lanes n.clients → sl.hidden ≡ no_hidden b.clients → sl.late ≡ no_late b.clients
     → Ties g b n es None sl → Ties g b (record n { clients = to }) es None (record sl { heard = heard_join hs alls sl.heard; hidden = hs; late = ks })
-tie_join g b n es sl to hs alls ks j once planned past no_h no_k t =
+tie_join g b n es sl to hs alls ks j once planned lates past no_h no_k t =
     let match = join_match b.clients n.clients to hs alls ks sl.heard j t.heard in
     record {
       heard = exchange_join b.clients n.clients to hs alls ks sl.heard j t.heard;
@@ -223,13 +226,14 @@ tie_join g b n es sl to hs alls ks j once planned past no_h no_k t =
       numbers = t.numbers;
       stored = t.stored;
       served = record {
-        lanes = lanes_join es 0 b.clients n.clients to hs alls ks j (subst (λ (l : List ℕ). EachLane es 0 b.clients n.clients (no_hidden b.clients) l) no_k (subst (λ (l : List (List Served)). EachLane es 0 b.clients n.clients l sl.late) no_h t.served.lanes));
+        lanes = lanes_join es 0 b.clients n.clients to hs alls ks j (subst (λ (l : List (List Place)). EachLane es 0 b.clients n.clients (no_hidden b.clients) l) no_k (subst (λ (l : List (List Served)). EachLane es 0 b.clients n.clients l sl.late) no_h t.served.lanes));
         once = once;
         planned = planned;
         on_lanes = t.served.on_lanes;
         past = past ∙ t.served.past;
       };
-      expired = expired_join es 0 hs alls ks sl.late sl.heard match (joined_late n.clients to hs alls ks j) (subst (λ (l : List ℕ). AllAre 0 l) (sym no_k) (none_late b.clients)) t.expired;
+      expired = expired_join es 0 hs alls ks sl.late sl.heard match (joined_late n.clients to hs alls ks j) (subst (λ (l : List (List Place)). NoneLate l) (sym no_k) (none_late b.clients)) t.expired;
+      late_planned = late_join es hs alls sl.heard match lates t.late_planned;
       heard_served = heard_served_join es 0 hs alls b.clients sl.heard match (subst (λ (l : List (List Served)). EachServed es 0 sl.heard l) no_h t.heard_served);
       asked = asked_join g.file es sl.lost b.clients n.clients to hs alls ks j t.asked;
       heard_asked = heard_joined g.file es sl.lost hs alls sl.heard match t.heard_asked;

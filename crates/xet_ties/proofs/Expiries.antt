@@ -1,19 +1,23 @@
 -- The Expired events of a block are expired answers of the connections together.
-use Rattle.std.proofs.Common.{◌≡◌, ℕ, ◌+◌, ◌<◌, ◌≤◌, ◌==◌, ◌&&◌, Bool, true, false, cond, List, [], ◌∷◌, length, refl, subst, ap, arith, ◌⊎◌, inl, inr}
-use Rattle.std.specs.Prelude.{All, count_by}
-use Rattle.std.proofs.lemmas.Bool.{eq-eqb, eqb-true}
+use Rattle.std.proofs.Common.{◌≡◌, ℕ, ◌+◌, ◌<◌, ◌≤◌, ◌==◌, ◌&&◌, Bool, true, false, cond, List, [], ◌∷◌, ◌++◌, length, length-append, refl, sym, subst, ◌∙◌, ap, arith, ◌⊎◌, inl, inr}
+use Rattle.std.specs.Prelude.{All, count_by, map}
+use Rattle.std.proofs.lemmas.Bool.{eq-eqb, eqb-true, ne_eqb}
 use Rattle.std.proofs.lemmas.List.Elements.{All-head, All-tail}
+use Rattle.xet_outside.specs.Answers.{late_in}
+use Rattle.xet_outside.specs.declared.said.Said.{Said}
+use Rattle.xet_outside.specs.declared.said.Said.TheVariants as said
 use Rattle.xet_outside.specs.declared.served.Served.{Served}
 use Rattle.xet_outside.specs.Told.{ClientTold}
 use Rattle.xet_outside.proofs.CallerLemmas.{count_by-cons}
 use Rattle.xet_run.specs.declared.event.Event.{Event}
 use Rattle.xet_run.specs.declared.event.Event.TheVariants.{Planned, Admit, Fetched, Cached, Expired, Refreshed, Wrote, Fail, Cancel}
 use Rattle.xet_run.specs.Events.{expires}
-use Rattle.xet_ties.specs.Causes.{HaveExpired, NoneAtEnd, expired_answers, total_expiries}
-use Rattle.xet_ties.specs.History.{IsOnLane, expired_by, expires_on, is_expiry}
+use Rattle.xet_ties.specs.Causes.{HaveExpired, NoneAtEnd, expired_answers, late_answers, total_expiries}
+use Rattle.xet_ties.specs.History.{IsOnLane, expired_by, expires_on, is_expiry, late_by, late_on}
 use Rattle.xet_ties.specs.Setup.{RunTold, Setup}
-use Rattle.xet_ties.specs.InCall.{EachExchange, Exchange}
-use Rattle.xet_ties.specs.Ties.{EachExpired, EachLane, Slack, Stop, Ties}
+use Rattle.xet_ties.specs.InCall.{EachExchange, Exchange, Place, expired_said, late_places, place_of}
+use Rattle.xet_ties.specs.Ties.{EachExpired, EachLane, NoneLate, Slack, Stop, Ties, is_pair}
+use Rattle.xet_ties.proofs.Telling.{count-append}
 
 -- the Expired events of the lanes from a number on, as many as connections
 abbrev on_lanes : ℕ → List Event → List ClientTold → ℕ
@@ -102,7 +106,7 @@ expiry_most (e ∷ es) bs a =
     let c = count_by-cons is_expiry e es in
     omega (arith, one, r, s, c)
 
-lanes_total : (es : List Event) (l : ℕ) (bs ns : List ClientTold) (hs : List (List Served)) (ks : List ℕ) → EachLane es l bs ns hs ks → NoneAtEnd ns → total_expiries bs + on_lanes l es bs ≤ total_expiries ns
+lanes_total : (es : List Event) (l : ℕ) (bs ns : List ClientTold) (hs : List (List Served)) (ks : List (List Place)) → EachLane es l bs ns hs ks → NoneAtEnd ns → total_expiries bs + on_lanes l es bs ≤ total_expiries ns
 lanes_total es l [] [] hs ks t h = omega arith
 lanes_total es l [] (n ∷ ns) hs ks t h = absurd t
 lanes_total es l (b ∷ bs) [] hs ks t h = absurd t
@@ -114,15 +118,52 @@ lanes_total es l (b ∷ bs) (n ∷ ns) (x ∷ hs) (k ∷ ks) t h =
     let f = h.0 in
     omega (arith, r, e, f)
 
+-- as many expired answers as requests that were answered so
+count_late : (all : List Said) → count_by expired_said all ≡ length (late_places all)
+count_late [] = refl
+count_late (said.Plan a ∷ all) = let r = count_late all in let c = count_by-cons expired_said (said.Plan a) all in omega (arith, r, c)
+count_late (said.Block b ∷ all) = let r = count_late all in let c = count_by-cons expired_said (said.Block b) all in omega (arith, r, c)
+count_late (said.Expired e ∷ all) = let r = count_late all in let c = count_by-cons expired_said (said.Expired e) all in omega (arith, r, c)
+
+late_length : (lane : ℕ) (e : Event) → length (late_on lane e) ≡ cond (expires_on lane e) 1 0
+late_length lane (Expired m p k) = by (m == lane)
+  where
+    by : (v : Bool) → length (cond {A = List Place} v ((p, k) ∷ []) []) ≡ cond v 1 0
+    by true = refl
+    by false = refl
+late_length lane (Planned plan query terms blocks) = refl
+late_length lane (Admit limit) = refl
+late_length lane (Fetched m plan block) = refl
+late_length lane (Cached plan block) = refl
+late_length lane (Refreshed plan) = refl
+late_length lane (Wrote taken) = refl
+late_length lane (Fail error) = refl
+late_length lane Cancel = refl
+
+count_by_lane : (lane : ℕ) (es : List Event) → length (late_by lane es) ≡ expired_by lane es
+count_by_lane lane [] = refl
+count_by_lane lane (e ∷ es) =
+    let r = count_by_lane lane es in
+    let l = late_length lane e in
+    let a = length-append (late_on lane e) (late_by lane es) in
+    let c = count_by-cons (expires_on lane) e es in
+    omega (arith, r, l, a, c)
+
 -- and of what was heard
-said_total : (es : List Event) (l : ℕ) (bs ns : List ClientTold) (xs : List Exchange) (ks : List ℕ) → EachExchange bs ns xs → EachExpired es l xs ks → on_lanes l es bs ≤ expired_answers xs
+said_total : (es : List Event) (l : ℕ) (bs ns : List ClientTold) (xs : List Exchange) (ks : List (List Place)) → EachExchange bs ns xs → EachExpired es l xs ks → on_lanes l es bs ≤ expired_answers xs
 said_total es l [] [] [] ks h t = omega arith
 said_total es l [] [] (x ∷ xs) ks h t = absurd h
 said_total es l [] (n ∷ ns) xs ks h t = absurd h
 said_total es l (b ∷ bs) [] xs ks h t = absurd h
 said_total es l (b ∷ bs) (n ∷ ns) [] ks h t = absurd h
 said_total es l (b ∷ bs) (n ∷ ns) (x ∷ xs) [] h t = absurd t
-said_total es l (b ∷ bs) (n ∷ ns) (x ∷ xs) (k ∷ ks) h t = let r = said_total es (l + 1) bs ns xs ks h.1 t.1 in let e = t.0 in omega (arith, r, e)
+said_total es l (b ∷ bs) (n ∷ ns) (x ∷ xs) (k ∷ ks) h t =
+    let r = said_total es (l + 1) bs ns xs ks h.1 t.1 in
+    let c = count_late x.said in
+    let e = ap (λ (s : List Place). length s) t.0 in
+    let a = length-append (late_by l es) k in
+    let n = count_by_lane l es in
+    omega (arith, r, c, e, a, n)
 
 -- so all Expired events are answers that were heard
 pub all_expired : (g : Setup) (b n : RunTold) (es : List Event) (stop : Stop) (sl : Slack) → Ties g b n es stop sl → count_by is_expiry es ≤ expired_answers sl.heard
@@ -131,13 +172,145 @@ all_expired g b n es stop sl t =
     let heard = said_total es 0 b.clients n.clients sl.heard sl.late t.heard t.expired in
     omega (arith, m, heard)
 
--- where one block has as many as tries, the connections gave so many expired answers together
+-- ---- of one block
+
+abbrev at_place : ℕ → ℕ → Place → Bool
+at_place p k c = c.0 == p && c.1 == k
+
+-- its Expired events, by lane, from a number on, and those that one event adds
+abbrev lates_on : ℕ → ℕ → ℕ → List Event → List Exchange → ℕ
+lates_on p k l es [] = 0
+lates_on p k l es (x ∷ xs) = count_by (at_place p k) (late_by l es) + lates_on p k (l + 1) es xs
+
+abbrev late_event : ℕ → ℕ → ℕ → Event → List Exchange → ℕ
+late_event p k l e [] = 0
+late_event p k l e (x ∷ xs) = count_by (at_place p k) (late_on l e) + late_event p k (l + 1) e xs
+
+late_split : (p k l : ℕ) (e : Event) (es : List Event) (xs : List Exchange) → lates_on p k l (e ∷ es) xs ≡ late_event p k l e xs + lates_on p k l es xs
+late_split p k l e es [] = refl
+late_split p k l e es (x ∷ xs) = let r = late_split p k (l + 1) e es xs in let c = count-append (at_place p k) (late_on l e) (late_by l es) in omega (arith, r, c)
+
+lates_none : (p k l : ℕ) (xs : List Exchange) → lates_on p k l [] xs ≡ 0
+lates_none p k l [] = refl
+lates_none p k l (x ∷ xs) = let r = lates_none p k (l + 1) xs in omega (arith, r)
+
+-- how often it is that block
+abbrev is_it : ℕ → ℕ → ℕ → ℕ → ℕ
+is_it p k a c = cond {A = ℕ} (a == p && c == k) 1 0
+
+one_place : (p k a c : ℕ) → count_by (at_place p k) ((a, c) ∷ []) ≡ is_it p k a c
+one_place p k a c = let n = count_by-cons (at_place p k) (a, c) [] in omega (arith, n)
+
+-- an event of a lower lane
+late_past : (p k l m a c : ℕ) (xs : List Exchange) → m < l → late_event p k l (Expired m a c) xs ≡ 0
+late_past p k l m a c [] h = refl
+late_past p k l m a c (x ∷ xs) h =
+    let r = late_past p k (l + 1) m a c xs (omega (arith, h)) in
+    let n : count_by (at_place p k) (late_on l (Expired m a c)) ≡ 0 = ap (λ v. count_by (at_place p k) (cond {A = List Place} v ((a, c) ∷ []) [])) (ne_eqb m l (λ q. absurd (omega (arith, q, h)))) in
+    omega (arith, r, n)
+
+-- an event of one of the lanes
+late_here : (p k l m a c : ℕ) (xs : List Exchange) → l ≤ m → m < l + length xs → late_event p k l (Expired m a c) xs ≡ is_it p k a c
+late_here p k l m a c [] low h = absurd (omega (arith, low, h))
+late_here p k l m a c (x ∷ xs) low h = by (m == l) refl (λ less more. late_here p k (l + 1) m a c xs less more)
+  where
+    by : (v : Bool) → (m == l) ≡ v → (l + 1 ≤ m → m < (l + 1) + length xs → late_event p k (l + 1) (Expired m a c) xs ≡ is_it p k a c) → count_by (at_place p k) (late_on l (Expired m a c)) + late_event p k (l + 1) (Expired m a c) xs ≡ is_it p k a c
+    by true e next =
+        let n : count_by (at_place p k) (late_on l (Expired m a c)) ≡ is_it p k a c = ap (λ v. count_by (at_place p k) (cond {A = List Place} v ((a, c) ∷ []) [])) e ∙ one_place p k a c in
+        let same : m ≡ l = eqb-true m l e in
+        let r = late_past p k (l + 1) m a c xs (omega (arith, same)) in
+        omega (arith, n, r)
+    by false e next =
+        let n : count_by (at_place p k) (late_on l (Expired m a c)) ≡ 0 = ap (λ v. count_by (at_place p k) (cond {A = List Place} v ((a, c) ∷ []) [])) e in
+        let apart : (m ≡ l → ⊥) = (λ s. let y = eq-eqb m l s in cc) in
+        let r = next (omega (arith, low, apart)) (omega (arith, h)) in
+        omega (arith, n, r)
+
+-- one event
+quiet : (p k l : ℕ) (e : Event) (xs : List Exchange) → ((lane : ℕ) → late_on lane e ≡ []) → late_event p k l e xs ≡ 0
+quiet p k l e [] h = refl
+quiet p k l e (x ∷ xs) h = let r = quiet p k (l + 1) e xs h in let n = ap (λ (s : List Place). count_by (at_place p k) s) (h l) in omega (arith, r, n)
+
+late_one : (p k : ℕ) (e : Event) (xs : List Exchange) → IsOnLane (length xs) e → late_event p k 0 e xs ≡ cond {A = ℕ} (expires p k e) 1 0
+late_one p k (Expired m a c) xs on = late_here p k 0 m a c xs (omega arith) (omega (arith, on))
+late_one p k (Planned plan query terms blocks) xs on = quiet p k 0 (Planned plan query terms blocks) xs (λ l. refl)
+late_one p k (Admit limit) xs on = quiet p k 0 (Admit limit) xs (λ l. refl)
+late_one p k (Fetched lane plan block) xs on = quiet p k 0 (Fetched lane plan block) xs (λ l. refl)
+late_one p k (Cached plan block) xs on = quiet p k 0 (Cached plan block) xs (λ l. refl)
+late_one p k (Refreshed plan) xs on = quiet p k 0 (Refreshed plan) xs (λ l. refl)
+late_one p k (Wrote taken) xs on = quiet p k 0 (Wrote taken) xs (λ l. refl)
+late_one p k (Fail error) xs on = quiet p k 0 (Fail error) xs (λ l. refl)
+late_one p k Cancel xs on = quiet p k 0 Cancel xs (λ l. refl)
+
+-- all events
+late_all : (p k : ℕ) (es : List Event) (xs : List Exchange) → All (IsOnLane (length xs)) es → lates_on p k 0 es xs ≡ count_by (expires p k) es
+late_all p k [] xs a = lates_none p k 0 xs
+late_all p k (e ∷ es) xs a =
+    let one = late_one p k e xs (All-head (IsOnLane (length xs)) e es a) in
+    let r = late_all p k es xs (All-tail (IsOnLane (length xs)) e es a) in
+    let s = late_split p k 0 e es xs in
+    let c = count_by-cons (expires p k) e es in
+    omega (arith, one, r, s, c)
+
+-- requests by their places
+places_count : (p k : ℕ) (es : List Served) → count_by (at_place p k) (map place_of es) ≡ count_by (is_pair p k) es
+places_count p k [] = refl
+places_count p k (e ∷ es) =
+    let r = places_count p k es in
+    let a = count_by-cons (at_place p k) (place_of e) (map place_of es) in
+    let b = count_by-cons (is_pair p k) e es in
+    omega (arith, r, a, b)
+
+-- what was heard are the Expired events, and those that no event says
+late_heard : (p k l : ℕ) (es : List Event) (xs : List Exchange) (ls : List (List Place)) → EachExpired es l xs ls → lates_on p k l es xs ≤ late_answers p k xs
+late_heard p k l es [] ls t = omega arith
+late_heard p k l es (x ∷ xs) [] t = absurd t
+late_heard p k l es (x ∷ xs) (k' ∷ ls) t =
+    let r = late_heard p k (l + 1) es xs ls t.1 in
+    let e = ap (λ (s : List Place). count_by (at_place p k) s) t.0 in
+    let a = count-append (at_place p k) (late_by l es) k' in
+    let c = places_count p k (late_in x.said) in
+    omega (arith, r, e, a, c)
+
+late_bare : (p k l : ℕ) (es : List Event) (xs : List Exchange) (ls : List (List Place)) → NoneLate ls → EachExpired es l xs ls → late_answers p k xs ≡ lates_on p k l es xs
+late_bare p k l es [] ls none t = refl
+late_bare p k l es (x ∷ xs) [] none t = absurd t
+late_bare p k l es (x ∷ xs) (k' ∷ ls) none t =
+    let r = late_bare p k (l + 1) es xs ls none.1 t.1 in
+    let e = ap (λ (s : List Place). count_by (at_place p k) s) (t.0 ∙ ap (λ (s : List Place). late_by l es ++ s) none.0) in
+    let a = count-append (at_place p k) (late_by l es) [] in
+    let c = places_count p k (late_in x.said) in
+    omega (arith, r, e, a, c)
+
+heard_length : (bs ns : List ClientTold) (xs : List Exchange) → EachExchange bs ns xs → length xs ≡ length bs
+heard_length [] [] [] h = refl
+heard_length [] [] (x ∷ xs) h = absurd h
+heard_length [] (n ∷ ns) xs h = absurd h
+heard_length (b ∷ bs) [] xs h = absurd h
+heard_length (b ∷ bs) (n ∷ ns) [] h = absurd h
+heard_length (b ∷ bs) (n ∷ ns) (x ∷ xs) h = let r = heard_length bs ns xs h.1 in omega (arith, r)
+
+block_late : (g : Setup) (b n : RunTold) (es : List Event) (stop : Stop) (sl : Slack) (p k : ℕ) → Ties g b n es stop sl → lates_on p k 0 es sl.heard ≡ count_by (expires p k) es
+block_late g b n es stop sl p k t = late_all p k es sl.heard (subst (λ (m : ℕ). All (IsOnLane m) es) (sym (heard_length b.clients n.clients sl.heard t.heard)) t.served.on_lanes)
+
+-- where no request is left that no event says, each block's requests were answered as expired as often as it has such
+-- events
+pub none_spent : (g : Setup) (b n : RunTold) (es : List Event) (stop : Stop) (sl : Slack) → NoneLate sl.late → ((p k : ℕ) → count_by (expires p k) es < g.tries) → Ties g b n es stop sl → (p k : ℕ) → late_answers p k sl.heard < g.tries
+none_spent g b n es stop sl none under t p k =
+    let u = under p k in
+    let a = block_late g b n es stop sl p k t in
+    let c = late_bare p k 0 es sl.heard sl.late none t.expired in
+    omega (arith, u, a, c)
+
+-- where one block has as many as tries, the connections answered so many requests for it as expired together
 pub have_expired : (g : Setup) (b n : RunTold) (es : List Event) (stop : Stop) (sl : Slack) (p k : ℕ) → count_by (expires p k) es ≡ g.tries → Ties g b n es stop sl → HaveExpired g.tries sl.heard b.clients n.clients
 have_expired g b n es stop sl p k spent t =
     let m = expires_most p k es b.clients t.served.on_lanes in
-    let heard = said_total es 0 b.clients n.clients sl.heard sl.late t.heard t.expired in
-    let few : g.tries ≤ expired_answers sl.heard = omega (arith, m, heard, spent) in
+    let heard = late_heard p k 0 es sl.heard sl.late t.expired in
+    let own = block_late g b n es stop sl p k t in
     record {
       counted = λ none. let s = lanes_total es 0 b.clients n.clients sl.hidden sl.late t.served.lanes none in omega (arith, m, s, spent);
-      said = few;
+      plan = p;
+      block = k;
+      said = omega (arith, heard, own, spent);
     }

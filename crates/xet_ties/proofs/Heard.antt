@@ -20,7 +20,7 @@ use Rattle.xet_run.specs.declared.event.Event.{Event}
 use Rattle.xet_run.specs.declared.event.Event.TheVariants.{Planned, Admit, Fetched, Cached, Expired, Refreshed, Wrote, Fail, Cancel}
 use Rattle.xet_run.specs.Events.{Task}
 use Rattle.xet_ties.specs.History.{entry_of}
-use Rattle.xet_ties.specs.InCall.{EachAskedAs, EachExchange, EachGrew, Exchange, ExchangeGrew, IsExchange, Look, SomeOne}
+use Rattle.xet_ties.specs.InCall.{EachAskedAs, EachExchange, EachGrew, Exchange, ExchangeGrew, IsExchange, Look, SomeOne, Place}
 use Rattle.xet_ties.specs.Saids.{BlockOfPlan, EventPassed, FirstSaid, HasPassed, InStep, IsEventSaid, IsLookedData, IsPlanAccepted, IsQueryAnswer, IsServedData, IsTaskPiece, IsTested, IsTestedData, IsUnasked, PassedIn, TermOfPlan, planned_of, some_of}
 use Rattle.xet_ties.specs.Setup.{Setup}
 use Rattle.xet_ties.proofs.CutPlaces.{answer_of_more, cut_answer_more}
@@ -52,7 +52,7 @@ exchange_query [] (m ∷ ms) (n ∷ ns) xs qs all f h = absurd h
 exchange_query (b ∷ bs) (m ∷ ms) (n ∷ ns) [] qs all f h = absurd h
 exchange_query (b ∷ bs) (m ∷ ms) (n ∷ ns) (x ∷ xs) qs all f h = (one_query b m n x qs all f.0 h.0, subst (λ (l : List ClientTold). EachExchange bs l xs) (sym f.1) h.1)
 
-one_join : (b m n : ClientTold) (x : Exchange) (h : List Served) (a : List Said) (k : ℕ) → JoinStep m n h a k → IsExchange b m x → IsExchange b n (record { asked = x.asked; served = x.served ++ h; said = x.said ++ a })
+one_join : (b m n : ClientTold) (x : Exchange) (h : List Served) (a : List Said) (k : List Place) → JoinStep m n h a k → IsExchange b m x → IsExchange b n (record { asked = x.asked; served = x.served ++ h; said = x.said ++ a })
 one_join b m n x h a k s t = record {
   asks = s.asked ∙ t.asks;
   serves = added_both b.served m.served n.served x.served h t.serves s.pairs.serves;
@@ -67,7 +67,7 @@ one_join b m n x h a k s t = record {
 }
 
 -- the lanes came back from a join
-pub exchange_join : (bs ms ns : List ClientTold) (hs : List (List Served)) (alls : List (List Said)) (ks : List ℕ) (xs : List Exchange) → EachJoined ms ns hs alls ks → EachExchange bs ms xs → EachExchange bs ns (heard_join hs alls xs)
+pub exchange_join : (bs ms ns : List ClientTold) (hs : List (List Served)) (alls : List (List Said)) (ks : List (List Place)) (xs : List Exchange) → EachJoined ms ns hs alls ks → EachExchange bs ms xs → EachExchange bs ns (heard_join hs alls xs)
 exchange_join [] (m ∷ ms) ns hs alls ks xs j h = absurd h
 exchange_join [] [] ns hs alls ks (x ∷ xs) j h = absurd h
 exchange_join [] [] (n ∷ ns) hs alls ks [] j h = absurd j
@@ -93,7 +93,7 @@ Match [] [] [] = Unit {0}
 Match (h ∷ hs) (a ∷ alls) (x ∷ xs) = (plans_in a ≡ []) × Match hs alls xs
 Match hs alls xs = ⊥
 
-pub join_match : (bs ms ns : List ClientTold) (hs : List (List Served)) (alls : List (List Said)) (ks : List ℕ) (xs : List Exchange) → EachJoined ms ns hs alls ks → EachExchange bs ms xs → Match hs alls xs
+pub join_match : (bs ms ns : List ClientTold) (hs : List (List Served)) (alls : List (List Said)) (ks : List (List Place)) (xs : List Exchange) → EachJoined ms ns hs alls ks → EachExchange bs ms xs → Match hs alls xs
 join_match [] (m ∷ ms) ns hs alls ks xs j h = absurd h
 join_match [] [] ns hs alls ks (x ∷ xs) j h = absurd h
 join_match [] [] (n ∷ ns) hs alls ks [] j h = absurd j

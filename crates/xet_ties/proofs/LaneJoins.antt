@@ -1,5 +1,5 @@
 -- What the lanes of a round did to the connections, as a step of the ties, and that no pair is served twice.
-use Rattle.std.proofs.Common.{ℕ, ◌≡◌, ◌+◌, ◌-◌, ◌<◌, ◌≤◌, true, false, Bool, zero, suc, List, [], ◌∷◌, ◌++◌, length, map, refl, sym, ap, ◌∙◌, subst, inl, inr, arith, Option, Some, None}
+use Rattle.std.proofs.Common.{ℕ, ◌≡◌, ◌+◌, ◌-◌, ◌<◌, ◌≤◌, true, false, Bool, zero, suc, List, [], ◌∷◌, ◌++◌, length, map, refl, sym, ap, ◌∙◌, subst, inl, inr, arith, length-append, Option, Some, None}
 use Rattle.std.specs.Prelude.{cond, nat_eq, nat_lt, slice_get, count_by, All, ◌&&◌}
 use Rattle.std.specs.List.{concat, flat_map}
 use Rattle.std.proofs.lemmas.Bool.Decides.{nat_tests}
@@ -10,18 +10,19 @@ use Rattle.xet_outside.specs.declared.served.Served.{Served}
 use Rattle.xet_run.specs.declared.event.Event.{Event}
 use Rattle.xet_run.specs.declared.event.Event.TheVariants.{Fetched, Expired}
 use Rattle.xet_ties.specs.declared.lane_step.LaneStep.{LaneStep}
-use Rattle.xet_ties.specs.Lanes.{AreAt, AreOf, Ask, DrewApart, EachDrew, HidesNone, IsFor, IsHidden, LaneDid, entries_in, entries_of, expired_count, hides_at, may_hide}
+use Rattle.xet_ties.specs.Lanes.{AreAt, AreOf, Ask, DrewApart, EachDrew, HidesNone, IsFor, IsHidden, LaneDid, entries_in, entries_of, expired_count, hides_at, lates_in, lates_of, may_hide}
 use Rattle.xet_ties.specs.steps.Records.{asks_for, keys_of, places, places_of, Key, Place, entries_all, expired_on, expired_all, fetched_all, fetched_on, lanes_entries, lanes_expired, lanes_fetched, lanes_late, AreFresh, EachFresh, IsFreshAsk, blocks_all, key_of, lane_events}
 use Rattle.xet_claims.specs.ClaimViews.{once_below, times}
 use Rattle.xet_ties.specs.steps.Moves.{EachJoined, JoinStep, heard_join, no_hidden, no_late}
 use Rattle.xet_ties.specs.steps.Rounds.{IsHeardStep, got_of}
-use Rattle.xet_ties.specs.InCall.{Exchange}
+use Rattle.xet_ties.specs.InCall.{Exchange, place_of}
 use Rattle.xet_ties.proofs.RoundData.{ArePaired, lanes_more}
 use Rattle.xet_ties.specs.Ties.{all_of, is_pair, is_range}
 use Rattle.xet_ties.specs.History.{fetches}
 use Rattle.xet_ties.specs.declared.lane_step.LaneStep.TheVariants as step
 use Rattle.std.proofs.lemmas.List.Elements.{All-append, All-cons, All-head, All-nil, All-tail}
-use Rattle.xet_outside.specs.Answers.{IsPaired}
+use Rattle.std.proofs.lemmas.List.{append-nil}
+use Rattle.xet_outside.specs.Answers.{IsPaired, late_in}
 use Rattle.xet_base.specs.declared.cas_types.ChunkRange.{ChunkRange}
 use Rattle.xet_base.specs.declared.merklehash.MerkleHash.{MerkleHash}
 use Rattle.xet_base.specs.Hashes.{hash_eq}
@@ -226,14 +227,23 @@ got_keys b n served all (a ∷ qs) (step.Served p k d ∷ ss) are =
 got_keys b n served all (a ∷ qs) (step.Expired p k ∷ ss) are = got_keys b n served all qs ss are.1
 got_keys b n served all (a ∷ qs) (step.Failed e ∷ ss) are = got_keys b n served all qs ss are.1
 
-lane_step : (b n : ClientTold) (qs : List Ask) (ss : List LaneStep) → (d : LaneDid b n qs ss) → JoinStep b n (entries_all (keys_of qs ss) ++ d.hidden) d.said (length (places_of ss) + 0)
+-- the places of the entries of its Expired steps are those that these steps name
+late_keys : (b n : ClientTold) (served : List Served) (all : List Said) (qs : List Ask) (ss : List LaneStep) → AreOf b n served all qs ss → map place_of (lates_of qs ss) ≡ places_of ss
+late_keys b n served all qs [] are = refl
+late_keys b n served all [] (s ∷ ss) are = absurd are
+late_keys b n served all (a ∷ qs) (step.Served p k d ∷ ss) are = late_keys b n served all qs ss are.1
+late_keys b n served all (a ∷ qs) (step.Expired p k ∷ ss) are =
+    ap (λ (l : List Place). (a.request.acquisition.plan, a.request.index) ∷ l) (late_keys b n served all qs ss are.1) ∙ ap (λ (i : ℕ). (i, a.request.index) ∷ places_of ss) (sym are.0.0) ∙ ap (λ (i : ℕ). (p, i) ∷ places_of ss) (sym are.0.1)
+late_keys b n served all (a ∷ qs) (step.Failed e ∷ ss) are = late_keys b n served all qs ss are.1
+
+lane_step : (b n : ClientTold) (qs : List Ask) (ss : List LaneStep) → (d : LaneDid b n qs ss) → JoinStep b n (entries_all (keys_of qs ss) ++ d.hidden) d.said (places_of ss ++ [])
 lane_step b n qs ss d = record {
   goes_on = d.goes_on;
   asked = d.asked;
   quiet = d.quiet;
   pairs = subst (λ (l : List Served). IsPaired b n (l ++ d.hidden) d.said) (entries_keys qs ss) d.pairs;
-  said_late = let e = d.late in let c = count_places ss in omega (arith, e, c);
-  expired = let e = d.expired in let c = count_places ss in omega (arith, e, c);
+  said_late = ap (λ (l : List Served). map place_of l) d.late ∙ late_keys b n (entries_of qs ss ++ d.hidden) d.said qs ss d.are ∙ sym (append-nil (places_of ss));
+  expired = let e = d.expired in let c = count_places ss in let a = length-append (places_of ss) [] in omega (arith, e, c, a);
 }
 
 -- ---- its entries are of its fetches
@@ -412,6 +422,40 @@ joined_among P fs (b ∷ bs) (n ∷ ns) (d ∷ ds) (ss ∷ es) e h =
     let lane = e.0 in
     let j = are_joined fs bs ns ds es e.1 in
     All-append P (entries_all (keys_of lane.made ss) ++ lane.did.hidden) (all_of (lanes_entries j.keys j.hidden)) (lane_within P b n lane.made ss lane.did (made_all P fs d lane.made h lane.at)) (joined_among P fs bs ns ds es e.1 h)
+
+late_all : (P : Served → Type 0) (a : Ask) (s : LaneStep) → P (asks_for a) → All P (lates_in a s)
+late_all P a (step.Served p k d) h = All-nil P
+late_all P a (step.Expired p k) h = All-cons P (asks_for a) [] h (All-nil P)
+late_all P a (step.Failed e) h = All-nil P
+
+lates_within : (P : Served → Type 0) (b n : ClientTold) (served : List Served) (all : List Said) (qs : List Ask) (ss : List LaneStep) → AreOf b n served all qs ss → All P (map asks_for qs) → All P (lates_of qs ss)
+lates_within P b n served all qs [] are h = All-nil P
+lates_within P b n served all [] (s ∷ ss) are h = absurd are
+lates_within P b n served all (a ∷ qs) (s ∷ ss) are h =
+    All-append P (lates_in a s) (lates_of qs ss) (late_all P a s (All-head P (asks_for a) (map asks_for qs) h)) (lates_within P b n served all qs ss are.1 (All-tail P (asks_for a) (map asks_for qs) h))
+
+abbrev LateAre : (Served → Type 0) → List Said → Type 0
+LateAre P all = All P (late_in all)
+
+none_late : (P : Served → Type 0) (bs : List ClientTold) → All (LateAre P) (map (λ _. []) bs)
+none_late P [] = All-nil (LateAre P)
+none_late P (b ∷ bs) = All-cons (LateAre P) [] (map (λ _. []) bs) (All-nil P) (none_late P bs)
+
+-- and of all requests that were answered as expired
+pub lates_among : (P : Served → Type 0) (fs : List Ask) (bs ns : List ClientTold) (drawn : List (List ℕ)) (es : List (List LaneStep)) → (e : EachDrew fs bs ns drawn es) → All P (map asks_for fs)
+    → (let j = are_joined fs bs ns drawn es e in All (LateAre P) j.said)
+unfolding are_joined
+lates_among P fs bs ns [] [] e h = none_late P bs
+lates_among P fs bs ns [] (ss ∷ es) e h = absurd e
+lates_among P fs bs ns (d ∷ ds) [] e h = absurd e
+lates_among P fs [] ns (d ∷ ds) (ss ∷ es) e h = absurd e
+lates_among P fs (b ∷ bs) [] (d ∷ ds) (ss ∷ es) e h = absurd e
+lates_among P fs (b ∷ bs) (n ∷ ns) (d ∷ ds) (ss ∷ es) e h =
+    let lane = e.0 in
+    let did = lane.did in
+    let j = are_joined fs bs ns ds es e.1 in
+    let all = lates_within P b n (entries_of lane.made ss ++ did.hidden) did.said lane.made ss did.are (made_all P fs d lane.made h lane.at) in
+    All-cons (LateAre P) did.said j.said (subst (λ (l : List Served). All P l) (sym did.late) all) (lates_among P fs bs ns ds es e.1 h)
 
 -- ---- no pair twice
 

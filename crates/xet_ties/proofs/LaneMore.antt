@@ -10,8 +10,8 @@ use Rattle.xet_outside.specs.Told.{BlockCall, ClientTold, served_of, Added, Hold
 use Rattle.xet_outside.specs.declared.served.Served.{Served}
 use Rattle.xet_error.specs.declared.error.FileReconstructionError.{FileReconstructionError}
 use Rattle.xet_ties.specs.declared.lane_step.LaneStep.{LaneStep}
-use Rattle.xet_ties.specs.Lanes.{AnswerStep, AreOf, Ask, IsFor, IsOf, LaneDid, StepDid, entries_in, entries_of, expired_count, expired_in, hides_at, may_hide, HidesNone, HoldsAsk, StepCause, bytes_of_ask, error_hides}
-use Rattle.xet_outside.specs.Answers.{IsPaired, bytes_in, plans_in}
+use Rattle.xet_ties.specs.Lanes.{AnswerStep, AreOf, Ask, IsFor, IsOf, LaneDid, StepDid, entries_in, entries_of, expired_count, expired_in, hides_at, lates_in, lates_of, may_hide, HidesNone, HoldsAsk, StepCause, bytes_of_ask, error_hides}
+use Rattle.xet_outside.specs.Answers.{IsPaired, bytes_in, late_in, late_said, plans_in}
 use Rattle.xet_outside.proofs.CallerLemmas.{added_none, answer_after, answer_before, paired_both, plans_both}
 use Rattle.xet_outside.specs.declared.block.BlockAnswer.TheVariants as block_answer
 use Rattle.xet_outside.specs.declared.said.Said.TheVariants as said
@@ -25,27 +25,26 @@ use Rattle.xet_error.specs.declared.error.Corruption.{Corruption}
 use Rattle.xet_error.specs.Errors.{of_client_error}
 use Rattle.xet_blocks.specs.BlockCalls.{failed_check}
 use Rattle.xet_blocks.specs.Refusals.{IsRefusal}
-use Rattle.xet_ties.specs.InCall.{expired_said}
 use Rattle.xet_ties.specs.Setup.{ClientGoesOn}
-use Rattle.xet_ties.proofs.Telling.{count-append}
+use Rattle.std.proofs.lemmas.Grind.{flat_map-append}
 use Rattle.xet_error.specs.declared.error.FileReconstructionError.TheVariants as error
 use Rattle.xet_outside.specs.declared.client.ClientError.TheVariants as client_error
 
 -- ---- one step
 
-bytes_did : (a : Ask) (bb : BlockBytes) (b n : ClientTold) (s : LaneStep) (hidden : List Served) → BlockCall b n a.request (Ok (block_answer.Bytes bb)) → served_of a.request ∷ [] ≡ entries_in a s ++ hidden → IsOf b n (entries_in a s ++ hidden) (said.Block (block_answer.Bytes bb) ∷ []) a s
-    → (hidden ≡ []) ⊎ ((may_hide s ≡ true) × (hidden ≡ served_of a.request ∷ [])) → expired_in s ≡ 0 → StepDid b n a s
-bytes_did a bb b n s hidden call shape is most none = record {
+bytes_did : (a : Ask) (bb : BlockBytes) (b n : ClientTold) (s : LaneStep) (hidden : List Served) → BlockCall b n a.request (Ok (block_answer.Bytes bb)) → served_of a.request ∷ [] ≡ entries_in a s ++ hidden → IsOf b n (entries_in a s ++ hidden) (said.Block bb ∷ []) a s
+    → (hidden ≡ []) ⊎ ((may_hide s ≡ true) × (hidden ≡ served_of a.request ∷ [])) → expired_in s ≡ 0 → lates_in a s ≡ [] → StepDid b n a s
+bytes_did a bb b n s hidden call shape is most none bare = record {
   goes_on = record { store = call.store; link = call.link; faults = call.faults; expiries = call.expiries };
   asked = call.asked;
-  said = said.Block (block_answer.Bytes bb) ∷ [];
+  said = said.Block bb ∷ [];
   hidden = hidden;
   quiet = refl;
   pairs = record { serves = subst (λ (l : List Served). Added b.served n.served l) shape call.served; says = call.said; paired = ap (λ (l : List Served). length l) (sym shape) };
   is = is;
   at_most = most;
   once = omega arith;
-  late = sym none;
+  late = sym bare;
   expired = let e = call.expiries in omega (arith, e, none);
 }
 
@@ -72,7 +71,7 @@ late_did : (a : Ask) (b n : ClientTold) → BlockCall b n a.request (Ok block_an
 late_did a b n call = record {
   goes_on = record { store = call.store; link = call.link; faults = call.faults; expiries = call.expiries };
   asked = call.asked;
-  said = said.Block block_answer.Expired ∷ [];
+  said = said.Expired (served_of a.request) ∷ [];
   hidden = [];
   quiet = refl;
   pairs = record { serves = added_none b.served n.served call.served; says = call.said; paired = refl };
@@ -91,18 +90,18 @@ honest_bytes a b n bb own call s told holds =
 
 -- a refusal of the bytes is the step's cause
 refused : (a : Ask) (b n : ClientTold) (bb : BlockBytes) (e : FileReconstructionError) → IsFor a → BlockCall b n a.request (Ok (block_answer.Bytes bb)) → IsRefusal (failed_check a.block bb) e
-    → StepCause b n (served_of a.request ∷ []) (said.Block (block_answer.Bytes bb) ∷ []) a e × (error_hides e ≡ true)
+    → StepCause b n (served_of a.request ∷ []) (said.Block bb ∷ []) a e × (error_hides e ≡ true)
 refused a b n bb e own call r = by (failed_check a.block bb) refl r
   where
-    short : e ≡ error.OutOfMemory → StepCause b n (served_of a.request ∷ []) (said.Block (block_answer.Bytes bb) ∷ []) a e × (error_hides e ≡ true)
-    short h = subst (λ (z : FileReconstructionError). StepCause b n (served_of a.request ∷ []) (said.Block (block_answer.Bytes bb) ∷ []) a z × (error_hides z ≡ true)) (sym h) (tt, refl)
+    short : e ≡ error.OutOfMemory → StepCause b n (served_of a.request ∷ []) (said.Block bb ∷ []) a e × (error_hides e ≡ true)
+    short h = subst (λ (z : FileReconstructionError). StepCause b n (served_of a.request ∷ []) (said.Block bb ∷ []) a z × (error_hides z ≡ true)) (sym h) (tt, refl)
 
-    by : (o : Option Corruption) → failed_check a.block bb ≡ o → IsRefusal o e → StepCause b n (served_of a.request ∷ []) (said.Block (block_answer.Bytes bb) ∷ []) a e × (error_hides e ≡ true)
+    by : (o : Option Corruption) → failed_check a.block bb ≡ o → IsRefusal o e → StepCause b n (served_of a.request ∷ []) (said.Block bb ∷ []) a e × (error_hides e ≡ true)
     by None f x = ⊎_elim short (λ (z : ⊥). absurd z) x
     by (Some k) f x =
         ⊎_elim short
         (λ (z : e ≡ error.CorruptedReconstruction k).
-        subst (λ (y : FileReconstructionError). StepCause b n (served_of a.request ∷ []) (said.Block (block_answer.Bytes bb) ∷ []) a y × (error_hides y ≡ true)) (sym z) (
+        subst (λ (y : FileReconstructionError). StepCause b n (served_of a.request ∷ []) (said.Block bb ∷ []) a y × (error_hides y ≡ true)) (sym z) (
           record {
             given = bb;
             answer = record { place = 0; entry = refl; bytes = refl };
@@ -116,11 +115,11 @@ refused a b n bb e own call r = by (failed_check a.block bb) refl r
 -- the step that an answer to the block's request makes
 pub step_did : (a : Ask) (b n : ClientTold) (answer : Result BlockAnswer ClientError) (s : LaneStep) → IsFor a → BlockCall b n a.request answer → AnswerStep a answer s → StepDid b n a s
 step_did a b n (Ok (block_answer.Bytes bb)) (step.Served p k d) own call t =
-    bytes_did a bb b n (step.Served p k d) [] call refl (t.0, t.1, record { given = bb; answer = record { place = 0; entry = refl; bytes = refl }; passes = t.2; made = t.3; honest = honest_bytes a b n bb own call }) (inl refl) refl
+    bytes_did a bb b n (step.Served p k d) [] call refl (t.0, t.1, record { given = bb; answer = record { place = 0; entry = refl; bytes = refl }; passes = t.2; made = t.3; honest = honest_bytes a b n bb own call }) (inl refl) refl refl
 step_did a b n (Ok (block_answer.Bytes bb)) (step.Expired p k) own call t = absurd t
 step_did a b n (Ok (block_answer.Bytes bb)) (step.Failed e) own call t =
     let r = refused a b n bb e own call t in
-    bytes_did a bb b n (step.Failed e) (served_of a.request ∷ []) call refl r.0 (inr (r.1, refl)) refl
+    bytes_did a bb b n (step.Failed e) (served_of a.request ∷ []) call refl r.0 (inr (r.1, refl)) refl refl
 step_did a b n (Ok block_answer.Expired) s own call t = rw t (late_did a b n call)
 step_did a b n (Err x) s own call t = rw t (quiet_did a b n x call)
 
@@ -168,6 +167,12 @@ entries_snoc [] [] a s e = append-nil (entries_in a s)
 entries_snoc [] (x ∷ ss) a s e = absurd (omega arith)
 entries_snoc (p ∷ qs) [] a s e = absurd (omega arith)
 entries_snoc (p ∷ qs) (x ∷ ss) a s e = ap (λ l. entries_in p x ++ l) (entries_snoc qs ss a s (omega arith)) ∙ sym (append_assoc (entries_in p x) (entries_of qs ss) (entries_in a s))
+
+lates_snoc : (qs : List Ask) (ss : List LaneStep) (a : Ask) (s : LaneStep) → length qs ≡ length ss → lates_of (qs ++ a ∷ []) (ss ++ s ∷ []) ≡ lates_of qs ss ++ lates_in a s
+lates_snoc [] [] a s e = append-nil (lates_in a s)
+lates_snoc [] (x ∷ ss) a s e = absurd (omega arith)
+lates_snoc (p ∷ qs) [] a s e = absurd (omega arith)
+lates_snoc (p ∷ qs) (x ∷ ss) a s e = ap (λ l. lates_in p x ++ l) (lates_snoc qs ss a s (omega arith)) ∙ sym (append_assoc (lates_in p x) (lates_of qs ss) (lates_in a s))
 
 expired_snoc : (ss : List LaneStep) (s : LaneStep) → expired_count (ss ++ s ∷ []) ≡ expired_count ss + expired_in s
 expired_snoc [] s = omega arith
@@ -228,6 +233,6 @@ one_more b m n qs xs a s d len bare t =
       at_most = ⊎_elim (λ (e : t.hidden ≡ []). inl e) (λ (e : (may_hide s ≡ true) × (t.hidden ≡ served_of a.request ∷ [])). inr (record { ask = a; some = omega (arith, length-append xs (s ∷ [])); last = hidden_here qs xs a s len; may = hides_end xs s ∙ e.0; is = e.1 })) t.at_most;
       none = λ h. ⊎_elim (λ (e : t.hidden ≡ []). e) (λ (e : (may_hide s ≡ true) × (t.hidden ≡ served_of a.request ∷ [])). absurd (let l = hides_last xs s h in let r = e.0 in cc)) t.at_most;
       once = let u = d.once in let v = t.once in omega (arith, u, v, length-append d.said t.said, length-append xs (s ∷ []));
-      late = let u = d.late in let v = t.late in let w = count-append expired_said d.said t.said in let x = expired_snoc xs s in omega (arith, u, v, w, x);
+      late = flat_map-append late_said d.said t.said ∙ ap (λ (l : List Served). l ++ late_in t.said) d.late ∙ ap (λ (l : List Served). lates_of qs xs ++ l) t.late ∙ sym (lates_snoc qs xs a s len);
       expired = subst (λ (c : ℕ). min (b.expiries + c) (2 ^ 64 - 1) ≤ n.expiries) (sym (expired_snoc xs s)) (let u = d.expired in let v = t.expired in omega (arith, u, v));
     }

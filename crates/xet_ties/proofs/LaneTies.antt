@@ -1,5 +1,5 @@
 -- The ties after all that the lanes of a round did is recorded.
-use Rattle.std.proofs.Common.{◌≡◌, ℕ, suc, ◌+◌, ◌<◌, ◌≤◌, cond, List, [], ◌∷◌, ◌++◌, length, refl, sym, subst, ◌∙◌, ap, arith, append_assoc, length-append, None}
+use Rattle.std.proofs.Common.{◌≡◌, ℕ, ◌+◌, ◌<◌, ◌≤◌, cond, List, [], ◌∷◌, ◌++◌, length, refl, sym, subst, ◌∙◌, ap, arith, append_assoc, length-append, None}
 use Rattle.std.specs.Prelude.{count_by}
 use Rattle.std.specs.List.{flat_map}
 use Rattle.std.proofs.lemmas.List.{append-nil, length-map}
@@ -96,20 +96,18 @@ tie_lane_fetched g b n es sl m (c ∷ cs) h before after rest a is hidden pendin
     (subst (λ (d : ℕ). InRound g b n (es ++ e ∷ []) (fetched_all m cs) take.left (λ i. record sl { hidden = before ++ h ∷ after; pending = rest; due = d; spare = i })) due all)
 
 -- all expired answers of a lane are recorded
-pub tie_lane_expired : (g : Setup) (b n : RunTold) (es : List Event) (sl : Slack) (m : ℕ) (cs : List Place) (j : ℕ) (before after : List ℕ)
-    → MayExpire g.tries m es cs → m ≡ length before → sl.late ≡ before ++ (length cs + j) ∷ after → (0 < length cs → MayFetch es sl.spare)
+pub tie_lane_expired : (g : Setup) (b n : RunTold) (es : List Event) (sl : Slack) (m : ℕ) (cs j : List Place) (before after : List (List Place))
+    → MayExpire g.tries m es cs → m ≡ length before → sl.late ≡ before ++ (cs ++ j) ∷ after → (0 < length cs → MayFetch es sl.spare)
     → Ties g b n es None sl → InRound g b n es (expired_all m cs) sl.spare (λ i. record sl { late = before ++ j ∷ after; spare = i })
 tie_lane_expired g b n es sl m [] j before after a is late may t =
-    let none : length {A = Place} [] + j ≡ j = omega arith in
     round_none g b n es sl (λ i. record sl { late = before ++ j ∷ after; spare = i })
-    (subst (λ (l : List ℕ). Ties g b n es None (record sl { late = l })) (late ∙ ap (λ (i : ℕ). before ++ i ∷ after) none) t)
+    (subst (λ (l : List (List Place)). Ties g b n es None (record sl { late = l })) late t)
 tie_lane_expired g b n es sl m (c ∷ cs) j before after a is late may t =
     let e : Event = Expired m c.0 c.1 in
     let take = takes es e sl.spare refl (may (omega arith)) in
-    let count : length (c ∷ cs) + j ≡ suc (length cs + j) = omega arith in
-    let one = tie_expired g b n es sl m c.0 c.1 (length cs + j) before after a.0 a.1 is (late ∙ ap (λ (i : ℕ). before ++ i ∷ after) count) take.left take.fits t in
+    let one = tie_expired g b n es sl m c.0 c.1 (cs ++ j) before after a.0 a.1 is late take.left take.fits t in
     round_more g b n es e (expired_all m cs) sl.spare take.left (λ i. record sl { late = before ++ j ∷ after; spare = i }) take.goes
-    (tie_lane_expired g b n (es ++ e ∷ []) (record sl { late = before ++ (length cs + j) ∷ after; spare = take.left }) m cs j before after a.2 is refl (λ _. take.goes) one)
+    (tie_lane_expired g b n (es ++ e ∷ []) (record sl { late = before ++ (cs ++ j) ∷ after; spare = take.left }) m cs j before after a.2 is refl (λ _. take.goes) one)
 
 -- ---- all lanes
 
@@ -152,11 +150,11 @@ tie_lanes_fetched g b n es sl m (cs ∷ css) (h ∷ hs) before rest a some is hi
     (subst (λ (d : ℕ). InRound g b n (es ++ first) others one.left (λ i. record sl { hidden = before ++ h ∷ hs; pending = rest; due = d; spare = i })) due
     (subst (λ (l : List (List Served)). InRound g b n (es ++ first) others one.left (λ i. record sl { hidden = l; pending = rest; due = (sl.due + count_by has_one (blocks_all cs)) + count_by has_one (flat_map blocks_all css); spare = i })) (append_assoc before (h ∷ []) hs) all))
 
-pub tie_lanes_expired : (g : Setup) (b n : RunTold) (es : List Event) (sl : Slack) (m : ℕ) (css : List (List Place)) (ks before : List ℕ)
+pub tie_lanes_expired : (g : Setup) (b n : RunTold) (es : List Event) (sl : Slack) (m : ℕ) (css ks before : List (List Place))
     → EachMayExpire g.tries m es css → length css ≤ length ks → m ≡ length before → sl.late ≡ before ++ lanes_late css ks → (0 < length (lanes_expired m css) → MayFetch es sl.spare)
     → Ties g b n es None sl → InRound g b n es (lanes_expired m css) sl.spare (λ i. record sl { late = before ++ ks; spare = i })
 tie_lanes_expired g b n es sl m [] ks before a some is late may t =
-    round_none g b n es sl (λ i. record sl { late = before ++ ks; spare = i }) (subst (λ (l : List ℕ). Ties g b n es None (record sl { late = l })) late t)
+    round_none g b n es sl (λ i. record sl { late = before ++ ks; spare = i }) (subst (λ (l : List (List Place)). Ties g b n es None (record sl { late = l })) late t)
 tie_lanes_expired g b n es sl m (cs ∷ css) [] before a some is late may t = absurd (omega (arith, some))
 tie_lanes_expired g b n es sl m (cs ∷ css) (k ∷ ks) before a some is late may t =
     let more = lanes_late css ks in
@@ -167,4 +165,4 @@ tie_lanes_expired g b n es sl m (cs ∷ css) (k ∷ ks) before a some is late ma
     let next : m + 1 ≡ length (before ++ k ∷ []) = omega (arith, is, length-append before (k ∷ [])) in
     let all = tie_lanes_expired g b n (es ++ first) (record sl { late = before ++ k ∷ more; spare = one.left }) (m + 1) css ks (before ++ k ∷ []) a.1 (omega (arith, some)) next (sym (append_assoc before (k ∷ []) more)) (λ i. one.goes (rest_may X first others may i)) one.ties in
     round_both g b n es first others sl.spare one.left (λ i. record sl { late = before ++ k ∷ ks; spare = i }) one.goes
-    (subst (λ (l : List ℕ). InRound g b n (es ++ first) others one.left (λ i. record sl { late = l; spare = i })) (append_assoc before (k ∷ []) ks) all)
+    (subst (λ (l : List (List Place)). InRound g b n (es ++ first) others one.left (λ i. record sl { late = l; spare = i })) (append_assoc before (k ∷ []) ks) all)

@@ -10,13 +10,14 @@ use Rattle.xet_run.specs.declared.event.Event.{Event}
 use Rattle.xet_run.specs.declared.event.Event.TheVariants.{Fetched, Expired}
 use Rattle.xet_run.specs.declared.event.PlannedBlock.{PlannedBlock}
 use Rattle.xet_ties.specs.History.{IsOnLane, block_at, entry_of, expired_by, expires_on, served_by, served_in, fetches}
+use Rattle.xet_ties.specs.InCall.{Place}
 use Rattle.xet_ties.specs.Ties.{EachLane, IsLane, IsPlannedEntry, IsServed, all_of, is_pair}
 use Rattle.xet_run.proofs.CallerLemmas.{count_by-push}
 use Rattle.xet_ties.proofs.Telling.{all_left, all_right, block_at-push, count-append, count-same, count-more, telling-push, telling-same}
 
 -- each lane from a number on stays tied
-each_lane : (es fs : List Event) (lane : ℕ) → ((l : ℕ) (b n : ClientTold) (h : List Served) (k : ℕ) → lane ≤ l → IsLane es l b n h k → IsLane fs l b n h k)
-    → (bs ns : List ClientTold) (hs : List (List Served)) (ks : List ℕ) → EachLane es lane bs ns hs ks → EachLane fs lane bs ns hs ks
+each_lane : (es fs : List Event) (lane : ℕ) → ((l : ℕ) (b n : ClientTold) (h : List Served) (k : List Place) → lane ≤ l → IsLane es l b n h k → IsLane fs l b n h k)
+    → (bs ns : List ClientTold) (hs : List (List Served)) (ks : List (List Place)) → EachLane es lane bs ns hs ks → EachLane fs lane bs ns hs ks
 each_lane es fs lane f [] [] [] [] t = tt
 each_lane es fs lane f (b ∷ bs) (n ∷ ns) (h ∷ hs) (k ∷ ks) t =
     (f lane b n h k (omega arith) t.0, each_lane es fs (lane + 1) (λ l c m g j p. f l c m g j (omega arith)) bs ns hs ks t.1)
@@ -28,7 +29,7 @@ each_lane es fs lane f (b ∷ bs) (n ∷ ns) [] ks t = absurd t
 each_lane es fs lane f (b ∷ bs) (n ∷ ns) (h ∷ hs) [] t = absurd t
 
 -- a lane of which the event says nothing
-lane_same : (es : List Event) (e : Event) (l : ℕ) (b n : ClientTold) (h : List Served) (k : ℕ) → served_in l es e ≡ [] → expires_on l e ≡ false → IsLane es l b n h k → IsLane (es ++ e ∷ []) l b n h k
+lane_same : (es : List Event) (e : Event) (l : ℕ) (b n : ClientTold) (h : List Served) (k : List Place) → served_in l es e ≡ [] → expires_on l e ≡ false → IsLane es l b n h k → IsLane (es ++ e ∷ []) l b n h k
 lane_same es e l b n h k none off t =
     let more : expired_by l (es ++ e ∷ []) ≡ expired_by l es = count-same (expires_on l) es e off in
     record {
@@ -38,11 +39,11 @@ lane_same es e l b n h k none off t =
     }
 
 -- the entries of planned blocks stay so
-entries_push : (es : List Event) (e : Event) (xs : List Served) → All (IsPlannedEntry es) xs → All (IsPlannedEntry (es ++ e ∷ [])) xs
+pub entries_push : (es : List Event) (e : Event) (xs : List Served) → All (IsPlannedEntry es) xs → All (IsPlannedEntry (es ++ e ∷ [])) xs
 entries_push es e xs a = All-weaker (IsPlannedEntry es) (IsPlannedEntry (es ++ e ∷ [])) (λ x h. (h.0, block_at-push es e x.plan x.index h.0 h.1, h.2)) xs a
 
 -- as many hidden lists and late counts as connections
-hidden_length : (es : List Event) (l : ℕ) (bs ns : List ClientTold) (hs : List (List Served)) (ks : List ℕ) → EachLane es l bs ns hs ks → length hs ≡ length bs
+hidden_length : (es : List Event) (l : ℕ) (bs ns : List ClientTold) (hs : List (List Served)) (ks : List (List Place)) → EachLane es l bs ns hs ks → length hs ≡ length bs
 hidden_length es l [] [] [] [] t = refl
 hidden_length es l (b ∷ bs) (n ∷ ns) (h ∷ hs) (k ∷ ks) t = let r = hidden_length es (l + 1) bs ns hs ks t.1 in omega (arith, r)
 hidden_length es l [] [] [] (k ∷ ks) t = absurd t
@@ -52,7 +53,7 @@ hidden_length es l (b ∷ bs) [] hs ks t = absurd t
 hidden_length es l (b ∷ bs) (n ∷ ns) [] ks t = absurd t
 hidden_length es l (b ∷ bs) (n ∷ ns) (h ∷ hs) [] t = absurd t
 
-late_length : (es : List Event) (l : ℕ) (bs ns : List ClientTold) (hs : List (List Served)) (ks : List ℕ) → EachLane es l bs ns hs ks → length ks ≡ length bs
+late_length : (es : List Event) (l : ℕ) (bs ns : List ClientTold) (hs : List (List Served)) (ks : List (List Place)) → EachLane es l bs ns hs ks → length ks ≡ length bs
 late_length es l [] [] [] [] t = refl
 late_length es l (b ∷ bs) (n ∷ ns) (h ∷ hs) (k ∷ ks) t = let r = late_length es (l + 1) bs ns hs ks t.1 in omega (arith, r)
 late_length es l [] [] [] (k ∷ ks) t = absurd t
@@ -63,7 +64,7 @@ late_length es l (b ∷ bs) (n ∷ ns) [] ks t = absurd t
 late_length es l (b ∷ bs) (n ∷ ns) (h ∷ hs) [] t = absurd t
 
 -- an event that neither fetches nor expires
-pub served_same : (es : List Event) (e : Event) (hs : List (List Served)) (ks : List ℕ) (bs ns : List ClientTold) → ((l : ℕ) → served_in l es e ≡ []) → ((l : ℕ) → expires_on l e ≡ false) → ((p k : ℕ) → fetches p k e ≡ false) → ((n : ℕ) → IsOnLane n e)
+pub served_same : (es : List Event) (e : Event) (hs : List (List Served)) (ks : List (List Place)) (bs ns : List ClientTold) → ((l : ℕ) → served_in l es e ≡ []) → ((l : ℕ) → expires_on l e ≡ false) → ((p k : ℕ) → fetches p k e ≡ false) → ((n : ℕ) → IsOnLane n e)
     → IsServed es hs ks bs ns → IsServed (es ++ e ∷ []) hs ks bs ns
 served_same es e hs ks bs ns none off apart on t = record {
   lanes = each_lane es (es ++ e ∷ []) 0 (λ l b n h k p. lane_same es e l b n h k (none l) (off l)) bs ns hs ks t.lanes;
@@ -74,7 +75,7 @@ served_same es e hs ks bs ns none off apart on t = record {
 }
 
 -- the first hidden entry of a lane is that of its Fetched event
-lane_fetched : (es : List Event) (l p k : ℕ) (b n : ClientTold) (x : PlannedBlock) (h : List Served) (j : ℕ) → block_at es p k ≡ x ∷ [] → IsLane es l b n (entry_of p k x ∷ h) j → IsLane (es ++ Fetched l p k ∷ []) l b n h j
+lane_fetched : (es : List Event) (l p k : ℕ) (b n : ClientTold) (x : PlannedBlock) (h : List Served) (j : List Place) → block_at es p k ≡ x ∷ [] → IsLane es l b n (entry_of p k x ∷ h) j → IsLane (es ++ Fetched l p k ∷ []) l b n h j
 lane_fetched es l p k b n x h j at t =
     let e : Event = Fetched l p k in
     let here : served_in l es e ≡ entry_of p k x ∷ [] = ap (λ c. cond c (map (entry_of p k) (block_at es p k)) []) (eq-eqb l l refl) ∙ ap (λ (xs : List PlannedBlock). map (entry_of p k) xs) at in
@@ -88,13 +89,13 @@ lane_fetched es l p k b n x h j at t =
     }
 
 -- another lane
-lane_other : (es : List Event) (l m p k : ℕ) (b n : ClientTold) (h : List Served) (j : ℕ) → (m ≡ l → ⊥) → IsLane es l b n h j → IsLane (es ++ Fetched m p k ∷ []) l b n h j
+lane_other : (es : List Event) (l m p k : ℕ) (b n : ClientTold) (h : List Served) (j : List Place) → (m ≡ l → ⊥) → IsLane es l b n h j → IsLane (es ++ Fetched m p k ∷ []) l b n h j
 lane_other es l m p k b n h j apart t =
     let e : Event = Fetched m p k in
     lane_same es e l b n h j (ap (λ c. cond c (map (entry_of p k) (block_at es p k)) []) (ne_eqb m l apart)) refl t
 
 each_fetched : (es : List Event) (first m p k : ℕ) (x : PlannedBlock) (h : List Served) (gs : List (List Served)) → block_at es p k ≡ x ∷ []
-    → (bs ns : List ClientTold) (fs : List (List Served)) (ks : List ℕ) → m ≡ first + length fs
+    → (bs ns : List ClientTold) (fs : List (List Served)) (ks : List (List Place)) → m ≡ first + length fs
     → EachLane es first bs ns (fs ++ (entry_of p k x ∷ h) ∷ gs) ks → EachLane (es ++ Fetched m p k ∷ []) first bs ns (fs ++ h ∷ gs) ks
 each_fetched es first m p k x h gs at [] [] fs [] is t = absurd (never fs t)
   where
@@ -134,7 +135,7 @@ planned_less P x h gs [] a = All-tail P x (h ++ all_of gs) a
 planned_less P x h gs (f ∷ fs) a = All-append P f (all_of (fs ++ h ∷ gs)) (all_left P f (all_of (fs ++ (x ∷ h) ∷ gs)) a) (planned_less P x h gs fs (all_right P f (all_of (fs ++ (x ∷ h) ∷ gs)) a))
 
 -- a lane's next hidden entry is recorded
-pub served_fetched : (es : List Event) (m p k : ℕ) (x : PlannedBlock) (h : List Served) (fs gs : List (List Served)) (ks : List ℕ) (bs ns : List ClientTold) → block_at es p k ≡ x ∷ [] → m ≡ length fs
+pub served_fetched : (es : List Event) (m p k : ℕ) (x : PlannedBlock) (h : List Served) (fs gs : List (List Served)) (ks : List (List Place)) (bs ns : List ClientTold) → block_at es p k ≡ x ∷ [] → m ≡ length fs
     → IsServed es (fs ++ (entry_of p k x ∷ h) ∷ gs) ks bs ns → IsServed (es ++ Fetched m p k ∷ []) (fs ++ h ∷ gs) ks bs ns
 served_fetched es m p k x h fs gs ks bs ns at is t = record {
   lanes = each_fetched es 0 m p k x h gs at bs ns fs ks (omega (arith, is)) t.lanes;
@@ -152,8 +153,8 @@ served_fetched es m p k x h fs gs ks bs ns at is t = record {
 }
 
 -- a lane's next late answer is recorded
-lane_expired : (es : List Event) (l p k : ℕ) (b n : ClientTold) (h : List Served) (j : ℕ) → IsLane es l b n h (suc j) → IsLane (es ++ Expired l p k ∷ []) l b n h j
-lane_expired es l p k b n h j t =
+lane_expired : (es : List Event) (l p k : ℕ) (b n : ClientTold) (h : List Served) (q : Place) (j : List Place) → IsLane es l b n h (q ∷ j) → IsLane (es ++ Expired l p k ∷ []) l b n h j
+lane_expired es l p k b n h q j t =
     let e : Event = Expired l p k in
     let more : expired_by l (es ++ e ∷ []) ≡ expired_by l es + 1 = count-more (expires_on l) es e (eq-eqb l l refl) in
     record {
@@ -162,37 +163,37 @@ lane_expired es l p k b n h j t =
       expired = let y = t.expired in omega (arith, more, y);
     }
 
-lane_still : (es : List Event) (l m p k : ℕ) (b n : ClientTold) (h : List Served) (j : ℕ) → (m ≡ l → ⊥) → IsLane es l b n h j → IsLane (es ++ Expired m p k ∷ []) l b n h j
+lane_still : (es : List Event) (l m p k : ℕ) (b n : ClientTold) (h : List Served) (j : List Place) → (m ≡ l → ⊥) → IsLane es l b n h j → IsLane (es ++ Expired m p k ∷ []) l b n h j
 lane_still es l m p k b n h j apart t = lane_same es (Expired m p k) l b n h j refl (ne_eqb m l apart) t
 
-each_expired : (es : List Event) (first m p k j : ℕ) (gs : List ℕ)
-    → (bs ns : List ClientTold) (hs : List (List Served)) (fs : List ℕ) → m ≡ first + length fs
-    → EachLane es first bs ns hs (fs ++ suc j ∷ gs) → EachLane (es ++ Expired m p k ∷ []) first bs ns hs (fs ++ j ∷ gs)
-each_expired es first m p k j gs [] [] [] [] is t = absurd t
-each_expired es first m p k j gs [] [] [] (f ∷ fs) is t = absurd t
-each_expired es first m p k j gs [] [] (h ∷ hs) fs is t = absurd t
-each_expired es first m p k j gs [] (n ∷ ns) hs fs is t = absurd t
-each_expired es first m p k j gs (b ∷ bs) [] hs fs is t = absurd t
-each_expired es first m p k j gs (b ∷ bs) (n ∷ ns) [] fs is t = absurd t
-each_expired es first m p k j gs (b ∷ bs) (n ∷ ns) (h ∷ hs) [] is t =
+each_expired : (es : List Event) (first m p k : ℕ) (q : Place) (j : List Place) (gs : List (List Place))
+    → (bs ns : List ClientTold) (hs : List (List Served)) (fs : List (List Place)) → m ≡ first + length fs
+    → EachLane es first bs ns hs (fs ++ (q ∷ j) ∷ gs) → EachLane (es ++ Expired m p k ∷ []) first bs ns hs (fs ++ j ∷ gs)
+each_expired es first m p k q j gs [] [] [] [] is t = absurd t
+each_expired es first m p k q j gs [] [] [] (f ∷ fs) is t = absurd t
+each_expired es first m p k q j gs [] [] (h ∷ hs) fs is t = absurd t
+each_expired es first m p k q j gs [] (n ∷ ns) hs fs is t = absurd t
+each_expired es first m p k q j gs (b ∷ bs) [] hs fs is t = absurd t
+each_expired es first m p k q j gs (b ∷ bs) (n ∷ ns) [] fs is t = absurd t
+each_expired es first m p k q j gs (b ∷ bs) (n ∷ ns) (h ∷ hs) [] is t =
     let here : m ≡ first = omega (arith, is) in (
-      subst (λ (l : ℕ). IsLane (es ++ Expired l p k ∷ []) first b n h j) (sym here) (lane_expired es first p k b n h j t.0),
+      subst (λ (l : ℕ). IsLane (es ++ Expired l p k ∷ []) first b n h j) (sym here) (lane_expired es first p k b n h q j t.0),
       each_lane es (es ++ Expired m p k ∷ []) (first + 1) (λ l c d g i q. lane_still es l m p k c d g i (λ e. absurd (omega arith))) bs ns hs gs t.1,
     )
-each_expired es first m p k j gs (b ∷ bs) (n ∷ ns) (h ∷ hs) (f ∷ fs) is t = (
+each_expired es first m p k q j gs (b ∷ bs) (n ∷ ns) (h ∷ hs) (f ∷ fs) is t = (
   lane_still es first m p k b n h f (λ e. absurd (omega (arith, is, e))) t.0,
-  each_expired es (first + 1) m p k j gs bs ns hs fs (omega (arith, is)) t.1,
+  each_expired es (first + 1) m p k q j gs bs ns hs fs (omega (arith, is)) t.1,
 )
 
-pub served_expired : (es : List Event) (m p k j : ℕ) (hs : List (List Served)) (fs gs : List ℕ) (bs ns : List ClientTold) → m ≡ length fs
-    → IsServed es hs (fs ++ suc j ∷ gs) bs ns → IsServed (es ++ Expired m p k ∷ []) hs (fs ++ j ∷ gs) bs ns
-served_expired es m p k j hs fs gs bs ns is t = record {
-  lanes = each_expired es 0 m p k j gs bs ns hs fs (omega (arith, is)) t.lanes;
+pub served_expired : (es : List Event) (m p k : ℕ) (x : Place) (j : List Place) (hs : List (List Served)) (fs gs : List (List Place)) (bs ns : List ClientTold) → m ≡ length fs
+    → IsServed es hs (fs ++ (x ∷ j) ∷ gs) bs ns → IsServed (es ++ Expired m p k ∷ []) hs (fs ++ j ∷ gs) bs ns
+served_expired es m p k x j hs fs gs bs ns is t = record {
+  lanes = each_expired es 0 m p k x j gs bs ns hs fs (omega (arith, is)) t.lanes;
   once = λ q i. let a = t.once q i in let c = count-same (fetches q i) es (Expired m p k) refl in omega (arith, a, c);
   planned = entries_push es (Expired m p k) (all_of hs) t.planned;
   on_lanes =
-      let n = late_length es 0 bs ns hs (fs ++ suc j ∷ gs) t.lanes in
-      let c = length-append fs (suc j ∷ gs) in
+      let n = late_length es 0 bs ns hs (fs ++ (x ∷ j) ∷ gs) t.lanes in
+      let c = length-append fs ((x ∷ j) ∷ gs) in
       All-push (IsOnLane (length bs)) es (Expired m p k) t.on_lanes (omega (arith, n, c, is));
   past = t.past;
 }

@@ -6,6 +6,7 @@ use Rattle.std.proofs.lemmas.List.{append-nil, take_all, take-append-le}
 use Rattle.std.proofs.lemmas.List.Elements.{All-cons, All-nil, All-weaker}
 use Rattle.xet_base.specs.Store.{window}
 use Rattle.xet_outside.specs.declared.served.Served.{Served}
+use Rattle.xet_outside.specs.Answers.{late_in}
 use Rattle.xet_outside.specs.Told.{ClientTold, Query, SinkTold, Took, TookPrefix}
 use Rattle.xet_error.specs.declared.error.FileReconstructionError.{FileReconstructionError}
 use Rattle.xet_error.specs.declared.error.FileReconstructionError.TheVariants as error
@@ -14,17 +15,18 @@ use Rattle.xet_run.specs.declared.event.Event.{Event}
 use Rattle.xet_run.specs.Allowed.{IsAllowedHistory}
 use Rattle.xet_ties.specs.Causes.{failing_setting}
 use Rattle.xet_ties.specs.History.{entry_of, fetched_in, telling, IsWithin}
-use Rattle.xet_ties.specs.InCall.{Exchange, Look, served_of_all}
+use Rattle.xet_ties.specs.InCall.{Exchange, Look, served_of_all, Place}
 use Rattle.xet_ties.specs.Cuts.{FirstCut, Planning}
-use Rattle.xet_ties.specs.Legal.{AllPassed, AllPlanned, CacheGoesOn, EntryPassed, FirstAsks, IsPlannedServed, Legal, SignalGoesOn, TookTested, TookWhole}
+use Rattle.xet_ties.specs.Legal.{AllLatePlanned, AllLooked, AllPassed, AllPlanned, CacheGoesOn, EntryPassed, FirstAsks, IsPlannedServed, Legal, SignalGoesOn, TookTested, TookWhole, is_served}
 use Rattle.xet_ties.specs.RunCalls.{IsFinished, RunCall, TookAll}
 use Rattle.xet_ties.specs.Saids.{FirstSaid, IsTested}
 use Rattle.xet_ties.specs.Setup.{EachGoesOn, RunTold, Setup}
-use Rattle.xet_ties.specs.Ties.{EachLane, HeardAsked, IsEntryOf, IsPlannedEntry, LeavesNothing, Slack, Stop, Ties, all_of, has_one}
+use Rattle.xet_ties.specs.Ties.{EachLane, HeardAsked, IsEntryOf, IsPlannedEntry, LeavesNothing, Slack, Stop, Ties, all_of, has_one, is_one}
 use Rattle.xet_ties.proofs.Asks.{first_asks}
+use Rattle.xet_ties.proofs.Expiries.{none_spent}
 use Rattle.xet_ties.proofs.FewAsks.{none_few, run_few}
 use Rattle.xet_ties.proofs.Gains.{gained_none}
-use Rattle.xet_ties.proofs.OfferCounts.{served_counted}
+use Rattle.xet_ties.proofs.OfferCounts.{fetched_kept, served_counted}
 use Rattle.xet_ties.specs.Gains.{OffersFew, one_range}
 use Rattle.xet_ties.proofs.Headline as headline
 use Rattle.xet_ties.proofs.Pairs.{served_once, served_passed, served_planned}
@@ -43,7 +45,7 @@ use Rattle.xet_ties.proofs.EarlyEnds.{cuts_none}
 
 -- ---- connections go on
 
-goes_on : (es : List Event) (l : ℕ) (bs ns : List ClientTold) (hs : List (List Served)) (ks : List ℕ) → EachLane es l bs ns hs ks → EachGoesOn bs ns
+goes_on : (es : List Event) (l : ℕ) (bs ns : List ClientTold) (hs : List (List Served)) (ks : List (List Place)) → EachLane es l bs ns hs ks → EachGoesOn bs ns
 goes_on es l [] [] hs ks t = tt
 goes_on es l [] (n ∷ ns) hs ks t = absurd t
 goes_on es l (b ∷ bs) [] hs ks t = absurd t
@@ -64,7 +66,7 @@ cache_goes_on g b n es stop sl t = record { offers = grew_by_any b.cache.offers 
 -- ---- offers
 
 fetched_served : (g : Setup) (b n : RunTold) (es : List Event) (stop : Stop) (sl : Slack) → Ties g b n es stop sl → count_by one_range (served_of_all sl.heard) ≡ count_by has_one (telling fetched_in [] es) + count_by one_range (all_of sl.hidden)
-fetched_served g b n es stop sl t = served_counted es b.clients n.clients sl.heard sl.hidden t.heard t.heard_served t.served.on_lanes
+fetched_served g b n es stop sl t = served_counted one_range has_one (λ a c d. refl) es b.clients n.clients sl.heard sl.hidden t.heard t.heard_served t.served.on_lanes
 
 abbrev offers_few : (g : Setup) (b n : RunTold) (es : List Event) (stop : Stop) (sl : Slack) (t : Ties g b n es stop sl) → OffersFew sl.heard b.cache n.cache
 offers_few g b n es stop sl t = record {
@@ -80,6 +82,16 @@ offers_all g b n es sl t left =
     let due = left.due in
     let hidden = ap (λ (l : List Served). count_by one_range l) left.hidden in
     omega (arith, all, c, due, hidden)
+
+-- ---- looks
+
+looked_all : (g : Setup) (b n : RunTold) (es : List Event) (sl : Slack) → Ties g b n es None sl → LeavesNothing sl → AllLooked (served_of_all sl.heard) sl.looks
+looked_all g b n es sl t left x r =
+    let all = served_counted (is_served x r) (is_one x r) (λ a c d. refl) es b.clients n.clients sl.heard sl.hidden t.heard t.heard_served t.served.on_lanes in
+    let kept = (t.looked.cover x r).kept in
+    let fetched = fetched_kept (is_one x r) [] es in
+    let hidden = ap (λ (l : List Served). count_by (is_served x r) l) left.hidden in
+    omega (arith, all, kept, fetched, hidden)
 
 -- ---- tested bytes
 
@@ -144,6 +156,19 @@ planned_heard g b n es stop sl t = by sl.heard refl
         t.heard_served in
         subst (λ (l : List Exchange). All (λ y. All (IsPlannedServed g l) y.served) sl.heard) (sym e) all
 
+-- each request that was answered as expired is for a block of a plan that was said
+late_heard : (g : Setup) (b n : RunTold) (es : List Event) (stop : Stop) (sl : Slack) → Ties g b n es stop sl → AllLatePlanned g sl.heard
+late_heard g b n es stop sl t = by sl.heard refl
+  where
+    by : (xs : List Exchange) → sl.heard ≡ xs → AllLatePlanned g sl.heard
+    by [] e = absurd (subst (λ (l : List Exchange). FirstSaid g es l) e t.said)
+    by (x ∷ rest) e =
+        let one : (y : Served) → IsPlannedEntry es y → IsPlannedServed g (x ∷ rest) y = entry_served g es (x ∷ rest) x rest refl b n stop sl e t in
+        let all : All (λ y. All (IsPlannedServed g (x ∷ rest)) (late_in y.said)) sl.heard =
+        All-weaker (λ y. All (IsPlannedEntry es) (late_in y.said)) (λ y. All (IsPlannedServed g (x ∷ rest)) (late_in y.said))
+        (λ y h. All-weaker (IsPlannedEntry es) (IsPlannedServed g (x ∷ rest)) one (late_in y.said) h) sl.heard t.late_planned in
+        subst (λ (l : List Exchange). All (λ y. All (IsPlannedServed g l) (late_in y.said)) sl.heard) (sym e) all
+
 -- on Ok each served block has passed
 passed_heard : (g : Setup) (b n : RunTold) (es : List Event) (sl : Slack) → Ties g b n es None sl → all_of sl.hidden ≡ [] → AllPassed g sl.heard
 passed_heard g b n es sl t none =
@@ -166,6 +191,13 @@ told_nothing g bs = each bs
     each [] = All-nil (λ (x : Exchange). All (IsPlannedServed g (no_exchange bs)) x.served)
     each (b ∷ l) = All-cons (λ (x : Exchange). All (IsPlannedServed g (no_exchange bs)) x.served) _ (no_exchange l) (All-nil (IsPlannedServed g (no_exchange bs))) (each l)
 
+late_nothing : (g : Setup) (bs : List ClientTold) → AllLatePlanned g (no_exchange bs)
+late_nothing g bs = each bs
+  where
+    each : (l : List ClientTold) → All (λ (x : Exchange). All (IsPlannedServed g (no_exchange bs)) (late_in x.said)) (no_exchange l)
+    each [] = All-nil (λ (x : Exchange). All (IsPlannedServed g (no_exchange bs)) (late_in x.said))
+    each (b ∷ l) = All-cons (λ (x : Exchange). All (IsPlannedServed g (no_exchange bs)) (late_in x.said)) _ (no_exchange l) (All-nil (IsPlannedServed g (no_exchange bs))) (each l)
+
 asks_start : (g : Setup) (bs : List ClientTold) → FirstAsks g bs bs
 asks_start g [] = tt
 asks_start g (b ∷ bs) = first_asks g [] [] (b ∷ bs) (b ∷ bs) (All-nil IsWithin) (cuts_none g) tt (first_start g.file b bs)
@@ -186,11 +218,13 @@ legal_refused g b x h = record {
   stored = λ s o. tt;
   heard = record { list = no_exchange b.clients; told = exchange_start b.clients };
   looks = record { list = []; told = added_none b.cache.looked b.cache.looked refl; given = All-nil (IsEntryOf b.cache.entries) };
+  looked = tt;
   tested = record { planning = plans_nothing g b.clients; pieces = []; each = tt; took = none_took b.sink.took [] };
   whole = tt;
   total = tt;
   flushed = tt;
   cancelled = λ i. tt;
+  unfailed = refl;
   cause = h;
   settings = λ e i. let j : x ≡ e = cc in (ap (λ (y : Setting). let r : Result ℕ FileReconstructionError = Err (error.ConfigurationError y) in r) j, refl);
   empty = λ i. record { untouched = record { clients = refl; cache = refl; signal = refl; limits = refl }; took = refl; none = tt; error = tt };
@@ -199,6 +233,8 @@ legal_refused g b x h = record {
   refreshed = none_few g b.clients;
   renewed = renews_none g b.clients;
   all_renewed = tt;
+  late = late_nothing g b.clients;
+  under = tt;
   served = served_once [] b.clients b.clients (no_exchange b.clients) (no_hidden b.clients) (no_late b.clients) (exchange_start b.clients) (heard_served_start 0 b.clients) (served_start b.clients);
   planned = told_nothing g b.clients;
   passed = tt;
@@ -225,11 +261,13 @@ legal_ran g b n es (Ok k) h a r =
       stored = λ s o. headline.is_stored g b n es k t.slack a t.ties none r.finished s o;
       heard = record { list = t.slack.heard; told = t.ties.heard };
       looks = record { list = t.slack.looks; told = t.ties.looked.looked; given = t.ties.looked_entries };
+      looked = looked_all g b n es t.slack t.ties (t.left.none refl);
       tested = tested_heard g b n es None t.slack a t.ties;
       whole = whole_heard g b n es k t.slack a t.ties (t.left.none refl).lost none r.finished;
       total = record { bytes = t.ties.taken.taken; took = t.ties.taken.took; total = let c = t.ties.taken.counted in let f = r.finished.count in omega (arith, c, f, none) };
       flushed = r.flushed;
       cancelled = r.cancelled;
+      unfailed = r.unfailed;
       cause = tt;
       settings = λ e i. absurd (cc);
       empty = r.empty;
@@ -240,6 +278,8 @@ legal_ran g b n es (Ok k) h a r =
       all_renewed = renews_all g b n es None t.slack t.ties (t.left.none refl).lost;
       served = served_once es b.clients n.clients t.slack.heard t.slack.hidden t.slack.late t.ties.heard t.ties.heard_served t.ties.served;
       planned = planned_heard g b n es None t.slack t.ties;
+      late = late_heard g b n es None t.slack t.ties;
+      under = none_spent g b n es None t.slack (t.left.late (λ e. absurd (cc))) r.finished.under t.ties;
       passed = passed_heard g b n es t.slack t.ties (t.left.none refl).hidden;
       gained = t.ties.gained;
       offers = offers_few g b n es None t.slack t.ties;
@@ -261,11 +301,13 @@ legal_ran g b n es (Err e) h a r =
       stored = λ s o. tt;
       heard = record { list = t.slack.heard; told = t.ties.heard };
       looks = record { list = t.slack.looks; told = t.ties.looked.looked; given = t.ties.looked_entries };
+      looked = tt;
       tested = tested_heard g b n es (Some e) t.slack a t.ties;
       whole = tt;
       total = tt;
       flushed = tt;
       cancelled = λ i. tt;
+      unfailed = r.unfailed;
       cause = t.cause;
       settings = λ x i. absurd (cc);
       empty = r.empty;
@@ -276,6 +318,8 @@ legal_ran g b n es (Err e) h a r =
       all_renewed = tt;
       served = served_once es b.clients n.clients t.slack.heard t.slack.hidden t.slack.late t.ties.heard t.ties.heard_served t.ties.served;
       planned = planned_heard g b n es (Some e) t.slack t.ties;
+      late = late_heard g b n es (Some e) t.slack t.ties;
+      under = tt;
       passed = tt;
       gained = t.ties.gained;
       offers = offers_few g b n es (Some e) t.slack t.ties;

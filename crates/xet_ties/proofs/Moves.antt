@@ -20,9 +20,9 @@ use Rattle.xet_ties.specs.Saids.{EventPassed, FirstRenewed, FirstSaid, IsTested}
 use Rattle.xet_ties.proofs.Heard.{said_push}
 use Rattle.xet_ties.specs.steps.Moves.{Fits}
 use Rattle.xet_ties.specs.Setup.{CacheTells, IsOver, RunTold, Setup, download_of}
-use Rattle.xet_ties.specs.Ties.{AllAre, EachExpired, HeardAsked, IsAmong, IsEntryOf, IsLooked, IsTaken, Slack, Ties, AllWithin, EachServed}
+use Rattle.xet_ties.specs.Ties.{AllAre, EachExpired, HeardAsked, IsAmong, IsEntryOf, IsLooked, IsTaken, LatePlanned, Slack, Ties, AllWithin, EachServed}
 use Rattle.xet_ties.proofs.Lanes.{served_same}
-use Rattle.xet_ties.proofs.Lates.{expired_same}
+use Rattle.xet_ties.proofs.Lates.{expired_same, late_push}
 use Rattle.xet_ties.proofs.Pushes.{cuts_same, first_push, lost_push, limited_same, looked_push, offered_push, polled_push, reaches_more, recorded_same, starts_same, stored_same, taken_push, tried_push, true_same}
 use Rattle.xet_ties.proofs.Numbers.{heard_push, next_same}
 use Rattle.xet_ties.proofs.Telling.{count-same, each-push}
@@ -44,6 +44,7 @@ tie_event g b n es e sl to f t = record {
   stored = stored_same g.file es e b.clients f.plan t.stored;
   served = f.served b.clients n.clients t.served;
   expired = f.expired to.heard (subst (λ (l : List Exchange). EachExpired es 0 l sl.late) (sym f.heard) t.expired);
+  late_planned = late_push es e to.heard (subst (λ (l : List Exchange). LatePlanned es l) (sym f.heard) t.late_planned);
   heard_served = f.heard_served to.heard (subst (λ (l : List Exchange). EachServed es 0 l sl.hidden) (sym f.heard) t.heard_served);
   asked = first_push g.file es e sl.lost to.lost b.clients n.clients f.asked t.asked;
   heard_asked = subst (λ (l : List Exchange). HeardAsked g.file (es ++ e ∷ []) to.lost l) (sym f.heard) (heard_push g.file es e sl.lost to.lost sl.heard f.asked t.heard_asked);
@@ -82,6 +83,7 @@ tie_poll g b n es sl to a t = record {
   stored = t.stored;
   served = t.served;
   expired = t.expired;
+  late_planned = t.late_planned;
   heard_served = t.heard_served;
   asked = t.asked;
   heard_asked = t.heard_asked;
@@ -148,6 +150,7 @@ tie_limit g b n es sl to l c t = record {
   stored = t.stored;
   served = t.served;
   expired = t.expired;
+  late_planned = t.late_planned;
   heard_served = t.heard_served;
   asked = t.asked;
   heard_asked = t.heard_asked;
@@ -192,6 +195,7 @@ tie_admit g b n es sl to l c t =
       stored = stored_same g.file es e b.clients refl t.stored;
       served = served_same es e sl.hidden sl.late b.clients n.clients (λ l. refl) (λ l. refl) (λ p k. refl) (λ m. tt) t.served;
       expired = expired_same es e 0 sl.heard sl.late (λ l w. refl) t.expired;
+      late_planned = late_push es e sl.heard t.late_planned;
       heard_served = heard_served_same es e 0 sl.heard sl.hidden (λ l w. refl) t.heard_served;
       asked = first_push g.file es e sl.lost sl.lost b.clients n.clients refl t.asked;
       heard_asked = heard_push g.file es e sl.lost sl.lost sl.heard refl t.heard_asked;
@@ -245,6 +249,7 @@ tie_window g b n es sl to bytes took faults link t p q = record {
   stored = t.stored;
   served = t.served;
   expired = t.expired;
+  late_planned = t.late_planned;
   heard_served = t.heard_served;
   asked = t.asked;
   heard_asked = t.heard_asked;
@@ -297,6 +302,7 @@ tie_fail g b n es sl x spent t =
       stored = stored_same g.file es e b.clients refl t.stored;
       served = served_same es e sl.hidden sl.late b.clients n.clients (λ l. refl) (λ l. refl) (λ p k. refl) (λ m. tt) t.served;
       expired = expired_same es e 0 sl.heard sl.late (λ l w. refl) t.expired;
+      late_planned = late_push es e sl.heard t.late_planned;
       heard_served = heard_served_same es e 0 sl.heard sl.hidden (λ l w. refl) t.heard_served;
       asked = first_push g.file es e sl.lost sl.lost b.clients n.clients refl t.asked;
       heard_asked = heard_push g.file es e sl.lost sl.lost sl.heard refl t.heard_asked;
@@ -337,6 +343,7 @@ tie_short g b n es sl t = record {
   stored = t.stored;
   served = t.served;
   expired = t.expired;
+  late_planned = t.late_planned;
   heard_served = t.heard_served;
   asked = t.asked;
   heard_asked = t.heard_asked;

@@ -13,7 +13,7 @@ use Rattle.xet_run.specs.declared.event.Event.{Event}
 use Rattle.xet_run.specs.declared.event.Event.TheVariants.{Planned, Admit, Fetched, Cached, Expired, Refreshed, Wrote, Fail, Cancel}
 use Rattle.xet_run.specs.declared.event.PlannedBlock.{PlannedBlock}
 use Rattle.xet_ties.specs.History.{block_at, blocks_in, entry_of, fetches, served_by, served_in, telling}
-use Rattle.xet_ties.specs.InCall.{EachExchange, Exchange, served_of_all}
+use Rattle.xet_ties.specs.InCall.{EachExchange, Exchange, served_of_all, Place}
 use Rattle.xet_ties.specs.Legal.{EntryPassed, ServedOnce}
 use Rattle.xet_ties.specs.Saids.{EventPassed, HasPassed}
 use Rattle.xet_ties.specs.Setup.{Setup}
@@ -130,7 +130,7 @@ heard_count p k es l (b ∷ bs) (n ∷ ns) (x ∷ xs) (h ∷ hs) e t =
     omega (arith, r, a, s, c, d)
 
 -- so none is served twice
-pub served_once : (es : List Event) (bs ns : List ClientTold) (xs : List Exchange) (hs : List (List Served)) (ks : List ℕ) → EachExchange bs ns xs → EachServed es 0 xs hs → IsServed es hs ks bs ns → ServedOnce (served_of_all xs)
+pub served_once : (es : List Event) (bs ns : List ClientTold) (xs : List Exchange) (hs : List (List Served)) (ks : List (List Place)) → EachExchange bs ns xs → EachServed es 0 xs hs → IsServed es hs ks bs ns → ServedOnce (served_of_all xs)
 served_once es bs ns xs hs ks e t s p k =
     let a = heard_count p k es 0 bs ns xs hs e t in
     let m = lanes_most p k [] es 0 bs in

@@ -10,6 +10,7 @@ use Rattle.xet_run.specs.declared.event.Event.TheVariants.{Fetched, Expired, Ref
 use Rattle.xet_run.specs.declared.event.PlannedBlock.{PlannedBlock}
 use Rattle.xet_run.specs.Events.{expires}
 use Rattle.xet_ties.specs.History.{block_at, entry_of, is_expired, range_at, round_in}
+use Rattle.xet_ties.specs.InCall.{Place}
 use Rattle.xet_ties.specs.Saids.{FirstRenewed, HasPassed}
 use Rattle.xet_ties.specs.Setup.{RunTold, Setup}
 use Rattle.xet_ties.specs.Ties.{EachExpired, IsServed, Slack, Ties, has_one, is_one, EachServed}
@@ -61,8 +62,8 @@ tie_fetched g b n es sl m p k x h before after rest at fresh is hidden pending p
     }) t
 
 -- a lane's next expired answer is recorded
-pub tie_expired : (g : Setup) (b n : RunTold) (es : List Event) (sl : Slack) (m p k j : ℕ) (before after : List ℕ)
-    → is_expired es p k ≡ false → count_by (expires p k) es < g.tries → m ≡ length before → sl.late ≡ before ++ suc j ∷ after → (spare : ℕ) → length (round_in es (Expired m p k)) + spare ≤ sl.spare
+pub tie_expired : (g : Setup) (b n : RunTold) (es : List Event) (sl : Slack) (m p k : ℕ) (j : List Place) (before after : List (List Place))
+    → is_expired es p k ≡ false → count_by (expires p k) es < g.tries → m ≡ length before → sl.late ≡ before ++ ((p, k) ∷ j) ∷ after → (spare : ℕ) → length (round_in es (Expired m p k)) + spare ≤ sl.spare
     → Ties g b n es None sl → Ties g b n (es ++ Expired m p k ∷ []) None (record sl { late = before ++ j ∷ after; spare = spare })
 tie_expired g b n es sl m p k j before after fresh left is late spare fits t =
     let e : Event = Expired m p k in
@@ -76,8 +77,8 @@ tie_expired g b n es sl m p k j before after fresh left is late spare fits t =
       within = tt;
       plan = refl;
       tasks = refl;
-      served = λ bs ns v. served_expired es m p k j sl.hidden before after bs ns is (subst (λ (l : List ℕ). IsServed es sl.hidden l bs ns) late v);
-      expired = λ xs v. expired_next es m p k j 0 xs before after (omega (arith, is)) (subst (λ (l : List ℕ). EachExpired es 0 xs l) late v);
+      served = λ bs ns v. served_expired es m p k (p, k) j sl.hidden before after bs ns is (subst (λ (l : List (List Place)). IsServed es sl.hidden l bs ns) late v);
+      expired = λ xs v. expired_next es m p k j 0 xs before after (omega (arith, is)) (subst (λ (l : List (List Place)). EachExpired es 0 xs l) late v);
       heard_served = λ xs v. heard_served_same es e 0 xs sl.hidden (λ l w. refl) v;
       asked = refl;
       tried = λ q i. tried q i (expires q i e) refl;
@@ -180,6 +181,7 @@ tie_rest g b n es sl rest spare fewer less t = record {
   stored = t.stored;
   served = t.served;
   expired = t.expired;
+  late_planned = t.late_planned;
   heard_served = t.heard_served;
   asked = t.asked;
   heard_asked = t.heard_asked;

@@ -15,7 +15,7 @@ use Rattle.xet_error.specs.declared.error.FileReconstructionError.TheVariants as
 use Rattle.xet_blocks.specs.BlockChecks.{block_data}
 use Rattle.xet_blocks.specs.declared.reconstruction_terms.xorb_block.XorbBlockData.{XorbBlockData}
 use Rattle.xet_run.specs.declared.event.Event.{Event}
-use Rattle.xet_ties.specs.InCall.{EachExchange, Exchange}
+use Rattle.xet_ties.specs.InCall.{EachExchange, Exchange, Place}
 use Rattle.xet_ties.specs.Lanes.{AreAt, AreOf, Ask, BytesFail, IsFor, IsOf, StepCause}
 use Rattle.xet_ties.specs.Saids.{IsServedData}
 use Rattle.xet_ties.specs.Setup.{AllTell}
@@ -27,7 +27,7 @@ use Rattle.xet_ties.specs.steps.Rounds.{FailsAsk, IsHeardError, IsHeardStep}
 use Rattle.xet_ties.proofs.SaidTies.{step_data}
 
 -- connections go on telling their store
-pub tells_now : (s : Store) (es : List Event) (l : ℕ) (bs ns : List ClientTold) (hs : List (List Served)) (ks : List ℕ) → EachLane es l bs ns hs ks → AllTell s bs → AllTell s ns
+pub tells_now : (s : Store) (es : List Event) (l : ℕ) (bs ns : List ClientTold) (hs : List (List Served)) (ks : List (List Place)) → EachLane es l bs ns hs ks → AllTell s bs → AllTell s ns
 tells_now s es l [] [] [] [] t a = tt
 tells_now s es l (b ∷ bs) (n ∷ ns) (h ∷ hs) (k ∷ ks) t a = (t.0.goes_on.store ∙ a.0, tells_now s es (l + 1) bs ns hs ks t.1 a.1)
 tells_now s es l [] [] [] (k ∷ ks) t a = absurd t

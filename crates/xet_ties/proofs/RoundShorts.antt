@@ -1,5 +1,5 @@
 -- The ties where memory is wanting while a round is recorded: the first of its events are.
-use Rattle.std.proofs.Common.{◌≡◌, ℕ, zero, suc, ◌+◌, ◌-◌, ◌<◌, ◌≤◌, Bool, true, false, cond, List, [], ◌∷◌, ◌++◌, length, take, drop, map, refl, sym, subst, ◌∙◌, ap, arith, append_assoc, length-append, ⊎_elim, None}
+use Rattle.std.proofs.Common.{◌≡◌, ℕ, zero, suc, ◌+◌, ◌-◌, ◌<◌, ◌≤◌, Bool, true, false, cond, List, [], ◌∷◌, ◌++◌, length, take, drop, map, refl, sym, subst, ◌∙◌, ap, arith, append_assoc, ⊎_elim, None}
 use Rattle.std.specs.Prelude.{All, count_by, nat_lt}
 use Rattle.std.specs.List.{flat_map}
 use Rattle.std.proofs.Math.Seq.{take-append-add, take-nil}
@@ -99,15 +99,15 @@ may_take tries lane es zero cs a = tt
 may_take tries lane es (suc k) [] a = tt
 may_take tries lane es (suc k) (c ∷ cs) a = (a.0, a.1, may_take tries lane (es ++ Expired lane c.0 c.1 ∷ []) k cs a.2)
 
-record CutPlaces (tries m : ℕ) (es : List Event) (k : ℕ) (css : List (List Place)) (js : List ℕ) : Type 0 where
+record CutPlaces (tries m : ℕ) (es : List Event) (k : ℕ) (css js : List (List Place)) : Type 0 where
   pub places : List (List Place)
-  pub late : List ℕ
+  pub late : List (List Place)
   pub may : EachMayExpire tries m es places
   pub lanes : length places ≤ length late
   pub counts : lanes_late css js ≡ lanes_late places late
   pub events : take k (lanes_expired m css) ≡ lanes_expired m places
 
-cut_places : (tries m : ℕ) (es : List Event) (k : ℕ) (css : List (List Place)) (js : List ℕ) → EachMayExpire tries m es css → length css ≤ length js → CutPlaces tries m es k css js
+cut_places : (tries m : ℕ) (es : List Event) (k : ℕ) (css js : List (List Place)) → EachMayExpire tries m es css → length css ≤ length js → CutPlaces tries m es k css js
 cut_places tries m es k [] js a some = record { places = []; late = js; may = tt; lanes = omega arith; counts = refl; events = take-nil k }
 cut_places tries m es k (cs ∷ css) [] a some = absurd (omega (arith, some))
 cut_places tries m es k (cs ∷ css) (j ∷ js) a some =
@@ -121,18 +121,17 @@ cut_places tries m es k (cs ∷ css) (j ∷ js) a some =
       late = j ∷ r.late;
       may = (a.0, r.may);
       lanes = omega (arith, l);
-      counts = ap (λ (x : List ℕ). (length cs + j) ∷ x) r.counts;
+      counts = ap (λ (x : List (List Place)). (cs ++ j) ∷ x) r.counts;
       events = ap (λ (n : ℕ). take n (expired_all m cs ++ lanes_expired (m + 1) css)) long ∙ take-append-add (expired_all m cs) (lanes_expired (m + 1) css) (k - length cs) ∙ ap (λ (x : List Event). expired_all m cs ++ x) r.events;
     })
     (λ (within : k ≤ length cs).
-    let both = sym (length-append (take k cs) (drop k cs)) ∙ ap (λ (l : List Place). length l) (take-append-drop k cs) in
-    let same : length cs + j ≡ length (take k cs) + (length (drop k cs) + j) = omega (arith, both) in
+    let same : cs ++ j ≡ take k cs ++ (drop k cs ++ j) = ap (λ (l : List Place). l ++ j) (sym (take-append-drop k cs)) ∙ append_assoc (take k cs) (drop k cs) j in
     record {
       places = take k cs ∷ [];
-      late = (length (drop k cs) + j) ∷ lanes_late css js;
+      late = (drop k cs ++ j) ∷ lanes_late css js;
       may = (may_take tries m es k cs a.0, tt);
       lanes = omega arith;
-      counts = ap (λ (n : ℕ). n ∷ lanes_late css js) same;
+      counts = ap (λ (l : List Place). l ∷ lanes_late css js) same;
       events = take-append-le k (expired_all m cs) (lanes_expired (m + 1) css) (omega (arith, within, length-map cs (λ (c : Place). Expired m c.0 c.1))) ∙ take-map (λ (c : Place). Expired m c.0 c.1) k cs ∙ sym (append-nil (expired_all m (take k cs)));
     })
     (cases_lt (length cs) k)

@@ -23,7 +23,7 @@ use Rattle.xet_ties.specs.History.{block_at, fetches}
 use Rattle.xet_ties.specs.steps.Rounds.{AfterRound, IsHeardData, IsHeardStep, IsPlanAsk, blocks_at, got_of}
 use Rattle.xet_ties.proofs.Heard.{asked_join, block_more, grew_join, join_match, step_join}
 use Rattle.xet_ties.proofs.ClientMoves.{tie_join}
-use Rattle.xet_ties.proofs.LaneJoins.{AreJoined, are_joined, fetched_among, joined_among, served_apart}
+use Rattle.xet_ties.proofs.LaneJoins.{AreJoined, are_joined, fetched_among, joined_among, lates_among, served_apart}
 use Rattle.xet_ties.proofs.LaneTies.{ArePassed, EachPassed, tie_lanes_expired, tie_lanes_fetched, InRound}
 use Rattle.xet_ties.proofs.Recording.{tie_rest}
 use Rattle.xet_ties.proofs.RoundData.{are_paired}
@@ -34,9 +34,9 @@ use Rattle.xet_ties.proofs.Telling.{all_left, all_right}
 use Rattle.xet_ties.proofs.RoundAsks.{asked_may, some_same}
 
 -- as many connections as at the start
-same_late : (es : List Event) (l : ℕ) (bs ns : List ClientTold) (hs : List (List Served)) (ks : List ℕ) → EachLane es l bs ns hs ks → no_late ns ≡ no_late bs
+same_late : (es : List Event) (l : ℕ) (bs ns : List ClientTold) (hs : List (List Served)) (ks : List (List Place)) → EachLane es l bs ns hs ks → no_late ns ≡ no_late bs
 same_late es l [] [] [] [] t = refl
-same_late es l (b ∷ bs) (n ∷ ns) (h ∷ hs) (k ∷ ks) t = ap (λ (x : List ℕ). 0 ∷ x) (same_late es (l + 1) bs ns hs ks t.1)
+same_late es l (b ∷ bs) (n ∷ ns) (h ∷ hs) (k ∷ ks) t = ap (λ (x : List (List Place)). [] ∷ x) (same_late es (l + 1) bs ns hs ks t.1)
 same_late es l [] [] [] (k ∷ ks) t = absurd t
 same_late es l [] [] (h ∷ hs) ks t = absurd t
 same_late es l [] (n ∷ ns) hs ks t = absurd t
@@ -52,7 +52,7 @@ places_length : (ls : List (List LaneStep)) → length (map places_of ls) ≡ le
 places_length [] = refl
 places_length (l ∷ ls) = let r = places_length ls in omega (arith, r)
 
-same_hidden : (es : List Event) (l : ℕ) (bs ns : List ClientTold) (hs : List (List Served)) (ks : List ℕ) → EachLane es l bs ns hs ks → no_hidden ns ≡ no_hidden bs
+same_hidden : (es : List Event) (l : ℕ) (bs ns : List ClientTold) (hs : List (List Served)) (ks : List (List Place)) → EachLane es l bs ns hs ks → no_hidden ns ≡ no_hidden bs
 same_hidden es l [] [] [] [] t = refl
 same_hidden es l (b ∷ bs) (n ∷ ns) (h ∷ hs) (k ∷ ks) t = ap (λ (x : List (List Served)). [] ∷ x) (same_hidden es (l + 1) bs ns hs ks t.1)
 same_hidden es l [] [] [] (k ∷ ks) t = absurd t
@@ -119,7 +119,8 @@ round_joined g b at es sl fs ns ls d new fresh waits none_h none_l t =
     let heard = heard_join served j.said sl.heard in
     let planned : All (IsPlannedEntry es) (map asks_for fs) = All-map (IsPlannedEntry es) asks_for fs (All-weaker (IsFreshAsk es) (λ a. IsPlannedEntry es (asks_for a)) (λ a h. ((key_of a).2, h.planned, refl)) fs fresh) in
     let entries = joined_among (IsPlannedEntry es) fs at.clients ns d.drawn ls d.each planned in
-    let first = tie_join g b at es sl ns served j.said late j.joined (served_apart es fs at.clients ns ls d new) entries (past_drew most_lanes fs at.clients ns d.drawn ls d.each d.few) none_h none_l t in
+    let lates = lates_among (IsPlannedEntry es) fs at.clients ns d.drawn ls d.each planned in
+    let first = tie_join g b at es sl ns served j.said late j.joined (served_apart es fs at.clients ns ls d new) entries lates (past_drew most_lanes fs at.clients ns d.drawn ls d.each d.few) none_h none_l t in
     tie_rest g b (record at { clients = ns }) es (record sl { heard = heard; hidden = served; late = late }) (flat_map blocks_all j.keys) sl.spare
     (λ x r. let a = fetched_among fs at.clients ns ls d x r in let w = waits x r in omega (arith, a, w)) (omega arith) first
 
@@ -216,7 +217,7 @@ round_tied g b at es sl fs ns ls d new fresh waits none_h none_l asks may asked 
     let to : Slack = record sl { heard = heard_join (lanes_entries j.keys j.hidden) j.said sl.heard; hidden = j.hidden; late = no_late b.clients; pending = []; due = sl.due + count_by has_one (flat_map blocks_all j.keys); spare = 0 } in
     let after_all = subst (λ (l : List Event). Ties g b now (got ++ l) None (record to { late = no_late at.clients; spare = all.left })) (j.expired 0) all.ties in
     let named = tie_rest g b now (got ++ lane_events expired_on 0 ls) (record to { late = no_late at.clients; spare = all.left }) [] 0 (λ x r. omega arith) (omega arith) after_all in
-    let tied = subst (λ (l : List ℕ). Ties g b now (got ++ lane_events expired_on 0 ls) None (record to { late = l })) (same_late es 0 b.clients at.clients sl.hidden sl.late t.served.lanes) named in
+    let tied = subst (λ (l : List (List Place)). Ties g b now (got ++ lane_events expired_on 0 ls) None (record to { late = l })) (same_late es 0 b.clients at.clients sl.hidden sl.late t.served.lanes) named in
     let keys = j.fresh es fresh in
     let match = join_match b.clients at.clients ns (lanes_entries j.keys j.hidden) j.said (lanes_late (map places_of ls) (no_late at.clients)) sl.heard j.joined t.heard in
     let after : AfterRound b.clients at.clients es fs ls sl to = record {

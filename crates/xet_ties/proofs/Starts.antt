@@ -21,9 +21,9 @@ use Rattle.xet_ties.specs.History.{IsNumberedNext, IsOneCached, IsRenewed, IsOnL
 use Rattle.xet_ties.specs.steps.Moves.{no_slack, no_hidden, no_late, no_exchange}
 use Rattle.xet_ties.specs.Causes.{failing_setting}
 use Rattle.xet_ties.specs.Setup.{RunTold, Setup, download_of}
-use Rattle.xet_ties.specs.Ties.{AllAre, all_of, is_pair, EachLane, EachUnasked, FirstAsked, HeardAsked, IsEntryOf, IsLane, MayLeave, Slack, Ties, IsPlannedEntry, LeavesNothing, IsServed}
+use Rattle.xet_ties.specs.Ties.{all_of, is_pair, EachLane, EachUnasked, FirstAsked, HeardAsked, IsEntryOf, IsLane, MayLeave, NoneLate, Slack, Ties, IsPlannedEntry, LeavesNothing, IsServed}
 use Rattle.xet_ties.proofs.Lanes.{served_same}
-use Rattle.xet_ties.proofs.Lates.{expired_same, expired_start}
+use Rattle.xet_ties.proofs.Lates.{expired_same, expired_start, late_push, late_start}
 use Rattle.xet_ties.proofs.Moves.{tie_fail, tie_admit, tie_limit}
 use Rattle.xet_ties.proofs.Pushes.{first_push, limited_same, looked_push, offered_push, polled_push, grew_by_none, reaches_start, starts_same, stored_same, taken_push, true_same, cuts_same, lost_push}
 use Rattle.xet_ties.proofs.Numbers.{heard_push}
@@ -44,7 +44,7 @@ pub same_list : {A : Type 0} (o : Option (List A)) → o ≡ option_map (λ xs. 
 same_list {A} None = refl
 same_list {A} (Some xs) = ap (λ (l : List A). Some l) (sym (append-nil xs))
 
-lane_start : (l : ℕ) (b : ClientTold) → IsLane [] l b b [] 0
+lane_start : (l : ℕ) (b : ClientTold) → IsLane [] l b b [] []
 lane_start l b = record { goes_on = record { store = refl; link = refl; faults = omega arith; expiries = omega arith }; served = same_list b.served; expired = omega arith }
 
 lanes_start : (l : ℕ) (bs : List ClientTold) → EachLane [] l bs bs (no_hidden bs) (no_late bs)
@@ -98,6 +98,7 @@ tie_start g b h = record {
   stored = λ s tell k. absurd (omega arith);
   served = served_start b.clients;
   expired = expired_start 0 b.clients;
+  late_planned = late_start b.clients;
   heard_served = heard_served_start 0 b.clients;
   asked = asked_start g b.clients h;
   heard_asked = heard_start g b.clients h;
@@ -141,6 +142,7 @@ tie_cancel g b n es sl t =
       stored = stored_same g.file es e b.clients refl t.stored;
       served = served_same es e sl.hidden sl.late b.clients n.clients (λ l. refl) (λ l. refl) (λ p k. refl) (λ m. tt) t.served;
       expired = expired_same es e 0 sl.heard sl.late (λ l w. refl) t.expired;
+      late_planned = late_push es e sl.heard t.late_planned;
       heard_served = heard_served_same es e 0 sl.heard sl.hidden (λ l w. refl) t.heard_served;
       asked = first_push g.file es e sl.lost sl.lost b.clients n.clients refl t.asked;
       heard_asked = heard_push g.file es e sl.lost sl.lost sl.heard refl t.heard_asked;
@@ -199,6 +201,7 @@ tie_flush g b n es sl to took faults link t = record {
   stored = t.stored;
   served = t.served;
   expired = t.expired;
+  late_planned = t.late_planned;
   heard_served = t.heard_served;
   asked = t.asked;
   heard_asked = t.heard_asked;
@@ -236,10 +239,10 @@ none_hidden (b ∷ bs) = none_hidden bs
 pub short_leaves : (bs : List ClientTold) (sl : Slack) → MayLeave (Some error.OutOfMemory) bs sl
 short_leaves bs sl = record { none = λ e. absurd (cc); honest = λ s o other. absurd (other refl); late = λ other. absurd (other refl); counted = λ other _. absurd (other refl) }
 
-pub steady_leaves : (bs : List ClientTold) (e : FileReconstructionError) (sl : Slack) → all_of sl.hidden ≡ [] → AllAre 0 sl.late → sl.ahead ≡ 0 → MayLeave (Some e) bs sl
+pub steady_leaves : (bs : List ClientTold) (e : FileReconstructionError) (sl : Slack) → all_of sl.hidden ≡ [] → NoneLate sl.late → sl.ahead ≡ 0 → MayLeave (Some e) bs sl
 steady_leaves bs e sl hidden late ahead = record { none = λ h. absurd (cc); honest = λ s o other. hidden; late = λ other. late; counted = λ other io. ahead }
 
-pub steady_ends : (bs : List ClientTold) (sl : Slack) → LeavesNothing sl → AllAre 0 sl.late → MayLeave None bs sl
+pub steady_ends : (bs : List ClientTold) (sl : Slack) → LeavesNothing sl → NoneLate sl.late → MayLeave None bs sl
 steady_ends bs sl l late = record { none = λ h. l; honest = λ s o other. l.hidden; late = λ other. late; counted = λ other io. l.ahead }
 
 -- ---- limits

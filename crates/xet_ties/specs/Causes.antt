@@ -2,7 +2,7 @@
 use Rattle.std.specs.Prelude.{ℕ, ◌≡◌, ◌⊎◌, ◌+◌, ◌-◌, ◌^◌, ◌<◌, ◌≤◌, List, [], ◌∷◌, cond, nat_eq, nat_lt, Option, Some, None, IsNone, IfSome, slice_get, length, count_by}
 use Rattle.xet_base.specs.declared.cas_types.FileRange.{FileRange}
 use Rattle.xet_base.specs.Store.{Store, file_of}
-use Rattle.xet_outside.specs.Answers.{plans_in}
+use Rattle.xet_outside.specs.Answers.{late_in, plans_in}
 use Rattle.xet_outside.specs.Plan.{shape}
 use Rattle.xet_outside.specs.Told.{ClientTold, Rose}
 use Rattle.xet_outside.specs.declared.block.BlockBytes.{BlockBytes}
@@ -25,6 +25,7 @@ use Rattle.xet_ties.specs.Cuts.{StartsAt}
 use Rattle.xet_ties.specs.InCall.{Exchange, SomeOne, answers_of, expired_said, new_in}
 use Rattle.xet_ties.specs.Saids.{BlockOfPlan, IsBlockAnswer, IsPlanAccepted, IsPlanSaid, IsQueryAnswer, TermOfPlan}
 use Rattle.xet_ties.specs.Setup.{AllTell, IsOver, RunTold, Setup}
+use Rattle.xet_ties.specs.Ties.{is_pair}
 
 -- ---- settings
 
@@ -63,10 +64,18 @@ abbrev pub expired_answers : List Exchange → ℕ
 expired_answers [] = 0
 expired_answers (x ∷ xs) = count_by expired_said x.said + expired_answers xs
 
--- so many expired answers came at least: by the counts, where none stands at its last value, and by what was said
+-- how many requests for this block of this plan connections answered as expired together
+abbrev pub late_answers : ℕ → ℕ → List Exchange → ℕ
+late_answers p k [] = 0
+late_answers p k (x ∷ xs) = count_by (is_pair p k) (late_in x.said) + late_answers p k xs
+
+-- the requests for one block were answered as expired so often at least; by the counts, where none stands at its last
+-- value, so many expired answers came
 pub record HaveExpired (tries : ℕ) (xs : List Exchange) (before after : List ClientTold) : Type 0 where
   pub counted : NoneAtEnd after → total_expiries before + tries ≤ total_expiries after
-  pub said : tries ≤ expired_answers xs
+  pub plan : ℕ
+  pub block : ℕ
+  pub said : tries ≤ late_answers plan block xs
 
 -- ---- failed tests
 

@@ -55,6 +55,15 @@ expires_on lane _ = false
 abbrev pub expired_by : ℕ → List Event → ℕ
 expired_by lane es = count_by (expires_on lane) es
 
+-- the place of the block of a lane's Expired event
+abbrev pub late_on : ℕ → Event → List (ℕ × ℕ)
+late_on lane (Expired l p k) = cond (l == lane) ((p, k) ∷ []) []
+late_on lane _ = []
+
+-- those of all its Expired events, in order
+abbrev pub late_by : ℕ → List Event → List (ℕ × ℕ)
+late_by lane es = flat_map (late_on lane) es
+
 -- the event is a Fetched event of this block of this plan
 abbrev pub fetches : ℕ → ℕ → Event → Bool
 fetches p k (Fetched lane plan block) = plan == p && block == k

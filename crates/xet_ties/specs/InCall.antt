@@ -1,14 +1,13 @@
 -- What connections were asked, served and said in a call, by the lists that they tell before and after.
-use Rattle.std.specs.Prelude.{◌≡◌, ◌⊎◌, Bool, false, true, List, [], ◌∷◌, ◌++◌, drop, length, Option, Some, None}
+use Rattle.std.specs.Prelude.{ℕ, ◌≡◌, ◌⊎◌, Bool, false, true, List, [], ◌∷◌, ◌++◌, drop, length, map, Option, Some, None}
 use Rattle.std.specs.List.{flat_map}
 use Rattle.xet_base.specs.declared.cas_types.ChunkRange.{ChunkRange}
 use Rattle.xet_base.specs.declared.merklehash.MerkleHash.{MerkleHash}
-use Rattle.xet_outside.specs.declared.block.BlockAnswer.TheVariants as block_answer
 use Rattle.xet_outside.specs.declared.block.BlockBytes.{BlockBytes}
 use Rattle.xet_outside.specs.declared.said.Said.{Said}
 use Rattle.xet_outside.specs.declared.said.Said.TheVariants as said
 use Rattle.xet_outside.specs.declared.served.Served.{Served}
-use Rattle.xet_outside.specs.Answers.{bytes_in}
+use Rattle.xet_outside.specs.Answers.{bytes_in, late_in}
 use Rattle.xet_outside.specs.Told.{Added, ClientTold, Query}
 
 -- what one connection was asked, served and said in a call
@@ -20,8 +19,20 @@ pub record Exchange : Type 0 where
 -- it was said that a URL has expired
 abbrev pub expired_said : Said → Bool
 expired_said (said.Plan a) = false
-expired_said (said.Block (block_answer.Bytes b)) = false
-expired_said (said.Block block_answer.Expired) = true
+expired_said (said.Block b) = false
+expired_said (said.Expired e) = true
+
+-- a plan's number and the block's number in it
+abbrev pub Place : Type 0
+Place = ℕ × ℕ
+
+-- the place of the block that an entry is of
+abbrev pub place_of : Served → Place
+place_of e = (e.plan, e.index)
+
+-- the places of the blocks whose requests were answered as expired, in order
+abbrev pub late_places : List Said → List Place
+late_places all = map place_of (late_in all)
 
 -- this holds of one of these connections
 abbrev pub SomeOne : (Exchange → Type 0) → List Exchange → Type 0

@@ -1,8 +1,8 @@
 -- What the steps of a lane say of its connection, and what the lanes of a round draw.
-use Rattle.std.specs.Prelude.{ℕ, ◌≡◌, ◌⊎◌, ◌+◌, ◌-◌, ◌^◌, ◌<◌, ◌≤◌, min, Bool, true, false, List, [], ◌∷◌, ◌++◌, length, count_by, Option, Some, None, Result, Ok, Err, slice_get}
+use Rattle.std.specs.Prelude.{ℕ, ◌≡◌, ◌⊎◌, ◌+◌, ◌-◌, ◌^◌, ◌<◌, ◌≤◌, min, Bool, true, false, List, [], ◌∷◌, ◌++◌, length, Option, Some, None, Result, Ok, Err, slice_get}
 use Rattle.std.specs.List.{AllZip, concat}
 use Rattle.xet_base.specs.Store.{Store}
-use Rattle.xet_outside.specs.Answers.{AnswerTo, IsPaired, plans_in}
+use Rattle.xet_outside.specs.Answers.{AnswerTo, IsPaired, late_in, plans_in}
 use Rattle.xet_outside.specs.Plan.{block_of}
 use Rattle.xet_outside.specs.Told.{ClientTold, Holds, Rose, served_of}
 use Rattle.xet_outside.specs.declared.block.BlockAnswer.{BlockAnswer}
@@ -24,7 +24,6 @@ use Rattle.xet_blocks.specs.BlockChecks.{block_data}
 use Rattle.xet_blocks.specs.Refusals.{IsRefusal}
 use Rattle.xet_ties.specs.declared.lane_step.LaneStep.{LaneStep}
 use Rattle.xet_ties.specs.declared.lane_step.LaneStep.TheVariants as step
-use Rattle.xet_ties.specs.InCall.{expired_said}
 use Rattle.xet_ties.specs.Setup.{ClientGoesOn, most_lanes}
 
 -- ---- fetches
@@ -154,6 +153,18 @@ pub record HidesLast (qs : List Ask) (ss : List LaneStep) (hidden : List Served)
 abbrev pub IsHidden : List Ask → List LaneStep → List Served → Type 0
 IsHidden qs ss hidden = (hidden ≡ []) ⊎ HidesLast qs ss hidden
 
+-- the entry of an Expired step
+abbrev pub lates_in : Ask → LaneStep → List Served
+lates_in a (step.Served p k d) = []
+lates_in a (step.Expired p k) = served_of a.request ∷ []
+lates_in a (step.Failed e) = []
+
+-- the entries of the Expired steps of a lane, in order
+abbrev pub lates_of : List Ask → List LaneStep → List Served
+lates_of qs [] = []
+lates_of [] (s ∷ ss) = []
+lates_of (a ∷ qs) (s ∷ ss) = lates_in a s ++ lates_of qs ss
+
 -- ---- lanes
 
 abbrev pub expired_in : LaneStep → ℕ
@@ -183,9 +194,9 @@ pub record StepDid (before after : ClientTold) (a : Ask) (s : LaneStep) : Type 0
   pub pairs : IsPaired before after (entries_in a s ++ hidden) said
   pub is : IsOf before after (entries_in a s ++ hidden) said a s
   pub at_most : HidesOne a (may_hide s) hidden
-  -- at most one answer, and an expired one where the step says so and no other
+  -- at most one answer, and an expired one where the step says so and no other, to the fetch's own request
   pub once : length said ≤ 1
-  pub late : count_by expired_said said ≡ expired_in s
+  pub late : late_in said ≡ lates_in a s
   pub expired : min (before.expiries + expired_in s) (2 ^ 64 - 1) ≤ after.expiries
 
 -- the steps of a lane, made for the first of these fetches, against what its connection tells before and after
@@ -200,9 +211,9 @@ pub record LaneDid (before after : ClientTold) (qs : List Ask) (ss : List LaneSt
   pub are : AreOf before after (entries_of qs ss ++ hidden) said qs ss
   pub at_most : IsHidden qs ss hidden
   pub none : HidesNone ss → hidden ≡ []
-  -- no more answers than steps, and as many expired ones as Expired steps
+  -- no more answers than steps, and the expired ones are to the requests of the Expired steps
   pub once : length said ≤ length ss
-  pub late : count_by expired_said said ≡ expired_count ss
+  pub late : late_in said ≡ lates_of qs ss
   -- as many expired answers as Expired steps, unless their count stands at its last value
   pub expired : min (before.expiries + expired_count ss) (2 ^ 64 - 1) ≤ after.expiries
 

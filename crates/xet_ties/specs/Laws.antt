@@ -106,7 +106,8 @@ FinishedServesChunks = (g : Setup) (before after : RunTold) (es : List Event) (k
     → (s : Store) → IsOver s before.clients → before.cache.entries ≡ Some []
     → AllServed s g.file g.range (served_of_all slack.heard)
 
--- where a block has as many Expired events as tries, the expired answers of all connections grew by so many
+-- where a block has as many Expired events as tries, all connections together answered so many requests for it as
+-- expired, and their expired answers grew by so many
 abbrev pub ExpiriesCounted : Type 0
 ExpiriesCounted = (g : Setup) (before after : RunTold) (es : List Event) (stop : Stop) (slack : Slack) (p k : ℕ)
     → count_by (expires p k) es ≡ g.tries → Ties g before after es stop slack

@@ -1,23 +1,27 @@
 -- Which answers of a run are legal, by what its arguments tell before and after.
-use Rattle.std.specs.Prelude.{ℕ, ◌≡◌, ◌⊎◌, ◌+◌, ◌-◌, ◌<◌, ◌≤◌, List, [], ◌∷◌, drop, length, take, All, Some, IsSome, IfSome, OnOk, option_map, count_by, Result, Err, IfOk, IfErr}
+use Rattle.std.specs.Prelude.{ℕ, ◌≡◌, ◌⊎◌, ◌+◌, ◌-◌, ◌<◌, ◌≤◌, ◌&&◌, Bool, List, [], ◌∷◌, drop, length, take, All, Some, IsSome, IfSome, OnOk, option_map, count_by, Result, Err, IfOk, IfErr}
 use Rattle.std.specs.List.{AllZip, concat}
+use Rattle.xet_base.specs.declared.cas_types.ChunkRange.{ChunkRange}
 use Rattle.xet_base.specs.declared.cas_types.FileRange.{FileRange}
+use Rattle.xet_base.specs.declared.merklehash.MerkleHash.{MerkleHash}
+use Rattle.xet_base.specs.Hashes.{hash_eq}
 use Rattle.xet_base.specs.Store.{Store, file_of, window}
 use Rattle.xet_outside.specs.declared.served.Served.{Served}
+use Rattle.xet_outside.specs.Answers.{late_in}
 use Rattle.xet_outside.specs.Told.{Added, CacheTold, ClientTold, Query, SignalTold, SinkTold, Took, TookPrefix}
 use Rattle.xet_error.specs.declared.error.FileReconstructionError.{FileReconstructionError}
 use Rattle.xet_error.specs.declared.error.FileReconstructionError.TheVariants as error
 use Rattle.xet_error.specs.declared.error.Setting.{Setting}
 use Rattle.xet_blocks.specs.ServedChunks.{AllServed}
-use Rattle.xet_ties.specs.Causes.{Cause, expired_answers, failing_setting}
+use Rattle.xet_ties.specs.Causes.{Cause, expired_answers, failing_setting, late_answers}
 use Rattle.xet_ties.specs.Cuts.{AskedCut, IsNumbered, IsSaidPiece, Planning, PlansAll, some_said}
 use Rattle.xet_ties.specs.Gains.{GainedServed, OffersFew, one_range}
 use Rattle.xet_ties.specs.History.{entry_of}
 use Rattle.xet_ties.specs.InCall.{EachExchange, Exchange, Look, answers_of, new_in, served_of_all}
-use Rattle.xet_ties.specs.RunCalls.{DidNothing}
+use Rattle.xet_ties.specs.RunCalls.{DidNothing, Unfailed}
 use Rattle.xet_ties.specs.Saids.{AllRenewed, BlockOfPlan, HasPassed, planned_of}
 use Rattle.xet_ties.specs.Setup.{AllTell, CacheTells, EachGoesOn, IsEmptyRange, IsOver, RunTold, Setup, most_lanes}
-use Rattle.xet_ties.specs.Ties.{CutsRange, EachUnasked, IsEntryOf, Reaches, is_pair}
+use Rattle.xet_ties.specs.Ties.{CutsRange, EachUnasked, IsEntryOf, Reaches, is_look, is_pair, is_range}
 
 -- ---- what was heard
 
@@ -139,6 +143,26 @@ EntryPassed g xs e = HasPassed g xs e.plan e.index
 abbrev pub AllPassed : Setup → List Exchange → Type 0
 AllPassed g xs = All (λ x. All (EntryPassed g xs) x.served) xs
 
+-- ---- expired answers
+
+-- each request that was answered as expired is for a block of a plan that was said and passes its tests
+abbrev pub AllLatePlanned : Setup → List Exchange → Type 0
+AllLatePlanned g xs = All (λ x. All (IsPlannedServed g xs) (late_in x.said)) xs
+
+-- the requests for no block were answered as expired as often as it may be asked for
+abbrev pub NoneSpent : Setup → List Exchange → Type 0
+NoneSpent g xs = (p k : ℕ) → late_answers p k xs < g.tries
+
+-- ---- looks
+
+-- the entry is of this one range of this xorb
+abbrev pub is_served : MerkleHash → ChunkRange → Served → Bool
+is_served x r e = hash_eq e.xorb x && is_range r e.ranges
+
+-- each block of one range that was served was looked for, as often at least as it was served
+abbrev pub AllLooked : List Served → List Look → Type 0
+AllLooked es looks = (x : MerkleHash) (r : ChunkRange) → count_by (is_served x r) es ≤ count_by (is_look x r) looks
+
 -- ---- counts
 
 -- the counts of a signal don't fall
@@ -166,6 +190,8 @@ pub record Legal (g : Setup) (before after : RunTold) (answer : Result ℕ FileR
   -- what the connections were asked, served and said, and the looks into the cache
   pub heard : HeardOf before.clients after.clients
   pub looks : LooksOf before.cache after.cache
+  -- on Ok each served block of one range was looked for in the cache
+  pub looked : OnOk answer (AllLooked (served_of_all heard.list) looks.list)
   -- whatever is told, the writer took tested bytes of these and no others, whatever the answer
   pub tested : TookTested g heard.list looks.list before.sink after.sink
   -- and on Ok those of all terms of plans that cut the range, up to its end or one that an answer told
@@ -176,6 +202,8 @@ pub record Legal (g : Setup) (before after : RunTold) (answer : Result ℕ FileR
   pub flushed : OnOk answer (after.sink.flushed ≡ option_map length after.sink.took)
   -- where the signal said yes the answer isn't Ok
   pub cancelled : before.signal.yes < after.signal.yes → OnOk answer ⊥
+  -- where a call of the writer failed the answer is its error, or want of memory
+  pub unfailed : Unfailed before.sink.faults after.sink.faults answer
   -- each error has its cause, by the same
   pub cause : IfErr answer (Cause g heard.list before after)
   -- a failing setting is always told, before all else
@@ -195,6 +223,10 @@ pub record Legal (g : Setup) (before after : RunTold) (answer : Result ℕ FileR
   pub renewed : FirstRenewsBut g 1 heard.list
   -- and on Ok the last one too
   pub all_renewed : OnOk answer (FirstRenewsBut g 0 heard.list)
+  -- each request that was answered as expired is for a block of a plan that was said
+  pub late : AllLatePlanned g heard.list
+  -- on Ok no block's URL expired as often as it may be asked for
+  pub under : OnOk answer (NoneSpent g heard.list)
   -- no block of a plan was served twice
   pub served : ServedOnce (served_of_all heard.list)
   -- and each is a block of a plan that was said and passes its tests

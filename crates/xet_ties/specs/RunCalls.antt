@@ -57,6 +57,13 @@ pub record DidNothing (before after : RunTold) (answer : Result ℕ FileReconstr
   pub none : IfOk answer (λ k. k ≡ 0)
   pub error : IfErr answer IsLocal
 
+-- no call of the writer failed, by its count of faults, unless the answer is the writer's error or want of memory
+abbrev pub Unfailed : ℕ → ℕ → Result ℕ FileReconstructionError → Type 0
+Unfailed before after (Ok k) = after ≡ before
+Unfailed before after (Err error.OutOfMemory) = Unit {0}
+Unfailed before after (Err error.IoError) = Unit {0}
+Unfailed before after (Err e) = after ≡ before
+
 -- the ties at the end of a run, with what it left that no event says, and its error's cause by what was heard
 pub record RunTies (g : Setup) (before after : RunTold) (es : List Event) (stop : Stop) : Type 0 where
   pub slack : Slack
@@ -79,5 +86,6 @@ pub record RunCall (g : Setup) (before after : RunTold) (es : List Event)
   pub finished : IfOk answer (IsFinished g es)
   pub flushed : OnOk answer (after.sink.flushed ≡ option_map length after.sink.took)
   pub cancelled : before.signal.yes < after.signal.yes → OnOk answer ⊥
+  pub unfailed : Unfailed before.sink.faults after.sink.faults answer
   pub empty : IsEmptyRange g.range → DidNothing before after answer
   pub cache_later : (s : Store) → IsOver s before.clients → CacheTells s before.cache → CacheTells s after.cache

@@ -9,6 +9,7 @@ use Rattle.xet_base.specs.Hashes.{hash_eq}
 use Rattle.xet_base.specs.Store.{Store, file_of}
 use Rattle.xet_outside.specs.declared.block.BlockBytes.{BlockBytes}
 use Rattle.xet_outside.specs.declared.served.Served.{Served}
+use Rattle.xet_outside.specs.Answers.{late_in}
 use Rattle.xet_outside.specs.Plan.{block_of}
 use Rattle.xet_outside.specs.Told.{Added, CacheEntry, CacheTold, ClientTold, Query, SignalTold, SinkTold, Took}
 use Rattle.xet_error.specs.declared.error.FileReconstructionError.{FileReconstructionError}
@@ -22,8 +23,8 @@ use Rattle.xet_history.specs.Laws.{IsPrefix}
 use Rattle.xet_history.specs.Queries.{CutFrom}
 use Rattle.xet_history.specs.TrueHistory.{EndsEarly, IsTrueHistory, SomeEndsEarly, pieces, queries}
 use Rattle.xet_ties.specs.Gains.{GainedServed, GrewBy}
-use Rattle.xet_ties.specs.History.{EachAfter, IsNumberedNext, IsOnLane, IsOneCached, IsRenewed, IsWithin, asked_by, block_at, cached_in, entry_of, expired_by, fetched_in, fetches, kept_in, limits_of, range_at, served_by, telling, round_count}
-use Rattle.xet_ties.specs.InCall.{EachExchange, Exchange, Look, expired_said}
+use Rattle.xet_ties.specs.History.{EachAfter, IsNumberedNext, IsOnLane, IsOneCached, IsRenewed, IsWithin, asked_by, block_at, cached_in, entry_of, expired_by, fetched_in, fetches, kept_in, late_by, limits_of, range_at, served_by, telling, round_count}
+use Rattle.xet_ties.specs.InCall.{EachExchange, Exchange, Look, Place, late_places}
 use Rattle.xet_ties.specs.Saids.{EventPassed, FirstRenewed, FirstSaid, IsTested}
 use Rattle.xet_ties.specs.Setup.{AllTell, CacheTells, ClientGoesOn, IsOver, RunTold, Setup, download_of, most_lanes}
 
@@ -36,9 +37,9 @@ pub record Slack : Type 0 where
   -- what each connection was asked, served and said, and the looks into the cache
   pub heard : List Exchange
   pub looks : List Look
-  -- by lane, the entries that were served, and how many answers were expired
+  -- by lane, the entries that were served, and the places of the blocks whose requests were answered as expired
   pub hidden : List (List Served)
-  pub late : List ℕ
+  pub late : List (List Place)
   -- the blocks of one range that the cache was asked for in vain, and that are to be fetched
   pub pending : List PlannedBlock
   -- how many fetched blocks of one range are to be offered to the cache
@@ -54,14 +55,15 @@ pub record Slack : Type 0 where
 
 -- what one lane's connection tells: the entries of its Fetched events, then those that no event says yet
 pub record IsLane (es : List Event) (lane : ℕ) (before after : ClientTold) (hidden : List Served)
-    (late : ℕ) : Type 0 where
+    (late : List Place) : Type 0 where
   pub goes_on : ClientGoesOn before after
   pub served : Added before.served after.served (served_by lane es ++ hidden)
   -- its expired answers are at least its Expired events, unless their count stands at its last value
-  pub expired : min (before.expiries + (expired_by lane es + late)) (2 ^ 64 - 1) ≤ after.expiries
+  pub expired : min (before.expiries + (expired_by lane es + length late)) (2 ^ 64 - 1) ≤ after.expiries
 
 -- the same of each lane from a number on
-abbrev pub EachLane : List Event → ℕ → List ClientTold → List ClientTold → List (List Served) → List ℕ → Type 0
+abbrev pub EachLane : List Event → ℕ → List ClientTold → List ClientTold → List (List Served) → List (List Place)
+    → Type 0
 EachLane es lane [] [] [] [] = Unit {0}
 EachLane es lane (b ∷ bs) (n ∷ ns) (h ∷ hs) (l ∷ ls) = IsLane es lane b n h l × EachLane es (lane + 1) bs ns hs ls
 EachLane es lane bs ns hs ls = ⊥
@@ -78,7 +80,7 @@ all_of hs = flat_map (λ h. h) hs
 abbrev pub IsPlannedEntry : List Event → Served → Type 0
 IsPlannedEntry es e = (x : PlannedBlock) × (block_at es e.plan e.index ≡ x ∷ []) × (e ≡ entry_of e.plan e.index x)
 
-pub record IsServed (es : List Event) (hidden : List (List Served)) (late : List ℕ)
+pub record IsServed (es : List Event) (hidden : List (List Served)) (late : List (List Place))
     (before after : List ClientTold) : Type 0 where
   pub lanes : EachLane es 0 before after hidden late
   -- no block of a plan was served twice
@@ -90,13 +92,16 @@ pub record IsServed (es : List Event) (hidden : List (List Served)) (late : List
   -- connections past the lanes are as before
   pub past : drop most_lanes after ≡ drop most_lanes before
 
--- of each lane from a number on: its connection said as many expired answers as the lane has Expired events, and so
--- many that no event says yet
-abbrev pub EachExpired : List Event → ℕ → List Exchange → List ℕ → Type 0
+-- of each lane from a number on: its connection answered as expired the requests for the blocks of the lane's Expired
+-- events, then those that no event says yet, in this order
+abbrev pub EachExpired : List Event → ℕ → List Exchange → List (List Place) → Type 0
 EachExpired es lane [] [] = Unit {0}
-EachExpired es lane (x ∷ xs) (l ∷ ls) =
-    (count_by expired_said x.said ≡ expired_by lane es + l) × EachExpired es (lane + 1) xs ls
+EachExpired es lane (x ∷ xs) (l ∷ ls) = (late_places x.said ≡ late_by lane es ++ l) × EachExpired es (lane + 1) xs ls
 EachExpired es lane xs ls = ⊥
+
+-- each request that a connection answered as expired is for a planned block
+abbrev pub LatePlanned : List Event → List Exchange → Type 0
+LatePlanned es xs = All (λ x. All (IsPlannedEntry es) (late_in x.said)) xs
 
 -- of each lane from a number on, whether or not its connection tells its list: it served the entries of its Fetched
 -- events, then those that no event says yet
@@ -318,6 +323,7 @@ pub record Ties (g : Setup) (before after : RunTold) (es : List Event) (stop : S
   pub stored : (s : Store) → AllTell s before.clients → 0 < plan_count es → IsSome (file_of s g.file)
   pub served : IsServed es slack.hidden slack.late before.clients after.clients
   pub expired : EachExpired es 0 slack.heard slack.late
+  pub late_planned : LatePlanned es slack.heard
   pub heard_served : EachServed es 0 slack.heard slack.hidden
   pub asked : FirstAsked g.file es slack.lost before.clients after.clients
   pub heard_asked : HeardAsked g.file es slack.lost slack.heard
@@ -353,6 +359,11 @@ pub record LeavesNothing (slack : Slack) : Type 0 where
   pub lost : slack.lost ≡ []
   pub ahead : slack.ahead ≡ 0
 
+-- no request was answered as expired
+abbrev pub NoneLate : List (List Place) → Type 0
+NoneLate [] = Unit {0}
+NoneLate (l ∷ ls) = (l ≡ []) × NoneLate ls
+
 -- what a run may leave that no event says
 pub record MayLeave (stop : Stop) (clients : List ClientTold) (slack : Slack) : Type 0 where
   -- nothing on Ok
@@ -360,6 +371,6 @@ pub record MayLeave (stop : Stop) (clients : List ClientTold) (slack : Slack) : 
   -- over one valid store a served block for want of memory alone
   pub honest : (s : Store) → IsOver s clients → IsOther stop → all_of slack.hidden ≡ []
   -- an expired answer for want of memory alone
-  pub late : IsOther stop → AllAre 0 slack.late
+  pub late : IsOther stop → NoneLate slack.late
   -- bytes that were taken for want of memory and after the writer's failure alone
   pub counted : IsOther stop → stop ≢ Some error.IoError → slack.ahead ≡ 0

@@ -35,7 +35,8 @@ pub fn finished_is_exact()
     ensures chunks { FinishedServesChunks }
 {}
 
-/// Where one block has as many Expired events as tries, all connections together gave so many expired answers at least.
+/// Where one block has as many Expired events as tries, all connections together answered so many requests for that
+/// block as expired, and gave so many expired answers at least.
 /// An allowed history has no more Refreshed events than Expired ones.
 pub fn expiries_are_counted()
     ensures expired { ExpiriesCounted }

@@ -120,7 +120,7 @@ stopped_batch a b c ps at n count e h t s =
     }
 
 -- a write of a batch failed, before which all was written
-pub batch_err : (a b c : SinkTold) (ps : List (List ℕ)) (at end count sent : ℕ) (e : SinkError) → count ≡ bytes_before at ps → Took a.took b.took (concat (take at ps)) → b.flushed ≡ a.flushed → b.link ≡ a.link → a.faults ≤ b.faults → WroteTerms b c ps at end sent (Err e) → WrotePieces 24 a c ps (count + sent) (Err e)
+pub batch_err : (a b c : SinkTold) (ps : List (List ℕ)) (at end count sent : ℕ) (e : SinkError) → count ≡ bytes_before at ps → Took a.took b.took (concat (take at ps)) → b.flushed ≡ a.flushed → b.link ≡ a.link → b.faults ≡ a.faults → WroteTerms b c ps at end sent (Err e) → WrotePieces 24 a c ps (count + sent) (Err e)
 batch_err a b c ps at end count sent e n t f g l w =
     let v = w.wrote in
     let ahead = w.ahead in
@@ -138,6 +138,8 @@ batch_err a b c ps at end count sent e n t f g l w =
       link = v.link ∙ g;
       faults = omega arith;
       failed = λ o. let z = v.failed o in omega arith;
+      unfailed = tt;
+      short = λ o. v.short o ∙ l;
     }
 
 -- the batch was written

@@ -141,4 +141,5 @@ finish_done b c f h =
       failed = λ x y. tt;
       bytes = refl;
       faults = omega arith;
+      unfailed = refl;
     }

@@ -1,6 +1,6 @@
 -- The end of the writer in order.
 use Rattle.std.proofs.Common.{◌≡◌, ℕ, zero, suc, ◌+◌, ◌≤◌, drop, List, [], ◌∷◌, ◌++◌, length, Bool, true, Option, Some, None, Ok, Err, Result, ap, sym, ◌∙◌, refl, arith, inl, inr}
-use Rattle.std.specs.Prelude.{IfErr, IfOk}
+use Rattle.std.specs.Prelude.{IfErr, IfOk, OnOk}
 use Rattle.std.specs.List.{concat}
 use Rattle.std.proofs.lemmas.List.{take_all, drop_all}
 use Rattle.std.proofs.Math.Seq.{take-length}
@@ -28,8 +28,9 @@ same_parts s v v2 q q2 r r2 e e2 d d2 k k2 hv hq hr he hd hk = rw (hv, hq, hr, h
 unflushed_parts : {S : Type 0} (s : S) (v v2 : Bool) (q q2 : List QueuedTerm) (r r2 : List Admission) (e e2 d d2 : ℕ) (k : Option FileReconstructionError) (f f2 : Bool) → v ≡ v2 → q ≡ q2 → r ≡ r2 → e ≡ e2 → d ≡ d2 → f ≡ f2 → ◌≡◌ {A = Sequential S} (record { sink = s; vectored = v; queue = q; released = r; expected = e; delivered = d; kept = k; finished = f }) (record { sink = s; vectored = v2; queue = q2; released = r2; expected = e2; delivered = d2; kept = k; finished = f2 })
 unflushed_parts s v v2 q q2 r r2 e e2 d d2 k f f2 hv hq hr he hd hf = rw (hv, hq, hr, he, hd, hf) refl
 
-later : (a b n : SinkTold) (e : FileReconstructionError) → a.faults ≤ b.faults → SinkCause b.faults n.faults e → SinkCause a.faults n.faults e
-later a b n e h (inl x) = inl x
+later : (a b n : SinkTold) (e : FileReconstructionError) → b.faults ≡ a.faults → SinkCause b.faults n.faults e
+    → SinkCause a.faults n.faults e
+later a b n e h (inl (x, s)) = inl (x, s ∙ h)
 later a b n e h (inr (x, r)) = inr (x, omega arith)
 
 module _ {S : Type 0} (told : S → SinkTold) (b m n : Sequential S) (k : ℕ) (w : wanted b.queue ≡ []) (room : b.delivered + length (ready_bytes b.queue) ≡ b.expected) (wrote : Wrote told b m (Ok k)) where
@@ -59,6 +60,7 @@ module _ {S : Type 0} (told : S → SinkTold) (b m n : Sequential S) (k : ℕ) (
           all = c ∙ room;
           took = f.took ∙ wrote.whole.took;
           flushed = d.2;
+          unfailed = f.unfailed ∙ wrote.whole.unfailed;
         };
         part = tt;
         unflushed = tt;
@@ -77,7 +79,7 @@ module _ {S : Type 0} (told : S → SinkTold) (b m n : Sequential S) (k : ℕ) (
         part = inr (inr (record {
           left = d.0 ∙ unflushed_parts n.sink m.vectored b.vectored m.queue [] m.released (b.released ++ admissions b.queue) m.expected b.expected m.delivered b.expected (Some e) m.finished b.finished p.vectored left_empty left_released p.expected (delivered_is ∙ room) p.finished;
           took = f.took ∙ wrote.whole.took;
-          cause = later (told b.sink) (told m.sink) (told n.sink) e h d.1;
+          cause = later (told b.sink) (told m.sink) (told n.sink) e wrote.whole.unfailed d.1;
         }));
         unflushed = f.unflushed ∙ wrote.flushed;
         link = f.link ∙ wrote.link;
@@ -114,6 +116,12 @@ failed_any told b n (Err e) w l = failed_end told b n e w l.part
 pub done_any : {S : Type 0} (told : S → SinkTold) (b n : Sequential S) (answer : Result ℕ FileReconstructionError) → wanted b.queue ≡ [] → Last told b n answer → IfOk answer (DoneEnd (told_of b) (told_of n) (sums_of told b))
 done_any told b n (Ok k) w l = (ap told_of l.done.left ∙ rw w refl, l.done.all)
 done_any told b n (Err e) w l = tt
+
+-- after one that did not, the sink has the faults that it had
+pub unfailed_any : {S : Type 0} (told : S → SinkTold) (b n : Sequential S) (answer : Result ℕ FileReconstructionError)
+    → Last told b n answer → OnOk answer ((told n.sink).faults ≡ (told b.sink).faults)
+unfailed_any told b n (Ok k) l = l.done.unfailed
+unfailed_any told b n (Err e) l = tt
 
 same_place : {S : Type 0} (told : S → SinkTold) (b n : Sequential S) (e : FileReconstructionError) → NotEnded told b n e → n.expected ≡ b.expected
 same_place told b n e (inl x) = ap (λ v. v.expected) x.1

@@ -80,7 +80,7 @@ one_handed p ps h = let e = lt-ltb 0 (length p) h in rw e (ap length (append-nil
 -- ---- one piece after another
 
 -- all pieces were taken
-pub each_all : (most : ℕ) (a b : SinkTold) (ps : List (List ℕ)) (i count : ℕ) → length ps ≤ i → count ≡ bytes_before i ps → Took a.took b.took (concat (take i ps)) → b.flushed ≡ a.flushed → b.link ≡ a.link → a.faults ≤ b.faults → WrotePieces most a b ps count (Ok tt)
+pub each_all : (most : ℕ) (a b : SinkTold) (ps : List (List ℕ)) (i count : ℕ) → length ps ≤ i → count ≡ bytes_before i ps → Took a.took b.took (concat (take i ps)) → b.flushed ≡ a.flushed → b.link ≡ a.link → b.faults ≡ a.faults → WrotePieces most a b ps count (Ok tt)
 each_all most a b ps i count h n t f g l =
     let e = take_all i ps h in
     let k = n ∙ ap (λ qs. length (concat qs)) e in
@@ -90,12 +90,14 @@ each_all most a b ps i count h n t f g l =
       part = tt;
       flushed = f;
       link = g;
-      faults = l;
+      faults = omega arith;
       failed = λ x. cc;
+      unfailed = l;
+      short = λ x. cc;
     }
 
 -- a piece that failed
-pub each_err : (a b c : SinkTold) (ps : List (List ℕ)) (i count : ℕ) (p : List ℕ) (e : SinkError) → i < length ps → p ≡ get_or ps i [] → count ≡ bytes_before i ps → Took a.took b.took (concat (take i ps)) → b.flushed ≡ a.flushed → b.link ≡ a.link → a.faults ≤ b.faults → WrotePiece b c p (Err e) → WrotePieces 1 a c ps count (Err e)
+pub each_err : (a b c : SinkTold) (ps : List (List ℕ)) (i count : ℕ) (p : List ℕ) (e : SinkError) → i < length ps → p ≡ get_or ps i [] → count ≡ bytes_before i ps → Took a.took b.took (concat (take i ps)) → b.flushed ≡ a.flushed → b.link ≡ a.link → b.faults ≡ a.faults → WrotePiece b c p (Err e) → WrotePieces 1 a c ps count (Err e)
 each_err a b c ps i count p e h is n t f g l w =
     let q = w.part in
     let r = q.within in
@@ -121,10 +123,12 @@ each_err a b c ps i count p e h is n t f g l w =
       link = w.link ∙ g;
       faults = omega arith;
       failed = λ o. let z = w.failed o in omega arith;
+      unfailed = tt;
+      short = λ o. w.short o ∙ l;
     }
 
 -- a write of the rest of a piece that failed
-pub piece_err : (a b c : SinkTold) (piece : List ℕ) (at : ℕ) (e : SinkError) → at < length piece → Took a.took b.took (take at piece) → b.flushed ≡ a.flushed → b.link ≡ a.link → a.faults ≤ b.faults → WriteCall b c (take (length piece - at) (drop at piece)) (Err e) → WrotePiece a c piece (Err e)
+pub piece_err : (a b c : SinkTold) (piece : List ℕ) (at : ℕ) (e : SinkError) → at < length piece → Took a.took b.took (take at piece) → b.flushed ≡ a.flushed → b.link ≡ a.link → b.faults ≡ a.faults → WriteCall b c (take (length piece - at) (drop at piece)) (Err e) → WrotePiece a c piece (Err e)
 piece_err a b c piece at sink_error.OutOfMemory i t f g l h = record {
   took = tt;
   part = record { count = at; some = omega arith; within = omega arith; memory = λ _. i; took = h.memory refl ∙ t };
@@ -132,6 +136,8 @@ piece_err a b c piece at sink_error.OutOfMemory i t f g l h = record {
   link = h.link ∙ g;
   faults = let m = h.faults in omega arith;
   failed = λ x. cc;
+  unfailed = tt;
+  short = λ _. h.short refl ∙ l;
 }
 piece_err a b c piece at sink_error.Failed i t f g l h =
     let p = rw rest_is at (h.prefix refl) in
@@ -144,6 +150,8 @@ piece_err a b c piece at sink_error.Failed i t f g l h =
       link = h.link ∙ g;
       faults = let m = h.faults in omega arith;
       failed = λ _. let r = h.failed refl in omega arith;
+      unfailed = tt;
+      short = λ x. cc;
     }
 
 -- ---- several pieces at a time
@@ -204,7 +212,7 @@ pub handed_took : (a b c : Option (List ℕ)) (ps : List (List ℕ)) (at off cou
 handed_took a b c ps at off count k e h i l t u = took_more a b c (concat ps) count k t (rw (handed_take ps at off count k e h i l) at u)
 
 -- a write that failed
-pub handed_err : (a b c : SinkTold) (ps : List (List ℕ)) (at off count : ℕ) (e : SinkError) → count ≡ bytes_before at ps + off → at < length ps → off < length (get_or ps at []) → Took a.took b.took (take count (concat ps)) → b.flushed ≡ a.flushed → b.link ≡ a.link → a.faults ≤ b.faults → WriteCall b c (handed ps at off) (Err e) → WrotePieces 24 a c ps count (Err e)
+pub handed_err : (a b c : SinkTold) (ps : List (List ℕ)) (at off count : ℕ) (e : SinkError) → count ≡ bytes_before at ps + off → at < length ps → off < length (get_or ps at []) → Took a.took b.took (take count (concat ps)) → b.flushed ≡ a.flushed → b.link ≡ a.link → b.faults ≡ a.faults → WriteCall b c (handed ps at off) (Err e) → WrotePieces 24 a c ps count (Err e)
 handed_err a b c ps at off count sink_error.OutOfMemory n h i t f g l w =
     let x = handed_within ps at off h i in
     let y = longer 24 (drop at ps) in
@@ -223,6 +231,8 @@ handed_err a b c ps at off count sink_error.OutOfMemory n h i t f g l w =
       link = w.link ∙ g;
       faults = let m = w.faults in omega arith;
       failed = λ x. cc;
+      unfailed = tt;
+      short = λ _. w.short refl ∙ l;
     }
 handed_err a b c ps at off count sink_error.Failed n h i t f g l w =
     let q = w.prefix refl in
@@ -245,6 +255,8 @@ handed_err a b c ps at off count sink_error.Failed n h i t f g l w =
       link = w.link ∙ g;
       faults = let m = w.faults in omega arith;
       failed = λ _. let r = w.failed refl in let m = w.faults in omega arith;
+      unfailed = tt;
+      short = λ x. cc;
     }
 
 -- a piece that was cut is put back whole

@@ -26,7 +26,7 @@ pub record SentSo {S : Type 0} (told : S → SinkTold) (b m : Sequential S) (cou
   pub took : Took (told b.sink).took (told m.sink).took (concat (take terms (ready b.queue)))
   pub flushed : (told m.sink).flushed ≡ (told b.sink).flushed
   pub link : (told m.sink).link ≡ (told b.sink).link
-  pub faults : (told b.sink).faults ≤ (told m.sink).faults
+  pub unfailed : (told m.sink).faults ≡ (told b.sink).faults
   pub kept : m.kept ≡ b.kept
 
 took_none : (a : Option (List ℕ)) → Took a a []
@@ -42,7 +42,7 @@ sent_none told b = record {
   took = took_none (told b.sink).took;
   flushed = refl;
   link = refl;
-  faults = omega arith;
+  unfailed = refl;
   kept = refl;
 }
 
@@ -87,8 +87,6 @@ pub sent_more : {S : Type 0} (told : S → SinkTold) (b m n : Sequential S) (cou
 sent_more told b m n count terms sent s c =
     let w = among (told m.sink) (told n.sink) (ready b.queue) (ready m.queue) s.terms terms sent (Ok tt) s.passed.within s.rest c.within c.wrote in
     let q = batch_done (told b.sink) (told m.sink) (told n.sink) (ready b.queue) s.terms (s.terms + terms) count sent s.count_is s.took w in
-    let f = s.faults in
-    let g = c.wrote.faults in
     record {
       terms = s.terms + terms;
       passed = passed_both b m n s.terms terms s.passed s.rest c.done;
@@ -97,7 +95,7 @@ sent_more told b m n count terms sent s c =
       took = q.took;
       flushed = c.wrote.flushed ∙ s.flushed;
       link = c.wrote.link ∙ s.link;
-      faults = omega arith;
+      unfailed = c.wrote.unfailed ∙ s.unfailed;
       kept = c.kept ∙ s.kept;
     }
 
@@ -119,7 +117,7 @@ sent_err told b m n count terms sent e s c =
     let sa = length-append (concat (take s.terms ps)) (concat (drop s.terms ps)) in
     let rb = ap (λ (xs : List (List ℕ)). length (concat xs)) s.rest in
     record {
-      wrote = batch_err (told b.sink) (told m.sink) (told n.sink) ps s.terms (s.terms + terms) count sent e s.count_is s.took s.flushed s.link s.faults w;
+      wrote = batch_err (told b.sink) (told m.sink) (told n.sink) ps s.terms (s.terms + terms) count sent e s.count_is s.took s.flushed s.link s.unfailed w;
       passed = record {
         terms = s.terms + k;
         passed = passed_over b n n.sink (s.terms + k) (passed_both b m n s.terms k s.passed s.rest (passed_of m n n.sink k p.passed));
@@ -140,7 +138,7 @@ sent_end told b m count s h =
     let pw = s.passed.within in
     let n = s.count_is in
     record {
-      wrote = each_all 24 (told b.sink) (told m.sink) ps s.terms count (omega arith) s.count_is s.took s.flushed s.link s.faults;
+      wrote = each_all 24 (told b.sink) (told m.sink) ps s.terms count (omega arith) s.count_is s.took s.flushed s.link s.unfailed;
       passed = record {
         terms = s.terms;
         passed = passed_over b m m.sink s.terms s.passed;

@@ -86,8 +86,8 @@ stopped_among a b ps count e p =
 
 -- what was written of the pieces with bytes was written of all
 pub wrote_among : (a b : SinkTold) (ps : List (List ℕ)) (count : ℕ) (end : Result (Unit {0}) SinkError) → WrotePieces 24 a b (nonempty ps) count end → WrotePieces 24 a b ps count end
-wrote_among a b ps count (Ok u) w = record { within = rw joined at w.within; whole = rw joined at w.whole; part = tt; flushed = w.flushed; link = w.link; faults = w.faults; failed = w.failed }
-wrote_among a b ps count (Err e) w = record { within = rw joined at w.within; whole = tt; part = stopped_among a.took b.took ps count e w.part; flushed = w.flushed; link = w.link; faults = w.faults; failed = w.failed }
+wrote_among a b ps count (Ok u) w = record { within = rw joined at w.within; whole = rw joined at w.whole; part = tt; flushed = w.flushed; link = w.link; faults = w.faults; failed = w.failed; unfailed = w.unfailed; short = w.short }
+wrote_among a b ps count (Err e) w = record { within = rw joined at w.within; whole = tt; part = stopped_among a.took b.took ps count e w.part; flushed = w.flushed; link = w.link; faults = w.faults; failed = w.failed; unfailed = w.unfailed; short = w.short }
 
 -- ---- ready terms
 
@@ -119,9 +119,10 @@ as_error : (most : ℕ) (ps : List (List ℕ)) (k taken : ℕ) (e : SinkError) �
 as_error most ps k taken sink_error.OutOfMemory s = record { next = s.next; memory = λ _. s.memory refl; handed = s.handed }
 as_error most ps k taken sink_error.Failed s = record { next = s.next; memory = λ x. cc; handed = s.handed }
 
-cause_of : (b n : ℕ) (e : SinkError) → (IsErrOf {T = Unit {0}} (Err e) sink_error.Failed → Rose b n) → SinkCause b n (of_sink_error e)
-cause_of b n sink_error.OutOfMemory h = inl refl
-cause_of b n sink_error.Failed h = inr (refl, h refl)
+cause_of : (b n : ℕ) (e : SinkError) → (IsErrOf {T = Unit {0}} (Err e) sink_error.Failed → Rose b n)
+    → (IsErrOf {T = Unit {0}} (Err e) sink_error.OutOfMemory → n ≡ b) → SinkCause b n (of_sink_error e)
+cause_of b n sink_error.OutOfMemory h s = inl (refl, s refl)
+cause_of b n sink_error.Failed h s = inr (refl, h refl)
 
 -- the terms that the answered writes fill are those before the one in which a write failed
 pub wrote_part : {S : Type 0} (told : S → SinkTold) (b : Sequential S) (s : S) (p n : Sequential S) (count : ℕ) (e : SinkError) → WrotePieces (most_pieces b) (told b.sink) (told s) (ready b.queue) count (Err e) → PassedAll (record b { sink = s }) p count → n ≡ record p { kept = Some (of_sink_error e) } → Wrote told b n (Err (of_sink_error e))
@@ -149,7 +150,7 @@ wrote_part told b s p n count e w a h =
         took = record { count = t.took.count; above = omega arith; within = t.took.within; took = rw k t.took.took };
         stopped = rw z (as_error (most_pieces b) (ready b.queue) t.whole t.took.count e t.stopped);
         kept = ap (λ v. v.kept) h;
-        cause = rw k (cause_of (told b.sink).faults (told s).faults e w.failed);
+        cause = rw k (cause_of (told b.sink).faults (told s).faults e w.failed w.short);
       });
       flushed = rw k w.flushed;
       link = rw k w.link;
@@ -175,6 +176,7 @@ wrote_all told b s p count w a =
         count_is = omega arith;
         took = rw a.sink w.whole.1;
         kept = a.kept;
+        unfailed = rw a.sink w.unfailed;
       };
       part = tt;
       flushed = rw a.sink w.flushed;

@@ -21,12 +21,12 @@ part_prefix told b n e (inl (x, y)) = let z = ap (λ w. (told w.sink).took) y in
 part_prefix told b n e (inr p) = let t = p.took in record { count = t.count; within = t.within; took = t.took }
 
 part_cause : {S : Type 0} (told : S → SinkTold) (b n : Sequential S) (e : FileReconstructionError) → ((e ≡ error.OutOfMemory) × (n ≡ b)) ⊎ WrotePart told b n e → SinkCause (told b.sink).faults (told n.sink).faults e
-part_cause told b n e (inl (x, y)) = inl x
+part_cause told b n e (inl (x, y)) = inl (x, ap (λ w. (told w.sink).faults) y)
 part_cause told b n e (inr p) = p.cause
 
 pub window_of : {S : Type 0} (told : S → SinkTold) (b n : Sequential S) (answer : Result ℕ FileReconstructionError) → Wrote told b n answer → WindowCall (told b.sink) (told n.sink) (ready_bytes b.queue) answer
-window_of told b n (Ok k) w = record { took = (w.whole.took, w.whole.count_is); prefix = tt; cause = tt; flushed = w.flushed; link = w.link; faults = w.faults }
-window_of told b n (Err e) w = record { took = tt; prefix = part_prefix told b n e w.part; cause = part_cause told b n e w.part; flushed = w.flushed; link = w.link; faults = w.faults }
+window_of told b n (Ok k) w = record { took = (w.whole.took, w.whole.count_is); prefix = tt; cause = tt; flushed = w.flushed; link = w.link; faults = w.faults; unfailed = w.whole.unfailed }
+window_of told b n (Err e) w = record { took = tt; prefix = part_prefix told b n e w.part; cause = part_cause told b n e w.part; flushed = w.flushed; link = w.link; faults = w.faults; unfailed = tt }
 
 -- an Ok comes of an open writer
 ready_at : {S : Type 0} (told : S → SinkTold) (b n : Sequential S) (k : ℕ) (o : Option FileReconstructionError) → closed_by (told_of b) ≡ o → ReadyCall told b n (Ok k) → WroteAll told b n k

@@ -125,9 +125,9 @@ SetSums before after r (Ok u) =
     after ≡ record before { bytes = min (before.bytes + (r.end - r.start)) (2 ^ 64 - 1) }
 SetSums before after r (Err e) = after ≡ before
 
--- the sink found no memory, or it failed, which its faults tell
+-- the sink found no memory, and its faults are as before, or it failed, which they tell
 abbrev pub SinkCause : ℕ → ℕ → FileReconstructionError → Type 0
-SinkCause before after e = (e ≡ error.OutOfMemory) ⊎ ((e ≡ error.IoError) × Rose before after)
+SinkCause before after e = ((e ≡ error.OutOfMemory) × (after ≡ before)) ⊎ ((e ≡ error.IoError) × Rose before after)
 
 -- an end that fails: an allocation of the writer was refused, or an error of the sink is kept
 abbrev pub FailedEnd : WriterTold → WriterTold → ℕ → ℕ → FileReconstructionError → Type 0
@@ -147,3 +147,4 @@ pub record FinishCall (before after : WriterTold) (sums more : WriterSums)
       → IfErr answer (FailedEnd before after sums.faults more.faults)
   pub bytes : more.bytes ≡ sums.bytes
   pub faults : sums.faults ≤ more.faults
+  pub unfailed : OnOk answer (more.faults ≡ sums.faults)

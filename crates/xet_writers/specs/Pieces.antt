@@ -46,3 +46,5 @@ pub record WrotePieces (most : ℕ) (before now : SinkTold) (pieces : List (List
   pub link : now.link ≡ before.link
   pub faults : before.faults ≤ now.faults
   pub failed : IsErrOf end sink_error.Failed → Rose before.faults now.faults
+  pub unfailed : OnOk end (now.faults ≡ before.faults)
+  pub short : IsErrOf end sink_error.OutOfMemory → now.faults ≡ before.faults

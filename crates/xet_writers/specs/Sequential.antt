@@ -1,5 +1,5 @@
 -- The writer that writes in order.
-use Rattle.std.specs.Prelude.{ℕ, ◌≡◌, ◌⊎◌, ◌+◌, ◌≤◌, ◌++◌, cond, length, List, [], ◌∷◌, take, drop, Bool, true, Option, Some, None, option_map, Result, Err, IfOk, IfErr, OnErr}
+use Rattle.std.specs.Prelude.{ℕ, ◌≡◌, ◌⊎◌, ◌+◌, ◌≤◌, ◌++◌, cond, length, List, [], ◌∷◌, take, drop, Bool, true, Option, Some, None, option_map, Result, Err, IfOk, IfErr, OnErr, OnOk}
 use Rattle.std.specs.List.{concat}
 use Rattle.xet_base.specs.declared.cas_types.FileRange.{FileRange}
 use Rattle.xet_run.specs.declared.budget.Admission.{Admission}
@@ -78,12 +78,13 @@ pub record Passed {S : Type 0} (before after : Sequential S) (terms : ℕ) : Typ
 abbrev pub most_pieces : {S : Type 0} → Sequential S → ℕ
 most_pieces w = cond w.vectored 24 1
 
--- all that is ready was written, so many bytes
+-- all that is ready was written, so many bytes, and no write failed
 pub record WroteAll {S : Type 0} (told : S → SinkTold) (before after : Sequential S) (count : ℕ) : Type 0 where
   pub passed : Passed before after (length (ready before.queue))
   pub count_is : count ≡ length (ready_bytes before.queue)
   pub took : Took (told before.sink).took (told after.sink).took (ready_bytes before.queue)
   pub kept : after.kept ≡ before.kept
+  pub unfailed : (told after.sink).faults ≡ (told before.sink).faults
 
 -- a write failed, and the error is kept. The terms that were passed are those that answered writes took wholly, so
 -- their admissions came back; of the ready bytes the sink took none out of order, and past these terms none but of the
@@ -123,8 +124,9 @@ pub record WindowCall (before after : SinkTold) (window : List ℕ)
   pub flushed : after.flushed ≡ before.flushed
   pub link : after.link ≡ before.link
   pub faults : before.faults ≤ after.faults
+  pub unfailed : OnOk answer (after.faults ≡ before.faults)
 
--- the end: all was written and flushed, and the answer is the bytes of all terms
+-- the end: all was written and flushed, no call failed, and the answer is the bytes of all terms
 pub record Ended {S : Type 0} (told : S → SinkTold) (before after : Sequential S) (count : ℕ) : Type 0 where
   pub left : after ≡ record before {
     sink = after.sink;
@@ -137,6 +139,7 @@ pub record Ended {S : Type 0} (told : S → SinkTold) (before after : Sequential
   pub all : count ≡ before.expected
   pub took : Took (told before.sink).took (told after.sink).took (ready_bytes before.queue)
   pub flushed : (told after.sink).flushed ≡ option_map length (told after.sink).took
+  pub unfailed : (told after.sink).faults ≡ (told before.sink).faults
 
 -- an end whose flush failed: all was written, each admission came back, and the error is kept
 pub record Unflushed {S : Type 0} (told : S → SinkTold) (before after : Sequential S)

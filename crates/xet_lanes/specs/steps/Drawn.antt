@@ -1,11 +1,14 @@
 -- What the lanes of a round hold before and after.
-use Rattle.std.specs.Prelude.{ℕ, ◌≡◌, ◌⊎◌, ◌<◌, Bool, true, false, IsSome, List, [], ◌∷◌, length, map, None}
+use Rattle.std.specs.Prelude.{ℕ, ◌≡◌, ◌⊎◌, ◌<◌, Bool, true, false, cond, IfSome, IsSome, List, [], ◌∷◌, length, map, None, Option, Some}
 use Rattle.xet_outside.specs.Told.{ClientTold}
 use Rattle.xet_claims.specs.declared.claim_rule.View.{View}
 use Rattle.xet_claims.specs.declared.claims.ClaimPass.{ClaimPass}
 use Rattle.xet_claims.specs.declared.claims.Claims.{Claims}
 use Rattle.xet_claims.specs.ClaimPasses.{IsPassOf, pass_view}
 use Rattle.xet_claims.specs.ClaimViews.{gained, missed, newcomer, saw}
+use Rattle.xet_error.specs.declared.error.FileReconstructionError.{FileReconstructionError}
+use Rattle.xet_run.specs.declared.run_call.RunCall.{RunCall}
+use Rattle.xet_run.specs.declared.run_call.RunCall.TheVariants as call
 use Rattle.xet_ties.specs.declared.lane_step.LaneStep.{LaneStep}
 use Rattle.xet_ties.specs.Lanes.{Ask, LaneDrew}
 use Rattle.xet_lanes.specs.declared.drawing.Next.{Next}
@@ -21,6 +24,16 @@ IsNext count v w (next.Number n) = (n < count) × (w ≡ gained v n)
 IsNext count v w next.Over = (w ≡ missed v) ⊎ (w ≡ saw v)
 IsNext count v w next.Short = w ≡ v
 
+-- a check of the run's state that found nothing
+abbrev pub calm_check : RunCall
+calm_check = call.CheckRunState None
+
+-- where a number was drawn, such a check is the last call on the run's state
+abbrev pub HasSeen : Next → Option RunCall → Type 0
+HasSeen (next.Number n) last = last ≡ Some calm_check
+HasSeen next.Over last = Unit {0}
+HasSeen next.Short last = Unit {0}
+
 -- it stopped no other; and where it saw no stop, it drew until there was nothing left, and made a step for each number
 abbrev pub IsCalm : View → List LaneStep → Type 0
 IsCalm v ss = (v.raised ≡ false) × (v.stopped ≡ false → (0 < v.misses) × (length v.drawn ≡ length ss))
@@ -32,6 +45,15 @@ HasEnded short v ss = short ≡ false → last_error ss ≡ None → IsCalm v ss
 -- a lane that failed or ran out of memory stopped the others
 abbrev pub HasStopped : Bool → View → List LaneStep → Type 0
 HasStopped short v ss = (short ≡ true → v.raised ≡ true) × (IsSome (last_error ss) → v.raised ≡ true)
+
+-- the last call on the run's state of a lane whose step failed with this error: it told the error; or where memory ran
+-- out for that, the check before that step
+abbrev pub told_last : Bool → FileReconstructionError → RunCall
+told_last short e = cond short calm_check (call.SetError e)
+
+-- a lane whose step failed told the run that very error, and nothing after it
+pub record HasTold (short : Bool) (last : Option RunCall) (ss : List LaneStep) : Type 0 where
+  pub error : IfSome (last_error ss) (λ e. last ≡ Some (told_last short e))
 
 -- ---- all lanes
 

@@ -6,7 +6,7 @@ use Rattle.xet_base.specs.Store.{Store}
 use Rattle.xet_outside.specs.declared.block.BlockBytes.{BlockBytes}
 use Rattle.xet_outside.specs.declared.said.Said.{Said}
 use Rattle.xet_outside.specs.declared.served.Served.{Served}
-use Rattle.xet_outside.specs.Answers.{IsPaired, bytes_in, plans_in}
+use Rattle.xet_outside.specs.Answers.{IsPaired, bytes_in, late_in, plans_in}
 use Rattle.xet_outside.specs.Told.{Added, CacheEntry, CacheTold, ClientTold, Counted, Grew, Query}
 use Rattle.xet_run.specs.declared.event.Event.{Event}
 use Rattle.xet_run.specs.declared.event.PlannedBlock.{PlannedBlock}
@@ -14,7 +14,7 @@ use Rattle.xet_run.specs.Events.{error_in, expires, is_plan, taken_in, tasks_in}
 use Rattle.xet_history.specs.TrueHistory.{IsTrueEvent, queries_in}
 use Rattle.xet_ties.specs.Gains.{IsServedEntry}
 use Rattle.xet_ties.specs.History.{IsOneCached, IsRenewed, IsWithin, asked_in, cached_in, fetched_in, limit_in, round_in}
-use Rattle.xet_ties.specs.InCall.{Exchange, expired_said}
+use Rattle.xet_ties.specs.InCall.{Exchange, Place, late_places}
 use Rattle.xet_ties.specs.Saids.{EventPassed, FirstRenewed, IsEventSaid}
 use Rattle.xet_ties.specs.Setup.{ClientGoesOn, Setup}
 use Rattle.xet_ties.specs.Ties.{EachExpired, EachServed, IsEntryOf, IsServed, Slack, has_one, is_one}
@@ -27,7 +27,7 @@ pub record QueryStep (before after : ClientTold) (qs : List Query) (all : List S
   pub asked : Added before.asked after.asked qs
   pub said : Added before.said after.said all
   pub quiet : bytes_in all ≡ []
-  pub late : count_by expired_said all ≡ 0
+  pub late : late_in all ≡ []
   pub served : after.served ≡ before.served
 
 -- so the first connection of some, and the others are as before
@@ -99,17 +99,20 @@ pub record Fits (g : Setup) (es : List Event) (e : Event) (sl to : Slack) : Type
 
 -- ---- joins
 
--- what a join does to one connection: it served these entries, said this and gave so many expired answers
-pub record JoinStep (before after : ClientTold) (hidden : List Served) (all : List Said) (late : ℕ) : Type 0 where
+-- what a join does to one connection: it served these entries and said this, and answered as expired the requests for
+-- the blocks of these places
+pub record JoinStep (before after : ClientTold) (hidden : List Served) (all : List Said)
+    (late : List Place) : Type 0 where
   pub goes_on : ClientGoesOn before after
   pub asked : after.asked ≡ before.asked
   pub quiet : plans_in all ≡ []
   pub pairs : IsPaired before after hidden all
-  pub said_late : count_by expired_said all ≡ late
-  pub expired : min (before.expiries + late) (2 ^ 64 - 1) ≤ after.expiries
+  pub said_late : late_places all ≡ late
+  pub expired : min (before.expiries + length late) (2 ^ 64 - 1) ≤ after.expiries
 
 -- so of each connection
-abbrev pub EachJoined : List ClientTold → List ClientTold → List (List Served) → List (List Said) → List ℕ → Type 0
+abbrev pub EachJoined : List ClientTold → List ClientTold → List (List Served) → List (List Said) → List (List Place)
+    → Type 0
 EachJoined [] [] [] [] [] = Unit {0}
 EachJoined (b ∷ bs) (n ∷ ns) (h ∷ hs) (a ∷ alls) (l ∷ ls) = JoinStep b n h a l × EachJoined bs ns hs alls ls
 EachJoined bs ns hs alls ls = ⊥
@@ -125,8 +128,8 @@ heard_join hs alls xs = []
 abbrev pub no_hidden : List ClientTold → List (List Served)
 no_hidden bs = map (λ _. []) bs
 
-abbrev pub no_late : List ClientTold → List ℕ
-no_late bs = map (λ _. 0) bs
+abbrev pub no_late : List ClientTold → List (List Place)
+no_late bs = map (λ _. []) bs
 
 abbrev pub no_exchange : List ClientTold → List Exchange
 no_exchange bs = map (λ _. record { asked = []; served = []; said = [] }) bs

@@ -11,6 +11,7 @@ use Rattle.xet_run.specs.declared.event.PlannedBlock.{PlannedBlock}
 use Rattle.xet_run.specs.Allowed.{IsMissing}
 use Rattle.xet_run.specs.Events.{expires, is_kept}
 use Rattle.xet_ties.specs.History.{block_at, entry_of, is_expired}
+pub use Rattle.xet_ties.specs.InCall.{Place}
 use Rattle.xet_ties.specs.Lanes.{Ask}
 use Rattle.xet_ties.specs.declared.lane_step.LaneStep.{LaneStep}
 use Rattle.xet_ties.specs.declared.lane_step.LaneStep.TheVariants as step
@@ -91,10 +92,6 @@ EachFresh es (cs ∷ css) = AreFresh es cs × EachFresh es css
 
 -- ---- blocks whose URL had expired
 
--- a plan's number and the block's number in it
-abbrev pub Place : Type 0
-Place = ℕ × ℕ
-
 abbrev pub expired_all : ℕ → List Place → List Event
 expired_all lane cs = map (λ (c : Place). Expired lane c.0 c.1) cs
 
@@ -102,11 +99,11 @@ abbrev pub lanes_expired : ℕ → List (List Place) → List Event
 lanes_expired lane [] = []
 lanes_expired lane (cs ∷ css) = expired_all lane cs ++ lanes_expired (lane + 1) css
 
--- so many expired answers of each lane. Connections past the lanes have none
-abbrev pub lanes_late : List (List Place) → List ℕ → List ℕ
+-- the blocks of each lane whose URL had expired, and then others. Connections past the lanes are last
+abbrev pub lanes_late : List (List Place) → List (List Place) → List (List Place)
 lanes_late [] ks = ks
-lanes_late (cs ∷ css) [] = length cs ∷ lanes_late css []
-lanes_late (cs ∷ css) (k ∷ ks) = (length cs + k) ∷ lanes_late css ks
+lanes_late (cs ∷ css) [] = cs ∷ lanes_late css []
+lanes_late (cs ∷ css) (k ∷ ks) = (cs ++ k) ∷ lanes_late css ks
 
 -- each may expire once more, after those before it
 abbrev pub MayExpire : ℕ → ℕ → List Event → List Place → Type 0

@@ -20,3 +20,5 @@ pub record WrotePiece (before after : SinkTold) (piece : List ℕ) (answer : Res
   pub link : after.link ≡ before.link
   pub faults : before.faults ≤ after.faults
   pub failed : IsErrOf answer sink_error.Failed → Rose before.faults after.faults
+  pub unfailed : OnOk answer (after.faults ≡ before.faults)
+  pub short : IsErrOf answer sink_error.OutOfMemory → after.faults ≡ before.faults

@@ -1,5 +1,5 @@
 -- The steps of the writer in order.
-use Rattle.std.specs.Prelude.{ℕ, zero, suc, ◌≡◌, ◌+◌, ◌<◌, ◌≤◌, ◌++◌, length, get_or, List, [], ◌∷◌, true, Option, Some, None, option_map, option_to_list, Result, IfOk, IfErr, OnErr}
+use Rattle.std.specs.Prelude.{ℕ, zero, suc, ◌≡◌, ◌+◌, ◌<◌, ◌≤◌, ◌++◌, length, get_or, List, [], ◌∷◌, true, Option, Some, None, option_map, option_to_list, Result, IfOk, IfErr, OnErr, OnOk}
 use Rattle.xet_outside.specs.Told.{SinkTold}
 use Rattle.xet_error.specs.declared.error.FileReconstructionError.{FileReconstructionError}
 use Rattle.xet_error.specs.declared.error.WriterFault.{WriterFault}
@@ -66,6 +66,7 @@ pub record Flushed {S : Type 0} (told : S → SinkTold) (before after : Sequenti
   pub unflushed : OnErr answer ((told after.sink).flushed ≡ (told before.sink).flushed)
   pub link : (told after.sink).link ≡ (told before.sink).link
   pub faults : (told before.sink).faults ≤ (told after.sink).faults
+  pub unfailed : OnOk answer ((told after.sink).faults ≡ (told before.sink).faults)
 
 -- all that was left was written and flushed
 pub record Last {S : Type 0} (told : S → SinkTold) (before after : Sequential S)

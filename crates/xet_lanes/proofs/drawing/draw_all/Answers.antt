@@ -1,6 +1,6 @@
 use Rattle.std.proofs.Common.{rules, ◌<◌, length}
 use Rattle.xet_claims.specs.ClaimPasses.{pass_view}
-use Rattle.xet_lanes.proofs.Draws.{drawing_goes_on, drawing_last, drawing_refused, drawing_starts, drawing_step, drew_and_halted, drew_one, get_at, over_ended, over_stops, refused_last, step_last}
+use Rattle.xet_lanes.proofs.Draws.{drawing_goes_on, drawing_last, drawing_refused, drawing_starts, drawing_step, drawing_told, drew_and_halted, drew_one, get_at, over_ended, over_stops, refused_last, refused_told, step_last, step_told}
 use Rattle.xet_lanes.proofs.drawing.draw_all.Goals as goal
 
 pub loop-init : goal.loop-init
@@ -56,6 +56,24 @@ returns-in-Some-clause-drew g c =
 pub returns-in-Some-clause-last : goal.returns-in-Some-clause-last
 returns-in-Some-clause-last g c =
     step_last _ _ _ _ _ _ _ _ _ c.loop.invariant.drawing c.make-made.ensures.call (search rules)
+
+pub returns-in-Over-clause-told : goal.returns-in-Over-clause-told
+returns-in-Over-clause-told g c = drawing_told _ _ _ _ _ _ _ c.loop.invariant.drawing
+
+pub returns-in-Short-clause-told : goal.returns-in-Short-clause-told
+returns-in-Short-clause-told g c = drawing_told _ _ _ _ _ _ _ c.loop.invariant.drawing
+
+pub returns-clause-told : goal.returns-clause-told
+returns-clause-told g c = drawing_told _ _ _ _ _ _ _ c.loop.invariant.drawing
+
+pub returns-then-is_err-clause-told : goal.returns-then-is_err-clause-told
+returns-then-is_err-clause-told g c =
+    refused_told _ _ _ _ _ _ _ _ _ _ _ c.loop.invariant.drawing c.make-made.ensures.call (search rules)
+
+pub returns-in-Some-clause-told : goal.returns-in-Some-clause-told
+returns-in-Some-clause-told g c =
+    step_told _ c.next_number.new.run.last _ c.in-Some.error _ (search rules) c.in-Number.ensures.seen
+    (λ short. (c.stop_others.ensures.short short).1) c.stop_others.ensures.told
 
 pub loop-preserved : goal.loop-preserved
 loop-preserved g c =

@@ -14,5 +14,5 @@ invariant-loop-i g l =
       took : Took (told l.initial.sink).took (told l.sink).took (concat (take l.i (ready l.queue.items)));
       flushed : (told l.sink).flushed ≡ (told l.initial.sink).flushed;
       link : (told l.sink).link ≡ (told l.initial.sink).link;
-      faults : (told l.initial.sink).faults ≤ (told l.sink).faults;
+      faults : (told l.sink).faults ≡ (told l.initial.sink).faults;
     }

@@ -10,7 +10,7 @@ invariant-loop-at g l =
       took : Took (told l.initial.sink).took (told l.sink).took (take l.at l.piece);
       flushed : (told l.sink).flushed ≡ (told l.initial.sink).flushed;
       link : (told l.sink).link ≡ (told l.initial.sink).link;
-      faults : (told l.initial.sink).faults ≤ (told l.sink).faults;
+      faults : (told l.sink).faults ≡ (told l.initial.sink).faults;
     }
 
 abbrev pub decreases-loop-at : goal.decreases-loop-at

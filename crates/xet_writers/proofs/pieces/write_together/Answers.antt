@@ -57,8 +57,6 @@ loop-place-preserved g c =
     let place = rw e at q.place in
     let w = handed_within ps at off h (i.inside h) in
     let n = i.place in
-    let f = c.in-Ok.ensures.call.faults in
-    let b = i.faults in
     record {
       pieces = e;
       within = rw e at q.within;
@@ -68,7 +66,7 @@ loop-place-preserved g c =
       took = handed_took (g.S.Sink.told c.args.sink.now).took (g.S.Sink.told c.loop-place.sink).took (g.S.Sink.told c.write_rest.new.sink).took ps at off c.loop-place.count c.in-Ok.taken n h (i.inside h) k i.took t;
       flushed = c.in-Ok.ensures.call.flushed ∙ i.flushed;
       link = c.in-Ok.ensures.call.link ∙ i.link;
-      faults = omega arith;
+      faults = c.in-Ok.ensures.call.unfailed ∙ i.faults;
     }
 
 pub returns-in-Err-clause-sent : goal.returns-in-Err-clause-sent

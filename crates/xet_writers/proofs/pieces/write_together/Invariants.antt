@@ -16,7 +16,7 @@ invariant-loop-place g l =
       took : Took (told l.fn.sink).took (told l.sink).took (take l.count (concat l.fn.pieces));
       flushed : (told l.sink).flushed ≡ (told l.fn.sink).flushed;
       link : (told l.sink).link ≡ (told l.fn.sink).link;
-      faults : (told l.fn.sink).faults ≤ (told l.sink).faults;
+      faults : (told l.sink).faults ≡ (told l.fn.sink).faults;
     }
 
 abbrev pub decreases-loop-place : goal.decreases-loop-place
