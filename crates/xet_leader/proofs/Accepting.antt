@@ -11,7 +11,7 @@ use Rattle.xet_run.specs.declared.event.PlannedTerm.{PlannedTerm}
 use Rattle.xet_run.specs.Events.{last_of, plan_count, planned_end, tasks_of}
 use Rattle.xet_run.proofs.CallerLemmas.{end-push, flat-push}
 use Rattle.xet_history.specs.TrueHistory.{EndsEarly, SomeEndsEarly, queries, queries_in}
-use Rattle.xet_terms.specs.Managers.{IsManager, Manager, accepted, ends_early, known_after, without_past}
+use Rattle.xet_terms.specs.Managers.{IsManager, Manager, accepted, ends_early, known_after, planned_with, without_past}
 use Rattle.xet_terms.specs.Queries.{CutFrom, end_from}
 use Rattle.xet_terms.proofs.CallerLemmas.{cuts-take}
 use Rattle.xet_ties.specs.History.{actual_range}
@@ -169,6 +169,7 @@ module _ (g : Setup) (es : List Event) (m : Manager) (q : FileRange) (d : IsDue 
     ended = m.ended || ends_early q t;
     waiting = ws;
     handed_end = end;
+    planned = planned_with m.planned t;
   }
 
   kept_after : (ws : List TermBlock) (end : ℕ) → IsManager (after ws end)

@@ -24,6 +24,7 @@ use Rattle.xet_leader.specs.Led.{AreLedPlans, AreStale, IsLed, IsLedManager, Led
 use Rattle.xet_leader.specs.Steady.{IsFailing, IsGoing, Loose, Moment}
 use Rattle.xet_leader.proofs.PlainEvents.{IsPlain, plain_manager, plain_plans, plain_running, plain_stale}
 use Rattle.xet_leader.proofs.QuietEvents.{quiet_under}
+use Rattle.xet_leader.proofs.WriterFaults.{any_unfailed}
 
 is_plain : (limit : ℕ) → IsPlain (Admit limit)
 is_plain limit = record {
@@ -130,6 +131,7 @@ going g b m o l k before after fs at a s =
           (subst (λ (x : List Event). IsLed g b x s.slack o.stale (record l { admitted = l.admitted + (at_once (l.planned - l.admitted) - a.left) }))
           (sym is) led);
       calm = s.calm;
+      unfailed = s.unfailed;
       cache_tells = s.cache_tells;
     }
 
@@ -147,6 +149,7 @@ failing g b m o l k before after fs e at a s =
       left = subst (λ (x : FileReconstructionError). MayLeave (Some x) b.clients s.slack) (sym memory)
           (short_leaves b.clients s.slack);
       cause = subst (Cause g s.slack.heard b (record m.told { limits = after })) (sym memory) tt;
+      unfailed = any_unfailed b.sink.faults m.told.sink.faults e s.unfailed;
       spent = λ h. absurd (let z : error.OutOfMemory ≡ error.UrlExpired = sym memory ∙ h in cc);
       cache_tells = s.cache_tells;
     }

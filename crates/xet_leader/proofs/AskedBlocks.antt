@@ -42,6 +42,7 @@ use Rattle.xet_leader.proofs.AwaitedBlocks.{awaited, awaited_request}
 use Rattle.xet_leader.proofs.FetchFacts.{same_is}
 use Rattle.xet_leader.proofs.LookSteps.{same_found}
 use Rattle.xet_leader.proofs.PlanFacts.{each_weaker}
+use Rattle.xet_leader.proofs.WriterFaults.{any_unfailed}
 
 -- ---- one fetch
 
@@ -333,6 +334,7 @@ memory_fails g b m o l e memory s = record {
   left = subst (λ (x : FileReconstructionError). MayLeave (Some x) b.clients s.slack) (sym memory)
       (short_leaves b.clients s.slack);
   cause = subst (Cause g s.slack.heard b m.told) (sym memory) tt;
+  unfailed = any_unfailed b.sink.faults m.told.sink.faults e s.unfailed;
   spent = λ h. absurd (let z : error.OutOfMemory ≡ error.UrlExpired = sym memory ∙ h in cc);
   cache_tells = s.cache_tells;
 }

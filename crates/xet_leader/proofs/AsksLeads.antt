@@ -24,7 +24,7 @@ use Rattle.xet_ties.specs.Saids.{InStep}
 use Rattle.xet_ties.specs.Setup.{RunTold, Setup}
 use Rattle.xet_ties.specs.steps.Moves.{heard_first}
 use Rattle.xet_ties.specs.steps.Parts.{plan_query}
-use Rattle.xet_ties.specs.Ties.{AllAre, EachLane, MayLeave, Slack, Ties, all_of, IsNextQuery}
+use Rattle.xet_ties.specs.Ties.{EachLane, MayLeave, NoneLate, Slack, Ties, all_of, IsNextQuery}
 use Rattle.xet_ties.proofs.CallerLemmas.{asked_own, first_tells, none_hidden, none_late, short_leaves, steady_leaves}
 use Rattle.xet_parts.specs.DueQueries.{CancelledDue, NoneDue, OneDue, TakesDue}
 use Rattle.xet_parts.specs.PlanAsks.{AskPlanCall, PlanFails, QueryFails}
@@ -36,6 +36,7 @@ use Rattle.xet_leader.specs.Steady.{IsFailing, IsGoing, Moment, no_loose}
 use Rattle.xet_leader.proofs.LedPlanned.{led_planned}
 use Rattle.xet_leader.proofs.NewPlans.{none_later}
 use Rattle.xet_leader.proofs.NextQueries.{IsDue, due_first, led_due, led_looked, due_next}
+use Rattle.xet_leader.proofs.WriterFaults.{any_unfailed}
 
 -- ---- none was due
 
@@ -103,6 +104,7 @@ going_none g b m l k cs ns x y fs at seen n s =
       led = subst (λ (es : List Event). IsLed g b es s.slack [] k) (sym n.events)
           (subst (λ (z : Led). IsLed g b m.events s.slack [] z) (sym n.led) led);
       calm = ap (λ (z : SignalTold). z.yes) (n.due.signal ∙ sym seen) ∙ s.calm;
+      unfailed = s.unfailed;
       cache_tells = s.cache_tells;
     }
 
@@ -161,7 +163,7 @@ module _ (g : Setup) (b : RunTold) (m : Moment) (l : Led) (s : IsGoing g b m no_
       → sl.ahead ≡ s.slack.ahead → MayLeave (Some e) b.clients sl
   leaves e sl hidden late ahead =
       steady_leaves b.clients e sl (ap all_of (hidden ∙ s.settled.hidden) ∙ none_hidden b.clients)
-      (subst (λ (ks : List ℕ). AllAre 0 ks) (sym (late ∙ s.settled.late)) (none_late b.clients))
+      (subst NoneLate (sym (late ∙ s.settled.late)) (none_late b.clients))
       (ahead ∙ s.settled.ahead)
 
   -- where the signal said no, and the first connection is this one
@@ -239,6 +241,7 @@ module _ (g : Setup) (b : RunTold) (m : Moment) (l : Led) (s : IsGoing g b m no_
         };
         led = led k allowed hands;
         calm = calm y one.signal;
+        unfailed = s.unfailed;
         cache_tells = s.cache_tells;
       }
 
@@ -249,6 +252,7 @@ module _ (g : Setup) (b : RunTold) (m : Moment) (l : Led) (s : IsGoing g b m no_
         ties = recorded.0;
         left = short_leaves b.clients slack;
         cause = tt;
+        unfailed = tt;
         spent = λ h. absurd (let z : error.OutOfMemory ≡ error.UrlExpired = h in cc);
         cache_tells = s.cache_tells;
       }
@@ -275,6 +279,7 @@ module _ (g : Setup) (b : RunTold) (m : Moment) (l : Led) (s : IsGoing g b m no_
           lost = asked.queries;
         }) refl refl refl;
         cause = asked.cause;
+        unfailed = any_unfailed b.sink.faults m.told.sink.faults e s.unfailed;
         spent = λ h. absurd (other h);
         cache_tells = s.cache_tells;
       }
@@ -360,6 +365,7 @@ failing_due g b m l cs ns x y fs e at seen u s =
       ties = s.ties;
       left = short_leaves b.clients s.slack;
       cause = tt;
+      unfailed = tt;
       spent = λ h. absurd (let z : error.OutOfMemory ≡ error.UrlExpired = h in cc);
       cache_tells = s.cache_tells;
     }
@@ -373,6 +379,7 @@ failing_due g b m l cs ns x y fs e at seen u s =
           ties = t.0;
           left = leaves g b m l s x y seen error.Cancelled s.slack refl refl refl;
           cause = t.1;
+          unfailed = s.unfailed;
           spent = λ h. absurd (let z : error.Cancelled ≡ error.UrlExpired = h in cc);
           cache_tells = s.cache_tells;
         }

@@ -19,13 +19,14 @@ use Rattle.xet_ties.specs.InCall.{Exchange}
 use Rattle.xet_ties.specs.RunCalls.{IsFinished}
 use Rattle.xet_ties.specs.Setup.{CacheTells, IsOver, RunTold, Setup}
 use Rattle.xet_ties.specs.steps.Moves.{no_slack}
-use Rattle.xet_ties.specs.Ties.{AllAre, LeavesNothing, Slack, Ties, all_of}
+use Rattle.xet_ties.specs.Ties.{LeavesNothing, NoneLate, Slack, Ties, all_of}
 use Rattle.xet_ties.proofs.CallerLemmas.{none_hidden, none_late, steady_ends, steady_leaves, tie_flush, tie_start}
 use Rattle.xet_parts.proofs.CallerLemmas.{stopped_cause, stopped_leaves, stopped_ties}
 use Rattle.xet_leader.specs.Ending.{EndFails, EndLeads, LastCall, EndTurn, RecordedEnd, RunAnswer, RunEnds}
 use Rattle.xet_leader.specs.Led.{Led}
 use Rattle.xet_leader.specs.Plans.{Answer}
 use Rattle.xet_leader.specs.Steady.{IsFailing, IsGoing, IsSteady, Moment, no_loose}
+use Rattle.xet_leader.proofs.WriterFaults.{sink_unfailed, stopped_unfailed}
 
 none_more : (a b : Option (List ℕ)) → b ≡ option_map (λ xs. xs ++ []) a → b ≡ a
 none_more None b h = h
@@ -49,7 +50,7 @@ unended_took {S = S} told v w e queue (inr (inr u)) =
 
 unended_cause : {S : Type 0} (told : S → SinkTold) (v w : Sequential S) (e : FileReconstructionError)
     → NotEnded told v w e → SinkCause (told v.sink).faults (told w.sink).faults e
-unended_cause told v w e (inl h) = inl h.0
+unended_cause told v w e (inl h) = inl (h.0, ap (λ x. (told x.sink).faults) h.1)
 unended_cause told v w e (inr (inl p)) = p.cause
 unended_cause told v w e (inr (inr u)) = u.cause
 
@@ -70,6 +71,7 @@ finish_last {S = S} told v w n (Ok k) kept going queue delivered f =
       cause = tt;
       link = f.link;
       faults = f.faults;
+      unfailed = e.unfailed;
     }
 finish_last {S = S} told v w n (Err e) kept going queue delivered f =
     let whole : finish_fault (wanted v.queue) ≡ None = ap (λ (q : List QueuedTerm). finish_fault (wanted q)) queue in
@@ -81,6 +83,7 @@ finish_last {S = S} told v w n (Err e) kept going queue delivered f =
       cause = unended_cause told v w e u;
       link = f.link;
       faults = f.faults;
+      unfailed = tt;
     }
 
 -- ---- a run that goes on, all of which is recorded
@@ -89,8 +92,9 @@ pub record IsWhole (g : Setup) (b : RunTold) (m : Moment) : Type 0 where
   pub slack : Slack
   pub ties : Ties g b m.told m.events None slack
   pub leaves : LeavesNothing slack
-  pub late : AllAre 0 slack.late
+  pub late : NoneLate slack.late
   pub calm : m.told.signal.yes ≡ b.signal.yes
+  pub unfailed : m.told.sink.faults ≡ b.sink.faults
   pub cache_tells : (s : Store) → IsOver s b.clients → CacheTells s b.cache → CacheTells s m.told.cache
 
 -- so it is between turns
@@ -106,8 +110,9 @@ going_whole g b m l s =
         lost = e.lost;
         ahead = e.ahead;
       };
-      late = subst (AllAre 0) (sym e.late) (none_late b.clients);
+      late = subst NoneLate (sym e.late) (none_late b.clients);
       calm = s.calm;
+      unfailed = s.unfailed;
       cache_tells = s.cache_tells;
     }
 
@@ -120,6 +125,7 @@ start_whole g b h = record {
   leaves = record { hidden = none_hidden b.clients; due = refl; lost = refl; ahead = refl };
   late = none_late b.clients;
   calm = refl;
+  unfailed = refl;
   cache_tells = λ s o c. c;
 }
 
@@ -144,6 +150,7 @@ whole_ends g b m to k j s f c =
       finished = subst (IsFinished g m.events) (sym c.count_is) f;
       flushed = c.flushed;
       cancelled = λ h. absurd (omega (arith, h, q));
+      unfailed = c.unfailed ∙ s.unfailed;
       cache_later = s.cache_tells;
     }
 
@@ -151,7 +158,7 @@ whole_ends g b m to k j s f c =
 sink_cause : (g : Setup) (xs : List Exchange) (b n : RunTold) (faults : ℕ) (e : FileReconstructionError)
     → b.sink.faults ≤ faults
     → SinkCause faults n.sink.faults e → Cause g xs b n e
-sink_cause g xs b n faults e le (inl h) = subst (Cause g xs b n) (sym h) tt
+sink_cause g xs b n faults e le (inl h) = subst (Cause g xs b n) (sym h.0) tt
 sink_cause g xs b n faults e le (inr h) =
     let rose : Rose faults n.sink.faults = h.1 in
     let all : Rose b.sink.faults n.sink.faults = omega (arith, rose, le) in
@@ -160,7 +167,7 @@ sink_cause g xs b n faults e le (inr h) =
 -- it is no expired URL
 sink_unspent : {A : Type 0} (before after : ℕ) (e : FileReconstructionError) → SinkCause before after e
     → e ≡ error.UrlExpired → A
-sink_unspent before after e (inl h) u = absurd (let z : error.OutOfMemory ≡ error.UrlExpired = sym h ∙ u in cc)
+sink_unspent before after e (inl h) u = absurd (let z : error.OutOfMemory ≡ error.UrlExpired = sym h.0 ∙ u in cc)
 sink_unspent before after e (inr h) u = absurd (let z : error.IoError ≡ error.UrlExpired = sym h.0 ∙ u in cc)
 
 -- and after an error it is to stop
@@ -171,6 +178,7 @@ whole_fails g b m to k e s c = record {
   ties = tie_flush g b m.told m.events s.slack to c.took c.faults c.link s.ties;
   left = steady_leaves b.clients e s.slack s.leaves.hidden s.late s.leaves.ahead;
   cause = sink_cause g s.slack.heard b (record m.told { sink = to }) m.told.sink.faults e s.ties.taken.faults c.cause;
+  unfailed = sink_unfailed b.sink.faults to.faults m.told.sink.faults to.faults e c.cause;
   spent = λ h. sink_unspent m.told.sink.faults to.faults e c.cause h;
   cache_tells = s.cache_tells;
 }
@@ -193,6 +201,7 @@ failing_ends g b n es fs e answer s f =
       finished = tt;
       flushed = tt;
       cancelled = λ h. tt;
+      unfailed = stopped_unfailed b.sink.faults n.sink.faults es fs e x f.stopped s.unfailed;
       cache_later = s.cache_tells;
     })
 

@@ -27,7 +27,7 @@ use Rattle.xet_run.specs.declared.event.Event.{Event}
 use Rattle.xet_ties.specs.Causes.{BlockFailsIn, Cause, FirstFailed, IsBlockTest, QueryFailed, SomeFailed, SomeRose}
 use Rattle.xet_ties.specs.Cuts.{AskedCut, FirstCut, StartsAt}
 use Rattle.xet_ties.specs.History.{range_at}
-use Rattle.xet_ties.specs.InCall.{answers_of, EachExchange, EachGrew, Exchange, SomeOne, EachAskedAs}
+use Rattle.xet_ties.specs.InCall.{answers_of, EachExchange, EachGrew, Exchange, SomeOne, EachAskedAs, Place}
 use Rattle.xet_ties.specs.Lanes.{Ask, EachDrew, IsFor, entries_of}
 use Rattle.xet_ties.specs.Saids.{BlockOfPlan}
 use Rattle.xet_ties.specs.Setup.{IsOver, RunTold, Setup}
@@ -94,7 +94,7 @@ lane_rose fs (b ∷ bs) (n ∷ ns) (q ∷ qs) (x ∷ es) (suc i) end d at last =
     inr (lane_rose fs bs ns qs es i end d.1 at last)
 
 -- since the start
-since : (es : List Event) (l : ℕ) (bs ms ns : List ClientTold) (hs : List (List Served)) (ks : List ℕ)
+since : (es : List Event) (l : ℕ) (bs ms ns : List ClientTold) (hs : List (List Served)) (ks : List (List Place))
     → EachLane es l bs ms hs ks → SomeRose ms ns → SomeRose bs ns
 since es l bs [] ns hs ks t r = absurd r
 since es l [] (m ∷ ms) ns hs ks t r = absurd t

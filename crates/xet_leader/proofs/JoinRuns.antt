@@ -15,7 +15,7 @@ use Rattle.xet_writers.specs.Sequential.{Sequential, told_of}
 use Rattle.xet_writers.proofs.CallerLemmas.{open_writer}
 use Rattle.xet_ties.specs.Setup.{RunTold, Setup}
 use Rattle.xet_ties.specs.steps.Parts.{FoundBlock, PollCall}
-use Rattle.xet_ties.specs.Ties.{AllAre, all_of, Slack}
+use Rattle.xet_ties.specs.Ties.{all_of, NoneLate, Slack}
 use Rattle.xet_ties.proofs.CallerLemmas.{none_hidden, none_late, poll_ties, steady_leaves, stop_ties, grew_none}
 use Rattle.xet_leader.specs.declared.joining.Prepared.{Prepared}
 use Rattle.xet_leader.specs.declared.leader.LedPlan.{LedPlan}
@@ -60,6 +60,7 @@ calm_goes g b m o l y c s =
       };
       led = led_more g b m.events sl to o.stale l (tells_more_heard sl to (grew_none sl.heard) refl) s.led;
       calm = c.calm.no refl ∙ s.calm;
+      unfailed = s.unfailed;
       cache_tells = s.cache_tells;
     }
 
@@ -73,8 +74,9 @@ stop_fails g b m o l y e is c s =
       slack = sl;
       ties = r.0;
       left = steady_leaves b.clients error.Cancelled sl (ap all_of s.settled.hidden ∙ none_hidden b.clients)
-          (subst (AllAre 0) (sym s.settled.late) (none_late b.clients)) s.settled.ahead;
+          (subst NoneLate (sym s.settled.late) (none_late b.clients)) s.settled.ahead;
       cause = r.1;
+      unfailed = s.unfailed;
       spent = λ h. absurd (cc);
       cache_tells = s.cache_tells;
     } in

@@ -1,5 +1,5 @@
 -- What a whole join does, by what preparing a round and the round do.
-use Rattle.std.proofs.Common.{◌≡◌, ℕ, ◌+◌, ◌-◌, ◌^◌, min, List, length, subst, ap, arith, inr, Ok, Err}
+use Rattle.std.proofs.Common.{◌≡◌, ℕ, ◌+◌, ◌-◌, ◌^◌, min, ◌∙◌, ⊎_elim, List, length, subst, ap, arith, inr, Ok, Err}
 use Rattle.std.specs.Prelude.{OnOk, Result}
 use Rattle.xet_outside.specs.Told.{CacheTold, ClientTold, SinkTold}
 use Rattle.xet_error.specs.declared.error.FileReconstructionError.{FileReconstructionError}
@@ -8,9 +8,10 @@ use Rattle.xet_writers.specs.Sequential.{Sequential}
 use Rattle.xet_leader.specs.declared.joining.Prepared.{Prepared}
 use Rattle.xet_leader.specs.declared.missing_blocks.BlockAt.{BlockAt}
 use Rattle.xet_leader.specs.declared.outcomes.Outcome.{Outcome}
+use Rattle.xet_leader.specs.Admission.{SameCounts}
 use Rattle.xet_leader.specs.JoinCalls.{Joining, Touching}
 use Rattle.xet_leader.specs.Joins.{RoundTurn}
-use Rattle.xet_leader.specs.JoinTurns.{JoinTurn, PrepareTurn}
+use Rattle.xet_leader.specs.JoinTurns.{JoinTurn, PrepareTurn, RoundJoined, Unprepared}
 use Rattle.xet_leader.specs.Led.{Led}
 use Rattle.xet_leader.specs.Looks.{LookTurn}
 
@@ -55,3 +56,18 @@ join_ran told tries a z middle p places answer same prepares round =
           (round_counted told tries p a.clients z.clients middle.writer z.writer middle.events z.events middle.led z.led
           answer own);
     })
+
+-- a join plans and admits nothing
+pub join_counts : {S : Type 0} (told : S → SinkTold) (tries : ℕ) (a z : Joining S) (out : Outcome)
+    → JoinTurn told tries a z (Ok out) → SameCounts a.led z.led
+join_counts told tries a z out t =
+    ⊎_elim
+    (λ (u : Unprepared a z (Ok out)). absurd u.fails)
+    (λ (r : RoundJoined told tries a z (Ok out)).
+    let before = r.prepares.counts in
+    let led = r.round.ok.took.kept.led in
+    record {
+      planned_is = ap (λ (x : Led). x.planned) led ∙ before.planned_is;
+      admitted_is = ap (λ (x : Led). x.admitted) led ∙ before.admitted_is;
+    })
+    t

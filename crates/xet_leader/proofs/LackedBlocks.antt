@@ -1,12 +1,13 @@
 -- Lists of blocks without repetition, and what terms lack.
 use Rattle.std.proofs.Common.{⊎_elim, ◌≡◌, ℕ, ◌+◌, ◌-◌, ◌<◌, ◌≤◌, List, [], ◌∷◌, ◌++◌, length, take, drop, refl, sym, ◌∙◌, ap, arith, get_or}
-use Rattle.std.specs.Prelude.{◌⊎◌}
+use Rattle.std.specs.Prelude.{◌⊎◌, None, Option, Some}
 use Rattle.std.proofs.lemmas.List.{append-nil, drop_all, drop_more, take_more}
 use Rattle.std.proofs.lemmas.List.Concat.{flat_map-append}
 use Rattle.xet_blocks.specs.declared.reconstruction_terms.file_term.FileTerm.{FileTerm}
 use Rattle.xet_leader.specs.declared.leader.LedPlan.{LedPlan}
 use Rattle.xet_leader.specs.declared.missing_blocks.BlockAt.{BlockAt}
 use Rattle.xet_leader.specs.Lacking.{lacked, lacked_by, lacked_in, with_place, with_places}
+use Rattle.xet_leader.specs.Listings.{lower, lowest_from}
 
 -- ---- lists of places
 
@@ -17,17 +18,36 @@ with_places-append cs (d ∷ ds) es = with_places-append (with_place cs d) ds es
 -- ---- walks over terms and plans
 
 -- one more term of a plan
+lacked_by_more : (l : LedPlan) (ts : List FileTerm) (i : ℕ) (t : FileTerm) → i < length ts
+    → lacked_by l (take (i + 1) ts) ≡ lacked_by l (take i ts) ++ lacked_in l (get_or ts i t)
+lacked_by_more l ts i t h =
+    let here = lacked_in l (get_or ts i t) in
+    let more : take (i + 1) ts ≡ take i ts ++ get_or ts i t ∷ [] = take_more ts i t h in
+    ap (lacked_by l) more ∙ flat_map-append (lacked_in l) (take i ts) (get_or ts i t ∷ [])
+    ∙ ap (λ (u : List BlockAt). lacked_by l (take i ts) ++ u) (append-nil here)
+
 pub lacked_more : (l : LedPlan) (cs ds es : List BlockAt) (ts : List FileTerm) (i : ℕ) (t : FileTerm) → i < length ts
     → ds ≡ with_places cs (lacked_by l (take i ts)) → es ≡ with_places ds (lacked_in l (get_or ts i t))
     → es ≡ with_places cs (lacked_by l (take (i + 1) ts))
 lacked_more l cs ds es ts i t h d e =
     let here = lacked_in l (get_or ts i t) in
-    let more : take (i + 1) ts ≡ take i ts ++ get_or ts i t ∷ [] = take_more ts i t h in
-    let whole : lacked_by l (take (i + 1) ts) ≡ lacked_by l (take i ts) ++ here =
-    ap (lacked_by l) more ∙ flat_map-append (lacked_in l) (take i ts) (get_or ts i t ∷ [])
-    ∙ ap (λ (u : List BlockAt). lacked_by l (take i ts) ++ u) (append-nil here) in
     e ∙ ap (λ (u : List BlockAt). with_places u here) d ∙ sym (with_places-append cs (lacked_by l (take i ts)) here)
-    ∙ ap (with_places cs) (sym whole)
+    ∙ ap (with_places cs) (sym (lacked_by_more l ts i t h))
+
+-- the lowest number, with one more term
+lowest_from-append : (o : Option ℕ) (cs ds : List BlockAt)
+    → lowest_from o (cs ++ ds) ≡ lowest_from (lowest_from o cs) ds
+lowest_from-append o [] ds = refl
+lowest_from-append o (c ∷ cs) ds = lowest_from-append (Some (lower o c.block)) cs ds
+
+pub lowest_more : (l : LedPlan) (o p : Option ℕ) (ts : List FileTerm) (i : ℕ) (t : FileTerm) → i < length ts
+    → o ≡ lowest_from None (lacked_by l (take i ts)) → p ≡ lowest_from o (lacked_in l (get_or ts i t))
+    → p ≡ lowest_from None (lacked_by l (take (i + 1) ts))
+lowest_more l o p ts i t h before more =
+    let here = lacked_in l (get_or ts i t) in
+    more ∙ ap (λ (u : Option ℕ). lowest_from u here) before
+    ∙ sym (lowest_from-append None (lacked_by l (take i ts)) here)
+    ∙ ap (lowest_from None) (sym (lacked_by_more l ts i t h))
 
 -- one more plan
 pub lacked_next : (plans : List LedPlan) (at skip left skips lefts : ℕ) (l : LedPlan) (cs ds all : List BlockAt)

@@ -74,4 +74,5 @@ mod WindowSteps
 mod WindowTasks
 mod WindowTies
 mod WindowWriters
+mod WriterFaults
 mod WroteEvents

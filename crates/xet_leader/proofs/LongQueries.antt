@@ -1,9 +1,10 @@
 -- The queries that a manager schedules have the least size at least, but for one up to the range's end.
 use Rattle.std.proofs.Common.{◌≡◌, ℕ, ◌+◌, ◌-◌, ◌<◌, ◌≤◌, ◌^◌, min, Bool, true, false, cond, [], ◌∷◌, ◌++◌, refl, subst, arith, inl, inr, ◌⊎◌, ⊎_elim}
-use Rattle.std.specs.Prelude.{All, max, nat_le, nat_lt, length, ◌*◌, ◌&&◌}
+use Rattle.std.specs.Prelude.{All, Option, max, nat_le, nat_lt, length, ◌*◌, ◌&&◌}
 use Rattle.std.proofs.lemmas.Bool.{cases_lt}
 use Rattle.std.proofs.lemmas.List.Elements.{All-nil, All-push}
 use Rattle.xet_base.specs.declared.cas_types.FileRange.{FileRange}
+use Rattle.xet_base.specs.declared.item_id.UniqueID.{UniqueID}
 use Rattle.xet_terms.specs.Managers.{Manager, begun, bounded, cut_at, cut_end, empty_manager, looked_ahead, scheduled, scheduled_end}
 use Rattle.xet_ties.specs.Setup.{Setup}
 use Rattle.xet_ties.specs.Ties.{IsLong}
@@ -65,14 +66,14 @@ looked_long g m policy is fits open_still a =
     go false false = next
 
 -- one that has just begun
-pub begun_long : (j : Job) → j.byte_range.end < 2 ^ 64
-    → All (IsLong (setup_of_job j)) (begun j.file_hash j.byte_range j.config).queries
-begun_long j fits =
+pub begun_long : (j : Job) (p : Option UniqueID) → j.byte_range.end < 2 ^ 64
+    → All (IsLong (setup_of_job j)) (begun j.file_hash j.byte_range j.config p).queries
+begun_long j p fits =
     scheduled_long (setup_of_job j) first refl refl fits refl (bounded (first.least * 2))
     (scheduled_long (setup_of_job j) none refl refl fits refl none.least (All-nil (IsLong (setup_of_job j))))
   where
     none : Manager
-    none = empty_manager j.file_hash j.byte_range j.config
+    none = empty_manager j.file_hash j.byte_range j.config p
 
     first : Manager
     first = record none { queries = scheduled none none.least }

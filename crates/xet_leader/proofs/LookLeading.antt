@@ -20,6 +20,7 @@ use Rattle.xet_leader.specs.Looks.{EndsShort, IsLedBy, LookLeads, LookTurn, Look
 use Rattle.xet_leader.specs.Steady.{IsFailing, IsGoing, Loose, Moment, no_loose}
 use Rattle.xet_leader.proofs.FetchFacts.{missing_lists}
 use Rattle.xet_leader.proofs.LookTies.{Looking, look_each}
+use Rattle.xet_leader.proofs.WriterFaults.{any_unfailed}
 
 -- the leader of a run that goes on
 pub led_by : (g : Setup) (b : RunTold) (m : Moment) (o : Loose) (l : Led) (es : List Event) → m.events ≡ es
@@ -48,6 +49,7 @@ failing g b m o l t u es fs e memory short s =
       ties = s.ties;
       left = left s.slack;
       cause = cause t;
+      unfailed = any_unfailed b.sink.faults m.told.sink.faults e s.unfailed;
       spent = spent es;
       cache_tells = s.cache_tells;
     } in
@@ -62,6 +64,7 @@ failing g b m o l t u es fs e memory short s =
       ties = r.1;
       left = left to;
       cause = cause u;
+      unfailed = any_unfailed b.sink.faults m.told.sink.faults e s.unfailed;
       spent = spent fs;
       cache_tells = λ v o k. look_tells v t u h.entries (s.cache_tells v o k);
     } in z)

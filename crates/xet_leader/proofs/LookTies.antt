@@ -148,6 +148,7 @@ module _ (g : Setup) (b : RunTold) (m : Moment) (l : Led) where
         };
         led = led_more g b es sl to [] (record l { plans = ls }) (tells_more_looks sl to grew.0 refl grew.1) s.led;
         calm = s.calm;
+        unfailed = s.unfailed;
         cache_tells = λ v o k. look_tells v t u entries (s.cache_tells v o k);
       } in
       let list : IsFetchList es l.finished ((acc ++ c ∷ []) ++ cs) =
@@ -219,6 +220,7 @@ module _ (g : Setup) (b : RunTold) (m : Moment) (l : Led) where
         };
         led = subst (λ (v : Event). IsLed g b (es ++ v ∷ []) to [] (record l { plans = ms })) event led;
         calm = s.calm;
+        unfailed = s.unfailed;
         cache_tells = λ v o y. look_tells v t u entries (s.cache_tells v o y);
       } in
       (going, list_found es l.finished acc cs c w.1)

@@ -38,6 +38,7 @@ use Rattle.xet_leader.proofs.Leading.{lead_more}
 use Rattle.xet_leader.proofs.MoreTold.{led_more, tells_more_heard}
 use Rattle.xet_leader.proofs.PlanPlaces.{place_number}
 use Rattle.xet_leader.proofs.RefreshedEvents.{at_place}
+use Rattle.xet_leader.proofs.WriterFaults.{any_unfailed}
 
 -- the moment after an offer
 abbrev cached_at : Moment → CacheTold → Moment
@@ -195,6 +196,7 @@ offered_going g b m o a ps l x d at kept fetched call s =
       led = led_more g b m.events s.slack (record s.slack { due = n }) o.stale l
           (tells_more_heard s.slack (record s.slack { due = n }) (grew_none s.slack.heard) refl) s.led;
       calm = s.calm;
+      unfailed = s.unfailed;
       cache_tells = λ z over tells. offer_tells z over.valid x m.told.cache d (Ok tt) call (found.honest z over tells)
           (s.cache_tells z over tells);
     }
@@ -248,6 +250,7 @@ short_failing g b m o l x d e call s =
       left = subst (λ (y : FileReconstructionError). MayLeave (Some y) b.clients s.slack) (sym memory)
           (short_leaves b.clients s.slack);
       cause = subst (Cause g s.slack.heard b (record m.told { cache = d })) (sym memory) tt;
+      unfailed = any_unfailed b.sink.faults m.told.sink.faults e s.unfailed;
       spent = λ h. absurd (let z : error.OutOfMemory ≡ error.UrlExpired = sym memory ∙ h in cc);
       cache_tells = λ z over tells. subst (CacheTells z) (sym same) (s.cache_tells z over tells);
     }

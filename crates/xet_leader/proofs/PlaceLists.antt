@@ -33,24 +33,44 @@ apart_below first low p b q c plan below =
     (λ other. rw (other.0) refl)
     (eqb_tells c.plan (p + first))
 
+-- nor is a block of a plan below the first one
+apart_before : (first low p b : ℕ) (c : BlockAt) → c.plan < first → same_place c (place_of first low p b) ≡ false
+apart_before first low p b c before =
+    let other = ne_eqb c.plan (p + first) (λ h. absurd (omega (arith, h, before))) in rw other refl
+
 -- so the table is as it was, where such a block joins the list
-below_kept : (first low q : ℕ) (t : BlockTable) (cs ds : List BlockAt) (c : BlockAt) → AreListed first low t cs
-    → c.plan ≡ q + first → c.block < base_of low q → ds ≡ with_place cs c → AreListed first low t ds
-below_kept first low q t cs ds c h plan below more p b =
+abbrev IsApart : ℕ → ℕ → BlockAt → Type 0
+IsApart first low c = (p b : ℕ) → same_place c (place_of first low p b) ≡ false
+
+kept_apart : (first low : ℕ) (t : BlockTable) (cs ds : List BlockAt) (c : BlockAt) → AreListed first low t cs
+    → IsApart first low c → ds ≡ with_place cs c → AreListed first low t ds
+kept_apart first low t cs ds c h apart more p b =
     h p b ∙ sym (ap (λ (l : List BlockAt). lists l (place_of first low p b)) more ∙ go (lists cs c))
   where
     go : (known : Bool) → lists (cond known cs (cs ++ c ∷ [])) (place_of first low p b) ≡ lists cs (place_of first low p b)
     go true = refl
     go false = listed_more cs c (place_of first low p b)
-        ∙ ap (λ x. lists cs (place_of first low p b) || x) (apart_below first low p b q c plan below)
+        ∙ ap (λ x. lists cs (place_of first low p b) || x) (apart p b)
         ∙ or-false (lists cs (place_of first low p b))
+
+listed_apart : (first low : ℕ) (t : BlockTable) (cs ds : List BlockAt) (c : BlockAt)
+    (answer : Result (Unit {0}) OutOfMemory) → AreListed first low t cs → IsApart first low c
+    → OnOk answer (ds ≡ with_place cs c) → OnErr answer (ds ≡ cs) → AreListed first low t ds
+listed_apart first low t cs ds c (Ok u) h apart more same = kept_apart first low t cs ds c h apart more
+listed_apart first low t cs ds c (Err e) h apart more same =
+    subst (λ (l : List BlockAt). AreListed first low t l) (sym same) h
+
+pub listed_before : (first low : ℕ) (t : BlockTable) (cs ds : List BlockAt) (c : BlockAt)
+    (answer : Result (Unit {0}) OutOfMemory) → AreListed first low t cs → c.plan < first
+    → OnOk answer (ds ≡ with_place cs c) → OnErr answer (ds ≡ cs) → AreListed first low t ds
+listed_before first low t cs ds c answer h before more same =
+    listed_apart first low t cs ds c answer h (λ p b. apart_before first low p b c before) more same
 
 pub listed_below : (first low q : ℕ) (t : BlockTable) (cs ds : List BlockAt) (c : BlockAt)
     (answer : Result (Unit {0}) OutOfMemory) → AreListed first low t cs → c.plan ≡ q + first
     → c.block < base_of low q → OnOk answer (ds ≡ with_place cs c) → OnErr answer (ds ≡ cs) → AreListed first low t ds
-listed_below first low q t cs ds c (Ok u) h plan below more same = below_kept first low q t cs ds c h plan below more
-listed_below first low q t cs ds c (Err e) h plan below more same =
-    subst (λ (l : List BlockAt). AreListed first low t l) (sym same) h
+listed_below first low q t cs ds c answer h plan below more same =
+    listed_apart first low t cs ds c answer h (λ p b. apart_below first low p b q c plan below) more same
 
 -- the numbers in the table tell blocks apart as their own do
 alike : (first low p b : ℕ) (id : BlockId) (c : BlockAt) → c.plan ≡ id.plan + first

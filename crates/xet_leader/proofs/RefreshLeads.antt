@@ -17,7 +17,7 @@ use Rattle.xet_run.specs.declared.event.Event.TheVariants.{Refreshed}
 use Rattle.xet_ties.specs.History.{range_at}
 use Rattle.xet_ties.specs.Setup.{RunTold, Setup}
 use Rattle.xet_ties.specs.steps.Moves.{heard_first}
-use Rattle.xet_ties.specs.Ties.{AllAre, Slack, all_of}
+use Rattle.xet_ties.specs.Ties.{NoneLate, Slack, all_of}
 use Rattle.xet_ties.proofs.CallerLemmas.{drop_at, grew_first, none_hidden, none_late, steady_leaves}
 use Rattle.xet_parts.specs.PlanRefreshes.{again}
 use Rattle.xet_parts.proofs.CallerLemmas.{refresh_cause, refreshed_ties}
@@ -31,6 +31,7 @@ use Rattle.xet_leader.proofs.MoreTold.{tells_more_heard}
 use Rattle.xet_leader.proofs.PlanPlaces.{place_absent, place_number}
 use Rattle.xet_leader.proofs.RefreshTables.{asks_again, refresh_passes}
 use Rattle.xet_leader.proofs.RefreshedEvents.{at_place, led_absent, led_refreshed}
+use Rattle.xet_leader.proofs.WriterFaults.{any_unfailed}
 
 -- what a refresh touches at a moment
 abbrev touched : ClientTold → Moment → Led → Touched
@@ -69,6 +70,7 @@ passed g b m o p rest l none s = record {
   settled = settled_same b o (p ∷ rest) rest s.slack s.settled;
   led = led_absent g b m.events s.slack p rest l (place_absent l.plans p s.led.plans.follow none) s.led;
   calm = s.calm;
+  unfailed = s.unfailed;
   cache_tells = s.cache_tells;
 }
 
@@ -147,6 +149,7 @@ renewed_going g b m o cs c multi p place rest l a same is found r s =
           (subst (λ (ls : List LedPlan). IsLed g b (m.events ++ Refreshed p ∷ []) to rest (record l { plans = ls }))
           (sym r.plans) led);
       calm = s.calm;
+      unfailed = s.unfailed;
       cache_tells = s.cache_tells;
     }
 
@@ -176,8 +179,9 @@ refused g b m o cs c multi p place rest l a e same is found r s =
       slack = sl;
       ties = short.ties;
       left = steady_leaves b.clients e sl (ap all_of s.settled.hidden ∙ none_hidden b.clients)
-          (subst (AllAre 0) (sym s.settled.late) (none_late b.clients)) s.settled.ahead;
+          (subst NoneLate (sym s.settled.late) (none_late b.clients)) s.settled.ahead;
       cause = short.cause;
+      unfailed = any_unfailed b.sink.faults m.told.sink.faults e s.unfailed;
       spent = λ h. absurd (subst (λ (y : FileReconstructionError). RefreshCause (again x.block multi) c a.client y) h
           r.call.cause);
       cache_tells = s.cache_tells;

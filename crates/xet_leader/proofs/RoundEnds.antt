@@ -12,6 +12,7 @@ use Rattle.xet_writers.specs.Sequential.{Sequential}
 use Rattle.xet_ties.specs.Setup.{Setup}
 use Rattle.xet_leader.specs.declared.missing_blocks.BlockAt.{BlockAt}
 use Rattle.xet_leader.specs.declared.outcomes.Outcome.{Outcome}
+use Rattle.xet_leader.specs.Admission.{SameCounts}
 use Rattle.xet_leader.specs.JoinCalls.{CanJoin, JoinLead, JoinLeads, Joining}
 use Rattle.xet_leader.specs.Joins.{to_settle}
 use Rattle.xet_leader.specs.Led.{AreStale, Led}
@@ -95,6 +96,7 @@ each_keeps g multi (p ∷ ps) a b r =
 pub record SettleKeeps (g : Setup) (a b : Reached) : Type 0 where
   pub same : written b.events ≡ written a.events
   pub stays : measure g b.events b.led ≤ measure g a.events a.led
+  pub counts : SameCounts a.led b.led
 
 pub settle_keeps : (g : Setup) (multi : Bool) (places : List BlockAt) (stale : List ℕ) (a b : Reached)
     → SettleTurn multi places stale a b (Ok tt) → SettleKeeps g a b
@@ -107,7 +109,14 @@ settle_keeps g multi places stale a b t =
     let k = each_keeps g multi stale before after r.calls.ok in
     let led : measure g b.events b.led ≡ measure g b.events a.led = ap (λ (z : Led). measure g b.events z) r.led in
     let stays = k.stays a.led in
-    record { same = k.same; stays = omega (arith, led, stays) })
+    record {
+      same = k.same;
+      stays = omega (arith, led, stays);
+      counts = record {
+        planned_is = ap (λ (z : Led). z.planned) r.led;
+        admitted_is = ap (λ (z : Led). z.admitted) r.led;
+      };
+    })
     (λ (x : OfferedShort places a b (Ok tt)). absurd (let e : Ok tt ≡ Err x.error = x.is in cc))
     t
 
@@ -120,7 +129,7 @@ settled_at m cs b = record { told = record m.told { clients = b.client ∷ cs; c
 module _ {S : Type 0} (told : S → SinkTold) (g : Setup) (m n : Moment) (l : Led) (v w : Sequential S) (multi : Bool)
     (out : Outcome) (cs : List ClientTold) (a b : Reached) (same : g.multirange ≡ multi)
     (clients : n.told.clients ≡ a.client ∷ cs) (cache : n.told.cache ≡ a.cache) (events : n.events ≡ a.events)
-    (joined : JoinLead told g m n l a.led v w (Ok out)) where
+    (joined : JoinLead told g m n l a.led v w (Ok out)) (counts : SameCounts l a.led) where
   work_settled : (answer : Answer) → SettleTurn multi out.served.items out.stale.items a b answer
       → SettleLeads multi out.served.items out.stale.items a b answer
       → WorkCall told g m (settled_at n cs b) l b.led v w answer
@@ -132,6 +141,7 @@ module _ {S : Type 0} (told : S → SinkTold) (g : Setup) (m n : Moment) (l : Le
           (leads g n cs same clients cache events j.1).err o j.0.going;
     };
     less = λ o s. tt;
+    counts = tt;
   }
   work_settled (Ok tt) t leads =
       let keeps = settle_keeps g multi out.served.items out.stale.items a b t in
@@ -154,6 +164,10 @@ module _ {S : Type 0} (told : S → SinkTold) (g : Setup) (m n : Moment) (l : Le
               stays = omega (arith, stays, at, no_more);
               falls = λ open_still. let less = x.falls open_still in omega (arith, stays, at, less);
             };
+        counts = record {
+          planned_is = keeps.counts.planned_is ∙ counts.planned_is;
+          admitted_is = keeps.counts.admitted_is ∙ counts.admitted_is;
+        };
       }
 
 -- what settling needs of a join
@@ -187,8 +201,8 @@ can_settle told g tries a y out few can joined =
 pub work_leads : {S : Type 0} (told : S → SinkTold) (g : Setup) (tries : ℕ) (multi : Bool) (out : Outcome)
     (a y z : Joining S) (answer : Answer) → g.tries ≡ tries → g.multirange ≡ multi → JoinLeads told tries a y (Ok out)
     → FirstSettled multi out y.clients z.clients y.cache z.cache y.events z.events y.led z.led answer
-    → z.signal ≡ y.signal → z.writer ≡ y.writer → WorkLeads told g a z answer
-work_leads {S = S} told g tries multi out a y z answer few same joined f signal writer m at =
+    → z.signal ≡ y.signal → z.writer ≡ y.writer → SameCounts a.led y.led → WorkLeads told g a z answer
+work_leads {S = S} told g tries multi out a y z answer few same joined f signal writer counts m at =
     let n : Moment = seen_at told m y in
     let before : Reached = record { client = f.first; cache = y.cache; events = y.events; led = y.led } in
     let after : Reached = record { client = f.next; cache = z.cache; events = z.events; led = z.led } in
@@ -201,7 +215,7 @@ work_leads {S = S} told g tries multi out a y z answer few same joined f signal 
     joined g m few at.clients at.cache at.signal at.events in
     let first : To (f.next ∷ f.others) y.signal y.writer =
     work_settled told g m n a.led a.writer y.writer multi out f.others before after same f.before refl refl join
-    answer f.turn f.leads in
+    counts answer f.turn f.leads in
     let with_clients : To z.clients y.signal y.writer =
     subst (λ (v : List ClientTold). To v y.signal y.writer) (sym f.after) first in
     let with_signal : To z.clients z.signal y.writer =
@@ -217,4 +231,5 @@ work_fails told g tries a z e few joined m at = record {
     err = λ b s. (joined g m few at.clients at.cache at.signal at.events).err b s;
   };
   less = λ b s. tt;
+  counts = tt;
 }

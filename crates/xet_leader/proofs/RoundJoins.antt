@@ -105,6 +105,10 @@ window_cause : (before after : SinkTold) (window : List ℕ) (wrote : Result ℕ
     → SinkCause before.faults after.faults x
 window_cause before after window wrote x c e = (subst (WindowCall before after window) e c).cause
 
+window_unfailed : (before after : SinkTold) (window : List ℕ) (wrote : Result ℕ FileReconstructionError) (k : ℕ)
+    → WindowCall before after window wrote → wrote ≡ Ok k → after.faults ≡ before.faults
+window_unfailed before after window wrote k c e = (subst (WindowCall before after window) e c).unfailed
+
 -- ---- the writer
 
 record OpenWriter {S : Type 0} (told : S → SinkTold) (m : Moment) (pieces : List (List ℕ)) (w : Sequential S)
@@ -171,6 +175,7 @@ record JoinTold {S : Type 0} (told : S → SinkTold) (g : Setup) (b : RunTold) (
       (record sl { ahead = count }) z.clients fs (lanes_of j.ends.items) l
   whole : (k : ℕ) → j.wrote ≡ Ok k → count ≡ total lengths
   cause : (x : FileReconstructionError) → j.wrote ≡ Err x → SinkCause b.sink.faults (told z.writer.sink).faults x
+  unfailed : (k : ℕ) → j.wrote ≡ Ok k → (told z.writer.sink).faults ≡ b.sink.faults
 
 -- where there are fetches the signal was asked
 polled_once : (ls : List LedPlan) (n : ℕ) (cs : List BlockAt) (fs : List Fetch) {spare : ℕ} → spare ≡ polls_for cs
@@ -216,8 +221,9 @@ join_told told g b m l cs lengths a z j same p f =
           (lanes_of j.ends.items) l asks drew.drew s.settled.hidden s.settled.late
           (polled_once l.plans l.fetches cs f.asked s.settled.spare f.made) ties led;
       whole = λ k e. some.whole k e ∙ window_total g b m.events sl l lengths p.pieces p.window;
-      cause = λ x e. sink_since g b m.told m.events sl to.faults x s.ties
+      cause = λ x e. sink_since b m.told to.faults x s.unfailed
           (window_cause m.told.sink to (concat p.pieces) j.wrote x call e);
+      unfailed = λ k e. window_unfailed m.told.sink to (concat p.pieces) j.wrote k call e ∙ s.unfailed;
     }
 
 -- ---- it is to stop
@@ -279,7 +285,7 @@ stopped told g b m l cs lengths a z j tries fs e few same p f h =
     (⊎_elim
     (λ (x : join_error j ≡ Some e). round_stops g b at m.events sl z.clients
     (map ask_of f.asked) ends l lengths j.wrote e t.asks t.drew t.left t.ties t.led x t.whole t.cause
-    p.going.cache_tells)
+    t.unfailed p.going.cache_tells)
     (λ (x : (join_error j ≡ None) × KeepFails tries j.ends.items (fetched_led cs l) e).
     let n = no_error j.wrote ends x.0 in
     ⊎_elim
@@ -289,7 +295,8 @@ stopped told g b m l cs lengths a z j tries fs e few same p f h =
     let some : spends g.tries (flat_map places_of ls) (plans_kept ls l.plans) ≡ true =
     ap (λ (i : ℕ). spends i (flat_map places_of ls) (plans_kept ls l.plans)) few ∙ y.1 in
     let spent = round_spent g b at m.events sl z.clients (map ask_of f.asked) ls l lengths t.left
-    (lanes_well ends t.drew.last n.1) some (t.whole n.0.0 n.0.1) p.going.cache_tells in
+    (lanes_well ends t.drew.last n.1) some (t.whole n.0.0 n.0.1) (t.unfailed n.0.0 n.0.1)
+    p.going.cache_tells in
     subst (λ (i : FileReconstructionError). IsFailing g b
     (after_round told m z (m.events ++ join_events j lengths)) i) (sym y.0)
     (subst (λ (o : Result ℕ FileReconstructionError). IsFailing g b
@@ -353,6 +360,7 @@ going_fetches g b m o l n s = record {
   settled = s.settled;
   led = led_fetches g b m.events s.slack o.stale l n s.led;
   calm = s.calm;
+  unfailed = s.unfailed;
   cache_tells = s.cache_tells;
 }
 
@@ -397,7 +405,7 @@ went told g b m l k cs lengths a z j tries fs o few same p f h =
     let go = round_goes g b at es sl z.clients (map ask_of f.asked) ls l ts w.rest t.left
     (lanes_well ends t.drew.last n.1) tries_left w.next w.within
     (t.whole n.0.0 n.0.1 ∙ ap total w.lengths_are) s.settled.lost s.settled.step s.calm
-    s.cache_tells in
+    (t.unfailed n.0.0 n.0.1) s.cache_tells in
     let all = lanes_events ls ++ wrote_of (map size ts) in
     let events : fs ≡ es ++ all = h.recorded ∙ ap (λ (r : Result ℕ FileReconstructionError). es ++
     (lanes_events ls ++ window_events r lengths)) n.0.1

@@ -22,7 +22,7 @@ use Rattle.xet_ties.specs.steps.Moves.{no_hidden, no_late}
 use Rattle.xet_ties.specs.steps.Parts.{total}
 use Rattle.xet_ties.specs.steps.Records.{Recorded, expired_on, fetched_on, lane_events, places_of, wrote_of}
 use Rattle.xet_ties.specs.steps.Rounds.{blocks_at, got_of}
-use Rattle.xet_ties.specs.Ties.{AllAre, Slack, Ties, all_of, has_one}
+use Rattle.xet_ties.specs.Ties.{NoneLate, Slack, Ties, all_of, has_one}
 use Rattle.xet_ties.proofs.CallerLemmas.{grew_none, have_expired, none_hidden, none_late, short_leaves, steady_leaves, tie_written, written_short}
 use Rattle.xet_leader.specs.Expiries.{spends, stale_after}
 use Rattle.xet_leader.specs.Led.{IsLed, Led}
@@ -83,14 +83,14 @@ pub round_goes : (g : Setup) (b at : RunTold) (es : List Event) (sl : Slack) (ns
     → spends g.tries (flat_map places_of ls) (plans_kept ls l.plans) ≡ false
     → drop l.finished (planned es) ≡ ts ++ rest → l.finished + length ts ≤ l.admitted
     → sl.ahead ≡ total (map size ts)
-    → sl.lost ≡ [] → InStep sl.heard → at.signal.yes ≡ b.signal.yes
+    → sl.lost ≡ [] → InStep sl.heard → at.signal.yes ≡ b.signal.yes → at.sink.faults ≡ b.sink.faults
     → ((s : Store) → IsOver s b.clients → CacheTells s b.cache → CacheTells s at.cache)
     → IsGoing g b (record {
       told = record at { clients = ns };
       events = es ++ (lanes_events ls ++ wrote_of (map size ts));
     }) (loose_after es ls sl.due)
     (advanced (length ts) (record l { plans = plans_after ls l.plans }))
-round_goes g b at es sl ns fs ls l ts rest r none left next within ahead lost step calm tells =
+round_goes g b at es sl ns fs ls l ts rest r none left next within ahead lost step calm unfailed tells =
     let n : RunTold = record at { clients = ns } in
     let mid = es ++ lanes_events ls in
     let sizes = map size ts in
@@ -120,6 +120,7 @@ round_goes g b at es sl ns fs ls l ts rest r none left next within ahead lost st
       led = subst (λ (x : List Event). IsLed g b x to (stale_after (flat_map places_of ls) [])
           (advanced (length ts) k)) (append_assoc es (lanes_events ls) (wrote_of sizes)) moved;
       calm = calm;
+      unfailed = unfailed;
       cache_tells = tells;
     }
   where
@@ -139,6 +140,7 @@ memory_fails g b at es sl t tells = record {
   ties = t;
   left = short_leaves b.clients sl;
   cause = tt;
+  unfailed = tt;
   spent = λ h. absurd (cc);
   cache_tells = tells;
 }
@@ -146,9 +148,9 @@ memory_fails g b at es sl t tells = record {
 -- a block has no tries left, and all else is settled
 pub spent_fails : (g : Setup) (b at : RunTold) (es : List Event) (sl : Slack) → IsSpent g.tries es
     → sl.hidden ≡ no_hidden b.clients → sl.late ≡ no_late b.clients → sl.ahead ≡ 0 → Ties g b at es None sl
-    → ((s : Store) → IsOver s b.clients → CacheTells s b.cache → CacheTells s at.cache)
+    → at.sink.faults ≡ b.sink.faults → ((s : Store) → IsOver s b.clients → CacheTells s b.cache → CacheTells s at.cache)
     → IsFailing g b (record { told = at; events = es }) error.UrlExpired
-spent_fails g b at es sl h hidden late ahead t tells =
+spent_fails g b at es sl h hidden late ahead t unfailed tells =
     let most = t.tried.at_most h.plan h.block in
     let many = h.many in
     let same : count_by (expires h.plan h.block) es ≡ g.tries = omega (arith, most, many) in
@@ -156,8 +158,9 @@ spent_fails g b at es sl h hidden late ahead t tells =
       slack = sl;
       ties = t;
       left = steady_leaves b.clients error.UrlExpired sl (ap all_of hidden ∙ none_hidden b.clients)
-          (subst (AllAre 0) (sym late) (none_late b.clients)) ahead;
+          (subst NoneLate (sym late) (none_late b.clients)) ahead;
       cause = have_expired g b at es None sl h.plan h.block same t;
+      unfailed = unfailed;
       spent = λ e. (h.plan, h.block, same);
       cache_tells = tells;
     }
@@ -166,12 +169,12 @@ spent_fails g b at es sl h hidden late ahead t tells =
 pub round_spent : (g : Setup) (b at : RunTold) (es : List Event) (sl : Slack) (ns : List ClientTold) (fs : List Ask)
     (ls : List (List LaneStep)) (l : Led) (lengths : List ℕ) → RoundLeft g b at es sl ns fs ls l → All HidesNone ls
     → spends g.tries (flat_map places_of ls) (plans_kept ls l.plans) ≡ true → sl.ahead ≡ total lengths
-    → ((s : Store) → IsOver s b.clients → CacheTells s b.cache → CacheTells s at.cache)
+    → at.sink.faults ≡ b.sink.faults → ((s : Store) → IsOver s b.clients → CacheTells s b.cache → CacheTells s at.cache)
     → IsFailing g b (record {
       told = record at { clients = ns };
       events = es ++ (lanes_events ls ++ wrote_of lengths);
     }) error.UrlExpired
-round_spent g b at es sl ns fs ls l lengths r none some ahead tells =
+round_spent g b at es sl ns fs ls l lengths r none some ahead unfailed tells =
     let n : RunTold = record at { clients = ns } in
     let mid = es ++ lanes_events ls in
     let a = r.after in
@@ -181,7 +184,7 @@ round_spent g b at es sl ns fs ls l lengths r none some ahead tells =
     subst (λ (x : List Event). IsFailing g b (record { told = n; events = x }) error.UrlExpired)
     (append_assoc es (lanes_events ls) (wrote_of lengths))
     (spent_fails g b n (mid ++ wrote_of lengths) (record r.slack { ahead = 0 }) spent
-    (a.none none) a.late refl tied tells)
+    (a.none none) a.late refl tied unfailed tells)
 
 -- memory was wanting while all was recorded, bytes of the window too
 pub round_memory : (g : Setup) (b at : RunTold) (es new : List Event) (sl : Slack) (ns : List ClientTold)

@@ -19,7 +19,7 @@ use Rattle.xet_ties.specs.Lanes.{Ask}
 use Rattle.xet_ties.specs.Setup.{CacheTells, IsOver, RunTold, Setup}
 use Rattle.xet_ties.specs.steps.Parts.{total}
 use Rattle.xet_ties.specs.steps.Records.{wrote_of}
-use Rattle.xet_ties.specs.Ties.{AllAre, MayLeave, Slack, Ties, all_of}
+use Rattle.xet_ties.specs.Ties.{MayLeave, NoneLate, Slack, Ties, all_of}
 use Rattle.xet_ties.proofs.CallerLemmas.{none_hidden, none_late, tells_now, tie_written}
 use Rattle.xet_lanes.specs.JoinErrors.{end_error, first_error, lacks_memory, memory_was_short, wants_memory}
 use Rattle.xet_lanes.specs.Rounds.{End, LanesDrew, steps_of}
@@ -32,6 +32,7 @@ use Rattle.xet_leader.proofs.FailedLanes.{honest_ask, lane_cause, never_spent, o
 use Rattle.xet_leader.proofs.HonestBlocks.{IsHonestOf}
 use Rattle.xet_leader.proofs.LastSteps.{lanes_honest}
 use Rattle.xet_leader.proofs.RoundLeads.{memory_fails}
+use Rattle.xet_leader.proofs.WriterFaults.{any_unfailed, sink_unfailed}
 
 -- what is told is tied to all that the join records; the bytes are those of the window, where it was written
 record JoinTied (g : Setup) (b n : RunTold) (new : List Event) (from : Slack)
@@ -106,7 +107,7 @@ leaves g b at es sl ns fs ends l e to asks d r memory t led hidden late ahead = 
       (tells_now s es 0 b.clients at.clients sl.hidden sl.late t.served.lanes over.tell) honest d.drew.each d.last
       memory in
       ap all_of (hidden ∙ r.after.none none) ∙ none_hidden b.clients;
-  late = λ other. subst (AllAre 0) (sym (late ∙ r.after.late)) (none_late b.clients);
+  late = λ other. subst NoneLate (sym (late ∙ r.after.late)) (none_late b.clients);
   counted = λ other io. ahead (λ h. io (ap Some h));
 }
 
@@ -124,8 +125,9 @@ write_stops g b at es sl ns fs ends l e new wrote asks d r t led m j sink tells 
     n : RunTold
     n = record at { clients = ns }
 
-    memory : e ≡ error.OutOfMemory → IsFailing g b (record { told = n; events = new }) e
-    memory h = subst (λ (x : FileReconstructionError). IsFailing g b (record { told = n; events = new }) x) (sym h)
+    memory : (e ≡ error.OutOfMemory) × (at.sink.faults ≡ b.sink.faults)
+        → IsFailing g b (record { told = n; events = new }) e
+    memory h = subst (λ (x : FileReconstructionError). IsFailing g b (record { told = n; events = new }) x) (sym h.0)
         (memory_fails g b n new j.slack j.ties tells)
 
     taken : (e ≡ error.IoError) × Rose b.sink.faults at.sink.faults
@@ -135,6 +137,7 @@ write_stops g b at es sl ns fs ends l e new wrote asks d r t led m j sink tells 
       ties = j.ties;
       left = leaves g b at es sl ns fs ends l e j.slack asks d r m t led j.hidden j.late (λ io. absurd (io h.0));
       cause = subst (Cause g j.slack.heard b n) (sym h.0) h.1;
+      unfailed = sink_unfailed b.sink.faults at.sink.faults b.sink.faults at.sink.faults e sink;
       spent = λ u. absurd (let z : error.IoError ≡ error.UrlExpired = sym h.0 ∙ u in cc);
       cache_tells = tells;
     }
@@ -146,9 +149,9 @@ lane_stops : (g : Setup) (b at : RunTold) (es : List Event) (sl : Slack) (ns : L
     → (r : RoundLeft g b at es sl ns fs (steps_of ends) l)
     → Ties g b at es None sl → IsLed g b es sl [] l → list_any lacks_memory ends ≡ false
     → JoinTied g b (record at { clients = ns }) new r.slack (Ok k) → FailedLane ends e
-    → ((s : Store) → IsOver s b.clients → CacheTells s b.cache → CacheTells s at.cache)
+    → at.sink.faults ≡ b.sink.faults → ((s : Store) → IsOver s b.clients → CacheTells s b.cache → CacheTells s at.cache)
     → IsFailing g b (record { told = record at { clients = ns }; events = new }) e
-lane_stops g b at es sl ns fs ends l e new k asks d r t led m j f tells =
+lane_stops g b at es sl ns fs ends l e new k asks d r t led m j f same tells =
     let own = own_asks es l fs asks.own asks.led asks.missing in
     record {
       slack = j.slack;
@@ -157,6 +160,7 @@ lane_stops g b at es sl ns fs ends l e new k asks d r t led m j f tells =
       cause = subst (λ (xs : List Exchange). Cause g xs b (record at { clients = ns }) e) (sym j.heard)
           (lane_cause g b at es sl ns fs d.drew.drawn ends l e r.slack.heard own d.drew.each f r.after.grew
           r.after.asked r.ties.heard (r.after.found asks.own) t led);
+      unfailed = any_unfailed b.sink.faults at.sink.faults e same;
       spent = λ u. absurd (never_spent g es l at.clients ns fs d.drew.drawn ends own d.drew.each
           (subst (FailedLane ends) u f));
       cache_tells = tells;
@@ -169,22 +173,23 @@ pub round_stops : (g : Setup) (b at : RunTold) (es : List Event) (sl : Slack) (n
     → RoundLeft g b at es sl ns fs (steps_of ends) l → Ties g b at es None sl → IsLed g b es sl [] l
     → first_error wrote ends ≡ Some e → ((k : ℕ) → wrote ≡ Ok k → sl.ahead ≡ total lengths)
     → ((x : FileReconstructionError) → wrote ≡ Err x → SinkCause b.sink.faults at.sink.faults x)
+    → ((k : ℕ) → wrote ≡ Ok k → at.sink.faults ≡ b.sink.faults)
     → ((s : Store) → IsOver s b.clients → CacheTells s b.cache → CacheTells s at.cache)
     → IsFailing g b (record {
       told = record at { clients = ns };
       events = es ++ (lanes_events (steps_of ends) ++ window_events wrote lengths);
     }) e
-round_stops g b at es sl ns fs ends l lengths (Err x) e asks d r t led first whole sink tells =
+round_stops g b at es sl ns fs ends l lengths (Err x) e asks d r t led first whole sink same tells =
     let j = join_tied g b at es sl ns fs (steps_of ends) l lengths (Err x) r whole in
     let n : RunTold = record at { clients = ns } in
     let new = es ++ (lanes_events (steps_of ends) ++ window_events (Err x) lengths) in
     ⊎_elim (λ (h : e ≡ error.OutOfMemory). subst (λ (x : FileReconstructionError). IsFailing g b
     (record { told = n; events = new }) x) (sym h) (memory_fails g b n new j.slack j.ties tells))
-    (λ (o : (list_any lacks_memory ends ≡ false) × (Some x ≡ Some e)). let same : x ≡ e = (let z = o.1 in cc) in
+    (λ (o : (list_any lacks_memory ends ≡ false) × (Some x ≡ Some e)). let is : x ≡ e = (let z = o.1 in cc) in
     write_stops g b at es sl ns fs ends l e new (Err x) asks d r t led o.0 j
-    (subst (SinkCause b.sink.faults at.sink.faults) same (sink x refl)) tells)
+    (subst (SinkCause b.sink.faults at.sink.faults) is (sink x refl)) tells)
     (other_error (Err x) ends e first)
-round_stops g b at es sl ns fs ends l lengths (Ok k) e asks d r t led first whole sink tells =
+round_stops g b at es sl ns fs ends l lengths (Ok k) e asks d r t led first whole sink same tells =
     let j = join_tied g b at es sl ns fs (steps_of ends) l lengths (Ok k) r whole in
     let n : RunTold = record at { clients = ns } in
     let new = es ++ (lanes_events (steps_of ends) ++ window_events (Ok k) lengths) in
@@ -195,13 +200,11 @@ round_stops g b at es sl ns fs ends l lengths (Ok k) e asks d r t led first whol
     (λ (o : (list_any lacks_memory ends ≡ false) × (first_some (None ∷ map end_error ends) ≡ Some e)).
     ⊎_elim memory
     (λ (c : (Ok k ≡ Err e) ⊎ FailedLane ends e). ⊎_elim (λ (w : Ok k ≡ Err e). absurd (cc))
-    (λ (f : FailedLane ends e). lane_stops g b at es sl ns fs ends l e new k asks d r t led o.0 j f tells) c)
+    (λ (f : FailedLane ends e). lane_stops g b at es sl ns fs ends l e new k asks d r t led o.0 j f (same k refl) tells) c)
     (error_cause (Ok k) ends e first))
     (other_error (Ok k) ends e first)
 
--- a fault of the sink in a window counts from the start of the run
-pub sink_since : (g : Setup) (b at : RunTold) (es : List Event) (sl : Slack) (after : ℕ) (e : FileReconstructionError)
-    → Ties g b at es None sl → SinkCause at.sink.faults after e → SinkCause b.sink.faults after e
-sink_since g b at es sl after e t c = ⊎_elim (λ (h : e ≡ error.OutOfMemory). inl h)
-    (λ (h : (e ≡ error.IoError) × Rose at.sink.faults after). inr
-    (h.0, (let u = t.taken.faults in let v = h.1 in omega (arith, u, v)))) c
+-- a fault of the sink in a window counts from the start of the run, where none came before
+pub sink_since : (b at : RunTold) (after : ℕ) (e : FileReconstructionError) → at.sink.faults ≡ b.sink.faults
+    → SinkCause at.sink.faults after e → SinkCause b.sink.faults after e
+sink_since b at after e none c = subst (λ (k : ℕ). SinkCause k after e) none c

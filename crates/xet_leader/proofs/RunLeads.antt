@@ -30,6 +30,7 @@ short_fails g b m s = record {
   ties = s.ties;
   left = short_leaves b.clients s.slack;
   cause = tt;
+  unfailed = tt;
   spent = λ h. absurd (let z : error.OutOfMemory ≡ error.UrlExpired = h in cc);
   cache_tells = s.cache_tells;
 }

@@ -31,6 +31,7 @@ refused_call g b e h = record {
   finished = tt;
   flushed = tt;
   cancelled = λ h2. tt;
+  unfailed = refl;
   empty = λ r. record {
     untouched = record { clients = refl; cache = refl; signal = refl; limits = refl };
     took = refl;
@@ -49,6 +50,7 @@ ends_call g b n answer h some r = record {
   finished = r.finished;
   flushed = r.flushed;
   cancelled = r.cancelled;
+  unfailed = r.unfailed;
   empty = λ none. absurd (omega (arith, some, none));
   cache_later = r.cache_later;
 }
@@ -67,7 +69,7 @@ none_finished g tries none = record {
 }
 
 local_cause : (before after : ℕ) (e : FileReconstructionError) → SinkCause before after e → IsLocal e
-local_cause before after e (inl h) = subst IsLocal (sym h) tt
+local_cause before after e (inl h) = subst IsLocal (sym h.0) tt
 local_cause before after e (inr h) = subst IsLocal (sym h.0) tt
 
 local_stop : (es fs : List Event) (e x : FileReconstructionError) → IsStopped es fs e x → IsLocal e → IsLocal x
@@ -101,6 +103,7 @@ empty_call g b to fs answer h none t =
       finished = r.finished;
       flushed = r.flushed;
       cancelled = r.cancelled;
+      unfailed = r.unfailed;
       empty = λ e. record {
         untouched = record { clients = refl; cache = refl; signal = refl; limits = refl };
         took = t.flushed.took;

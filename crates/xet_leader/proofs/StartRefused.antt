@@ -33,4 +33,6 @@ start_refused j cs ns x y before after es fs l k all e memory leads m at seen li
       same = tt;
       done = λ b s. tt;
       work = λ b s. tt;
+      waits = c.waits;
+      few = tt;
     }

@@ -3,6 +3,7 @@ use Rattle.std.proofs.Common.{◌≡◌, ℕ, zero, suc, ◌<◌, Bool, true, fa
 use Rattle.std.specs.Prelude.{nat_eq, nat_lt, Option}
 use Rattle.std.proofs.lemmas.List.Elements.{All-nil}
 use Rattle.xet_base.specs.declared.cas_types.FileRange.{FileRange}
+use Rattle.xet_base.specs.declared.item_id.UniqueID.{UniqueID}
 use Rattle.xet_error.specs.declared.error.Setting.{Setting}
 use Rattle.xet_error.specs.declared.error.Setting.TheVariants.{GreatestBelowLeast, LeastZero, NoTries}
 use Rattle.xet_outside.specs.Told.{ClientTold}
@@ -44,10 +45,10 @@ in_step g [] h = absurd (cc)
 in_step g (c ∷ cs) h = step_start c cs
 
 -- nothing is planned, so nothing is asked
-manager_start : (j : Job) → IsManager (begun j.file_hash j.byte_range j.config)
-    → IsLedManager (setup_of_job j) [] (begun j.file_hash j.byte_range j.config)
-manager_start j k =
-    let none = take_none (begun j.file_hash j.byte_range j.config).queries in
+manager_start : (j : Job) (p : Option UniqueID) → IsManager (begun j.file_hash j.byte_range j.config p)
+    → IsLedManager (setup_of_job j) [] (begun j.file_hash j.byte_range j.config p)
+manager_start j p k =
+    let none = take_none (begun j.file_hash j.byte_range j.config p).queries in
     record {
       is_for = record { file = refl; range = refl; least = refl; greatest = refl; multirange = refl };
       kept = k;
@@ -59,20 +60,20 @@ manager_start j k =
       over = λ h. absurd (cc);
       covered = λ h. absurd (cc);
       goes_on = λ h e. e;
-      long = begun_long j k.range_fits;
+      long = begun_long j p k.range_fits;
     }
 
 -- it is led
-pub led_start : (j : Job) (b : RunTold) → IsManager (begun j.file_hash j.byte_range j.config)
+pub led_start : (j : Job) (p : Option UniqueID) (b : RunTold) → IsManager (begun j.file_hash j.byte_range j.config p)
     → failing_setting (setup_of_job j) b.clients ≡ None → j.byte_range.start < j.byte_range.end
-    → IsLed (setup_of_job j) b [] (no_slack b.clients) [] (first_led j)
-led_start j b k h some = record {
+    → IsLed (setup_of_job j) b [] (no_slack b.clients) [] (first_led j p)
+led_start j p b k h some = record {
   running = refl;
   some = some;
   tries = tries_some (setup_of_job j) b.clients h;
   stale_are = tt;
-  under = λ p k2. tries_some (setup_of_job j) b.clients h;
-  manager = manager_start j k;
+  under = λ x k2. tries_some (setup_of_job j) b.clients h;
+  manager = manager_start j p k;
   plans = record {
     each = All-nil (IsLedPlan (setup_of_job j) b [] (no_slack b.clients) []);
     follow = tt;
@@ -91,8 +92,9 @@ led_start j b k h some = record {
 }
 
 -- and its run goes on
-first_starts : (j : Job) → IsManager (begun j.file_hash j.byte_range j.config) → LeadStarts j (first_led j)
-first_starts j k b h some = record {
+first_starts : (j : Job) (p : Option UniqueID) → IsManager (begun j.file_hash j.byte_range j.config p)
+    → LeadStarts j (first_led j p)
+first_starts j p k b h some = record {
   slack = no_slack b.clients;
   ties = tie_start (setup_of_job j) b h;
   settled = record {
@@ -105,12 +107,14 @@ first_starts j k b h some = record {
     due = refl;
     step = in_step (setup_of_job j) b.clients h;
   };
-  led = led_start j b k h some;
+  led = led_start j p b k h some;
   calm = refl;
+  unfailed = refl;
   cache_tells = λ s over tells. tells;
 }
 
-pub lead_starts : (j : Job) (m : Manager) (ls : List LedPlan) → m ≡ begun j.file_hash j.byte_range j.config → ls ≡ []
+pub lead_starts : (j : Job) (p : Option UniqueID) (m : Manager) (ls : List LedPlan)
+    → m ≡ begun j.file_hash j.byte_range j.config p → ls ≡ []
     → IsManager m → LeadStarts j (record {
       manager = m;
       plans = ls;
@@ -119,8 +123,8 @@ pub lead_starts : (j : Job) (m : Manager) (ls : List LedPlan) → m ≡ begun j.
       finished = 0;
       fetches = 0;
     })
-lead_starts j m ls is none k =
-    let first : LeadStarts j (first_led j) = first_starts j (subst IsManager is k) in
+lead_starts j p m ls is none k =
+    let first : LeadStarts j (first_led j p) = first_starts j p (subst IsManager is k) in
     subst (λ (x : Manager). LeadStarts j (record {
       manager = x;
       plans = ls;
@@ -130,7 +134,7 @@ lead_starts j m ls is none k =
       fetches = 0;
     })) (sym is)
     (subst (λ (x : List LedPlan). LeadStarts j (record {
-      manager = begun j.file_hash j.byte_range j.config;
+      manager = begun j.file_hash j.byte_range j.config p;
       plans = x;
       planned = 0;
       admitted = 0;

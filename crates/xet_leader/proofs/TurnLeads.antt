@@ -1,5 +1,5 @@
 -- A run after whole turns.
-use Rattle.std.proofs.Common.{◌≡◌, ◌<◌, ◌≤◌, Bool, true, false, Ok, Err, refl, subst, arith, ⊎_elim}
+use Rattle.std.proofs.Common.{◌≡◌, ◌∙◌, ◌+◌, ◌<◌, ◌≤◌, Bool, true, false, Ok, Err, refl, subst, arith, ⊎_elim}
 use Rattle.std.specs.Prelude.{Result}
 use Rattle.xet_outside.specs.Told.{SinkTold}
 use Rattle.xet_error.specs.declared.error.FileReconstructionError.{FileReconstructionError}
@@ -25,7 +25,13 @@ module _ {S : Type 0} (told : S → SinkTold) (g : Setup) (m n : Moment) (l h : 
   pub turn_done : (all : Bool) → all ≡ true → StartCall g m n l h (Ok all) → TurnCall told g m n l h v v (Ok true)
   turn_done all is c =
       let s : StartCall g m n l h (Ok true) = subst (λ (x : Bool). StartCall g m n l h (Ok x)) is c in
-      record { call = start_call (Ok true) s; done = λ b t. s.done b t.going; falls = λ b t no. absurd (cc) }
+      record {
+        call = start_call (Ok true) s;
+        done = λ b t. s.done b t.going;
+        falls = λ b t no. absurd (cc);
+        waits = λ w. (s.waits w).planned_is;
+        few = s.few;
+      }
 
   -- some run is steady before a round
   pub steady_then : (all : Bool) → IsSteadyRun told g m l v → StartCall g m n l h (Ok all)
@@ -34,7 +40,13 @@ module _ {S : Type 0} (told : S → SinkTold) (g : Setup) (m n : Moment) (l h : 
 
   -- no round
   pub turn_fails : (e : FileReconstructionError) → StartCall g m n l h (Err e) → TurnCall told g m n l h v v (Err e)
-  turn_fails e s = record { call = start_call (Err e) s; done = λ b t. tt; falls = λ b t. tt }
+  turn_fails e s = record {
+    call = start_call (Err e) s;
+    done = λ b t. tt;
+    falls = λ b t. tt;
+    waits = λ w. tt;
+    few = tt;
+  }
 
   -- with a round
   pub turn_goes : (all : Bool) → all ≡ false → (p : Moment) (k : Led) (w : Sequential S)
@@ -54,6 +66,11 @@ module _ {S : Type 0} (told : S → SinkTold) (g : Setup) (m n : Moment) (l h : 
             let falls = less.falls x.1 in
             omega (arith, no_more, falls))
             (s.work b t.going still);
+        waits = λ w. r.counts.planned_is ∙ (s.waits w).planned_is;
+        few =
+            let same : k.admitted ≡ h.admitted = r.counts.admitted_is in
+            let few : h.admitted ≤ l.admitted + 8192 = s.few in
+            omega (arith, same, few);
       }
 
   -- a round that failed
@@ -65,6 +82,8 @@ module _ {S : Type 0} (told : S → SinkTold) (g : Setup) (m n : Moment) (l h : 
         call = record { ok = λ b t. tt; err = λ b t. r.call.err b (first.ok b t) };
         done = λ b t. tt;
         falls = λ b t. tt;
+        waits = λ w. tt;
+        few = tt;
       }
 
 -- ---- turn after turn

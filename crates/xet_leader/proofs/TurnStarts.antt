@@ -8,6 +8,7 @@ use Rattle.std.proofs.lemmas.List.{append-nil, append_assoc}
 use Rattle.std.proofs.lemmas.Option.{slice_get_cases}
 use Rattle.xet_outside.specs.Told.{ClientTold, SignalTold}
 use Rattle.xet_error.specs.declared.error.FileReconstructionError.{FileReconstructionError}
+use Rattle.xet_blocks.specs.declared.reconstruction_terms.file_term.TermBlock.{TermBlock}
 use Rattle.xet_run.specs.declared.event.Event.{Event}
 use Rattle.xet_run.specs.declared.event.Event.TheVariants.{Admit}
 use Rattle.xet_run.specs.Allowed.{IsRunning, MayAdmit}
@@ -21,11 +22,11 @@ use Rattle.xet_ties.specs.steps.Parts.{plan_event}
 use Rattle.xet_parts.specs.Admissions.{IsWaiting, admits}
 use Rattle.xet_leader.specs.declared.leader.Job.{Job}
 use Rattle.xet_leader.specs.Admission.{AdmitLeads, AdmitTurn, AdmittedTerms, at_once}
-use Rattle.xet_leader.specs.Asking.{AskLeads, AskOk, AskTurn}
+use Rattle.xet_leader.specs.Asking.{AskLeads, AskOk, AskTurn, HandsOn}
 use Rattle.xet_leader.specs.Led.{IsCounted, IsLedManager, Led, setup_of_job}
 use Rattle.xet_leader.specs.Measures.{measure}
 use Rattle.xet_leader.specs.Steady.{IsFailing, IsGoing, Moment, no_loose}
-use Rattle.xet_leader.specs.Turns.{LeavesWork, StartLeads, all_done}
+use Rattle.xet_leader.specs.Turns.{LeavesWork, NothingAsked, StartLeads, all_done}
 use Rattle.xet_leader.proofs.PartMeasures.{admitted_falls, none_asked_stays, one_asked_falls}
 use Rattle.xet_leader.proofs.Reaching.{covered_reaches}
 
@@ -113,6 +114,25 @@ has_work before after es fs l k r c low a open_still =
     (cases_lt 0 a.left)))
     (cases_lt k.finished k.admitted)
 
+-- ---- few are admitted
+
+hands_admit_none : (number : ℕ) (l k : Led) (bs : List TermBlock) → HandsOn number l k bs → k.admitted ≡ l.admitted
+hands_admit_none number l k [] h = ap (λ (z : Led). z.admitted) h
+hands_admit_none number l k (b ∷ bs) h = ap (λ (z : Led). z.admitted) h.led
+
+ask_admits_none : (j : Job) (cs ns : List ClientTold) (x y : SignalTold) (es fs : List Event) (l k : Led)
+    (asked : Bool) → AskOk j cs ns x y es fs l k asked → k.admitted ≡ l.admitted
+ask_admits_none j cs ns x y es fs l k false n = ap (λ (z : Led). z.admitted) n.led
+ask_admits_none j cs ns x y es fs l k true o =
+    hands_admit_none o.asked.due.id.plan (record l { manager = o.asked.now }) k o.asked.now.waiting o.hands
+
+admits_few : (before after : LimitTold) (es fs : List Event) (l k : Led) → AdmittedTerms before after es fs l k
+    → k.admitted ≤ l.admitted + 8192
+admits_few before after es fs l k a =
+    let now : k.admitted ≡ l.admitted + (at_once (l.planned - l.admitted) - a.left) =
+    ap (λ (z : Led). z.admitted) a.led in
+    omega (arith, now)
+
 -- ---- all is finished
 
 finished_all : (g : Setup) (b : RunTold) (n : Moment) (k : Led) → IsGoing g b n no_loose k → IsCovered k.manager
@@ -147,7 +167,7 @@ started_at m ns y limits es = record {
 }
 
 module _ (j : Job) (cs ns : List ClientTold) (x y : SignalTold) (before after : LimitTold) (es gs fs : List Event)
-    (l h k : Led) (few : j.config.tries < 2 ^ 32) where
+    (l h k : Led) (few : j.config.tries < 2 ^ 32) (past : l.planned ≤ l.admitted) where
   -- what is left, where all is not done
   works : (b : RunTold) (m : Moment) (asked : Bool) → m.events ≡ es → AskOk j cs ns x y es gs l h asked
       → AdmittedTerms before after gs fs h k → IsGoing (setup_of_job j) b m no_loose l
@@ -200,6 +220,11 @@ module _ (j : Job) (cs ns : List ClientTold) (x y : SignalTold) (before after : 
             ∙ ap written (sym is);
         done = λ b s. dones b m asked covered u.ok (second.ok b (first.ok b s));
         work = λ b s. works b m asked is t.ok u.ok s (first.ok b s) (second.ok b (first.ok b s));
+        waits = λ w. absurd (omega (arith, w, past));
+        few =
+            let same : h.admitted ≡ l.admitted = ask_admits_none j cs ns x y es gs l h asked t.ok in
+            let most : k.admitted ≤ h.admitted + 8192 = admits_few before after gs fs h k u.ok in
+            omega (arith, same, most);
       }
 
   pub start_goes : (asked all : Bool) → all ≡ all_done asked k → AskTurn j cs ns x y es gs l h (Ok asked)
@@ -212,9 +237,9 @@ module _ (j : Job) (cs ns : List ClientTold) (x y : SignalTold) (before after : 
 
 -- asking failed
 pub start_fails : (j : Job) (cs ns : List ClientTold) (x y : SignalTold) (limits : LimitTold) (es fs : List Event)
-    (l k : Led) (e : FileReconstructionError) → AskLeads j cs ns x y es fs l k (Err e)
+    (l k : Led) (e : FileReconstructionError) → l.planned ≤ l.admitted → AskLeads j cs ns x y es fs l k (Err e)
     → StartLeads j cs ns x y limits limits es fs l k (Err e)
-start_fails j cs ns x y limits es fs l k e leads m at seen lim is = record {
+start_fails j cs ns x y limits es fs l k e past leads m at seen lim is = record {
   part = record {
     ok = λ b s. tt;
     err = λ b s. subst (λ (v : LimitTold). IsFailing (setup_of_job j) b (started_at m ns y v fs) e) lim
@@ -223,14 +248,16 @@ start_fails j cs ns x y limits es fs l k e leads m at seen lim is = record {
   same = tt;
   done = λ b s. tt;
   work = λ b s. tt;
+  waits = λ w. absurd (omega (arith, w, past));
+  few = tt;
 }
 
 -- admitting did
 pub start_stops : (j : Job) (cs ns : List ClientTold) (x y : SignalTold) (before after : LimitTold)
-    (es gs fs : List Event) (l h k : Led) (asked : Bool) (e : FileReconstructionError)
+    (es gs fs : List Event) (l h k : Led) (asked : Bool) (e : FileReconstructionError) → l.planned ≤ l.admitted
     → AskLeads j cs ns x y es gs l h (Ok asked) → AdmitLeads before after gs fs h k (Err e)
     → StartLeads j cs ns x y before after es fs l k (Err e)
-start_stops j cs ns x y before after es gs fs l h k asked e leads then m at seen lim is =
+start_stops j cs ns x y before after es gs fs l h k asked e past leads then m at seen lim is =
     let first = leads m at seen is in
     let second = then (setup_of_job j) (asked_at m ns y gs) no_loose lim refl in
     record {
@@ -238,6 +265,8 @@ start_stops j cs ns x y before after es gs fs l h k asked e leads then m at seen
       same = tt;
       done = λ b s. tt;
       work = λ b s. tt;
+      waits = λ w. absurd (omega (arith, w, past));
+      few = tt;
     }
 
 -- ---- without asking, where planned terms wait
@@ -250,6 +279,10 @@ module _ (j : Job) (cs : List ClientTold) (x : SignalTold) (before after : Limit
   stood b s =
       subst (λ (n : Moment). IsGoing (setup_of_job j) b n no_loose l)
       (λ i. record { told = record m.told { clients = at i; signal = seen i }; events = is i }) s
+
+  -- and nothing is
+  none_asked : k.planned ≡ l.planned → NothingAsked m (started_at m cs x after fs) l k
+  none_asked same = record { clients = sym at; signal = sym seen; planned_is = same }
 
   -- some are left, or are to be written
   waiting_work : (b : RunTold) → j.config.tries < 2 ^ 32 → l.admitted < l.planned → AdmittedTerms before after es fs l k
@@ -282,16 +315,20 @@ start_waits j cs x before after es fs l k few waits u leads m at seen lim is =
       same = admit_writes_none before after es fs l k u.ok ∙ ap written (sym is);
       done = λ b s all. absurd (false≢true all);
       work = λ b s all. waiting_work j cs x before after es fs l k m at seen is b few waits u.ok s (goes b s);
+      waits = λ w. none_asked j cs x before after es fs l k m at seen is (ap (λ (z : Led). z.planned) u.ok.led);
+      few = admits_few before after es fs l k u.ok;
     }
 
 pub start_short : (j : Job) (cs : List ClientTold) (x : SignalTold) (before after : LimitTold) (es fs : List Event)
-    (l k : Led) (e : FileReconstructionError) → AdmitLeads before after es fs l k (Err e)
-    → StartLeads j cs cs x x before after es fs l k (Err e)
-start_short j cs x before after es fs l k e leads m at seen lim is =
+    (l k : Led) (e : FileReconstructionError) → AdmitTurn before after es fs l k (Err e)
+    → AdmitLeads before after es fs l k (Err e) → StartLeads j cs cs x x before after es fs l k (Err e)
+start_short j cs x before after es fs l k e u leads m at seen lim is =
     let second = leads (setup_of_job j) (asked_at m cs x es) no_loose lim refl in
     record {
       part = record { ok = λ b s. tt; err = λ b s. second.err b (stood j cs x before after es fs l k m at seen is b s) };
       same = tt;
       done = λ b s. tt;
       work = λ b s. tt;
+      waits = λ w. none_asked j cs x before after es fs l k m at seen is (ap (λ (z : Led). z.planned) u.err.led);
+      few = tt;
     }

@@ -17,7 +17,7 @@ use Rattle.xet_ties.specs.Causes.{Cause}
 use Rattle.xet_ties.specs.Cuts.{StartsAt}
 use Rattle.xet_ties.specs.Saids.{IsTaskPiece, has_bytes}
 use Rattle.xet_ties.specs.Setup.{RunTold, Setup}
-use Rattle.xet_ties.specs.Ties.{AllAre, MayLeave, all_of}
+use Rattle.xet_ties.specs.Ties.{MayLeave, NoneLate, all_of}
 use Rattle.xet_ties.proofs.CallerLemmas.{corrupted as is_corrupted, none_hidden, none_late, starts_at, steady_leaves, term_fails}
 use Rattle.xet_leader.specs.Led.{Led}
 use Rattle.xet_leader.specs.RunWindows.{WindowGoes, WindowLeads, task_of}
@@ -25,6 +25,7 @@ use Rattle.xet_leader.specs.Steady.{IsFailing, IsGoing, Loose, Moment}
 use Rattle.xet_leader.specs.Windows.{OneFails, PlanTerm, WindowFails, WindowMade, WindowTurn, open_led, some_in}
 use Rattle.xet_leader.proofs.WindowPieces.{each_filter, fails_said, of_a_plan, pieces_honest, pieces_kept, pieces_tested, sound_passes, term_at, unkept_there}
 use Rattle.xet_leader.proofs.WindowTasks.{IsLedTerm, led_each, length_tasks, next_tasks, next_terms, sizes_are, some_tasks}
+use Rattle.xet_leader.proofs.WriterFaults.{any_unfailed}
 
 -- ---- lists
 
@@ -126,7 +127,7 @@ module _ (g : Setup) (b : RunTold) (m : Moment) (o : Loose) (l : Led) (s : IsGoi
   leaves : (e : FileReconstructionError) → MayLeave (Some e) b.clients s.slack
   leaves e =
       let hidden : all_of s.slack.hidden ≡ [] = ap all_of s.settled.hidden ∙ none_hidden b.clients in
-      let late : AllAre 0 s.slack.late = subst (λ (ns : List ℕ). AllAre 0 ns) (sym s.settled.late)
+      let late : NoneLate s.slack.late = subst NoneLate (sym s.settled.late)
       (none_late b.clients) in
       steady_leaves b.clients e s.slack hidden late s.settled.ahead
 
@@ -153,6 +154,7 @@ module _ (g : Setup) (b : RunTold) (m : Moment) (o : Loose) (l : Led) (s : IsGoi
             (term_fails g s.slack.heard k (of_a_plan g b m.events s.slack o.stale f.term led x.data_of x.kept)
             f.term.plan.number led.plan_is.said_as (numbered led)
             (fails_said g b m.events s.slack o.stale f.term led x.data_of x.kept k x.fails));
+        unfailed = s.unfailed;
         spent = λ h. absurd (let z : error.CorruptedReconstruction k ≡ error.UrlExpired = h in cc);
         cache_tells = s.cache_tells;
       }
@@ -163,6 +165,7 @@ module _ (g : Setup) (b : RunTold) (m : Moment) (o : Loose) (l : Led) (s : IsGoi
     ties = s.ties;
     left = leaves e;
     cause = subst (Cause g s.slack.heard b m.told) (sym memory) tt;
+    unfailed = any_unfailed b.sink.faults m.told.sink.faults e s.unfailed;
     spent = λ h. absurd (let z : error.OutOfMemory ≡ error.UrlExpired = sym memory ∙ h in cc);
     cache_tells = s.cache_tells;
   }

@@ -12,6 +12,11 @@ use Rattle.xet_leader.specs.Steady.{LeadPart, Loose, Moment}
 abbrev pub at_once : ℕ → ℕ
 at_once waiting = min waiting 8192
 
+-- as many terms are planned and admitted
+pub record SameCounts (l k : Led) : Type 0 where
+  pub planned_is : k.planned ≡ l.planned
+  pub admitted_is : k.admitted ≡ l.admitted
+
 -- of the terms that might be admitted at once so many are left
 pub record AdmittedTerms (before after : LimitTold) (es fs : List Event) (l k : Led) : Type 0 where
   pub left : ℕ

@@ -8,7 +8,7 @@ use Rattle.xet_run.specs.Events.{written}
 use Rattle.xet_writers.specs.Calls.{SinkCause}
 use Rattle.xet_writers.specs.Sequential.{FinishSequential, Sequential}
 use Rattle.xet_parts.specs.Stops.{IsStopped}
-use Rattle.xet_ties.specs.RunCalls.{IsFinished, RunTies, stop_of}
+use Rattle.xet_ties.specs.RunCalls.{IsFinished, RunTies, Unfailed, stop_of}
 use Rattle.xet_ties.specs.Setup.{CacheTells, IsOver, RunTold, Setup}
 use Rattle.xet_leader.specs.Led.{Led}
 use Rattle.xet_leader.specs.Plans.{Answer}
@@ -18,9 +18,8 @@ use Rattle.xet_leader.specs.Steady.{IsFailing, IsSteady, Moment, no_loose}
 abbrev pub RunAnswer : Type 0
 RunAnswer = Result ℕ FileReconstructionError
 
--- the last call of a sink takes nothing more: on Ok all is flushed and the answer is this count, else the error has
--- its
--- cause
+-- the last call of a sink takes nothing more: on Ok all is flushed, no call failed and the answer is this count, else
+-- the error has its cause
 pub record LastCall (before after : SinkTold) (count : ℕ) (answer : RunAnswer) : Type 0 where
   pub count_is : IfOk answer (λ k. k ≡ count)
   pub flushed : OnOk answer (after.flushed ≡ option_map length after.took)
@@ -28,6 +27,7 @@ pub record LastCall (before after : SinkTold) (count : ℕ) (answer : RunAnswer)
   pub cause : IfErr answer (SinkCause before.faults after.faults)
   pub link : after.link ≡ before.link
   pub faults : before.faults ≤ after.faults
+  pub unfailed : OnOk answer (after.faults ≡ before.faults)
 
 -- where the loop answered Ok the writer is ended; else it is as before, and the error stays
 pub record WriterEnd {S : Type 0} (told : S → SinkTold) (v w : Sequential S) (led : Answer)
@@ -59,6 +59,7 @@ pub record RunEnds (g : Setup) (b : RunTold) (n : Moment) (answer : RunAnswer) :
   pub finished : IfOk answer (IsFinished g n.events)
   pub flushed : OnOk answer (n.told.sink.flushed ≡ option_map length n.told.sink.took)
   pub cancelled : b.signal.yes < n.told.signal.yes → OnOk answer ⊥
+  pub unfailed : Unfailed b.sink.faults n.told.sink.faults answer
   pub cache_later : (s : Store) → IsOver s b.clients → CacheTells s b.cache → CacheTells s n.told.cache
 
 -- over any start: a steady run whose loop is done ends so, and a run that is to stop with the loop's error

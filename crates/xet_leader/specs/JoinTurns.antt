@@ -4,16 +4,18 @@ use Rattle.xet_outside.specs.Told.{SignalTold, SinkTold}
 use Rattle.xet_error.specs.declared.error.FileReconstructionError.{FileReconstructionError}
 use Rattle.xet_leader.specs.declared.joining.Prepared.{Prepared}
 use Rattle.xet_leader.specs.declared.outcomes.Outcome.{Outcome}
+use Rattle.xet_leader.specs.Admission.{SameCounts}
 use Rattle.xet_leader.specs.JoinCalls.{Joining, PolledFor, Touching}
 use Rattle.xet_leader.specs.Joins.{RoundTurn}
 use Rattle.xet_leader.specs.Led.{Led}
 
--- what preparing a round does to the signal and to the count of fetches: the signal was asked exactly where there are
--- blocks to fetch, and said no
+-- what preparing a round does to the signal and to the leader's counts, which stay: the signal was asked exactly where
+-- there are blocks to fetch, and said no
 pub record PrepareTurn (x y : SignalTold) (l k : Led)
     (answer : Result Prepared FileReconstructionError) : Type 0 where
   pub polled : IfOk answer (λ p. PolledFor (length p.places) x y (Ok tt))
   pub numbers : k.fetches ≡ l.fetches
+  pub counts : SameCounts l k
 
 -- none could be prepared, and no connection was asked
 pub record Unprepared {S : Type 0} (a z : Joining S) (answer : Result Outcome FileReconstructionError) : Type 0 where

@@ -14,6 +14,7 @@ pub mod Keeping
 pub mod KeptBlocks
 pub mod Lacking
 pub mod Led
+pub mod Listings
 pub mod Looks
 pub mod LoopRuns
 pub mod Measures

@@ -1,5 +1,6 @@
 -- A leader at the start of its run.
-use Rattle.std.specs.Prelude.{◌≡◌, ◌<◌, [], None}
+use Rattle.std.specs.Prelude.{◌≡◌, ◌<◌, [], None, Option}
+use Rattle.xet_base.specs.declared.item_id.UniqueID.{UniqueID}
 use Rattle.xet_terms.specs.Managers.{begun}
 use Rattle.xet_ties.specs.Causes.{failing_setting}
 use Rattle.xet_ties.specs.Setup.{RunTold}
@@ -7,10 +8,10 @@ use Rattle.xet_leader.specs.declared.leader.Job.{Job}
 use Rattle.xet_leader.specs.Led.{Led, setup_of_job}
 use Rattle.xet_leader.specs.Steady.{IsGoing, no_loose}
 
--- nothing is planned, and the first queries are scheduled
-abbrev pub first_led : Job → Led
-first_led j = record {
-  manager = begun j.file_hash j.byte_range j.config;
+-- nothing is planned, and the first queries are scheduled; what is planned is reported to this item, where there is one
+abbrev pub first_led : Job → Option UniqueID → Led
+first_led j progress = record {
+  manager = begun j.file_hash j.byte_range j.config progress;
   plans = [];
   planned = 0;
   admitted = 0;

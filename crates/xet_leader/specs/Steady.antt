@@ -1,5 +1,5 @@
 -- Where a run stands between the parts of a turn, and how it fails.
-use Rattle.std.specs.Prelude.{ℕ, ◌≡◌, false, List, [], count_by, None, Some, Result, OnOk, IfErr}
+use Rattle.std.specs.Prelude.{ℕ, ◌≡◌, false, List, [], count_by, None, Some, Result, Err, OnOk, IfErr}
 use Rattle.xet_base.specs.Store.{Store}
 use Rattle.xet_outside.specs.Told.{SinkTold}
 use Rattle.xet_error.specs.declared.error.FileReconstructionError.{FileReconstructionError}
@@ -9,6 +9,7 @@ use Rattle.xet_run.specs.declared.event.PlannedBlock.{PlannedBlock}
 use Rattle.xet_run.specs.Events.{expires, written}
 use Rattle.xet_writers.specs.Sequential.{Sequential}
 use Rattle.xet_ties.specs.Causes.{Cause}
+use Rattle.xet_ties.specs.RunCalls.{Unfailed}
 use Rattle.xet_ties.specs.Saids.{InStep}
 use Rattle.xet_ties.specs.Setup.{CacheTells, IsOver, RunTold, Setup}
 use Rattle.xet_ties.specs.steps.Moves.{no_hidden, no_late}
@@ -59,6 +60,7 @@ pub record IsGoing (g : Setup) (b : RunTold) (m : Moment) (o : Loose) (l : Led) 
   pub settled : IsSettled b o slack
   pub led : IsLed g b m.events slack o.stale l
   pub calm : m.told.signal.yes ≡ b.signal.yes
+  pub unfailed : m.told.sink.faults ≡ b.sink.faults
   pub cache_tells : (s : Store) → IsOver s b.clients → CacheTells s b.cache → CacheTells s m.told.cache
 
 -- whose writer is idle
@@ -73,6 +75,7 @@ pub record IsFailing (g : Setup) (b : RunTold) (m : Moment) (e : FileReconstruct
   pub ties : Ties g b m.told m.events None slack
   pub left : MayLeave (Some e) b.clients slack
   pub cause : Cause g slack.heard b m.told e
+  pub unfailed : Unfailed b.sink.faults m.told.sink.faults (Err e)
   pub spent : e ≡ error.UrlExpired → (p : ℕ) × (k : ℕ) × (count_by (expires p k) m.events ≡ g.tries)
   pub cache_tells : (s : Store) → IsOver s b.clients → CacheTells s b.cache → CacheTells s m.told.cache
 

@@ -1,5 +1,5 @@
 -- What one turn of a leader does to a run, and what the loop of its turns does.
-use Rattle.std.specs.Prelude.{◌≡◌, ◌⊎◌, ◌<◌, ◌≤◌, ◌==◌, ◌&&◌, Bool, true, false, not, List, Result, Ok, OnOk, IfOk}
+use Rattle.std.specs.Prelude.{◌≡◌, ◌⊎◌, ◌+◌, ◌<◌, ◌≤◌, ◌==◌, ◌&&◌, Bool, true, false, not, List, Result, Ok, OnOk, IfOk}
 use Rattle.xet_outside.specs.Told.{ClientTold, SignalTold, SinkTold}
 use Rattle.xet_error.specs.declared.error.FileReconstructionError.{FileReconstructionError}
 use Rattle.xet_run.specs.declared.event.Event.{Event}
@@ -31,6 +31,12 @@ abbrev pub LeavesWork : Setup → List Event → List Event → Led → Led → 
 LeavesWork g es fs l k =
     (measure g fs k < measure g es l) ⊎ ((measure g fs k ≤ measure g es l) × (k.finished < k.admitted))
 
+-- no connection was asked and no signal, and no plan was taken
+pub record NothingAsked (m n : Moment) (l k : Led) : Type 0 where
+  pub clients : n.told.clients ≡ m.told.clients
+  pub signal : n.told.signal ≡ m.told.signal
+  pub planned_is : k.planned ≡ l.planned
+
 -- over any start, a run that goes on goes on after it, or is to stop with its error. It answers whether all is
 -- finished; else there is work
 pub record StartCall (g : Setup) (m n : Moment) (l k : Led)
@@ -41,6 +47,9 @@ pub record StartCall (g : Setup) (m n : Moment) (l k : Led)
       → IfOk answer (λ all. all ≡ true → IsFinished g n.events (written n.events))
   pub work : (b : RunTold) → IsGoing g b m no_loose l
       → IfOk answer (λ all. all ≡ false → LeavesWork g m.events n.events l k)
+  -- where planned terms wait nothing is asked, and few are admitted
+  pub waits : l.admitted < l.planned → NothingAsked m n l k
+  pub few : OnOk answer (k.admitted ≤ l.admitted + 8192)
 
 -- so over the moment of a run of which these are the connections, signal, limits and events
 abbrev pub StartLeads : Job → List ClientTold → List ClientTold → SignalTold → SignalTold → LimitTold → LimitTold
@@ -60,6 +69,9 @@ pub record TurnCall {S : Type 0} (told : S → SinkTold) (g : Setup) (m n : Mome
       → IfOk answer (λ all. all ≡ true → IsFinished g n.events (written n.events))
   pub falls : (b : RunTold) → IsSteady told g b m no_loose l v
       → IfOk answer (λ all. all ≡ false → measure g n.events k < measure g m.events l)
+  -- where planned terms wait no plan is taken, and few are admitted
+  pub waits : l.admitted < l.planned → OnOk answer (k.planned ≡ l.planned)
+  pub few : OnOk answer (k.admitted ≤ l.admitted + 8192)
 
 -- over any start, a steady run is steady after some turns
 abbrev pub SoFar : {S : Type 0} → (S → SinkTold) → Setup → Moment → Moment → Led → Led → Sequential S → Sequential S

@@ -5,6 +5,7 @@ use Rattle.xet_run.specs.declared.event.Event.{Event}
 use Rattle.xet_writers.specs.Sequential.{Sequential}
 use Rattle.xet_ties.specs.Setup.{RunTold, Setup}
 use Rattle.xet_leader.specs.declared.outcomes.Outcome.{Outcome}
+use Rattle.xet_leader.specs.Admission.{SameCounts}
 use Rattle.xet_leader.specs.JoinCalls.{Joining}
 use Rattle.xet_leader.specs.Led.{Led}
 use Rattle.xet_leader.specs.Measures.{LeavesLess}
@@ -54,6 +55,8 @@ pub record WorkCall {S : Type 0} (told : S → SinkTold) (g : Setup) (m n : Mome
     (answer : Answer) : Type 0 where
   pub call : LeadCall told g m n no_loose no_loose l k v w answer
   pub less : (b : RunTold) → IsSteady told g b m no_loose l v → OnOk answer (LeavesLess g m.events n.events l k)
+  -- as many terms are planned and admitted
+  pub counts : OnOk answer (SameCounts l k)
 
 -- so over the moment of a run of which this is told
 abbrev pub WorkLeads : {S : Type 0} → (S → SinkTold) → Setup → Joining S → Joining S → Answer → Type 0

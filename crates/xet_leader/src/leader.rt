@@ -1,5 +1,5 @@
 //! What a leader keeps between the parts of its turns.
-ghost use Rattle.std.specs.Prelude.{◌≡◌, IfErr};
+ghost use Rattle.std.specs.Prelude.{◌≡◌, IfErr, IfOk};
 ghost use Rattle.xet_terms.specs.Managers.{IsManager};
 
 use std::alloc::Global;
@@ -87,7 +87,7 @@ impl<P: FetchPolicy + Drop> Leader<P> {
         ensures fails { MatchOption (failing_size job.now.config)
             (IfErr result (λ e. e ≡ FileReconstructionError.OutOfMemory))
             (λ s. result ≡ Err (FileReconstructionError.ConfigurationError s)) }
-        ensures begun { IfOk result (λ l. l ≡ first_led job.now) }
+        ensures begun { IfOk result (λ l. l ≡ first_led job.now progress) }
         ensures starts { IfOk result (λ l. LeadStarts job.now l) }
     {
         if let Some(setting) = job.config.failing_size() {
@@ -124,7 +124,8 @@ pub(crate) fn check_manager<P: FetchPolicy>(manager: &ReconstructionTermManager<
 
 /// Another updater of the item, where there is one.
 fn shared(progress: &Option<ItemProgressUpdater>) -> Result<Option<ItemProgressUpdater>>
-    ensures { IfErr result (λ e. e ≡ FileReconstructionError.OutOfMemory) }
+    ensures same { IfOk result (λ other. other ≡ progress.now) }
+    ensures memory { IfErr result (λ e. e ≡ FileReconstructionError.OutOfMemory) }
 {
     match progress {
         None => Ok(None),

@@ -1,6 +1,7 @@
 //! The blocks that are to be fetched, or found in the cache.
-ghost use Rattle.std.specs.Prelude.{◌≡◌, ◌-◌, [], IfOk, OnOk, slice_get, take, drop};
+ghost use Rattle.std.specs.Prelude.{◌≡◌, ◌-◌, [], IfOk, None, OnOk, slice_get, take, drop};
 ghost use Rattle.xet_leader.specs.Lacking.{first_of, has_some, is_bare, lacked, lacked_by, lacked_in, lacks, missing_of, with_places};
+ghost use Rattle.xet_leader.specs.Listings.{first_lacked, first_number, lower, lowest_from, none_listed, or_zero};
 
 use crate::leader::{Leader, LedPlan};
 use crate::place_list::PlaceList;
@@ -52,8 +53,7 @@ fn lacked_blocks(
 ) -> Result<List<BlockAt>, OutOfMemory>
     ensures { IfOk result (λ found. found ≡ with_places [] (lacked skip count plans.now.items)) }
 {
-    let low = first_lacked(plans, skip, count);
-    let mut found = PlaceList::new(alloc, first_number(plans), low, count as usize);
+    let mut found = none_listed(alloc, plans, skip, count);
     let mut ahead = skip;
     let mut left = count;
     let mut at = 0;
@@ -68,30 +68,81 @@ fn lacked_blocks(
     Ok(found.into_list())
 }
 
-/// The number of the first plan; those of the others follow on it.
-fn first_number(plans: &VecDeque<LedPlan>) -> u64 {
+/// A list without blocks, for those that some terms of plans lack: so many terms, after those that are passed over. Its
+/// table starts with the first of these plans, and there with the lowest block that is lacked: it has no room for the
+/// plans and blocks before.
+fn none_listed(alloc: Global, plans: &VecDeque<LedPlan>, skip: u64, count: u64) -> PlaceList
+    ensures { result ≡ none_listed skip count plans.now.items }
+{
+    let first = first_number(plans);
+    let low = first_lacked(plans, skip, count);
+    PlaceList::new(alloc, first, low, count as usize)
+}
+
+/// The number of the first plan; those of the others follow on it. 0 where there is no plan.
+fn first_number(plans: &VecDeque<LedPlan>) -> u64
+    ensures { result ≡ first_number plans.now.items }
+{
     match plans.front() {
         Some(plan) => plan.number,
         None => 0,
     }
 }
 
-/// The first block that the first plan's terms lack: so many terms, after those that are passed over. Blocks are
-/// numbered in the order of their first terms, so no other one that is lacked has a lower number where no term is
-/// empty.
-fn first_lacked(plans: &VecDeque<LedPlan>, skip: u64, count: u64) -> usize {
-    let Some(plan) = plans.front() else {
-        return 0;
-    };
+/// The lowest number of a block that the first plan's terms lack: so many terms, after those that are passed over. 0
+/// where they lack none.
+fn first_lacked(plans: &VecDeque<LedPlan>, skip: u64, count: u64) -> usize
+    ensures { result ≡ first_lacked skip count plans.now.items }
+{
+    match plans.front() {
+        Some(plan) => lowest_lacked(plan, skip, count),
+        None => 0,
+    }
+}
+
+/// The lowest number of a block that some terms of a plan lack: so many terms, after those that are passed over. 0 where
+/// they lack none.
+fn lowest_lacked(plan: &LedPlan, skip: u64, count: u64) -> usize
+    ensures { result ≡ or_zero (lowest_from None (lacked_by plan.now (take count (drop skip plan.now.block.terms)))) }
+{
+    let mut lowest = None;
+    for term in some_terms(plan, skip, count) {
+        lowest = lower_of(lowest, plan, *term);
+    }
+    match lowest {
+        Some(block) => block,
+        None => 0,
+    }
+}
+
+/// The lower of a number and that of the block that a term lacks, if it lacks one.
+fn lower_of(lowest: Option<usize>, plan: &LedPlan, term: FileTerm) -> Option<usize>
+    ensures { result ≡ lowest_from lowest (lacked_in plan.now term) }
+{
+    if lacks(plan, term) {
+        return Some(lower(lowest, term.xorb_block));
+    }
+    lowest
+}
+
+/// The lower of both numbers, where there are both.
+fn lower(lowest: Option<usize>, block: usize) -> usize
+    ensures { result ≡ lower lowest block }
+{
+    match lowest {
+        Some(lowest) => lowest.min(block),
+        None => block,
+    }
+}
+
+/// Some terms of a plan: so many, after those that are passed over.
+fn some_terms(plan: &LedPlan, skip: u64, count: u64) -> &[FileTerm]
+    ensures { result.now ≡ take count (drop skip plan.now.block.terms) }
+{
     let terms = plan.block.terms.as_slice();
     let start = terms.len().min(skip as usize);
     let end = start + (terms.len() - start).min(count as usize);
-    for term in &terms[start..end] {
-        if lacks(plan, *term) {
-            return term.xorb_block;
-        }
-    }
-    0
+    &terms[start..end]
 }
 
 /// Adds the blocks that some terms of a plan lack: so many terms, after those that are passed over.
@@ -101,13 +152,10 @@ fn add_lacked(
     skip: u64,
     count: u64,
 ) -> Result<(), OutOfMemory>
-    ensures { OnOk result (found.new
-        ≡ with_places found.old (lacked_by plan.now (take count (drop skip plan.now.block.terms)))) }
+    ensures { OnOk result (found.new.places
+        ≡ with_places found.old.places (lacked_by plan.now (take count (drop skip plan.now.block.terms)))) }
 {
-    let terms = plan.block.terms.as_slice();
-    let start = terms.len().min(skip as usize);
-    let end = start + (terms.len() - start).min(count as usize);
-    for term in &terms[start..end] {
+    for term in some_terms(plan, skip, count) {
         add_term(found, plan, *term)?;
     }
     Ok(())
@@ -115,7 +163,7 @@ fn add_lacked(
 
 /// Adds the block that a term lacks, if it lacks one.
 fn add_term(found: &mut PlaceList, plan: &LedPlan, term: FileTerm) -> Result<(), OutOfMemory>
-    ensures { OnOk result (found.new ≡ with_places found.old (lacked_in plan.now term)) }
+    ensures { OnOk result (found.new.places ≡ with_places found.old.places (lacked_in plan.now term)) }
 {
     if !lacks(plan, term) {
         return Ok(());

@@ -1,6 +1,7 @@
 //! Blocks in the order in which they are listed, each once.
 ghost use Rattle.std.specs.Prelude.{◌≡◌, [], OnErr, OnOk};
 ghost use Rattle.xet_leader.specs.Lacking.{base_of, lists, with_place};
+ghost use Rattle.xet_leader.specs.Listings.{listed_with};
 
 use crate::missing_blocks::BlockAt;
 use crate::room::vec_with_room;
@@ -9,37 +10,36 @@ use std::marker::Model;
 use xet_base::{List, OutOfMemory};
 use xet_run::{BlockId, BlockTable};
 
-/// Blocks in the order in which they were added, each once, of plans from a number on. Whether a block is listed is
-/// found in a table, by its numbers, or by a walk over the list where it is one of the first plan below the first one
-/// that the table has. Contracts see it as the list of the blocks.
+/// Blocks in the order in which they were added, each once. Whether a block is listed is found in a table, by its
+/// numbers, or by a walk over the list where it is below all that the table is for. Contracts see it as a `Listing` of
+/// `specs/Listings`.
 #[derive(Drop)]
 pub(crate) struct PlaceList {
     places: Vec<BlockAt>,
-    // no plan has a number below it
+    // the number of the first plan that the table is for
     first: u64,
-    // the first block that the table has of the first plan
+    // the first block of that plan that it is for
     low: usize,
     // what is listed, by plans that are counted from the first one
     listed: BlockTable,
 }
 
 impl Model for PlaceList {
-    ghost use Rattle.std.specs.Prelude.{List as Items};
-    ghost use Rattle.xet_leader.specs.declared.missing_blocks.BlockAt.{BlockAt as Place};
     ghost use Rattle.xet_leader.specs.Lacking.{AreListed};
+    ghost use Rattle.xet_leader.specs.Listings.{Listing};
 
-    ghost Value = { Items Place };
+    ghost Value = { Listing };
 
-    ghost view = { λ s. s.places.items };
+    ghost view = { λ s. record { first = s.first; low = s.low; places = s.places.items } };
 
     ghost invariant = { λ s. AreListed s.first s.low s.listed s.places.items };
 }
 
 impl PlaceList {
-    /// No blocks, with room for so many. No plan is to have a number below the first one, and few blocks of that plan
-    /// are to have numbers below the low one.
+    /// No blocks, with room for so many, and a table for blocks of plans from the first number on, of that plan from the
+    /// low block on. Few blocks are to be below.
     pub(crate) fn new(alloc: Global, first: u64, low: usize, count: usize) -> PlaceList
-        ensures { result ≡ [] }
+        ensures { result ≡ record { first = first; low = low; places = [] } }
     {
         PlaceList {
             places: vec_with_room(alloc, count),
@@ -49,14 +49,14 @@ impl PlaceList {
         }
     }
 
-    /// Adds a block, where it isn't listed yet. `OutOfMemory` where memory was refused, or the plan's number is below
-    /// the first one; then the list is as it was.
+    /// Adds a block, where it isn't listed yet. `OutOfMemory` where memory was refused; then the list is as it was.
     pub(crate) fn add(&mut self, place: BlockAt) -> Result<(), OutOfMemory>
-        ensures { OnOk result (self.new ≡ with_place self.old place) }
+        ensures ok { OnOk result (self.new ≡ listed_with self.old place) }
+        ensures err { OnErr result (self.new ≡ self.old) }
     {
         let BlockAt { plan, block } = place;
         let Some(plan) = plan.checked_sub(self.first) else {
-            return Err(OutOfMemory);
+            return add_below(&mut self.places, place);
         };
         let Some(block) = block.checked_sub(base_of(self.low, plan)) else {
             return add_below(&mut self.places, place);
@@ -73,7 +73,7 @@ impl PlaceList {
 
     /// The blocks.
     pub(crate) fn into_list(self) -> List<BlockAt>
-        ensures { result ≡ self }
+        ensures { result ≡ self.places }
     {
         List::from_vec(self.places)
     }

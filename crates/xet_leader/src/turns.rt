@@ -1,5 +1,5 @@
 //! Takes turns, until all is written.
-ghost use Rattle.std.specs.Prelude.{◌≡◌, ◌<◌, ◌^◌, List, length, map};
+ghost use Rattle.std.specs.Prelude.{◌≡◌, ◌<◌, ◌≤◌, ◌^◌, List, length, map};
 ghost use Rattle.xet_run.specs.Allowed.{IsRunning};
 ghost use Rattle.xet_ties.specs.Setup.{told_of};
 ghost use Rattle.xet_outside.specs.Told.{ClientTold, SignalTold};
@@ -326,8 +326,8 @@ fn admit_more<R: Wait, P: FetchPolicy, B: BudgetSource, E: EventLog>(
     }
 }
 
-/// Asks for the plan that is due, and then admits terms that wait. True where none was due and all planned terms are
-/// written.
+/// Asks for the plan that is due, where no planned term waits, and then admits terms that wait. True where none was due
+/// and all planned terms are written.
 fn ask_then_admit<
     R: Wait,
     P: FetchPolicy,
@@ -346,6 +346,7 @@ fn ask_then_admit<
     job: Job,
 ) -> Result<bool>
     requires some { 0 < length clients.old }
+    requires past { leader.old.planned ≤ leader.old.admitted }
     requires runs { IsRunning core.old }
     requires led { IsLedManager (setup_of_job job) core.old leader.old.manager }
     ensures { StartLeads job (map C.told clients.old) (map C.told clients.new) (X.told cancel.old) (X.told cancel.new)

@@ -1,5 +1,5 @@
 -- Calls that end before any connection is asked.
-use Rattle.std.proofs.Common.{◌≡◌, ◌≤◌, Some, None, Err, [], ◌∷◌, refl, sym, subst, ◌∙◌, ap, ◌⊎◌, inl, inr}
+use Rattle.std.proofs.Common.{◌≡◌, ℕ, ◌≤◌, Some, None, Err, [], ◌∷◌, refl, sym, subst, ◌∙◌, ap, ◌⊎◌, inl, inr}
 use Rattle.xet_outside.specs.Told.{Rose, SinkTold}
 use Rattle.xet_error.specs.declared.error.FileReconstructionError.{FileReconstructionError}
 use Rattle.xet_error.specs.declared.error.FileReconstructionError.TheVariants as error
@@ -12,6 +12,7 @@ use Rattle.xet_ties.specs.Legal.{Legal}
 use Rattle.xet_ties.specs.RunCalls.{DidNothing, IsLocal, RunCall, RunTies}
 use Rattle.xet_ties.specs.Setup.{RunTold, Setup}
 use Rattle.xet_ties.specs.steps.Moves.{no_slack}
+use Rattle.xet_reconstruct.specs.ToFile.{UnreadyCause}
 use Rattle.xet_ties.proofs.CallerLemmas.{legal_of, none_hidden, none_late, short_leaves, steady_leaves, tie_flush}
 use Rattle.xet_ties.proofs.CallerLemmas.{tie_short, tie_start, tie_stop}
 
@@ -30,6 +31,7 @@ refused_call g b e h = record {
   finished = tt;
   flushed = tt;
   cancelled = λ h2. tt;
+  unfailed = refl;
   empty = λ r. record {
     untouched = record { clients = refl; cache = refl; signal = refl; limits = refl };
     took = refl;
@@ -95,6 +97,7 @@ short_call g b to h took faults link = record {
   finished = tt;
   flushed = tt;
   cancelled = λ yes. tt;
+  unfailed = tt;
   empty = λ e. nothing_done b to error.OutOfMemory took (inl refl);
   cache_later = λ s o c. c;
 }
@@ -109,6 +112,7 @@ failed_call g b to h took faults link rose = record {
   finished = tt;
   flushed = tt;
   cancelled = λ yes. tt;
+  unfailed = tt;
   empty = λ e. nothing_done b to error.IoError took (inr refl);
   cache_later = λ s o c. c;
 }
@@ -123,7 +127,7 @@ pub halted_legal : (g : Setup) (b : RunTold) (to : SinkTold) (e : FileReconstruc
     → failing_setting g b.clients ≡ None → to.took ≡ b.sink.took → b.sink.faults ≤ to.faults
     → to.link ≡ b.sink.link → SinkCause b.sink.faults to.faults e → Legal g b (record b { sink = to }) (Err e)
 halted_legal g b to e h took faults link (inl is) =
-    subst (λ (x : FileReconstructionError). Legal g b (record b { sink = to }) (Err x)) (sym is)
+    subst (λ (x : FileReconstructionError). Legal g b (record b { sink = to }) (Err x)) (sym is.0)
     (legal_of g b (record b { sink = to }) [] (Err error.OutOfMemory) tt (short_call g b to h took faults link))
 halted_legal g b to e h took faults link (inr is) =
     subst (λ (x : FileReconstructionError). Legal g b (record b { sink = to }) (Err x)) (sym is.0)
@@ -132,5 +136,11 @@ halted_legal g b to e h took faults link (inr is) =
 
 pub halted_nothing : (b : RunTold) (to : SinkTold) (e : FileReconstructionError) → to.took ≡ b.sink.took
     → SinkCause b.sink.faults to.faults e → DidNothing b (record b { sink = to }) (Err e)
-halted_nothing b to e took (inl is) = nothing_done b to e took (inl is)
+halted_nothing b to e took (inl is) = nothing_done b to e took (inl is.0)
 halted_nothing b to e took (inr is) = nothing_done b to e took (inr is.0)
+
+-- its error has its cause
+pub halted_cause : (before after : ℕ) (e : FileReconstructionError) → SinkCause before after e
+    → UnreadyCause before after e
+halted_cause before after e (inl is) = subst (UnreadyCause before after) (sym is.0) is.1
+halted_cause before after e (inr is) = subst (UnreadyCause before after) (sym is.0) is.1

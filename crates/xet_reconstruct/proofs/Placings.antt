@@ -33,6 +33,7 @@ pub made_ready : (truncate : Bool) (place : ℕ) (b m n : SinkTold) → ClearCal
 made_ready truncate place b m n c s f = record {
   took = s.took ∙ c.call.took;
   faults = (let x = c.call.faults in let y = s.faults in omega (arith, x, y));
+  unfailed = s.unfailed ∙ c.call.unfailed;
   link = s.same ∙ c.call.same;
   ready = λ later bytes took link. f later bytes took link
       ∙ ap (option_map (written bytes)) s.done
@@ -52,12 +53,9 @@ left_cleared true b m n c took link = inr (refl, same_place n m took link ∙ c.
 -- ---- files that could not be made ready
 
 sink_cause : (b n : ℕ) (e : SinkError) → (IsErrOf {T = Unit {0}} (Err e) sink_error.Failed → Rose b n)
-    → SinkCause b n (of_sink_error e)
-sink_cause b n sink_error.OutOfMemory h = inl refl
-sink_cause b n sink_error.Failed h = inr (refl, h refl)
-
-rose_since : (b m n : ℕ) → b ≤ m → Rose m n → Rose b n
-rose_since b m n up rose = omega arith
+    → (IsErrOf {T = Unit {0}} (Err e) sink_error.OutOfMemory → n ≡ b) → SinkCause b n (of_sink_error e)
+sink_cause b n sink_error.OutOfMemory h s = inl (refl, s refl)
+sink_cause b n sink_error.Failed h s = inr (refl, h refl)
 
 -- the file could not be emptied
 pub uncleared : (truncate : Bool) (place : ℕ) (b n : SinkTold) (e : SinkError) (x : FileReconstructionError)
@@ -67,10 +65,11 @@ uncleared truncate place b n e x is c =
     (record {
       took = c.call.took;
       faults = c.call.faults;
+      unfailed = tt;
       link = c.call.same;
       ready = tt;
       placed = tt;
-      cause = sink_cause b.faults n.faults e c.call.failed;
+      cause = sink_cause b.faults n.faults e c.call.failed c.call.short;
       left = inl c.call.kept;
     })
 
@@ -83,9 +82,11 @@ unplaced truncate place b m n e x is c s =
     (record {
       took = s.took ∙ c.call.took;
       faults = (let x = c.call.faults in let y = s.faults in omega (arith, x, y));
+      unfailed = tt;
       link = s.same ∙ c.call.same;
       ready = tt;
       placed = tt;
-      cause = sink_cause b.faults n.faults e (λ h. rose_since b.faults m.faults n.faults c.call.faults (s.failed h));
+      cause = subst (λ (k : ℕ). SinkCause k n.faults (of_sink_error e)) c.call.unfailed
+          (sink_cause m.faults n.faults e s.failed s.short);
       left = left_cleared truncate b m n c s.took s.kept;
     })

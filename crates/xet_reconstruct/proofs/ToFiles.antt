@@ -12,18 +12,18 @@ use Rattle.xet_run.specs.Budgets.{LimitTold}
 use Rattle.xet_ties.specs.Causes.{Cause, failing_setting}
 use Rattle.xet_ties.specs.InCall.{Exchange, Look}
 use Rattle.xet_ties.specs.Legal.{IsExact, Legal, TookCounted, TookTested, TookWhole}
-use Rattle.xet_ties.specs.RunCalls.{DidNothing}
+use Rattle.xet_ties.specs.RunCalls.{DidNothing, Unfailed}
 use Rattle.xet_ties.specs.Setup.{RunTold, Setup}
 use Rattle.xet_reconstruct.specs.steps.Placing.{ReadyCall}
 use Rattle.xet_reconstruct.specs.ToFile.{IsUnready, StandAt, ToFileCall, placed_as}
 use Rattle.xet_reconstruct.specs.Ran.{RanUnder}
-use Rattle.xet_reconstruct.proofs.Halts.{halted_legal, halted_nothing, refused_legal}
+use Rattle.xet_reconstruct.proofs.Halts.{halted_cause, halted_legal, halted_nothing, refused_legal}
 use Rattle.xet_reconstruct.proofs.Mapping.{if_err, if_ok, on_ok}
 
--- ---- a sink told otherwise before a run, with the same bytes and no more faults
+-- ---- a sink told otherwise before a run, with the same bytes and faults
 
 module _ (g : Setup) (b n : RunTold) (at : SinkTold) (flushed : Option ℕ) (faults : ℕ) (link : Link)
-    (up : faults ≤ at.faults) where
+    (same : at.faults ≡ faults) where
   abbrev then_sink : SinkTold
   then_sink = record { took = at.took; flushed = flushed; faults = faults; link = link }
 
@@ -39,7 +39,7 @@ module _ (g : Setup) (b n : RunTold) (at : SinkTold) (flushed : Option ℕ) (fau
   other_cause xs error.ClientError c = c
   other_cause xs error.FileNotFound c = c
   other_cause xs error.UrlExpired c = c
-  other_cause xs error.IoError c = omega (arith, up, c)
+  other_cause xs error.IoError c = omega (arith, same, c)
   other_cause xs (error.CorruptedReconstruction k) c = c
   other_cause xs (error.ConfigurationError s) c = c
   other_cause xs error.Cancelled c = c
@@ -82,6 +82,7 @@ module _ (g : Setup) (b n : RunTold) (at : SinkTold) (flushed : Option ℕ) (fau
     stored = l.stored;
     heard = l.heard;
     looks = l.looks;
+    looked = l.looked;
     tested = other_tested l.heard.list l.looks.list l.tested;
     whole = if_ok answer (TookWhole g l.heard.list l.looks.list at n.sink)
         (TookWhole g l.heard.list l.looks.list then_sink n.sink) (other_whole l.heard.list l.looks.list) l.whole;
@@ -89,6 +90,7 @@ module _ (g : Setup) (b n : RunTold) (at : SinkTold) (flushed : Option ℕ) (fau
         (λ k t. record { bytes = t.bytes; took = t.took; total = t.total }) l.total;
     flushed = l.flushed;
     cancelled = l.cancelled;
+    unfailed = subst (λ (k : ℕ). Unfailed k n.sink.faults answer) same l.unfailed;
     cause = if_err answer (Cause g l.heard.list at_start n) (Cause g l.heard.list other_start n)
         (other_cause l.heard.list) l.cause;
     settings = λ e h2. absurd (let z : None ≡ Some e = sym h ∙ h2 in cc);
@@ -98,6 +100,8 @@ module _ (g : Setup) (b n : RunTold) (at : SinkTold) (flushed : Option ℕ) (fau
     refreshed = l.refreshed;
     renewed = l.renewed;
     all_renewed = l.all_renewed;
+    late = l.late;
+    under = l.under;
     served = l.served;
     planned = l.planned;
     passed = l.passed;
@@ -109,20 +113,20 @@ module _ (g : Setup) (b n : RunTold) (at : SinkTold) (flushed : Option ℕ) (fau
     cache_later = l.cache_later;
     signal_later = l.signal_later;
     counts_later = l.counts_later;
-    sink_later = (let x = l.sink_later in omega (arith, x, up));
+    sink_later = (let x = l.sink_later in omega (arith, x, same));
     link = at_link;
     past = l.past;
   }
 
 -- a run into a file that was made ready
 ready_legal : (g : Setup) (b n : RunTold) (at : SinkTold) (answer : Result ℕ FileReconstructionError)
-    → failing_setting g b.clients ≡ None → at.took ≡ b.sink.took → b.sink.faults ≤ at.faults
+    → failing_setting g b.clients ≡ None → at.took ≡ b.sink.took → at.faults ≡ b.sink.faults
     → Legal g (record b { sink = at }) n answer → Legal g (placed_as n.sink.link b) n answer
-ready_legal g b n at answer h took up l =
+ready_legal g b n at answer h took same l =
     subst (λ (t : Option (List ℕ)). Legal g (record b {
       sink = record { took = t; flushed = b.sink.flushed; faults = b.sink.faults; link = n.sink.link };
     }) n answer) took
-    (other_legal g b n at b.sink.flushed b.sink.faults n.sink.link up answer h refl l)
+    (other_legal g b n at b.sink.flushed b.sink.faults n.sink.link same answer h refl l)
 
 -- ---- one call
 
@@ -138,6 +142,7 @@ refused_file limits g truncate place b e h =
         error = tt;
       };
       fails = tt;
+      cause = refl;
       left = inl refl;
     } in
     record {
@@ -158,7 +163,12 @@ pub unready_file : (limits : LimitTold) (g : Setup) (truncate : Bool) (place at 
     (e : FileReconstructionError) → failing_setting g b.clients ≡ None
     → ReadyCall truncate at b.sink to (Err e) → ToFileCall limits g truncate place b (record b { sink = to }) (Err e)
 unready_file limits g truncate place at b to e h r =
-    let unready : IsUnready truncate b (record b { sink = to }) (Err e) = record { nothing = halted_nothing b to e r.took r.cause; fails = tt; left = r.left } in
+    let unready : IsUnready truncate b (record b { sink = to }) (Err e) = record {
+      nothing = halted_nothing b to e r.took r.cause;
+      fails = tt;
+      cause = halted_cause b.sink.faults to.faults e r.cause;
+      left = r.left;
+    } in
     record {
       settings = λ x h2. absurd (let z : None ≡ Some x = sym h ∙ h2 in cc);
       legal = halted_legal g (placed_as to.link b) to e h r.took r.faults refl r.cause;
@@ -182,7 +192,7 @@ pub ready_file : (limits : LimitTold) (g : Setup) (truncate : Bool) (place p : �
     → ToFileCall limits g truncate place b n answer
 ready_file limits g truncate place p b n at answer is h given l ran =
     let r = subst (λ (q : ℕ). ReadyCall truncate q b.sink at (Ok tt)) is given in
-    let legal : Legal g (placed_as n.sink.link b) n answer = ready_legal g b n at answer h r.took r.faults l in
+    let legal : Legal g (placed_as n.sink.link b) n answer = ready_legal g b n at answer h r.took r.unfailed l in
     let stands : (bytes : List ℕ) → Took b.sink.took n.sink.took bytes → StandAt truncate place b.sink n.sink bytes =
     λ bytes t. r.ready n.sink bytes (subst (λ (x : Option (List ℕ)). Took x n.sink.took bytes) (sym r.took) t) l.link in
     record {
@@ -191,7 +201,7 @@ ready_file limits g truncate place p b n at answer is h given l ran =
       content = inl stands;
       ran = inl (record {
         ready = at;
-        made = record { took = r.took; faults = r.faults; placed = r.placed; link = r.link };
+        made = record { took = r.took; unfailed = r.unfailed; placed = r.placed; link = r.link };
         ran = ran;
       });
       exact = λ s o c. on_ok answer (IsExact s g (placed_as n.sink.link b).sink n.sink)

@@ -1,10 +1,10 @@
 -- What a reconstruction into a file does to it.
 use Rattle.std.specs.Prelude.{ℕ, ◌≡◌, ◌≤◌, ◌⊎◌, Bool, true, cond, List, Option, option_map, unwrap_or, Some, OnOk, Result}
-use Rattle.std.specs.Prelude.{Err}
+use Rattle.std.specs.Prelude.{Err, IfErr}
 use Rattle.xet_base.specs.declared.cas_types.FileRange.{FileRange}
 use Rattle.xet_base.specs.Store.{Store, window}
 use Rattle.xet_outside.specs.Places.{Placed, at_place, before_place, emptied, placed_of, written}
-use Rattle.xet_outside.specs.Told.{Link, SinkTold, Took}
+use Rattle.xet_outside.specs.Told.{Link, Rose, SinkTold, Took}
 use Rattle.xet_error.specs.declared.error.FileReconstructionError.{FileReconstructionError}
 use Rattle.xet_error.specs.declared.error.FileReconstructionError.TheVariants as error
 use Rattle.xet_error.specs.declared.error.Setting.{Setting}
@@ -33,11 +33,11 @@ abbrev pub StandsAt : Bool → ℕ → SinkTold → SinkTold → Type 0
 StandsAt truncate place before after =
     (bytes : List ℕ) → Took before.took after.took bytes → StandAt truncate place before after bytes
 
--- the file as it was made ready: it took nothing, and stands emptied where it was to be truncated, and at its place,
--- where it tells these
+-- the file as it was made ready: it took nothing, no call of it failed, and it stands emptied where it was to be
+-- truncated, and at its place, where it tells these
 pub record IsReady (truncate : Bool) (place : ℕ) (before ready : SinkTold) : Type 0 where
   pub took : ready.took ≡ before.took
-  pub faults : before.faults ≤ ready.faults
+  pub unfailed : ready.faults ≡ before.faults
   pub placed : placed_of ready ≡ option_map (ready_at truncate place) (placed_of before)
   pub link : before_place ready.link ≡ before_place before.link
 
@@ -46,11 +46,18 @@ abbrev pub IsLeft : Bool → SinkTold → SinkTold → Type 0
 IsLeft truncate before after = (after.link ≡ before.link)
     ⊎ ((truncate ≡ true) × (placed_of after ≡ option_map emptied (placed_of before)))
 
--- the file could not be made ready: nothing was asked and taken, and the answer is an error that needs no connection
+-- the error of a file that could not be made ready: the file failed, which its faults tell, or they are as before
+abbrev pub UnreadyCause : ℕ → ℕ → FileReconstructionError → Type 0
+UnreadyCause before after error.IoError = Rose before after
+UnreadyCause before after e = after ≡ before
+
+-- the file could not be made ready: nothing was asked and taken, and the answer is an error that needs no connection,
+-- by its cause
 pub record IsUnready (truncate : Bool) (before after : RunTold)
     (answer : Result ℕ FileReconstructionError) : Type 0 where
   pub nothing : DidNothing before after answer
   pub fails : OnOk answer ⊥
+  pub cause : IfErr answer (UnreadyCause before.sink.faults after.sink.faults)
   pub left : IsLeft truncate before.sink after.sink
 
 -- a run gave this answer, over the file as it was made ready, as `RanUnder` says

@@ -6,7 +6,7 @@ use std::process::Abort;
 use std::sync::Wait;
 use std::test::Fail;
 use std::thread::Threads;
-use xet_base::{ChunkRange, FileRange, HttpRange, List, MerkleHash, OutOfMemory, Text};
+use xet_base::{ChunkRange, FileRange, HttpRange, List, MerkleHash, OutOfMemory, SharedText};
 use xet_blocks::Steady;
 use xet_error::Result;
 use xet_outside::{
@@ -107,7 +107,7 @@ fn xorbs(alloc: Global, chunks: &[(u32, u32)]) -> std::result::Result<List<PlanX
             bytes: HttpRange::new(u64::from(*start), u64::from(*end)),
         })?;
     }
-    let url = Text::from_string(String::from_str(alloc, "fake:1")?);
+    let url = SharedText::from_string(alloc, String::from_str(alloc, "fake:1")?)?;
     let mut fetch = List::new(alloc);
     fetch.push(FetchEntry { url, ranges })?;
     xorbs.push(PlanXorb { xorb: X1, fetch })?;

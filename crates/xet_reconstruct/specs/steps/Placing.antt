@@ -26,6 +26,7 @@ pub record ReadyCall (truncate : Bool) (place : ℕ) (before after : SinkTold)
     (answer : Result (Unit {0}) FileReconstructionError) : Type 0 where
   pub took : after.took ≡ before.took
   pub faults : before.faults ≤ after.faults
+  pub unfailed : OnOk answer (after.faults ≡ before.faults)
   pub link : before_place after.link ≡ before_place before.link
   pub ready : OnOk answer ((later : SinkTold) (bytes : List ℕ) → Took after.took later.took bytes
       → later.link ≡ after.link → StandAt truncate place before later bytes)

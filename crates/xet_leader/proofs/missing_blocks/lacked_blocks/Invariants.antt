@@ -4,7 +4,7 @@ use Rattle.xet_leader.proofs.missing_blocks.lacked_blocks.Given as goal
 
 -- the rest of the plans gives the rest of the blocks
 abbrev pub invariant-loop-at : goal.invariant-loop-at
-invariant-loop-at l = with_places l.found (lacked l.ahead l.left (drop l.at l.plans.items)) ≡ with_places []
+invariant-loop-at l = with_places l.found.places (lacked l.ahead l.left (drop l.at l.plans.items)) ≡ with_places []
     (lacked l.skip l.count l.plans.items)
 
 abbrev pub decreases-loop-at : goal.decreases-loop-at

@@ -1,6 +1,7 @@
 use Rattle.std.proofs.Common.{Err, Ok, map, refl}
 use Rattle.xet_leader.specs.JoinCalls.{Joining}
 use Rattle.xet_leader.specs.Led.{setup_of_job}
+use Rattle.xet_leader.proofs.JoinTurns.{join_counts}
 use Rattle.xet_leader.proofs.RoundEnds.{can_join, can_settle, work_fails, work_leads}
 use Rattle.xet_leader.proofs.turns.join_and_settle.Goals as goal
 
@@ -128,6 +129,7 @@ returns-in-Err-settle_outcome-clause-leads g c =
     work_leads g.S.Sink.told (setup_of_job c.args.job) c.args.job.config.tries
     c.args.job.config.enable_multirange_fetching c.in-Ok.outcome a y z
     (Err c.in-Err-settle_outcome.error) refl refl c.in-Ok.ensures.leads c.in-Err-settle_outcome.ensures refl refl
+    (join_counts _ _ a y c.in-Ok.outcome c.in-Ok.ensures.turn)
 
 pub returns-clause-leads : goal.returns-clause-leads
 returns-clause-leads g c =
@@ -164,3 +166,4 @@ returns-clause-leads g c =
     work_leads g.S.Sink.told (setup_of_job c.args.job) c.args.job.config.tries
     c.args.job.config.enable_multirange_fetching c.in-Ok.outcome a y z
     (Ok tt) refl refl c.in-Ok.ensures.leads c.in-Ok-settle_outcome.ensures refl refl
+    (join_counts _ _ a y c.in-Ok.outcome c.in-Ok.ensures.turn)
