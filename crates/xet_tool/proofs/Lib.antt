@@ -3,6 +3,7 @@ mod GetOutcomes
 mod HonestRefreshes
 mod OptionWords
 mod PrintedDigits
+mod TapHistories
 mod TapLanes
 mod TapMoves
 mod TapRuns

@@ -28,9 +28,10 @@ use Rattle.xet_tool.specs.declared.commands.get.digits.Printed.TheVariants as pr
 use Rattle.xet_tool.specs.declared.commands.get.wanted.Wanted.{Wanted}
 use Rattle.xet_tool.specs.declared.status.Status.{Status}
 use Rattle.xet_tool.specs.declared.status.Status.TheVariants.{Done, BadWords, BadStore, BadScript, NotFound, ReadFault, WriteFault, NoMemory, TooLong, BadBlock, BadSettings}
-use Rattle.xet_tool.specs.steps.PrintedDigits.{AnyDigits, CountedAs, CountsAs, DigitsAs, DigitsBehind, Driven, IsRefusal, NothingAs, PassedAs, Ran, RanAs, StopsAs, Tapped, TookAs, TookMade, WholeText, Wrote, count_of, status_of_printed}
+use Rattle.xet_tool.specs.steps.PrintedDigits.{AnyDigits, CountedAs, CountsAs, DigitsAs, DigitsBehind, Driven, IsRefusal, NothingAs, PassedAs, Ran, RanAs, StopsAs, Tapped, TookAs, TookMade, UnfailedAs, WholeText, Wrote, count_of, status_of_printed}
 use Rattle.xet_tool.specs.Taps.{FirstBytes, FromTaps, IsMade, MadeOf, Passage, all_passages, lane_taps}
 use Rattle.xet_tool.specs.Wanted.{failing_setting, setup_of, wanted_bytes}
+use Rattle.xet_tool.proofs.TapHistories.{own_memory, run_memory}
 use Rattle.xet_tool.proofs.TapRuns.{took_same}
 
 -- the part of no list
@@ -87,6 +88,7 @@ module _ (s : Store) (q : Wanted) (ts us : List TapTold) (b n : SinkTold) where
     chunks = h.chunks;
     go_on = h.go_on;
     faults = h.faults;
+    unfailed = h.unfailed;
     link = h.link;
   })
   ran (Err error.OutOfMemory) p e h = subst (Ran s q ts us b n) (sym e) (record {
@@ -99,6 +101,7 @@ module _ (s : Store) (q : Wanted) (ts us : List TapTold) (b n : SinkTold) where
     chunks = λ honest. tt;
     go_on = h.go_on;
     faults = h.faults;
+    unfailed = tt;
     link = h.link;
   })
   ran (Err error.ClientError) p e h = absurd e
@@ -112,6 +115,7 @@ module _ (s : Store) (q : Wanted) (ts us : List TapTold) (b n : SinkTold) where
     chunks = λ honest. tt;
     go_on = h.go_on;
     faults = h.faults;
+    unfailed = h.unfailed;
     link = h.link;
   })
     where
@@ -128,6 +132,7 @@ module _ (s : Store) (q : Wanted) (ts us : List TapTold) (b n : SinkTold) where
     chunks = λ honest. tt;
     go_on = h.go_on;
     faults = h.faults;
+    unfailed = tt;
     link = h.link;
   })
   ran (Err (error.CorruptedReconstruction c)) p e h = subst (Ran s q ts us b n) (sym e) (record {
@@ -140,6 +145,7 @@ module _ (s : Store) (q : Wanted) (ts us : List TapTold) (b n : SinkTold) where
     chunks = λ honest. tt;
     go_on = h.go_on;
     faults = h.faults;
+    unfailed = h.unfailed;
     link = h.link;
   })
     where
@@ -156,6 +162,7 @@ module _ (s : Store) (q : Wanted) (ts us : List TapTold) (b n : SinkTold) where
     chunks = λ honest. tt;
     go_on = h.go_on;
     faults = h.faults;
+    unfailed = h.unfailed;
     link = h.link;
   })
   ran (Err error.Cancelled) p e h = absurd e
@@ -197,7 +204,7 @@ from_memory s q ts us status bytes h = by_passages (all_passages (lane_taps q ts
   where
     by_passages : (o : Option (List Passage)) → IfSome o (λ ps. MadeOf s q ps status bytes) → IfSome o (λ ps. MadeOf s q ps NoMemory bytes)
     by_passages None h = tt
-    by_passages (Some ps) h = record { xs = h.xs; passed = h.passed; looks = h.looks; looked = h.looked; given = h.given; made = made_first s q h.xs h.looks status bytes h.made }
+    by_passages (Some ps) h = record { xs = h.xs; passed = h.passed; looks = h.looks; looked = h.looked; own = λ c. own_memory q h.xs h.looks status (h.own c); given = h.given; made = made_first s q h.xs h.looks status bytes h.made; ran = run_memory q h.xs status h.ran }
 
 -- ---- a flush after a run
 
@@ -218,11 +225,20 @@ module _ (s : Store) (q : Wanted) (ts us : List TapTold) (a b n : SinkTold) wher
       chunks = r.chunks;
       go_on = r.go_on;
       faults = let l = f.faults in let m = r.faults in omega arith;
+      unfailed = unfailed answer r.unfailed;
       link = f.link ∙ r.link;
     };
     text = whole answer;
   }
     where
+      unfailed : (p : Printed) → UnfailedAs p a b → UnfailedAs p a n
+      unfailed (All k) h = f.unfailed ∙ h
+      unfailed NoFile h = f.unfailed ∙ h
+      unfailed Part h = tt
+      unfailed (Stopped e) h = tt
+      unfailed (printed.BadBlock k) h = f.unfailed ∙ h
+      unfailed (printed.BadSettings e) h = f.unfailed ∙ h
+
       rose : Rose a.faults b.faults → Rose a.faults n.faults
       rose w = let l = f.faults in omega (arith, w)
 
@@ -282,6 +298,7 @@ module _ (s : Store) (q : Wanted) (ts us : List TapTold) (a b n : SinkTold) wher
       chunks = λ honest. tt;
       go_on = r.go_on;
       faults = let l = f.faults in let m = r.faults in omega arith;
+      unfailed = tt;
       link = f.link ∙ r.link;
     };
     text = tt;
@@ -341,12 +358,24 @@ digits_of s q ts us b n t0 t1 start x y answer e0 f0 l0 f1 l1 d p =
         chunks = d.ran.chunks;
         go_on = d.ran.go_on;
         faults = later;
+        unfailed = unfailed answer d.ran.unfailed;
       },
       same.1,
     )
   where
     later : b.faults ≤ n.faults
     later = let m = d.ran.faults in omega arith
+
+    same_faults : t1.faults ≡ t0.faults → n.faults ≡ b.faults
+    same_faults e = omega (arith, e, f0, f1)
+
+    unfailed : (p : Printed) → UnfailedAs p t0 t1 → UnfailedAs p b n
+    unfailed (All k) h = same_faults h
+    unfailed NoFile h = same_faults h
+    unfailed Part h = tt
+    unfailed (Stopped e) h = tt
+    unfailed (printed.BadBlock k) h = same_faults h
+    unfailed (printed.BadSettings e) h = same_faults h
 
     rose : Rose t0.faults t1.faults → Rose b.faults n.faults
     rose m = omega (arith, m, f0, f1)

@@ -9,7 +9,6 @@ use Rattle.std.proofs.lemmas.List.Sums.{sum_by-cons}
 use Rattle.std.proofs.lemmas.List.Elements.{All-cons, All-head, All-nil, All-tail}
 use Rattle.xet_base.specs.Store.{IsValid, Store}
 use Rattle.xet_outside.specs.Answers.{bytes_in, plans_in}
-use Rattle.xet_outside.specs.declared.block.BlockAnswer.TheVariants.{Bytes}
 use Rattle.xet_outside.specs.declared.block.BlockBytes.{BlockBytes}
 use Rattle.xet_outside.specs.declared.said.Said.{Said}
 use Rattle.xet_outside.specs.declared.said.Said.TheVariants as said
@@ -37,16 +36,17 @@ use Rattle.xet_tool.specs.declared.status.Status.TheVariants.{NoMemory}
 use Rattle.xet_tool.specs.GetOptions.{lanes_of}
 use Rattle.xet_tool.specs.steps.OwnTaps.{behind_own}
 use Rattle.xet_tool.specs.steps.PrintedDigits.{AllPassed, Tapped, Wrote, status_of_answer, told_of}
-use Rattle.xet_tool.specs.steps.TapRuns.{BehindAll, BehindTaps, IsNew}
-use Rattle.xet_tool.specs.Taps.{FromTaps, GaveNothing, gave, gave_some, IsPassed, LanesHonest, MadeOf, Passage, TapsGoOn, all_passages, all_passed, lane_taps, passage, with_passage}
+use Rattle.xet_tool.specs.steps.TapRuns.{BehindAll, BehindTaps, IsNew, RunOver}
+use Rattle.xet_tool.specs.Taps.{FromTaps, GaveNothing, gave, gave_some, IsPassed, LanesHonest, MadeOf, Passage, TapsGoOn, all_passages, all_passed, lane_taps, new_cache, passage, with_passage}
 use Rattle.xet_tool.specs.Wanted.{failing_setting, setup_of}
+use Rattle.xet_tool.proofs.TapHistories.{has_run, memory_not, no_looks, no_run, own_cache}
 use Rattle.xet_tool.proofs.TapRuns.{AreCalm, FirstHonest, behind_all, behind_none, made, no_some, same_setting, took_same}
 
 -- ---- one lane
 
 -- the blocks that were given, as answers that were said
 abbrev pub front : List BlockBytes → List Said
-front gave = map (λ b. said.Block (Bytes b)) gave
+front gave = map (λ b. said.Block b) gave
 
 length-front : (gave : List BlockBytes) → length (front gave) ≡ length gave
 length-front [] = refl
@@ -189,7 +189,7 @@ pub record BehindLanes (s : Store) (q : Wanted) (ts us : List TapTold) (k l : Ca
     (answer : Result ℕ FileReconstructionError) : Type 0 where
   pub all : BehindAll s q (All (λ t. t.honest ≡ true) ts) k b n answer
   pub chunks : All (λ t. t.honest ≡ true) ts → k.entries ≡ Some [] → OnOk answer (IfSome (all_passed ts us) (AllServed s q.file q.range))
-  pub any : k.entries ≡ Some [] → (q.options.cache ≡ false → l.entries ≡ Some [])
+  pub any : k.entries ≡ Some [] → (q.options.cache ≡ false → l.entries ≡ Some []) → (q.options.cache ≡ true → k ≡ new_cache)
       → Wrote (λ status bytes. IfSome (all_passages ts us) (λ ps. MadeOf s q ps status bytes)) b n (status_of_answer answer) (result_ok answer)
   pub honest : map (λ t. t.honest) us ≡ map (λ t. t.honest) ts
 
@@ -208,24 +208,27 @@ none_given (l ∷ looks) entries e h =
     one (Some b) w = absurd (let c = w.1 in omega (arith, c))
 
 behind_lanes : (pass : HonestAnswersPass) (s : Store) (valid : IsValid s) (q : Wanted) (lanes : List (Lane s)) (k l : CacheTold) (b n : SinkTold) (answer : Result ℕ FileReconstructionError)
-    → causes.failing_setting (setup_of q) (befores s lanes) ≡ failing_setting q → Legal (setup_of q) (told_of (befores s lanes) k b) (told_of (afters s lanes) l n) answer
+    → causes.failing_setting (setup_of q) (befores s lanes) ≡ failing_setting q → (over : RunOver q (befores s lanes) (afters s lanes) k l b n answer)
     → BehindLanes s q (taps_before s lanes) (taps_after s lanes) k l b n answer
-behind_lanes pass s valid q lanes k l b n answer same h = record {
+behind_lanes pass s valid q lanes k l b n answer same over = record {
   all = behind_all s valid q (All (λ (t : TapTold). t.honest ≡ true) (taps_before s lanes)) (befores s lanes) (afters s lanes) k l b n (tell s lanes) (calm s lanes) same answer h;
   chunks = λ honest none. on_ok answer (h.chunks s (record { tell = tell s lanes honest; valid = valid }) none);
-  any = λ empty none. by empty (λ plain. none_given h.looks.list l.entries (none plain) h.looks.given) (all_passages (taps_before s lanes) (taps_after s lanes)) refl;
+  any = λ empty none new. by empty (λ plain. none_given h.looks.list l.entries (none plain) h.looks.given) new (all_passages (taps_before s lanes) (taps_after s lanes)) refl;
   honest = honest s lanes;
 }
   where
+    h : Legal (setup_of q) (told_of (befores s lanes) k b) (told_of (afters s lanes) l n) answer
+    h = over.legal
+
     on_ok : (a : Result ℕ FileReconstructionError) → OnOk a (AllServed s q.file q.range (served_of_all h.heard.list)) → OnOk a (IfSome (all_passed (taps_before s lanes) (taps_after s lanes)) (AllServed s q.file q.range))
     on_ok (Ok m) w =
         if_some (all_passed (taps_before s lanes) (taps_after s lanes)) (λ es. es ≡ served_of_all h.heard.list) (AllServed s q.file q.range)
         (λ es e. subst (AllServed s q.file q.range) (sym e) w) (served s lanes h.heard.list h.heard.told)
     on_ok (Err e) w = tt
 
-    by : k.entries ≡ Some [] → GaveNothing q h.looks.list → (o : Option (List Passage)) → all_passages (taps_before s lanes) (taps_after s lanes) ≡ o → Wrote (λ status bytes. IfSome (all_passages (taps_before s lanes) (taps_after s lanes)) (λ ps. MadeOf s q ps status bytes)) b n (status_of_answer answer) (result_ok answer)
-    by empty nothing None e = inr (λ status bytes. rw e tt)
-    by empty nothing (Some ps) e =
+    by : k.entries ≡ Some [] → GaveNothing q h.looks.list → (q.options.cache ≡ true → k ≡ new_cache) → (o : Option (List Passage)) → all_passages (taps_before s lanes) (taps_after s lanes) ≡ o → Wrote (λ status bytes. IfSome (all_passages (taps_before s lanes) (taps_after s lanes)) (λ ps. MadeOf s q ps status bytes)) b n (status_of_answer answer) (result_ok answer)
+    by empty nothing new None e = inr (λ status bytes. rw e tt)
+    by empty nothing new (Some ps) e =
         let sides = have_sides s lanes ps e in
         let heard : sides.xs ≡ h.heard.list = subst (λ (o : Option (List Exchange)). IfSome o (λ ys. ys ≡ h.heard.list)) sides.is (all_told (befores s lanes) (afters s lanes) h.heard.list h.heard.told) in
         let given : GaveServed (setup_of q) sides.xs h.looks.list = rw heard (looks_gained (setup_of q) h.heard.list k l h.looks.list empty h.gained h.looks.given) in
@@ -234,7 +237,16 @@ behind_lanes pass s valid q lanes k l b n answer same h = record {
           bytes = m.0;
           took = m.1;
           total = m.2;
-          from = rw e (record { xs = sides.xs; passed = sides.passed; looks = h.looks.list; looked = nothing; given = given; made = m.3 });
+          from = rw e (record {
+            xs = sides.xs;
+            passed = sides.passed;
+            looks = h.looks.list;
+            looked = nothing;
+            own = λ c. own_cache q (befores s lanes) (afters s lanes) k l b n sides.xs sides.is answer h (new c);
+            given = given;
+            made = m.3;
+            ran = has_run q (befores s lanes) (afters s lanes) k l b n sides.xs sides.is answer over.ran;
+          });
         })
 
 -- ---- want of memory before it
@@ -258,7 +270,7 @@ pub unbehind : (s : Store) (q : Wanted) (ts : List TapTold) (k : CacheTold) (b :
 unbehind s q ts k b = record {
   all = behind_none s q (LanesHonest q ts) k b;
   chunks = λ honest none. tt;
-  any = λ empty none. by (all_passages (lane_taps q ts) (lane_taps q ts)) refl;
+  any = λ empty none new. by (all_passages (lane_taps q ts) (lane_taps q ts)) refl;
   go_on = record { honest = refl; past = refl };
 }
   where
@@ -266,7 +278,7 @@ unbehind s q ts k b = record {
     by None e = inr (λ status bytes. rw e tt)
     by (Some ps) e =
         let sides = none_passed (lane_taps q ts) ps e s in
-        inl (record { bytes = []; took = took_same b.took; total = tt; from = rw e (record { xs = sides.0; passed = sides.1; looks = []; looked = λ plain. refl; given = All-nil _; made = inl refl }) })
+        inl (record { bytes = []; took = took_same b.took; total = tt; from = rw e (record { xs = sides.0; passed = sides.1; looks = []; looked = λ plain. refl; own = λ c. no_looks q sides.0 NoMemory memory_not; given = All-nil _; made = inl refl; ran = no_run q sides.0 NoMemory memory_not }) })
 
 -- ---- connections that own their taps
 
@@ -333,18 +345,18 @@ module _ {X T : Type 0} (told : T → TapTold) (tap : X → T) (store : X → St
 
   pub behind_taps : (pass : HonestAnswersPass) (s : Store) (valid : IsValid s) (q : Wanted) (olds : List T) (xs ys : List X) (k l : CacheTold) (b n : SinkTold) (answer : Result ℕ FileReconstructionError)
       → map tap xs ≡ olds → length olds ≡ 64 → All (λ x. IsNew s (told (tap x)) (client x)) xs
-      → Legal (setup_of q) (told_of (map client (take (lanes_of q.options) xs)) k b) (told_of (map client (take (lanes_of q.options) ys)) l n) answer
+      → RunOver q (map client (take (lanes_of q.options) xs)) (map client (take (lanes_of q.options) ys)) k l b n answer
       → drop (lanes_of q.options) ys ≡ drop (lanes_of q.options) xs
       → BehindTaps s q (map told olds) (map told (map tap ys)) k l b n answer
   behind_taps pass s valid q olds xs ys k l b n answer is count new h past =
       let c : ℕ = lanes_of q.options in
-      let some = are_lanes s (take c xs) (take c ys) (all_taken (λ (x : X). IsNew s (told (tap x)) (client x)) c xs new) h.goes_on in
+      let some = are_lanes s (take c xs) (take c ys) (all_taken (λ (x : X). IsNew s (told (tap x)) (client x)) c xs new) h.legal.goes_on in
       let fits : causes.failing_setting (setup_of q) (map client (take c xs)) ≡ failing_setting q = settings in
       let run : BehindLanes s q (taps_before s some.lanes) (taps_after s some.lanes) k l b n answer =
       behind_lanes pass s valid q some.lanes k l b n answer
       (subst (λ (cs : List ClientTold). causes.failing_setting (setup_of q) cs ≡ failing_setting q) some.before_is fits)
-      (subst (λ (ds : List ClientTold). Legal (setup_of q) (told_of (befores s some.lanes) k b) (told_of ds l n) answer) some.after_is
-      (subst (λ (cs : List ClientTold). Legal (setup_of q) (told_of cs k b) (told_of (map client (take c ys)) l n) answer) some.before_is h)) in
+      (subst (λ (ds : List ClientTold). RunOver q (befores s some.lanes) ds k l b n answer) some.after_is
+      (subst (λ (cs : List ClientTold). RunOver q cs (map client (take c ys)) k l b n answer) some.before_is h)) in
       let first : lane_taps q (map told olds) ≡ taps_before s some.lanes = rw (← is) (lane_of xs ∙ some.t_is) in
       let last : lane_taps q (map told (map tap ys)) ≡ taps_after s some.lanes = lane_of ys ∙ some.u_is in
       let same : BehindLanes s q (lane_taps q (map told olds)) (lane_taps q (map told (map tap ys))) k l b n answer = rw (first, last) run in
@@ -379,17 +391,19 @@ pub true_not : (v : Bool) → v ≡ true → v ≡ false → ⊥
 true_not v e f = cc
 
 pub tapped : (s : Store) (q : Wanted) (ts us : List TapTold) (k l : CacheTold) (b n : SinkTold) (a : Result ℕ FileReconstructionError)
-    → BehindTaps s q ts us k l b n a → k.entries ≡ Some [] → (q.options.cache ≡ false → l.entries ≡ Some []) → Tapped s q ts us b n a
-tapped s q ts us k l b n a h empty none = record {
+    → BehindTaps s q ts us k l b n a → k.entries ≡ Some [] → (q.options.cache ≡ false → l.entries ≡ Some []) → (q.options.cache ≡ true → k ≡ new_cache)
+    → Tapped s q ts us b n a
+tapped s q ts us k l b n a h empty none new = record {
   exact = λ honest. h.all.exact honest tells;
   prefix = λ honest. h.all.prefix honest tells;
   cause = h.all.cause;
   settings = h.all.settings;
   chunks = λ honest. by_answer a (h.chunks honest empty);
   counts = h.all.counts;
-  any = h.any empty none;
+  any = h.any empty none new;
   go_on = h.go_on;
   faults = h.all.faults;
+  unfailed = h.all.unfailed;
   link = h.all.link;
 }
   where

@@ -12,7 +12,6 @@ use Rattle.xet_base.specs.declared.cas_types.FileRange.{FileRange}
 use Rattle.xet_base.specs.Store.{IsValid, Store, file_of}
 use Rattle.xet_base.proofs.CallerLemmas.{take-nil}
 use Rattle.xet_outside.specs.Answers.{bytes_in, plans_in, block_said, plan_said}
-use Rattle.xet_outside.specs.declared.block.BlockAnswer.TheVariants.{Bytes}
 use Rattle.xet_outside.specs.declared.block.BlockBytes.{BlockBytes}
 use Rattle.xet_outside.specs.declared.block.BlockRequest.{BlockRequest}
 use Rattle.xet_outside.specs.declared.plan.Plan.{Plan}
@@ -102,6 +101,7 @@ behind_none s q H k b = record {
   settings = λ e f. (inr refl, refl);
   counts = tt;
   faults = omega arith;
+  unfailed = tt;
   link = refl;
 }
 
@@ -137,6 +137,7 @@ module _ (s : Store) (valid : IsValid s) (q : Wanted) (H : Type 0) (cs ds : List
     settings = λ e f. let r = h.settings e (same ∙ f) in (inl r.0, ap (λ (t : RunTold). t.sink.took) r.1);
     counts = counts_ok answer h.total;
     faults = h.sink_later;
+    unfailed = h.unfailed;
     link = h.link;
   }
 
@@ -154,7 +155,7 @@ pub unexpired_plan : (log after : ClientLog) (q : Query) (a : PlanAnswer) → af
 unexpired_plan log after q a e h = rw e (none_more log.said (said.Plan a) refl h)
 
 pub unexpired_block : (log after : ClientLog) (r : BlockRequest) (b : BlockBytes) → after ≡ with_block log r b → count_by expired_said log.said ≡ 0 → count_by expired_said after.said ≡ 0
-unexpired_block log after r b e h = rw e (none_more log.said (said.Block (Bytes b)) refl h)
+unexpired_block log after r b e h = rw e (none_more log.said (said.Block b) refl h)
 
 -- ---- answers that are the store's
 

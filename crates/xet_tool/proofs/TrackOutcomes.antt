@@ -23,7 +23,7 @@ use Rattle.xet_tool.proofs.GetOutcomes.{IsWhole, finished_more, read_to_end}
 pub record Printing (script : List ℕ) (run : ScriptLeft) (b n : SinkTold) : Type 0 where
   pub lines : List ℕ
   pub took : Took b.took n.took lines
-  pub faults : b.faults ≤ n.faults
+  pub unfailed : n.faults ≡ b.faults
   pub text : lines ++ text_left run ≡ track_text script
   pub whole : (lines ≡ []) ⊎ ((front : List ℕ) × (lines ≡ front ++ 10 ∷ []))
   pub reads : reads_left run ≡ track_reads script
@@ -37,7 +37,7 @@ pub printing_start : (script : List ℕ) (run : ScriptLeft) (b : SinkTold) → r
 printing_start script run b e = rw e (record {
   lines = [];
   took = took_none b.took;
-  faults = omega arith;
+  unfailed = refl;
   text = refl;
   whole = inl refl;
   reads = refl;
@@ -48,11 +48,11 @@ module _ (script : List ℕ) (run : ScriptLeft) (b m n : SinkTold) (p : Printing
   first = record { rest = text_left run; first = p.text; whole = p.whole }
 
   -- a line more
-  pub printing_line : (next : ScriptLeft) (now : List ℕ) → PrintsLine run next [] now → Took m.took n.took now → m.faults ≤ n.faults → Printing script next b n
+  pub printing_line : (next : ScriptLeft) (now : List ℕ) → PrintsLine run next [] now → Took m.took n.took now → n.faults ≡ m.faults → Printing script next b n
   printing_line next now t w k = record {
     lines = p.lines ++ now;
     took = took_both b.took m.took n.took p.lines now p.took w;
-    faults = (let l = p.faults in omega arith);
+    unfailed = k ∙ p.unfailed;
     text = append_assoc p.lines now (text_left next) ∙ ap (λ (l : List ℕ). p.lines ++ l) t.text ∙ p.text;
     whole = inr (p.lines ++ t.whole.0, ap (λ (l : List ℕ). p.lines ++ l) t.whole.1 ∙ sym (append_assoc p.lines t.whole.0 (10 ∷ [])));
     reads = t.reads ∙ p.reads;
@@ -71,13 +71,13 @@ module _ (script : List ℕ) (run : ScriptLeft) (b m n : SinkTold) (p : Printing
 
       by_error : (e : SinkError) → WroteAll m n now (Err e) → ScriptFrom script b n (status_of e)
       by_error sink_error.OutOfMemory w = cut w.prefix
-      by_error sink_error.Failed w = (let l = p.faults in let r = w.failed refl in omega arith, cut w.prefix)
+      by_error sink_error.Failed w = (let l = p.unfailed in let r = w.failed refl in omega arith, cut w.prefix)
 
   -- the last text of a script
   last : (text : List ℕ) (whole status : Status) → text ≡ text_left run → Finished text whole m n status → (Took b.took n.took (track_text script) → ScriptFrom script b n whole) → ScriptFrom script b n status
   last text whole status e h done =
       let all : p.lines ++ text ≡ track_text script = ap (λ (l : List ℕ). p.lines ++ l) e ∙ p.text in
-      by_case (rw all at (finished_more b m n p.lines text whole status p.took p.faults h))
+      by_case (rw all at (finished_more b m n p.lines text whole status p.took (let l = p.unfailed in omega arith) h))
     where
       by_case : Finished (track_text script) whole b n status → ScriptFrom script b n status
       by_case (inl h) = rw h.0 (done h.1)
@@ -96,7 +96,7 @@ module _ (script : List ℕ) (run : ScriptLeft) (b m n : SinkTold) (p : Printing
 
   -- want of memory
   pub printing_memory : (status : Status) → Finished (line NoMemory) NoMemory m n status → ScriptFrom script b n status
-  printing_memory status h = by_case (finished_more b m n p.lines (line NoMemory) NoMemory status p.took p.faults h)
+  printing_memory status h = by_case (finished_more b m n p.lines (line NoMemory) NoMemory status p.took (let l = p.unfailed in omega arith) h)
     where
       by_case : Finished (p.lines ++ line NoMemory) NoMemory b n status → ScriptFrom script b n status
       by_case (inl h) = rw h.0 (inr (p.lines, first, whole_prefix b.took n.took (p.lines ++ line NoMemory) h.1))

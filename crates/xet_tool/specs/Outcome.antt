@@ -1,8 +1,8 @@
--- What is printed with a status, and what is flushed.
+-- What is printed with a status, what is flushed, and what failed.
 use Rattle.std.specs.Prelude.{ℕ, ◌≡◌, ◌⊎◌, List, length, option_map}
-use Rattle.xet_outside.specs.Told.{Rose, SinkTold, Took, TookPrefix}
+use Rattle.xet_outside.specs.Told.{Rose, SinkTold, SourceTold, Took, TookPrefix}
 use Rattle.xet_tool.specs.declared.status.Status.{Status}
-use Rattle.xet_tool.specs.declared.status.Status.TheVariants.{WriteFault, NoMemory}
+use Rattle.xet_tool.specs.declared.status.Status.TheVariants.{ReadFault, WriteFault, NoMemory}
 use Rattle.xet_tool.specs.Ends.{Told}
 
 -- a text was printed with a status, or a prefix of it where a write failed or memory ended
@@ -21,3 +21,12 @@ pub record TextOutcome (text : List ℕ) (whole : Status) (before after : Told) 
 -- unless a write failed or memory ended, all that was taken is flushed
 abbrev pub IsFlushed : Status → SinkTold → Type 0
 IsFlushed status after = (after.flushed ≡ option_map length after.took) ⊎ (status ≡ WriteFault) ⊎ (status ≡ NoMemory)
+
+-- unless the status says that a write failed, or memory ended, no call of the output failed, by its count of faults
+abbrev pub IsUnfailed : Status → SinkTold → SinkTold → Type 0
+IsUnfailed status before after = (after.faults ≡ before.faults) ⊎ (status ≡ WriteFault) ⊎ (status ≡ NoMemory)
+
+-- nor did a read of the input, unless the status says so, or a write failed, or memory ended
+abbrev pub IsReadUnfailed : Status → SourceTold → SourceTold → Type 0
+IsReadUnfailed status before after = (after.faults ≡ before.faults) ⊎ (status ≡ ReadFault) ⊎ (status ≡ WriteFault)
+    ⊎ (status ≡ NoMemory)

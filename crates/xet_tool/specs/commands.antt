@@ -9,7 +9,7 @@ use Rattle.xet_tool.specs.declared.commands.Command.{Command}
 use Rattle.xet_tool.specs.declared.commands.Command.TheVariants as command
 use Rattle.xet_tool.specs.Ends.{Told}
 use Rattle.xet_tool.specs.GetWords.{wanted_of}
-use Rattle.xet_tool.specs.Outcome.{IsFlushed, TextOutcome}
+use Rattle.xet_tool.specs.Outcome.{IsFlushed, IsReadUnfailed, IsUnfailed, TextOutcome}
 use Rattle.xet_tool.specs.Texts.{help_text, line, number_of, version_text}
 use Rattle.xet_tool.specs.commands.Get.{GetOutcome}
 use Rattle.xet_tool.specs.commands.Track.{TrackOutcome}
@@ -40,3 +40,5 @@ pub record Answers (limit : ℕ) (words : List (List ℕ)) (before after : Told)
   pub number_is : number ≡ number_of status
   pub outcome : Outcome limit (command_of words) before after status
   pub flushed : IsFlushed status after.sink
+  pub unfailed : IsUnfailed status before.sink after.sink
+  pub read : IsReadUnfailed status before.source after.source

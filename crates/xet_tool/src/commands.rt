@@ -1,7 +1,7 @@
 //! The commands: the words of each, and what it does. Each has a room of its own below.
 ghost use Rattle.std.specs.Prelude.{◌≡◌, length, map, string_bytes};
 ghost use Rattle.xet_tool.specs.Ends.{input_limit};
-ghost use Rattle.xet_tool.specs.Outcome.{IsFlushed};
+ghost use Rattle.xet_tool.specs.Outcome.{IsFlushed, IsReadUnfailed, IsUnfailed};
 ghost use Rattle.xet_tool.specs.commands.{Outcome, command_of, command_of_one};
 
 pub mod get;
@@ -72,6 +72,8 @@ pub fn run_words<R: Threads + Wait + Sync, I: Source, O: Sink, T: Tap + Send>(
         (record { source = I.told input.old; sink = O.told out.old; taps = map T.told taps.old.items })
         (record { source = I.told input.new; sink = O.told out.new; taps = map T.told taps.new.items }) result }
     ensures flushed { IsFlushed result (O.told out.new) }
+    ensures unfailed { IsUnfailed result (O.told out.old) (O.told out.new) }
+    ensures read { IsReadUnfailed result (I.told input.old) (I.told input.new) }
 {
     match read_words(words) {
         Some(Command::Get(wanted)) => get::get(rt, alloc, wanted, input, out, taps),

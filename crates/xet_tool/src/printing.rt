@@ -1,6 +1,6 @@
 //! Texts and last lines on the output.
 ghost use Rattle.std.specs.Prelude.{◌≡◌, ◌∷◌};
-ghost use Rattle.xet_tool.specs.Outcome.{IsFlushed};
+ghost use Rattle.xet_tool.specs.Outcome.{IsFlushed, IsUnfailed};
 ghost use Rattle.xet_tool.specs.Outcome.{Finished};
 ghost use Rattle.xet_tool.specs.steps.Printing.{status_of};
 ghost use Rattle.xet_tool.specs.Texts.{line};
@@ -22,6 +22,7 @@ pub fn stopped(error: SinkError) -> Status
 pub fn print_text<O: Sink>(out: &mut O, status: Status, text: &[u8]) -> Status
     ensures text { Finished text.now status (O.told out.old) (O.told out.new) result }
     ensures flushed { IsFlushed result (O.told out.new) }
+    ensures unfailed { IsUnfailed result (O.told out.old) (O.told out.new) }
 {
     if let Err(error) = write_plainly(out, text) {
         return stopped(error);
@@ -36,6 +37,7 @@ pub fn print_text<O: Sink>(out: &mut O, status: Status, text: &[u8]) -> Status
 pub fn say<O: Sink>(out: &mut O, status: Status) -> Status
     ensures text { Finished (line status) status (O.told out.old) (O.told out.new) result }
     ensures flushed { IsFlushed result (O.told out.new) }
+    ensures unfailed { IsUnfailed result (O.told out.old) (O.told out.new) }
 {
     print_text(out, status, status.line())
 }
@@ -44,6 +46,7 @@ pub fn say<O: Sink>(out: &mut O, status: Status) -> Status
 pub fn say_after<O: Sink>(out: &mut O, status: Status) -> Status
     ensures text { Finished (10 ∷ line status) status (O.told out.old) (O.told out.new) result }
     ensures flushed { IsFlushed result (O.told out.new) }
+    ensures unfailed { IsUnfailed result (O.told out.old) (O.told out.new) }
 {
     finish(out, status, status.line())
 }
@@ -52,6 +55,7 @@ pub fn say_after<O: Sink>(out: &mut O, status: Status) -> Status
 pub fn finish<O: Sink>(out: &mut O, status: Status, line: &[u8]) -> Status
     ensures text { Finished (10 ∷ line.now) status (O.told out.old) (O.told out.new) result }
     ensures flushed { IsFlushed result (O.told out.new) }
+    ensures unfailed { IsUnfailed result (O.told out.old) (O.told out.new) }
 {
     match write_plainly(out, b"\n") {
         Ok(()) => print_text(out, status, line),

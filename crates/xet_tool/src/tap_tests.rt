@@ -11,7 +11,8 @@ use xet_base::{ChunkRange, MerkleHash};
 use xet_outside::Offsets;
 use xet_store::{BlockBytes, MemTap, ScriptTap, Served, Tap, VecSink, VecSource};
 
-// One xorb of `Hello`, `, `, `world` and `!`; a file of all, one of chunks that come again, and one of both ends.
+// One xorb of `Hello`, `, `, `world` and `!`; a file of all, one of chunks that come again, one of the first chunk
+// twice, and one of both ends.
 const DOCUMENT: &[u8] = br#"{"xorbs":{
     "1111111111111111111111111111111111111111111111111111111111111111":["48656c6c6f","2c20","776f726c64","21"]
 },"files":{
@@ -21,6 +22,9 @@ const DOCUMENT: &[u8] = br#"{"xorbs":{
         ["1111111111111111111111111111111111111111111111111111111111111111",2,4],
         ["1111111111111111111111111111111111111111111111111111111111111111",0,1],
         ["1111111111111111111111111111111111111111111111111111111111111111",0,3]],
+    "cccccccccccccccccccccccccccccccccccccccccccccccccccccccccccccccc":[
+        ["1111111111111111111111111111111111111111111111111111111111111111",0,1],
+        ["1111111111111111111111111111111111111111111111111111111111111111",0,1]],
     "eeeeeeeeeeeeeeeeeeeeeeeeeeeeeeeeeeeeeeeeeeeeeeeeeeeeeeeeeeeeeeee":[
         ["1111111111111111111111111111111111111111111111111111111111111111",0,1],
         ["1111111111111111111111111111111111111111111111111111111111111111",3,4]]
@@ -147,6 +151,19 @@ fn each_block_passes_the_first_tap_once(rt: HostRuntime) -> Result<(), Fail> {
         ),
         ('e', "0 end", "48656c6c6f21\nok 6\n", "1 0 0..1;1 1 3..4;"),
         ('e', "0 end multi", "48656c6c6f21\nok 6\n", "1 0 0..1 3..4;"),
+        // one range in two plans
+        (
+            'c',
+            "0 10 least=5 greatest=5",
+            "48656c6c6f48656c6c6f\nok 10\n",
+            "1 0 0..1;2 0 0..1;",
+        ),
+        (
+            'c',
+            "0 10 least=5 greatest=5 cache",
+            "48656c6c6f48656c6c6f\nok 10\n",
+            "1 0 0..1;",
+        ),
     ];
     for (file, range, text, blocks) in cases {
         let mut taps = Vec::new(rt.alloc());

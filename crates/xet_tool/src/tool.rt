@@ -42,7 +42,8 @@ use xet_store::{Sink, Source, Tap};
 /// With 1, 2, 4 and 8, but 2 of `track`, that line and nothing else was printed. With 5 and 6 a prefix of one text was
 /// printed: of the text of another status, of which all that is said here holds; or of `error memory`, for `get` with
 /// no digits, or with the digits of some first bytes of the range and a line end before it, and for `track` after some
-/// first lines. With all others what was printed is flushed.
+/// first lines. With all others what was printed is flushed and no call of the output failed, and but for 4 no read of
+/// the input did, by their counts of faults.
 pub fn run_tool<R: Threads + Wait + Sync, I: Source, O: Sink + Send, T: Tap + Send>(
     rt: &R,
     alloc: Global,

@@ -14,6 +14,7 @@ use Rattle.xet_error.specs.Errors.{corruption_number}
 use Rattle.xet_blocks.specs.ServedChunks.{AllServed}
 use Rattle.xet_reconstruct.specs.Setup.{no_limits}
 use Rattle.xet_ties.specs.Legal.{IsExact}
+use Rattle.xet_ties.specs.RunCalls.{Unfailed}
 use Rattle.xet_ties.specs.Setup.{RunTold}
 use Rattle.xet_tool.specs.declared.commands.get.digits.Printed.{Printed}
 use Rattle.xet_tool.specs.declared.commands.get.digits.Printed.TheVariants.{All as Whole, NoFile, Part, Stopped, BadBlock, BadSettings}
@@ -90,6 +91,7 @@ pub record Tapped (s : Store) (q : Wanted) (ts us : List TapTold) (b n : SinkTol
   pub any : Wrote (FromTaps s q ts us) b n (status_of_answer answer) (result_ok answer)
   pub go_on : TapsGoOn q ts us
   pub faults : b.faults ≤ n.faults
+  pub unfailed : Unfailed b.faults n.faults answer
   pub link : n.link ≡ b.link
 
 -- ---- how far the bytes were printed
@@ -112,6 +114,12 @@ CountsAs _ p = Unit {0}
 abbrev pub StopsAs : Printed → SinkTold → SinkTold → Type 0
 StopsAs (Stopped e) b n = e ≡ Failed → Rose b.faults n.faults
 StopsAs _ b n = Unit {0}
+
+-- no call of the output failed, unless it takes no more or memory ended
+abbrev pub UnfailedAs : Printed → SinkTold → SinkTold → Type 0
+UnfailedAs Part b n = Unit {0}
+UnfailedAs (Stopped e) b n = Unit {0}
+UnfailedAs _ b n = n.faults ≡ b.faults
 
 -- the settings can be met, or this one fails first
 abbrev pub SettingsAs : Wanted → Printed → Type 0
@@ -162,6 +170,7 @@ pub record Ran (s : Store) (q : Wanted) (ts us : List TapTold) (b n : SinkTold) 
   pub chunks : LanesHonest q ts → PassedAs s q ts us answer
   pub go_on : TapsGoOn q ts us
   pub faults : b.faults ≤ n.faults
+  pub unfailed : UnfailedAs answer b n
   pub link : n.link ≡ b.link
 
 -- unless the sink below stopped, no digit is missing there
@@ -221,3 +230,4 @@ pub record DigitsBehind (s : Store) (q : Wanted) (ts us : List TapTold) (b n : S
   pub chunks : LanesHonest q ts → PassedAs s q ts us answer
   pub go_on : TapsGoOn q ts us
   pub faults : b.faults ≤ n.faults
+  pub unfailed : UnfailedAs answer b n

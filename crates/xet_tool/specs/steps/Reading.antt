@@ -1,5 +1,5 @@
 -- What reading an input to its end answers.
-use Rattle.std.specs.Prelude.{ℕ, ◌≡◌, ◌<◌, ◌≤◌, List, [], length, Some, Result, Err, IfOk, Vec}
+use Rattle.std.specs.Prelude.{ℕ, ◌≡◌, ◌⊎◌, ◌<◌, ◌≤◌, List, [], length, Some, Result, Err, IfOk, Vec}
 use Rattle.std.specs.declared.alloc.Global.{Global}
 use Rattle.xet_outside.specs.Told.{Rose, SourceTold}
 use Rattle.xet_tool.specs.declared.reading.ReadError.{ReadError}
@@ -11,3 +11,4 @@ pub record ReadAll (b n : SourceTold) (limit : ℕ) (answer : Result (Vec ℕ Gl
   pub too_long : (xs : List ℕ) → b.left ≡ Some xs → answer ≡ Err read_error.TooLong → limit < length xs
   pub fault : answer ≡ Err read_error.Fault → Rose b.faults n.faults
   pub faults : b.faults ≤ n.faults
+  pub unfailed : (n.faults ≡ b.faults) ⊎ (answer ≡ Err read_error.Fault)

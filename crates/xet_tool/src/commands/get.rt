@@ -1,9 +1,11 @@
 //! The command `get`.
-ghost use Rattle.std.specs.Prelude.{◌≡◌, length, map};
+ghost use Rattle.std.specs.Prelude.{◌≡◌, IfOk, length, map};
+ghost use Rattle.std.specs.Arc.{arc_value};
 ghost use Rattle.xet_tool.specs.Ends.{input_limit};
 ghost use Rattle.xet_tool.specs.commands.Get.{GetOutcome};
-ghost use Rattle.xet_tool.specs.Outcome.{IsFlushed};
+ghost use Rattle.xet_tool.specs.Outcome.{IsFlushed, IsReadUnfailed, IsUnfailed};
 ghost use Rattle.xet_tool.specs.steps.Printing.{GotFrom, PrintedWithin};
+ghost use Rattle.xet_tool.specs.steps.TapRuns.{IsBookOf};
 
 mod connections;
 mod digits;
@@ -30,7 +32,9 @@ fn book_view<R: Wait>(
     rt: &R,
     alloc: Global,
     settings: BudgetSettings,
-) -> Result<BookView, OutOfMemory> {
+) -> Result<BookView, OutOfMemory>
+    ensures { IfOk result (λ view. (arc_value view.book).settings ≡ settings) }
+{
     let book = Arc::new(alloc, BudgetBook::new(alloc, settings)?)?;
     book.start(rt);
     Ok(BookView::new(book))
@@ -46,10 +50,12 @@ fn print<R: Threads + Wait + Sync, T: Tap + Send, O: Sink>(
     taps: &mut Vec<T>,
     out: &mut O,
 ) -> Status
-    requires { length taps.old.items ≡ 64 }
+    requires count { length taps.old.items ≡ 64 }
+    requires book { IsBookOf wanted view }
     ensures printed { GotFrom store.now wanted (map T.told taps.old.items) (map T.told taps.new.items)
         (O.told out.old) (O.told out.new) result }
     ensures flushed { IsFlushed result (O.told out.new) }
+    ensures unfailed { IsUnfailed result (O.told out.old) (O.told out.new) }
 {
     match print_digits(rt, alloc, wanted, view, store, taps, out) {
         Printed::All(count) => match format!(in alloc; "ok {count}\n") {
@@ -80,6 +86,7 @@ fn print_within<R: Threads + Wait + Sync, T: Tap + Send, O: Sink>(
     ensures printed { PrintedWithin store.now wanted (map T.told taps.old.items) (map T.told taps.new.items)
         (O.told out.old) (O.told out.new) result }
     ensures flushed { IsFlushed result (O.told out.new) }
+    ensures unfailed { IsUnfailed result (O.told out.old) (O.told out.new) }
 {
     match book_view(rt, alloc, wanted.options.budget_settings()) {
         Ok(view) => print(rt, alloc, wanted, view, store, taps, out),
@@ -102,6 +109,8 @@ pub fn get<R: Threads + Wait + Sync, I: Source, O: Sink, T: Tap + Send>(
         (record { source = I.told input.old; sink = O.told out.old; taps = map T.told taps.old.items })
         (record { source = I.told input.new; sink = O.told out.new; taps = map T.told taps.new.items }) result }
     ensures flushed { IsFlushed result (O.told out.new) }
+    ensures unfailed { IsUnfailed result (O.told out.old) (O.told out.new) }
+    ensures read { IsReadUnfailed result (I.told input.old) (I.told input.new) }
 {
     let text = match read_to_end(alloc, input, LIMIT) {
         Ok(text) => text,

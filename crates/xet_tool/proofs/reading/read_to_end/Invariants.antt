@@ -7,7 +7,7 @@ invariant-pieces g l =
     let told = g.I.Source.told in
     record {
       left : (told l.fn.input).left ≡ option_map (λ rest. l.all.items ++ rest) (told l.input).left;
-      faults : (told l.fn.input).faults ≤ (told l.input).faults;
+      faults : (told l.input).faults ≡ (told l.fn.input).faults;
     }
 
 abbrev pub decreases-pieces : goal.decreases-pieces

@@ -1,11 +1,12 @@
 //! Runs over connections to a store, whose blocks go through taps.
-ghost use Rattle.std.specs.Prelude.{◌≡◌, ◌≤◌, [], All, IfOk, OnErr, OnOk, drop, length, map, take, true, vec_capacity};
+ghost use Rattle.std.specs.Prelude.{◌≡◌, ◌≤◌, [], All, IfOk, OnErr, OnOk, drop, false, length, map, take, true, vec_capacity};
 ghost use Rattle.xet_base.specs.Store.{IsValid};
+ghost use Rattle.xet_reconstruct.specs.Ran.{RanUnder};
 ghost use Rattle.xet_ties.specs.Legal.{Legal};
 ghost use Rattle.xet_tool.specs.GetOptions.{lanes_of};
 ghost use Rattle.xet_tool.specs.Wanted.{setup_of};
 ghost use Rattle.xet_tool.specs.steps.PrintedDigits.{Tapped, told_of};
-ghost use Rattle.xet_tool.specs.steps.TapRuns.{BehindTaps, IsNew};
+ghost use Rattle.xet_tool.specs.steps.TapRuns.{BehindTaps, IsBookOf, IsNew, limits_told};
 
 use crate::commands::get::tapped_client::TappedClient;
 use crate::commands::get::wanted::Wanted;
@@ -32,7 +33,11 @@ fn run_over<R: Threads + Wait + Sync, C: Client + Send, K: ChunkCache, O: Sink>(
     cache: &mut K,
     out: &mut O,
 ) -> Result<u64>
-    ensures { Legal (setup_of wanted) (told_of (map C.told clients.old) (K.told cache.old) (O.told out.old))
+    requires book { IsBookOf wanted view }
+    ensures legal { Legal (setup_of wanted) (told_of (map C.told clients.old) (K.told cache.old) (O.told out.old))
+        (told_of (map C.told clients.new) (K.told cache.new) (O.told out.new)) result }
+    ensures ran { RanUnder (limits_told wanted) (setup_of wanted)
+        (told_of (map C.told clients.old) (K.told cache.old) (O.told out.old))
         (told_of (map C.told clients.new) (K.told cache.new) (O.told out.new)) result }
 {
     let config = wanted.options.config();
@@ -94,8 +99,13 @@ fn run_over_first<R: Threads + Wait + Sync, C: Client + Send, K: ChunkCache, O: 
     cache: &mut K,
     out: &mut O,
 ) -> Result<u64>
-    requires { length clients.old ≡ 64 }
+    requires count { length clients.old ≡ 64 }
+    requires book { IsBookOf wanted view }
     ensures legal { Legal (setup_of wanted)
+        (told_of (map C.told (take (lanes_of wanted.options) clients.old)) (K.told cache.old) (O.told out.old))
+        (told_of (map C.told (take (lanes_of wanted.options) clients.new)) (K.told cache.new) (O.told out.new))
+        result }
+    ensures ran { RanUnder (limits_told wanted) (setup_of wanted)
         (told_of (map C.told (take (lanes_of wanted.options) clients.old)) (K.told cache.old) (O.told out.old))
         (told_of (map C.told (take (lanes_of wanted.options) clients.new)) (K.told cache.new) (O.told out.new))
         result }
@@ -118,7 +128,8 @@ fn run_behind<R: Threads + Wait + Sync, T: Tap + Send, K: ChunkCache, O: Sink>(
     cache: &mut K,
     out: &mut O,
 ) -> Result<u64>
-    requires { length taps.old.items ≡ 64 }
+    requires count { length taps.old.items ≡ 64 }
+    requires book { IsBookOf wanted view }
     ensures { BehindTaps store.now wanted (map T.told taps.old.items) (map T.told taps.new.items)
         (K.told cache.old) (K.told cache.new) (O.told out.old) (O.told out.new) result }
 {
@@ -144,6 +155,7 @@ fn run_cached<R: Threads + Wait + Sync, T: Tap + Send, O: Sink>(
     out: &mut O,
 ) -> Result<u64>
     requires count { length taps.old.items ≡ 64 }
+    requires book { IsBookOf wanted view }
     requires cache { wanted.options.cache ≡ true }
     ensures { Tapped store.now wanted (map T.told taps.old.items) (map T.told taps.new.items)
         (O.told out.old) (O.told out.new) result }
@@ -163,6 +175,8 @@ fn run_plain<R: Threads + Wait + Sync, T: Tap + Send, O: Sink>(
     out: &mut O,
 ) -> Result<u64>
     requires count { length taps.old.items ≡ 64 }
+    requires book { IsBookOf wanted view }
+    requires cache { wanted.options.cache ≡ false }
     ensures { Tapped store.now wanted (map T.told taps.old.items) (map T.told taps.new.items)
         (O.told out.old) (O.told out.new) result }
 {
@@ -180,7 +194,8 @@ pub fn run_on_store<R: Threads + Wait + Sync, T: Tap + Send, O: Sink>(
     taps: &mut Vec<T>,
     out: &mut O,
 ) -> Result<u64>
-    requires { length taps.old.items ≡ 64 }
+    requires count { length taps.old.items ≡ 64 }
+    requires book { IsBookOf wanted view }
     ensures { Tapped store.now wanted (map T.told taps.old.items) (map T.told taps.new.items)
         (O.told out.old) (O.told out.new) result }
 {

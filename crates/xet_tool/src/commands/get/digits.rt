@@ -1,6 +1,7 @@
 //! The digits of a range of a file.
 ghost use Rattle.std.specs.Prelude.{◌≡◌, length, map};
 ghost use Rattle.xet_tool.specs.steps.PrintedDigits.{DigitsBehind, Driven, Ran};
+ghost use Rattle.xet_tool.specs.steps.TapRuns.{IsBookOf};
 
 use crate::commands::get::connections::run_on_store;
 use crate::commands::get::wanted::Wanted;
@@ -39,7 +40,8 @@ fn run<R: Threads + Wait + Sync, T: Tap + Send, O: Sink>(
     taps: &mut Vec<T>,
     out: &mut O,
 ) -> Printed
-    requires { length taps.old.items ≡ 64 }
+    requires count { length taps.old.items ≡ 64 }
+    requires book { IsBookOf wanted view }
     ensures { Ran store.now wanted (map T.told taps.old.items) (map T.told taps.new.items)
         (O.told out.old) (O.told out.new) result }
 {
@@ -70,7 +72,8 @@ fn drive<R: Threads + Wait + Sync, T: Tap + Send, O: Sink>(
     taps: &mut Vec<T>,
     digits: &mut HexSink<O>,
 ) -> Printed
-    requires { length taps.old.items ≡ 64 }
+    requires count { length taps.old.items ≡ 64 }
+    requires book { IsBookOf wanted view }
     ensures { Driven store.now wanted (map T.told taps.old.items) (map T.told taps.new.items)
         (⟦<HexSink<O> as Sink>⟧.told digits.old) (⟦<HexSink<O> as Sink>⟧.told digits.new)
         (O.told digits.new.start.value).took (O.told digits.new.inner).took result }
@@ -96,7 +99,8 @@ pub fn print_digits<R: Threads + Wait + Sync, T: Tap + Send, O: Sink>(
     taps: &mut Vec<T>,
     out: &mut O,
 ) -> Printed
-    requires { length taps.old.items ≡ 64 }
+    requires count { length taps.old.items ≡ 64 }
+    requires book { IsBookOf wanted view }
     ensures { DigitsBehind store.now wanted (map T.told taps.old.items) (map T.told taps.new.items)
         (O.told out.old) (O.told out.new) result }
 {

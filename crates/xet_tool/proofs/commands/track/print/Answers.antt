@@ -20,7 +20,7 @@ lines-preserved g c =
     let turn : TurnOf c.lines.run c.step.new.self [] c.step.new.out.items Printed = search rules in
     let text : c.as_slice.result.now ≡ c.step.new.out.items = search rules in
     let w = rw (text, c.in_default.is) at c.write_plainly.ensures in
-    printing_line c.args.script.now c.lines.run (told c.args.out.now) (told c.lines.out) (told c.write_plainly.new.sink) c.lines.invariant c.step.new.self c.step.new.out.items turn w.took w.faults
+    printing_line c.args.script.now c.lines.run (told c.args.out.now) (told c.lines.out) (told c.write_plainly.new.sink) c.lines.invariant c.step.new.self c.step.new.out.items turn w.took w.unfailed
 
 pub returns-in-Ok-Unread-clause-printed : goal.returns-in-Ok-Unread-clause-printed
 returns-in-Ok-Unread-clause-printed g c =

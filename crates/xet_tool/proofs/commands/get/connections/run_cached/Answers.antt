@@ -7,4 +7,4 @@ pub returns : goal.returns
 returns g c =
     tapped _ _ _ _ _ _ _ _ c.run_behind.result c.run_behind.ensures
     (ap (λ (k : CacheTold). k.entries) c.new-cache.ensures.told)
-    (λ w. absurd (true_not _ c.requires.cache w))
+    (λ w. absurd (true_not _ c.requires.cache w)) (λ w. c.new-cache.ensures.told)
