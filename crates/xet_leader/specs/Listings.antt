@@ -1,5 +1,5 @@
 -- Where the list of a turn's missing blocks starts, and what is listed.
-use Rattle.std.specs.Prelude.{ℕ, min, List, [], ◌∷◌, take, drop, Option, Some, None}
+use Rattle.std.specs.Prelude.{ℕ, min, List, [], ◌∷◌, take, drop, Option, Some, None, unwrap_or}
 use Rattle.xet_leader.specs.declared.leader.LedPlan.{LedPlan}
 use Rattle.xet_leader.specs.declared.missing_blocks.BlockAt.{BlockAt}
 use Rattle.xet_leader.specs.Lacking.{lacked_by, with_place}
@@ -29,16 +29,11 @@ abbrev pub lowest_from : Option ℕ → List BlockAt → Option ℕ
 lowest_from o [] = o
 lowest_from o (c ∷ cs) = lowest_from (Some (lower o c.block)) cs
 
--- this number; 0 where there is none
-abbrev pub or_zero : Option ℕ → ℕ
-or_zero None = 0
-or_zero (Some n) = n
-
 -- the lowest number of a block that these terms of the first plan lack: some terms are passed over, and then so many
 -- are taken
 abbrev pub first_lacked : ℕ → ℕ → List LedPlan → ℕ
 first_lacked skip count [] = 0
-first_lacked skip count (l ∷ ls) = or_zero (lowest_from None (lacked_by l (take count (drop skip l.block.terms))))
+first_lacked skip count (l ∷ ls) = unwrap_or (lowest_from None (lacked_by l (take count (drop skip l.block.terms)))) 0
 
 -- nothing is listed of what these plans lack, in a table that starts where that does
 abbrev pub none_listed : ℕ → ℕ → List LedPlan → Listing

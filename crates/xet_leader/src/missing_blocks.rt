@@ -1,7 +1,7 @@
 //! The blocks that are to be fetched, or found in the cache.
-ghost use Rattle.std.specs.Prelude.{◌≡◌, ◌-◌, [], IfOk, None, OnOk, slice_get, take, drop};
+ghost use Rattle.std.specs.Prelude.{◌≡◌, ◌-◌, [], IfOk, None, OnOk, slice_get, take, drop, unwrap_or};
 ghost use Rattle.xet_leader.specs.Lacking.{first_of, has_some, is_bare, lacked, lacked_by, lacked_in, lacks, missing_of, with_places};
-ghost use Rattle.xet_leader.specs.Listings.{first_lacked, first_number, lower, lowest_from, none_listed, or_zero};
+ghost use Rattle.xet_leader.specs.Listings.{first_lacked, first_number, lower, lowest_from, none_listed};
 
 use crate::leader::{Leader, LedPlan};
 use crate::place_list::PlaceList;
@@ -100,19 +100,17 @@ fn first_lacked(plans: &VecDeque<LedPlan>, skip: u64, count: u64) -> usize
     }
 }
 
-/// The lowest number of a block that some terms of a plan lack: so many terms, after those that are passed over. 0 where
-/// they lack none.
+/// The lowest number of a block that some terms of a plan lack: so many terms, after those that are passed over. 0
+/// where they lack none.
 fn lowest_lacked(plan: &LedPlan, skip: u64, count: u64) -> usize
-    ensures { result ≡ or_zero (lowest_from None (lacked_by plan.now (take count (drop skip plan.now.block.terms)))) }
+    ensures { result ≡ unwrap_or (lowest_from None
+        (lacked_by plan.now (take count (drop skip plan.now.block.terms)))) 0 }
 {
     let mut lowest = None;
     for term in some_terms(plan, skip, count) {
         lowest = lower_of(lowest, plan, *term);
     }
-    match lowest {
-        Some(block) => block,
-        None => 0,
-    }
+    lowest.unwrap_or(0)
 }
 
 /// The lower of a number and that of the block that a term lacks, if it lacks one.

@@ -36,8 +36,8 @@ impl Model for PlaceList {
 }
 
 impl PlaceList {
-    /// No blocks, with room for so many, and a table for blocks of plans from the first number on, of that plan from the
-    /// low block on. Few blocks are to be below.
+    /// No blocks, with room for so many, and a table for blocks of plans from the first number on, of that plan from
+    /// the low block on. Few blocks are to be below.
     pub(crate) fn new(alloc: Global, first: u64, low: usize, count: usize) -> PlaceList
         ensures { result ≡ record { first = first; low = low; places = [] } }
     {
