@@ -1,9 +1,10 @@
 -- What a search finds.
 use Rattle.std.proofs.Common.{◌≡◌, ℕ, zero, suc, ◌<◌, Bool, true, false, cond, List, [], ◌∷◌, length, get_or, refl, sym, ◌∙◌, ap, arith}
-use Rattle.std.specs.Prelude.{AllPairs, IsFalse, Some, None, find, slice_get}
+use Rattle.std.specs.Prelude.{AllPairs, IsFalse, Some, None, find, position, slice_get}
 use Rattle.std.specs.List.{position_or_len, list_any}
-use Rattle.std.proofs.lemmas.Bool.{false≢true}
+use Rattle.std.proofs.lemmas.Bool.{false≢true, lt-ltb}
 use Rattle.std.proofs.lemmas.List.Folds.{find_at, list_any_at}
+use Rattle.std.proofs.lemmas.List.Sums.{position_or_len_is}
 use Rattle.std.proofs.lemmas.Option.{slice_get_within, get_or_from_slice_get}
 use Rattle.xet_base.specs.Hashes.{hash_eq}
 use Rattle.xet_base.specs.declared.mdb_shard.Xorb.{Xorb}
@@ -57,3 +58,17 @@ find_near xs i x h differ at here =
     ap (λ (k : MerkleHash). hash_eq (get_or xs j x).hash k) (sym same)
     ∙ ap (λ (y : Xorb). hash_eq (get_or xs j x).hash y.hash) (sym is)
     ∙ differ j i x before within)
+
+-- where a hash stands among different ones, there is its place
+pub position_near : (hs : List MerkleHash) (i : ℕ) (x h : MerkleHash) → AllPairs (λ a b. hash_eq a b ≡ false) hs
+    → slice_get hs i ≡ Some x → hash_eq x h ≡ true → position (λ y. hash_eq y h) hs ≡ Some i
+position_near hs i x h differ at here =
+    let p : MerkleHash → Bool = λ y. hash_eq y h in
+    let within = slice_get_within hs i x at in
+    let is : get_or hs i x ≡ x = get_or_from_slice_get hs i x x at in
+    let same : x ≡ h = hash_eq-true x h here in
+    let before : (k : ℕ) → k < i → p (get_or hs k x) ≡ false =
+    λ k l. ap (λ (y : MerkleHash). hash_eq (get_or hs k x) y) (sym same)
+    ∙ ap (λ (y : MerkleHash). hash_eq (get_or hs k x) y) (sym is) ∙ differ k i x l within in
+    let place : position_or_len p hs ≡ i = position_or_len_is p hs i x (omega (arith, within)) before (λ l. ap p is ∙ here) in
+    rw (lt-ltb (position_or_len p hs) (length hs) (omega (arith, place, within))) (ap Some place)
