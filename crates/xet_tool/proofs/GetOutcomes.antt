@@ -1,6 +1,5 @@
 -- What the texts, and the command `get` over an input, print.
 use Rattle.std.proofs.Common.{◌≡◌, ℕ, ◌≤◌, List, [], ◌∷◌, ◌++◌, take, length, None, Some, Err, refl, sym, ◌∙◌, arith, inl, inr}
-use Rattle.std.specs.Prelude.{◌⊎◌}
 use Rattle.std.proofs.Math.Seq.{take-length}
 use Rattle.hex.specs.Hex.{encode_lower}
 use Rattle.xet_base.specs.Store.{Store}
@@ -15,12 +14,12 @@ use Rattle.xet_tool.specs.declared.commands.get.digits.Printed.TheVariants.{All,
 use Rattle.xet_tool.specs.declared.commands.get.digits.Printed.TheVariants as printed
 use Rattle.xet_tool.specs.declared.commands.get.wanted.Wanted.{Wanted}
 use Rattle.xet_tool.specs.declared.status.Status.{Status}
-use Rattle.xet_tool.specs.declared.status.Status.TheVariants.{Done, BadWords, BadStore, BadScript, NotFound, ReadFault, WriteFault, NoMemory, TooLong, BadBlock, BadSettings}
+use Rattle.xet_tool.specs.declared.status.Status.TheVariants.{Done, BadStore, NotFound, ReadFault, WriteFault, NoMemory, TooLong, BadBlock, BadSettings}
 use Rattle.xet_tool.specs.AnyBytes.{AnyCut, AnyGet, IsOfRun, last_line}
 use Rattle.xet_document.specs.Document.{HasStore, NoStore}
 use Rattle.xet_tool.specs.Document.{OfNoDocument}
 use Rattle.xet_tool.specs.Ends.{IsTooLong, Told, WasReadToEnd}
-use Rattle.xet_tool.specs.commands.Get.{GetOutcome, IsCut, IsCutGet, OverStore, memory_text, settings_text}
+use Rattle.xet_tool.specs.commands.Get.{GetOutcome, IsCut, IsCutGet, OverStore, memory_text}
 use Rattle.xet_tool.specs.Outcome.{Finished}
 use Rattle.xet_tool.specs.steps.PrintedDigits.{DigitsBehind, DigitsOf}
 use Rattle.xet_tool.specs.steps.Printing.{GetFrom, GotFrom, PrintedWithin, SettingsFrom, status_of}

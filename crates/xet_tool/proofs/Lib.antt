@@ -3,7 +3,6 @@ mod GetOutcomes
 mod HonestRefreshes
 mod OptionWords
 mod PrintedDigits
-mod TapHistories
 mod TapLanes
 mod TapMoves
 mod TapRuns

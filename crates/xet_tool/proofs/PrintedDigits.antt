@@ -1,6 +1,6 @@
 -- What a run through a sink of digits leaves below.
 use Rattle.std.proofs.Common.{◌≡◌, ℕ, ◌-◌, ◌≤◌, List, [], ◌∷◌, ◌++◌, length, take, drop, Option, Some, None, IsNone, Ok, Err, refl, sym, ap, ◌∙◌, arith, inl, inr, subst}
-use Rattle.std.specs.Prelude.{◌⊎◌, IfSome, Result, option_map, slice_range, unwrap_or}
+use Rattle.std.specs.Prelude.{IfSome, Result, option_map, slice_range, unwrap_or}
 use Rattle.std.specs.List.{AllZip, concat, flat_map}
 use Rattle.std.proofs.Math.Seq.{take-length}
 use Rattle.std.proofs.lemmas.List.{take-append-drop}
@@ -8,8 +8,6 @@ use Rattle.hex.specs.Hex.{encode_lower, encode_with}
 use Rattle.xet_base.proofs.CallerLemmas.{drop-nil, take-nil}
 use Rattle.xet_base.specs.declared.stored.StoredFile.{StoredFile}
 use Rattle.xet_base.specs.Store.{Store, chunks_of_term, file_of}
-use Rattle.xet_outside.specs.declared.block.BlockBytes.{BlockBytes}
-use Rattle.xet_outside.specs.declared.served.Served.{Served}
 use Rattle.xet_outside.specs.declared.sink.SinkError.{SinkError}
 use Rattle.xet_outside.specs.declared.sink.SinkError.TheVariants.{Failed, OutOfMemory}
 use Rattle.xet_outside.specs.Told.{FlushCall, Link, Rose, SinkTold, Took, TookPrefix, over, through}
@@ -21,17 +19,16 @@ use Rattle.xet_error.specs.declared.error.FileReconstructionError.{FileReconstru
 use Rattle.xet_error.specs.declared.error.FileReconstructionError.TheVariants as error
 use Rattle.xet_error.specs.declared.error.Setting.{Setting}
 use Rattle.xet_ties.specs.Cuts.{some_said}
-use Rattle.xet_ties.specs.InCall.{Exchange, Look, new_in}
+use Rattle.xet_ties.specs.InCall.{Exchange, Look}
 use Rattle.xet_tool.specs.declared.commands.get.digits.Printed.{Printed}
 use Rattle.xet_tool.specs.declared.commands.get.digits.Printed.TheVariants.{All, NoFile, Part, Stopped}
 use Rattle.xet_tool.specs.declared.commands.get.digits.Printed.TheVariants as printed
 use Rattle.xet_tool.specs.declared.commands.get.wanted.Wanted.{Wanted}
 use Rattle.xet_tool.specs.declared.status.Status.{Status}
-use Rattle.xet_tool.specs.declared.status.Status.TheVariants.{Done, BadWords, BadStore, BadScript, NotFound, ReadFault, WriteFault, NoMemory, TooLong, BadBlock, BadSettings}
-use Rattle.xet_tool.specs.steps.PrintedDigits.{AnyDigits, CountedAs, CountsAs, DigitsAs, DigitsBehind, Driven, IsRefusal, NothingAs, PassedAs, Ran, RanAs, StopsAs, Tapped, TookAs, TookMade, UnfailedAs, WholeText, Wrote, count_of, status_of_printed}
+use Rattle.xet_tool.specs.declared.status.Status.TheVariants.{Done, NotFound, NoMemory, BadBlock, BadSettings}
+use Rattle.xet_tool.specs.steps.PrintedDigits.{AnyDigits, CountedAs, DigitsAs, DigitsBehind, Driven, IsRefusal, NothingAs, Ran, RanAs, StopsAs, Tapped, UnfailedAs, WholeText, Wrote, count_of, status_of_printed}
 use Rattle.xet_tool.specs.Taps.{FirstBytes, FromTaps, IsMade, MadeOf, Passage, all_passages, lane_taps}
 use Rattle.xet_tool.specs.Wanted.{failing_setting, setup_of, wanted_bytes}
-use Rattle.xet_tool.proofs.TapHistories.{own_memory, run_memory}
 use Rattle.xet_tool.proofs.TapRuns.{took_same}
 
 -- the part of no list
@@ -204,7 +201,7 @@ from_memory s q ts us status bytes h = by_passages (all_passages (lane_taps q ts
   where
     by_passages : (o : Option (List Passage)) → IfSome o (λ ps. MadeOf s q ps status bytes) → IfSome o (λ ps. MadeOf s q ps NoMemory bytes)
     by_passages None h = tt
-    by_passages (Some ps) h = record { xs = h.xs; passed = h.passed; looks = h.looks; looked = h.looked; own = λ c. own_memory q h.xs h.looks status (h.own c); given = h.given; made = made_first s q h.xs h.looks status bytes h.made; ran = run_memory q h.xs status h.ran }
+    by_passages (Some ps) h = record { xs = h.xs; passed = h.passed; once = h.once; planned = h.planned; looks = h.looks; looked = h.looked; given = h.given; made = made_first s q h.xs h.looks status bytes h.made }
 
 -- ---- a flush after a run
 

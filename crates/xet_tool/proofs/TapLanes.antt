@@ -1,19 +1,19 @@
 -- Runs behind the taps of the lanes.
-use Rattle.std.proofs.Common.{◌≡◌, ℕ, ◌+◌, ◌<◌, ◌≤◌, zero, suc, Bool, true, false, cond, List, [], ◌∷◌, ◌++◌, length, map, min, drop, take, Option, Some, None, Ok, Err, refl, sym, ap, ◌∙◌, arith, inl, inr, subst}
-use Rattle.std.specs.Prelude.{◌⊎◌, All, Contains, IfErr, IfSome, OnOk, Result, count_by, nat_eq, option_map, unwrap_or}
+use Rattle.std.proofs.Common.{◌≡◌, ℕ, zero, suc, Bool, true, false, cond, List, [], ◌∷◌, ◌++◌, length, map, min, drop, take, Option, Some, None, Ok, Err, refl, sym, ap, ◌∙◌, arith, inl, inr, subst}
+use Rattle.std.specs.Prelude.{All, Contains, IfSome, OnOk, Result, count_by}
 use Rattle.std.specs.List.{AllZip, drop-map, take-map}
 use Rattle.std.specs.Result.{result_ok}
 use Rattle.std.proofs.Math.Seq.{drop-length}
 use Rattle.std.proofs.lemmas.List.{append-nil, drop_at, length-map, length-take, map-append, take-append-drop}
 use Rattle.std.proofs.lemmas.List.Sums.{sum_by-cons}
-use Rattle.std.proofs.lemmas.List.Elements.{All-cons, All-head, All-nil, All-tail}
+use Rattle.std.proofs.lemmas.List.Elements.{All-cons, All-head, All-nil, All-tail, All-weaker}
 use Rattle.xet_base.specs.Store.{IsValid, Store}
 use Rattle.xet_outside.specs.Answers.{bytes_in, plans_in}
 use Rattle.xet_outside.specs.declared.block.BlockBytes.{BlockBytes}
 use Rattle.xet_outside.specs.declared.said.Said.{Said}
 use Rattle.xet_outside.specs.declared.said.Said.TheVariants as said
 use Rattle.xet_outside.specs.declared.served.Served.{Served}
-use Rattle.xet_outside.specs.Told.{CacheEntry, CacheTold, ClientTold, Query, SinkTold}
+use Rattle.xet_outside.specs.Told.{CacheEntry, CacheTold, ClientTold, SinkTold}
 use Rattle.xet_store.specs.HonestPlans.{PlansAreHonest}
 use Rattle.xet_store.specs.declared.client_log.ClientLog.{ClientLog}
 use Rattle.xet_store.specs.Taps.{AreGiven, TapTold, given_count, said_behind}
@@ -24,22 +24,20 @@ use Rattle.xet_blocks.specs.ServedChunks.{AllServed}
 use Rattle.xet_reconstruct.specs.Laws.{HonestAnswersPass}
 use Rattle.xet_ties.specs.Causes.{expired_answers}
 use Rattle.xet_ties.specs.Causes as causes
-use Rattle.xet_ties.specs.InCall.{Exchange, Look, EachExchange, all_exchanges, exchange_of, expired_said, joined, new_in, served_of_all, with_exchange}
+use Rattle.xet_ties.specs.InCall.{Exchange, Look, EachExchange, all_exchanges, exchange_of, expired_said, joined, new_in, served_of_all}
 use Rattle.xet_ties.proofs.CallerLemmas.{all_told, if_some, looks_gained, told_new}
 use Rattle.xet_ties.specs.Gains.{GaveServed}
 use Rattle.xet_ties.specs.Ties.{IsEntryOf}
-use Rattle.xet_ties.specs.Legal.{Legal}
+use Rattle.xet_ties.specs.Legal.{AllPlanned, IsPlannedServed, Legal, ServedOnce}
 use Rattle.xet_ties.specs.Setup.{AllTell, CacheTells, EachGoesOn}
 use Rattle.xet_tool.specs.declared.commands.get.wanted.Wanted.{Wanted}
-use Rattle.xet_tool.specs.declared.status.Status.{Status}
 use Rattle.xet_tool.specs.declared.status.Status.TheVariants.{NoMemory}
 use Rattle.xet_tool.specs.GetOptions.{lanes_of}
 use Rattle.xet_tool.specs.steps.OwnTaps.{behind_own}
 use Rattle.xet_tool.specs.steps.PrintedDigits.{AllPassed, Tapped, Wrote, status_of_answer, told_of}
-use Rattle.xet_tool.specs.steps.TapRuns.{BehindAll, BehindTaps, IsNew, RunOver}
-use Rattle.xet_tool.specs.Taps.{FromTaps, GaveNothing, gave, gave_some, IsPassed, LanesHonest, MadeOf, Passage, TapsGoOn, all_passages, all_passed, lane_taps, new_cache, passage, with_passage}
+use Rattle.xet_tool.specs.steps.TapRuns.{BehindAll, BehindTaps, IsNew}
+use Rattle.xet_tool.specs.Taps.{FromTaps, GaveNothing, gave, gave_some, IsPassed, LanesHonest, MadeOf, Passage, all_passages, all_passed, lane_taps, passage}
 use Rattle.xet_tool.specs.Wanted.{failing_setting, setup_of}
-use Rattle.xet_tool.proofs.TapHistories.{has_run, memory_not, no_looks, no_run, own_cache}
 use Rattle.xet_tool.proofs.TapRuns.{AreCalm, FirstHonest, behind_all, behind_none, made, no_some, same_setting, took_same}
 
 -- ---- one lane
@@ -189,7 +187,7 @@ pub record BehindLanes (s : Store) (q : Wanted) (ts us : List TapTold) (k l : Ca
     (answer : Result ℕ FileReconstructionError) : Type 0 where
   pub all : BehindAll s q (All (λ t. t.honest ≡ true) ts) k b n answer
   pub chunks : All (λ t. t.honest ≡ true) ts → k.entries ≡ Some [] → OnOk answer (IfSome (all_passed ts us) (AllServed s q.file q.range))
-  pub any : k.entries ≡ Some [] → (q.options.cache ≡ false → l.entries ≡ Some []) → (q.options.cache ≡ true → k ≡ new_cache)
+  pub any : k.entries ≡ Some [] → (q.options.cache ≡ false → l.entries ≡ Some [])
       → Wrote (λ status bytes. IfSome (all_passages ts us) (λ ps. MadeOf s q ps status bytes)) b n (status_of_answer answer) (result_ok answer)
   pub honest : map (λ t. t.honest) us ≡ map (λ t. t.honest) ts
 
@@ -208,30 +206,29 @@ none_given (l ∷ looks) entries e h =
     one (Some b) w = absurd (let c = w.1 in omega (arith, c))
 
 behind_lanes : (pass : HonestAnswersPass) (s : Store) (valid : IsValid s) (q : Wanted) (lanes : List (Lane s)) (k l : CacheTold) (b n : SinkTold) (answer : Result ℕ FileReconstructionError)
-    → causes.failing_setting (setup_of q) (befores s lanes) ≡ failing_setting q → (over : RunOver q (befores s lanes) (afters s lanes) k l b n answer)
+    → causes.failing_setting (setup_of q) (befores s lanes) ≡ failing_setting q → Legal (setup_of q) (told_of (befores s lanes) k b) (told_of (afters s lanes) l n) answer
     → BehindLanes s q (taps_before s lanes) (taps_after s lanes) k l b n answer
-behind_lanes pass s valid q lanes k l b n answer same over = record {
+behind_lanes pass s valid q lanes k l b n answer same h = record {
   all = behind_all s valid q (All (λ (t : TapTold). t.honest ≡ true) (taps_before s lanes)) (befores s lanes) (afters s lanes) k l b n (tell s lanes) (calm s lanes) same answer h;
   chunks = λ honest none. on_ok answer (h.chunks s (record { tell = tell s lanes honest; valid = valid }) none);
-  any = λ empty none new. by empty (λ plain. none_given h.looks.list l.entries (none plain) h.looks.given) new (all_passages (taps_before s lanes) (taps_after s lanes)) refl;
+  any = λ empty none. by empty (λ plain. none_given h.looks.list l.entries (none plain) h.looks.given) (all_passages (taps_before s lanes) (taps_after s lanes)) refl;
   honest = honest s lanes;
 }
   where
-    h : Legal (setup_of q) (told_of (befores s lanes) k b) (told_of (afters s lanes) l n) answer
-    h = over.legal
-
     on_ok : (a : Result ℕ FileReconstructionError) → OnOk a (AllServed s q.file q.range (served_of_all h.heard.list)) → OnOk a (IfSome (all_passed (taps_before s lanes) (taps_after s lanes)) (AllServed s q.file q.range))
     on_ok (Ok m) w =
         if_some (all_passed (taps_before s lanes) (taps_after s lanes)) (λ es. es ≡ served_of_all h.heard.list) (AllServed s q.file q.range)
         (λ es e. subst (AllServed s q.file q.range) (sym e) w) (served s lanes h.heard.list h.heard.told)
     on_ok (Err e) w = tt
 
-    by : k.entries ≡ Some [] → GaveNothing q h.looks.list → (q.options.cache ≡ true → k ≡ new_cache) → (o : Option (List Passage)) → all_passages (taps_before s lanes) (taps_after s lanes) ≡ o → Wrote (λ status bytes. IfSome (all_passages (taps_before s lanes) (taps_after s lanes)) (λ ps. MadeOf s q ps status bytes)) b n (status_of_answer answer) (result_ok answer)
-    by empty nothing new None e = inr (λ status bytes. rw e tt)
-    by empty nothing new (Some ps) e =
+    by : k.entries ≡ Some [] → GaveNothing q h.looks.list → (o : Option (List Passage)) → all_passages (taps_before s lanes) (taps_after s lanes) ≡ o → Wrote (λ status bytes. IfSome (all_passages (taps_before s lanes) (taps_after s lanes)) (λ ps. MadeOf s q ps status bytes)) b n (status_of_answer answer) (result_ok answer)
+    by empty nothing None e = inr (λ status bytes. rw e tt)
+    by empty nothing (Some ps) e =
         let sides = have_sides s lanes ps e in
         let heard : sides.xs ≡ h.heard.list = subst (λ (o : Option (List Exchange)). IfSome o (λ ys. ys ≡ h.heard.list)) sides.is (all_told (befores s lanes) (afters s lanes) h.heard.list h.heard.told) in
         let given : GaveServed (setup_of q) sides.xs h.looks.list = rw heard (looks_gained (setup_of q) h.heard.list k l h.looks.list empty h.gained h.looks.given) in
+        let once : ServedOnce (served_of_all sides.xs) = subst (λ (ys : List Exchange). ServedOnce (served_of_all ys)) (sym heard) h.served in
+        let planned : AllPlanned (setup_of q) sides.xs = subst (AllPlanned (setup_of q)) (sym heard) h.planned in
         let m = made pass s valid q (befores s lanes) (afters s lanes) k l b n same sides.xs sides.is sides.first sides.unexpired answer h in
         inl (record {
           bytes = m.0;
@@ -240,22 +237,29 @@ behind_lanes pass s valid q lanes k l b n answer same over = record {
           from = rw e (record {
             xs = sides.xs;
             passed = sides.passed;
+            once = once;
+            planned = planned;
             looks = h.looks.list;
             looked = nothing;
-            own = λ c. own_cache q (befores s lanes) (afters s lanes) k l b n sides.xs sides.is answer h (new c);
             given = given;
             made = m.3;
-            ran = has_run q (befores s lanes) (afters s lanes) k l b n sides.xs sides.is answer over.ran;
           });
         })
 
 -- ---- want of memory before it
 
-none_passed : (ts : List TapTold) (ps : List Passage) → all_passages ts ts ≡ Some ps → (s : Store) → (xs : List Exchange) × AllZip (IsPassed s) ps xs
-none_passed [] ps e s = rw (← some_same [] ps e) ([], tt)
+-- exchanges of which nothing was served
+record NonePassed (s : Store) (ps : List Passage) : Type 0 where
+  xs : List Exchange
+  passed : AllZip (IsPassed s) ps xs
+  none : served_of_all xs ≡ []
+  each : All (λ x. x.served ≡ []) xs
+
+none_passed : (ts : List TapTold) (ps : List Passage) → all_passages ts ts ≡ Some ps → (s : Store) → NonePassed s ps
+none_passed [] ps e s = rw (← some_same [] ps e) (record { xs = []; passed = tt; none = refl; each = All-nil _ })
 none_passed (t ∷ ts) ps e s = by (λ qs f. none_passed ts qs f s) t.passed t.gave (all_passages ts ts) refl refl refl
   where
-    by : ((qs : List Passage) → all_passages ts ts ≡ Some qs → (xs : List Exchange) × AllZip (IsPassed s) qs xs) → (o : Option (List Served)) (g : Option (List BlockBytes)) (r : Option (List Passage)) → t.passed ≡ o → t.gave ≡ g → all_passages ts ts ≡ r → (xs : List Exchange) × AllZip (IsPassed s) ps xs
+    by : ((qs : List Passage) → all_passages ts ts ≡ Some qs → NonePassed s qs) → (o : Option (List Served)) (g : Option (List BlockBytes)) (r : Option (List Passage)) → t.passed ≡ o → t.gave ≡ g → all_passages ts ts ≡ r → NonePassed s ps
     by others None g r e1 e2 e3 = absurd (no_some ps (rw e1 at e))
     by others (Some es) None r e1 e2 e3 = absurd (no_some ps (rw (e1, e2) at e))
     by others (Some es) (Some bs) None e1 e2 e3 = absurd (no_some ps (rw (e1, e2, e3) at e))
@@ -264,13 +268,23 @@ none_passed (t ∷ ts) ps e s = by (λ qs f. none_passed ts qs f s) t.passed t.g
         let rest = others qs e3 in
         let x : Exchange = record { asked = []; served = []; said = [] } in
         let one : IsPassed s p x = record { served_is = sym (drop-length es); blocks_are = sym (drop-length bs); plans = tt } in
-        rw (← some_same (p ∷ qs) ps (rw (e1, e2, e3) at e)) (x ∷ rest.0, (one, rest.1))
+        rw (← some_same (p ∷ qs) ps (rw (e1, e2, e3) at e)) (record { xs = x ∷ rest.xs; passed = (one, rest.passed); none = rest.none; each = All-cons (λ (y : Exchange). y.served ≡ []) x rest.xs refl rest.each })
+
+-- so no block of a plan was served twice
+once_of_none : (xs : List Exchange) → served_of_all xs ≡ [] → ServedOnce (served_of_all xs)
+once_of_none xs e = subst ServedOnce (sym e) (λ p k. omega arith)
+
+-- and each is a block of a plan
+planned_of_none : (q : Wanted) (xs : List Exchange) → All (λ x. x.served ≡ []) xs → AllPlanned (setup_of q) xs
+planned_of_none q xs each =
+    All-weaker (λ (x : Exchange). x.served ≡ []) (λ (x : Exchange). All (IsPlannedServed (setup_of q) xs) x.served)
+    (λ x e. subst (All (IsPlannedServed (setup_of q) xs)) (sym e) (All-nil (IsPlannedServed (setup_of q) xs))) xs each
 
 pub unbehind : (s : Store) (q : Wanted) (ts : List TapTold) (k : CacheTold) (b : SinkTold) → BehindTaps s q ts ts k k b b (Err error.OutOfMemory)
 unbehind s q ts k b = record {
   all = behind_none s q (LanesHonest q ts) k b;
   chunks = λ honest none. tt;
-  any = λ empty none new. by (all_passages (lane_taps q ts) (lane_taps q ts)) refl;
+  any = λ empty none. by (all_passages (lane_taps q ts) (lane_taps q ts)) refl;
   go_on = record { honest = refl; past = refl };
 }
   where
@@ -278,7 +292,7 @@ unbehind s q ts k b = record {
     by None e = inr (λ status bytes. rw e tt)
     by (Some ps) e =
         let sides = none_passed (lane_taps q ts) ps e s in
-        inl (record { bytes = []; took = took_same b.took; total = tt; from = rw e (record { xs = sides.0; passed = sides.1; looks = []; looked = λ plain. refl; own = λ c. no_looks q sides.0 NoMemory memory_not; given = All-nil _; made = inl refl; ran = no_run q sides.0 NoMemory memory_not }) })
+        inl (record { bytes = []; took = took_same b.took; total = tt; from = rw e (record { xs = sides.xs; passed = sides.passed; once = once_of_none sides.xs sides.none; planned = planned_of_none q sides.xs sides.each; looks = []; looked = λ plain. refl; given = All-nil _; made = inl refl }) })
 
 -- ---- connections that own their taps
 
@@ -345,18 +359,18 @@ module _ {X T : Type 0} (told : T → TapTold) (tap : X → T) (store : X → St
 
   pub behind_taps : (pass : HonestAnswersPass) (s : Store) (valid : IsValid s) (q : Wanted) (olds : List T) (xs ys : List X) (k l : CacheTold) (b n : SinkTold) (answer : Result ℕ FileReconstructionError)
       → map tap xs ≡ olds → length olds ≡ 64 → All (λ x. IsNew s (told (tap x)) (client x)) xs
-      → RunOver q (map client (take (lanes_of q.options) xs)) (map client (take (lanes_of q.options) ys)) k l b n answer
+      → Legal (setup_of q) (told_of (map client (take (lanes_of q.options) xs)) k b) (told_of (map client (take (lanes_of q.options) ys)) l n) answer
       → drop (lanes_of q.options) ys ≡ drop (lanes_of q.options) xs
       → BehindTaps s q (map told olds) (map told (map tap ys)) k l b n answer
   behind_taps pass s valid q olds xs ys k l b n answer is count new h past =
       let c : ℕ = lanes_of q.options in
-      let some = are_lanes s (take c xs) (take c ys) (all_taken (λ (x : X). IsNew s (told (tap x)) (client x)) c xs new) h.legal.goes_on in
+      let some = are_lanes s (take c xs) (take c ys) (all_taken (λ (x : X). IsNew s (told (tap x)) (client x)) c xs new) h.goes_on in
       let fits : causes.failing_setting (setup_of q) (map client (take c xs)) ≡ failing_setting q = settings in
       let run : BehindLanes s q (taps_before s some.lanes) (taps_after s some.lanes) k l b n answer =
       behind_lanes pass s valid q some.lanes k l b n answer
       (subst (λ (cs : List ClientTold). causes.failing_setting (setup_of q) cs ≡ failing_setting q) some.before_is fits)
-      (subst (λ (ds : List ClientTold). RunOver q (befores s some.lanes) ds k l b n answer) some.after_is
-      (subst (λ (cs : List ClientTold). RunOver q cs (map client (take c ys)) k l b n answer) some.before_is h)) in
+      (subst (λ (ds : List ClientTold). Legal (setup_of q) (told_of (befores s some.lanes) k b) (told_of ds l n) answer) some.after_is
+      (subst (λ (cs : List ClientTold). Legal (setup_of q) (told_of cs k b) (told_of (map client (take c ys)) l n) answer) some.before_is h)) in
       let first : lane_taps q (map told olds) ≡ taps_before s some.lanes = rw (← is) (lane_of xs ∙ some.t_is) in
       let last : lane_taps q (map told (map tap ys)) ≡ taps_after s some.lanes = lane_of ys ∙ some.u_is in
       let same : BehindLanes s q (lane_taps q (map told olds)) (lane_taps q (map told (map tap ys))) k l b n answer = rw (first, last) run in
@@ -391,16 +405,15 @@ pub true_not : (v : Bool) → v ≡ true → v ≡ false → ⊥
 true_not v e f = cc
 
 pub tapped : (s : Store) (q : Wanted) (ts us : List TapTold) (k l : CacheTold) (b n : SinkTold) (a : Result ℕ FileReconstructionError)
-    → BehindTaps s q ts us k l b n a → k.entries ≡ Some [] → (q.options.cache ≡ false → l.entries ≡ Some []) → (q.options.cache ≡ true → k ≡ new_cache)
-    → Tapped s q ts us b n a
-tapped s q ts us k l b n a h empty none new = record {
+    → BehindTaps s q ts us k l b n a → k.entries ≡ Some [] → (q.options.cache ≡ false → l.entries ≡ Some []) → Tapped s q ts us b n a
+tapped s q ts us k l b n a h empty none = record {
   exact = λ honest. h.all.exact honest tells;
   prefix = λ honest. h.all.prefix honest tells;
   cause = h.all.cause;
   settings = h.all.settings;
   chunks = λ honest. by_answer a (h.chunks honest empty);
   counts = h.all.counts;
-  any = h.any empty none new;
+  any = h.any empty none;
   go_on = h.go_on;
   faults = h.all.faults;
   unfailed = h.all.unfailed;

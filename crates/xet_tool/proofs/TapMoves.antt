@@ -1,5 +1,5 @@
 -- Taps that leave for connections, the last one first, and come back.
-use Rattle.std.proofs.Common.{◌≡◌, ℕ, ◌+◌, ◌<◌, ◌≤◌, zero, suc, Bool, true, false, List, [], ◌∷◌, ◌++◌, length, map, min, take, drop, refl, ap, sym, ◌∙◌, append_assoc, arith, length-append}
+use Rattle.std.proofs.Common.{◌≡◌, ℕ, ◌+◌, ◌≤◌, zero, suc, Bool, true, false, List, [], ◌∷◌, ◌++◌, length, map, min, take, drop, refl, ap, sym, ◌∙◌, append_assoc, arith, length-append}
 use Rattle.std.specs.Prelude.{All, nat_lt, reverse}
 use Rattle.std.proofs.lemmas.Bool.{ltb-true, ltb-false}
 use Rattle.std.proofs.lemmas.List.{append-nil, drop_at, reverse-append, reverse-reverse}

@@ -1,17 +1,16 @@
 -- Runs over connections to a valid store behind taps.
-use Rattle.std.proofs.Common.{◌≡◌, ℕ, ◌+◌, ◌<◌, ◌≤◌, zero, suc, true, false, cond, Bool, List, [], ◌∷◌, ◌++◌, length, map, take, drop, Option, Some, None, IsNone, IsSome, Ok, Err, refl, sym, ap, ◌∙◌, arith, inl, inr, subst}
-use Rattle.std.specs.Prelude.{◌⊎◌, All, IfErr, IfOk, IfSome, OnOk, Result, count_by, nat_eq, option_map, slice_get, unwrap_or}
+use Rattle.std.proofs.Common.{◌≡◌, ℕ, ◌+◌, ◌<◌, ◌≤◌, zero, suc, true, false, cond, Bool, List, [], ◌∷◌, ◌++◌, length, take, Option, Some, None, IsNone, IsSome, Ok, Err, refl, sym, ap, ◌∙◌, arith, inl, inr, subst}
+use Rattle.std.specs.Prelude.{All, IfErr, IfOk, IfSome, Result, count_by, nat_eq, slice_get}
 use Rattle.std.specs.List.{AllZip, concat}
 use Rattle.std.specs.Result.{result_ok}
 use Rattle.std.proofs.lemmas.Bool.{eqb-true}
-use Rattle.std.proofs.lemmas.List.{append-nil, drop_at}
+use Rattle.std.proofs.lemmas.List.{append-nil}
 use Rattle.std.proofs.lemmas.List.Sums.{sum_by-append, sum_by-cons}
 use Rattle.std.proofs.lemmas.List.Elements.{All-cons, All-head, All-nil, All-tail}
-use Rattle.std.proofs.Math.Seq.{drop-length}
 use Rattle.xet_base.specs.declared.cas_types.FileRange.{FileRange}
 use Rattle.xet_base.specs.Store.{IsValid, Store, file_of}
 use Rattle.xet_base.proofs.CallerLemmas.{take-nil}
-use Rattle.xet_outside.specs.Answers.{bytes_in, plans_in, block_said, plan_said}
+use Rattle.xet_outside.specs.Answers.{plans_in}
 use Rattle.xet_outside.specs.declared.block.BlockBytes.{BlockBytes}
 use Rattle.xet_outside.specs.declared.block.BlockRequest.{BlockRequest}
 use Rattle.xet_outside.specs.declared.plan.Plan.{Plan}
@@ -19,37 +18,32 @@ use Rattle.xet_outside.specs.declared.plan.PlanAnswer.{PlanAnswer}
 use Rattle.xet_outside.specs.declared.plan.PlanAnswer.TheVariants.{Found, NoFile}
 use Rattle.xet_outside.specs.declared.said.Said.{Said}
 use Rattle.xet_outside.specs.declared.said.Said.TheVariants as said
-use Rattle.xet_outside.specs.declared.served.Served.{Served}
 use Rattle.xet_outside.specs.Told.{CacheTold, ClientTold, IsHonest, Query, SinkTold, Took}
 use Rattle.xet_store.specs.HonestPlans.{PlansAreHonest}
 use Rattle.xet_store.proofs.CallerLemmas.{honest_answer, with_block, with_plan}
 use Rattle.xet_store.specs.declared.client_log.ClientLog.{ClientLog}
-use Rattle.xet_store.specs.Taps.{TapTold, given_count}
 use Rattle.xet_error.specs.declared.error.Corruption.{Corruption}
 use Rattle.xet_error.specs.declared.error.FileReconstructionError.{FileReconstructionError}
 use Rattle.xet_error.specs.declared.error.FileReconstructionError.TheVariants as error
-use Rattle.xet_error.specs.declared.error.Setting.{Setting}
 use Rattle.xet_error.specs.declared.error.Setting.TheVariants.{NoConnection}
 use Rattle.xet_error.specs.Errors.{corruption_number}
 use Rattle.xet_blocks.specs.declared.reconstruction_terms.xorb_block.XorbBlock.{XorbBlock}
-use Rattle.xet_blocks.specs.ServedChunks.{AllServed}
 use Rattle.xet_reconstruct.specs.Laws.{AreHonest, HonestAnswersPass}
 use Rattle.xet_ties.specs.Causes.{Cause, NoneAtEnd, PlanFails, RefreshFails, SomeFailed, SomeRose, expired_answers, failing_size, total_expiries}
 use Rattle.xet_ties.specs.Causes as causes
 use Rattle.xet_ties.specs.Cuts.{AskedCut, IsSaidPiece, SaidTerm, some_said}
 use Rattle.xet_ties.specs.InCall.{Exchange, Look, SomeOne, all_exchanges, expired_said}
-use Rattle.xet_ties.specs.Legal.{AsksFew, FirstAsksFew, IsExact, Legal, TookCounted, TookTested, TookWhole}
+use Rattle.xet_ties.specs.Legal.{FirstAsksFew, Legal, TookCounted, TookTested, TookWhole}
 use Rattle.xet_ties.specs.Saids.{IsBlockAnswer, IsPlanAccepted, IsPlanSaid, IsQueryAnswer}
 use Rattle.xet_ties.proofs.CallerLemmas.{all_told}
 use Rattle.xet_ties.specs.Setup.{AllTell, RunTold}
 use Rattle.xet_ties.specs.Ties.{CutsRange}
 use Rattle.xet_terms.specs.Queries.{CutFrom}
 use Rattle.xet_tool.specs.declared.commands.get.wanted.Wanted.{Wanted}
-use Rattle.xet_tool.specs.declared.status.Status.{Status}
 use Rattle.xet_tool.specs.GetOptions.{greatest_of, lanes_of, least_of}
-use Rattle.xet_tool.specs.steps.PrintedDigits.{CountsOk, IsRefusal, TapCause, TookMade, Wrote, status_of_answer, told_of}
+use Rattle.xet_tool.specs.steps.PrintedDigits.{CountsOk, TapCause, status_of_answer, told_of}
 use Rattle.xet_tool.specs.steps.TapRuns.{BehindAll}
-use Rattle.xet_tool.specs.Taps.{BlockFailed, FirstBytes, GaveNothing, IsMade, IsPassed, MadeOf, Passage, all_passages, all_passed, passage, with_passage}
+use Rattle.xet_tool.specs.Taps.{BlockFailed, FirstBytes, IsMade}
 use Rattle.xet_tool.specs.Wanted.{failing_setting, setup_of}
 
 -- ---- small facts

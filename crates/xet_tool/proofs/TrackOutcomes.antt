@@ -1,17 +1,17 @@
 -- What the command `track` prints over an input.
-use Rattle.std.proofs.Common.{◌≡◌, ℕ, ◌<◌, ◌≤◌, List, [], ◌∷◌, ◌++◌, length, true, false, Option, Some, None, Ok, Err, refl, ap, sym, ◌∙◌, arith, inl, inr}
-use Rattle.std.specs.Prelude.{◌⊎◌, option_map}
+use Rattle.std.proofs.Common.{◌≡◌, ℕ, ◌<◌, List, [], ◌∷◌, ◌++◌, length, false, Option, Some, None, Err, refl, ap, sym, ◌∙◌, arith, inl, inr}
+use Rattle.std.specs.Prelude.{◌⊎◌}
 use Rattle.std.proofs.lemmas.List.{append-nil, append_assoc}
 use Rattle.xet_outside.specs.declared.sink.SinkError.{SinkError}
 use Rattle.xet_outside.specs.declared.sink.SinkError.TheVariants as sink_error
-use Rattle.xet_outside.specs.Told.{Rose, SinkTold, SourceTold, Took, TookPrefix}
+use Rattle.xet_outside.specs.Told.{Rose, SinkTold, Took, TookPrefix}
 use Rattle.xet_outside.specs.Written.{WroteAll}
 use Rattle.xet_outside.proofs.CallerLemmas.{prefix_after, prefix_front, took_both, whole_prefix}
 use Rattle.xet_track.specs.Lines.{lines_of}
 use Rattle.xet_track.specs.Texts.{lines_text, track_reads, track_text}
 use Rattle.xet_track.specs.Turns.{PrintsLine, ScriptLeft, reads_left, text_left}
 use Rattle.xet_tool.specs.declared.status.Status.{Status}
-use Rattle.xet_tool.specs.declared.status.Status.TheVariants.{Done, BadWords, BadStore, BadScript, NotFound, ReadFault, WriteFault, NoMemory, TooLong, BadBlock}
+use Rattle.xet_tool.specs.declared.status.Status.TheVariants.{Done, BadScript, ReadFault, WriteFault, NoMemory, TooLong}
 use Rattle.xet_tool.specs.Ends.{Told}
 use Rattle.xet_tool.specs.Outcome.{Finished}
 use Rattle.xet_tool.specs.steps.Printing.{status_of}

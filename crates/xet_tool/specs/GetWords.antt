@@ -1,5 +1,5 @@
 -- The words after `get`.
-use Rattle.std.specs.Prelude.{ℕ, ◌-◌, ◌^◌, cond, List, [], ◌∷◌, Option, Some, None, option_and_then, option_map, codes}
+use Rattle.std.specs.Prelude.{ℕ, ◌-◌, ◌^◌, cond, List, ◌∷◌, Option, Some, None, option_and_then, option_map, codes}
 use Rattle.std.specs.Str.{bytes_eq}
 use Rattle.xet_base.specs.HashText.{hash_of_text}
 use Rattle.xet_tool.specs.declared.commands.get.options.Options.{Options}

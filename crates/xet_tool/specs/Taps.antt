@@ -5,27 +5,20 @@ use Rattle.xet_base.specs.Store.{Store}
 use Rattle.xet_outside.specs.Answers.{bytes_in, plans_in}
 use Rattle.xet_outside.specs.declared.block.BlockBytes.{BlockBytes}
 use Rattle.xet_outside.specs.declared.served.Served.{Served}
-use Rattle.xet_outside.specs.Told.{CacheTold}
 use Rattle.xet_store.specs.HonestPlans.{PlansAreHonest}
 use Rattle.xet_store.specs.Taps.{TapTold}
 use Rattle.xet_error.specs.declared.error.Corruption.{Corruption}
-use Rattle.xet_error.specs.declared.error.Setting.{Setting}
 use Rattle.xet_error.specs.Errors.{corruption_number}
-use Rattle.xet_run.specs.declared.event.Event.{Event}
-use Rattle.xet_run.specs.Allowed.{IsAllowedHistory}
-use Rattle.xet_run.specs.Events.{is_admit, planned}
 use Rattle.xet_ties.specs.Causes.{BlockFails, TermFails}
 use Rattle.xet_ties.specs.Cuts.{IsSaidPiece, Planning, PlansAll, some_said}
-use Rattle.xet_ties.specs.Gains.{GainedServed, GaveServed, OffersFew, one_range}
-use Rattle.xet_ties.specs.History.{limits_of}
+use Rattle.xet_ties.specs.Gains.{GaveServed}
 use Rattle.xet_ties.specs.InCall.{Exchange, Look, joined, new_in, served_of_all}
-use Rattle.xet_ties.specs.Legal.{AllLooked}
+use Rattle.xet_ties.specs.Legal.{AllPlanned, ServedOnce}
 use Rattle.xet_ties.specs.Setup.{Setup}
-use Rattle.xet_ties.specs.Ties.{AllWithin, EachServed, all_of}
 use Rattle.xet_tool.specs.declared.commands.get.wanted.Wanted.{Wanted}
 use Rattle.xet_tool.specs.declared.status.Status.{Status}
-use Rattle.xet_tool.specs.declared.status.Status.TheVariants.{Done, BadWords, BadStore, BadScript, NotFound, ReadFault, WriteFault, NoMemory, TooLong, BadBlock, BadSettings}
-use Rattle.xet_tool.specs.GetOptions.{budget_of, lanes_of}
+use Rattle.xet_tool.specs.declared.status.Status.TheVariants.{Done, NotFound, NoMemory, BadBlock, BadSettings}
+use Rattle.xet_tool.specs.GetOptions.{lanes_of}
 use Rattle.xet_tool.specs.Wanted.{IsMissing, failing_setting, setup_of}
 
 -- ---- the taps of the lanes
@@ -132,50 +125,19 @@ IsMade store wanted xs looks (BadBlock number) bytes =
 IsMade store wanted xs looks (BadSettings e) bytes = (failing_setting wanted ≡ Some e) × (bytes ≡ [])
 IsMade store wanted xs looks _ bytes = ⊥
 
--- ---- the run behind it
-
--- what a cache in memory tells that has no entries, and was asked for none and offered none
-abbrev pub new_cache : CacheTold
-new_cache = record { entries = Some []; looked = Some []; offers = Some 0; faults = 0 }
-
--- what passed and what the looks gave fits some cache that was new and tells these looks. It gained entries of blocks
--- of one range that passed; with 0 each of these was looked for, and as many entries were offered as there are of them
-pub record OwnCache (setup : Setup) (xs : List Exchange) (looks : List Look) (status : Status) : Type 0 where
-  pub before : CacheTold
-  pub after : CacheTold
-  pub is_new : before ≡ new_cache
-  pub told : after.looked ≡ Some looks
-  pub gained : GainedServed setup xs before after
-  pub offers : OffersFew xs before after
-  pub looked : status ≡ Done → AllLooked (served_of_all xs) looks
-  pub offered : status ≡ Done → offers.puts ≡ count_by one_range (served_of_all xs)
-
--- what passed fits some allowed history: each connection served the blocks of its lane's Fetched events, and then some
--- that no event says, none with 0, so that no block of a plan passed twice then. Its admissions are within the limit of
--- all that the words say, and with 0 all that it plans is admitted; its terms and limits are tied to nothing else
-pub record HasRun (wanted : Wanted) (xs : List Exchange) (status : Status) : Type 0 where
-  pub events : List Event
-  pub allowed : IsAllowedHistory events
-  pub hidden : List (List Served)
-  pub served : EachServed events 0 xs hidden
-  pub none_hidden : status ≡ Done → all_of hidden ≡ []
-  pub limits : AllWithin (budget_of wanted.options).limit (limits_of events)
-  pub admitted : status ≡ Done → count_by is_admit events ≡ length (planned events)
-
 -- a run over connections, each behind one of the taps, made these bytes of the blocks that were handed on
 pub record MadeOf (store : Store) (wanted : Wanted) (passages : List Passage) (status : Status)
     (bytes : List ℕ) : Type 0 where
   pub xs : List Exchange
   pub passed : AllZip (IsPassed store) passages xs
+  -- no block of a plan passed twice, whatever the status, and each that passed is a block of a plan that was said
+  pub once : ServedOnce (served_of_all xs)
+  pub planned : AllPlanned (setup_of wanted) xs
   pub looks : List Look
   pub looked : GaveNothing wanted looks
-  -- with `cache` there is a cache that fits
-  pub own : wanted.options.cache ≡ true → OwnCache (setup_of wanted) xs looks status
   -- the data of each entry that a look gave was handed on in this run, in answer to the request of a block of the plans
   pub given : GaveServed (setup_of wanted) xs looks
   pub made : IsMade store wanted xs looks status bytes
-  -- there is a history that fits
-  pub ran : HasRun wanted xs status
 
 -- the same, of the blocks that passed the taps of the lanes in a call, where each of these tells it
 abbrev pub FromTaps : Store → Wanted → List TapTold → List TapTold → Status → List ℕ → Type 0

@@ -1,5 +1,5 @@
 -- What is wanted of a store.
-use Rattle.std.specs.Prelude.{ℕ, ◌≡◌, ◌⊎◌, ◌<◌, cond, nat_eq, List, Option, Some, None, IsSome, IsNone}
+use Rattle.std.specs.Prelude.{ℕ, ◌⊎◌, ◌<◌, cond, nat_eq, List, Option, Some, IsSome, IsNone}
 use Rattle.xet_base.specs.Store.{Store, file_of, window}
 use Rattle.xet_error.specs.declared.error.Setting.{Setting}
 use Rattle.xet_error.specs.declared.error.Setting.TheVariants.{NoConnection}

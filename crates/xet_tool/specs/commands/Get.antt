@@ -1,11 +1,11 @@
 -- What each status of the command `get` says.
-use Rattle.std.specs.Prelude.{ℕ, ◌≡◌, ◌⊎◌, false, List, [], length, take, None, Some, IfSome}
+use Rattle.std.specs.Prelude.{ℕ, ◌≡◌, ◌⊎◌, List, [], length, take, None, Some, IfSome}
 use Rattle.xet_base.specs.Store.{Store}
 use Rattle.xet_outside.specs.Told.{Rose, SinkTold, Took, TookPrefix}
 use Rattle.xet_error.specs.declared.error.Setting.{Setting}
 use Rattle.xet_blocks.specs.ServedChunks.{AllServed}
 use Rattle.xet_tool.specs.declared.status.Status.{Status}
-use Rattle.xet_tool.specs.declared.status.Status.TheVariants.{Done, BadWords, BadStore, BadScript, NotFound, ReadFault, WriteFault, NoMemory, TooLong, BadBlock, BadSettings}
+use Rattle.xet_tool.specs.declared.status.Status.TheVariants.{Done, BadStore, NotFound, ReadFault, WriteFault, NoMemory, TooLong, BadBlock, BadSettings}
 use Rattle.xet_tool.specs.declared.commands.get.wanted.Wanted.{Wanted}
 use Rattle.xet_tool.specs.AnyBytes.{AnyCut, AnyGet}
 use Rattle.xet_tool.specs.Document.{IsOfStore, OfNoDocument}

@@ -1,12 +1,12 @@
 -- What the functions that print texts and the command `get` say.
-use Rattle.std.specs.Prelude.{ℕ, ◌≡◌, ◌⊎◌, List, None, Some}
+use Rattle.std.specs.Prelude.{◌≡◌, ◌⊎◌, List, None, Some}
 use Rattle.xet_base.specs.Store.{Store}
 use Rattle.xet_outside.specs.declared.sink.SinkError.{SinkError}
 use Rattle.xet_outside.specs.declared.sink.SinkError.TheVariants as sink_error
 use Rattle.xet_outside.specs.Told.{Rose, SinkTold, Took}
 use Rattle.xet_store.specs.Taps.{TapTold}
 use Rattle.xet_tool.specs.declared.status.Status.{Status}
-use Rattle.xet_tool.specs.declared.status.Status.TheVariants.{Done, BadWords, BadStore, BadScript, NotFound, ReadFault, WriteFault, NoMemory, TooLong, BadBlock, BadSettings}
+use Rattle.xet_tool.specs.declared.status.Status.TheVariants.{Done, NotFound, WriteFault, NoMemory, BadBlock, BadSettings}
 use Rattle.xet_tool.specs.declared.commands.get.wanted.Wanted.{Wanted}
 use Rattle.xet_tool.specs.AnyBytes.{AnyGet}
 use Rattle.xet_tool.specs.commands.Get.{IsCutGet, IsPrinted, IsRefused, settings_text}

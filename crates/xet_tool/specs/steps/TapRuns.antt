@@ -1,5 +1,5 @@
 -- What runs over connections to a store say, whose blocks go through taps.
-use Rattle.std.specs.Prelude.{true, false, None, ℕ, ◌≡◌, ◌≤◌, List, [], Some, IfSome, IfOk, IfErr, OnOk, Result}
+use Rattle.std.specs.Prelude.{false, true, None, ℕ, ◌≡◌, ◌≤◌, List, [], Some, IfSome, IfOk, IfErr, OnOk, Result}
 use Rattle.std.specs.Result.{result_ok}
 use Rattle.xet_base.specs.Store.{Store}
 use Rattle.xet_outside.specs.Told.{CacheTold, ClientTold, SinkTold, TookPrefix}
@@ -7,20 +7,18 @@ use Rattle.xet_store.specs.Taps.{TapTold}
 use Rattle.xet_error.specs.declared.error.FileReconstructionError.{FileReconstructionError}
 use Rattle.xet_error.specs.declared.error.Setting.{Setting}
 use Rattle.xet_blocks.specs.ServedChunks.{AllServed}
-use Rattle.xet_reconstruct.specs.Ran.{RanUnder}
 use Rattle.xet_run.specs.declared.budget_book.BookView.{BookView}
 use Rattle.std.specs.Arc.{arc_value}
 use Rattle.xet_run.specs.Budgets.{LimitTold}
-use Rattle.xet_ties.specs.InCall.{Look, new_in}
-use Rattle.xet_ties.specs.Legal.{IsExact, Legal}
+use Rattle.xet_ties.specs.Legal.{IsExact}
 use Rattle.xet_ties.specs.RunCalls.{Unfailed}
 use Rattle.xet_ties.specs.Setup.{CacheTells}
 use Rattle.xet_tool.specs.declared.commands.get.wanted.Wanted.{Wanted}
 use Rattle.xet_tool.specs.GetOptions.{budget_of}
-use Rattle.xet_tool.specs.Taps.{FromTaps, LanesHonest, TapsGoOn, all_passed, lane_taps, new_cache}
+use Rattle.xet_tool.specs.Taps.{FromTaps, LanesHonest, TapsGoOn, all_passed, lane_taps}
 use Rattle.xet_tool.specs.Wanted.{failing_setting, setup_of, wanted_bytes}
 use Rattle.xet_tool.specs.steps.OwnTaps.{behind_own}
-use Rattle.xet_tool.specs.steps.PrintedDigits.{CountsOk, IsRefusal, TapCause, Wrote, status_of_answer, told_of}
+use Rattle.xet_tool.specs.steps.PrintedDigits.{CountsOk, IsRefusal, TapCause, Wrote, status_of_answer}
 
 -- a connection that was asked nothing yet, to this store behind this tap
 abbrev pub IsNew : Store → TapTold → ClientTold → Type 0
@@ -34,11 +32,13 @@ IsBookOf q view = (arc_value view.book).settings ≡ budget_of q.options
 abbrev pub limits_told : Wanted → LimitTold
 limits_told q = record { fixed = None; most = Some (budget_of q.options).limit; limits = None }
 
--- a run over these connections gave a legal answer, and stands behind it within the limits of the words
-pub record RunOver (q : Wanted) (cs ds : List ClientTold) (k l : CacheTold) (b n : SinkTold)
-    (answer : Result ℕ FileReconstructionError) : Type 0 where
-  pub legal : Legal (setup_of q) (told_of cs k b) (told_of ds l n) answer
-  pub ran : RanUnder (limits_told q) (setup_of q) (told_of cs k b) (told_of ds l n) answer
+-- what a cache in memory tells that has no entries, and was asked for none and offered none
+abbrev pub new_cache : CacheTold
+new_cache = record { entries = Some []; looked = Some []; offers = Some 0; faults = 0 }
+
+-- with `cache` the cache is a new one that tells its looks
+abbrev pub IsCacheOf : Wanted → CacheTold → Type 0
+IsCacheOf q k = q.options.cache ≡ true → k ≡ new_cache
 
 -- a run over connections to a valid store behind taps, where `H` says that these are honest
 pub record BehindAll (s : Store) (q : Wanted) (H : Type 0) (k : CacheTold) (b n : SinkTold)
@@ -60,6 +60,5 @@ pub record BehindTaps (s : Store) (q : Wanted) (ts us : List TapTold) (k l : Cac
   pub chunks : LanesHonest q ts → k.entries ≡ Some []
       → OnOk answer (IfSome (all_passed (lane_taps q ts) (lane_taps q us)) (AllServed s q.file q.range))
   pub any : k.entries ≡ Some [] → (q.options.cache ≡ false → l.entries ≡ Some [])
-      → (q.options.cache ≡ true → k ≡ new_cache)
       → Wrote (FromTaps s q ts us) b n (status_of_answer answer) (result_ok answer)
   pub go_on : TapsGoOn q ts us

@@ -1,4 +1,4 @@
-use Rattle.std.proofs.Common.{◌≡◌, ◌≤◌, ◌+◌, ◌-◌, ◌++◌, vec_len}
+use Rattle.std.proofs.Common.{◌≡◌, ◌+◌, ◌-◌, ◌++◌, vec_len}
 use Rattle.std.specs.Prelude.{option_map}
 use Rattle.xet_tool.proofs.reading.read_to_end.Given as goal
 

@@ -6,7 +6,7 @@ ghost use Rattle.xet_ties.specs.Legal.{Legal};
 ghost use Rattle.xet_tool.specs.GetOptions.{lanes_of};
 ghost use Rattle.xet_tool.specs.Wanted.{setup_of};
 ghost use Rattle.xet_tool.specs.steps.PrintedDigits.{Tapped, told_of};
-ghost use Rattle.xet_tool.specs.steps.TapRuns.{BehindTaps, IsBookOf, IsNew, limits_told};
+ghost use Rattle.xet_tool.specs.steps.TapRuns.{BehindTaps, IsBookOf, IsCacheOf, IsNew, limits_told};
 
 use crate::commands::get::tapped_client::TappedClient;
 use crate::commands::get::wanted::Wanted;
@@ -117,7 +117,7 @@ fn run_over_first<R: Threads + Wait + Sync, C: Client + Send, K: ChunkCache, O: 
 }
 
 // The run over as many connections as are wanted, each behind one of the taps, in order. The taps leave for it and come
-// back.
+// back. With `cache` the cache is a new one.
 fn run_behind<R: Threads + Wait + Sync, T: Tap + Send, K: ChunkCache, O: Sink>(
     rt: &R,
     alloc: Global,
@@ -130,6 +130,7 @@ fn run_behind<R: Threads + Wait + Sync, T: Tap + Send, K: ChunkCache, O: Sink>(
 ) -> Result<u64>
     requires count { length taps.old.items ≡ 64 }
     requires book { IsBookOf wanted view }
+    requires cache { IsCacheOf wanted (K.told cache.old) }
     ensures { BehindTaps store.now wanted (map T.told taps.old.items) (map T.told taps.new.items)
         (K.told cache.old) (K.told cache.new) (O.told out.old) (O.told out.new) result }
 {

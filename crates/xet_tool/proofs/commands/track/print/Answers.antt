@@ -1,5 +1,5 @@
-use Rattle.std.proofs.Common.{rules, ◌≡◌, ℕ, List, []}
-use Rattle.xet_track.specs.Turns.{PrintsLine, ScriptLeft, TurnOf}
+use Rattle.std.proofs.Common.{rules, ◌≡◌, []}
+use Rattle.xet_track.specs.Turns.{TurnOf}
 use Rattle.xet_track.specs.declared.script.Turn.TheVariants.{Printed, Unread, Ended}
 use Rattle.xet_tool.proofs.TrackOutcomes.{printing_end, printing_line, printing_memory, printing_stopped, printing_unread}
 use Rattle.xet_tool.proofs.commands.track.print.Goals as goal

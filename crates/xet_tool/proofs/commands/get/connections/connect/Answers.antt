@@ -1,5 +1,4 @@
-use Rattle.std.proofs.Common.{◌≡◌, ◌++◌, ◌∷◌, [], ap, refl, rules, sym}
-use Rattle.xet_store.specs.Taps.{TapTold}
+use Rattle.std.proofs.Common.{◌≡◌, ap, rules, sym}
 use Rattle.xet_outside.specs.Told.{ClientTold}
 use Rattle.xet_tool.specs.declared.commands.get.tapped_client.TappedClient.{TappedClient}
 use Rattle.xet_tool.specs.steps.OwnTaps.{behind_own}

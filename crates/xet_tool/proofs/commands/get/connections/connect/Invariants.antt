@@ -1,4 +1,4 @@
-use Rattle.std.proofs.Common.{◌≡◌, ◌+◌, ◌≤◌, ◌++◌, length, map}
+use Rattle.std.proofs.Common.{◌≡◌, ◌+◌, ◌≤◌, ◌++◌, map}
 use Rattle.std.specs.Prelude.{All, reverse, vec_capacity, vec_len}
 use Rattle.xet_tool.specs.steps.OwnTaps.{behind_own}
 use Rattle.xet_tool.specs.steps.TapRuns.{IsNew}

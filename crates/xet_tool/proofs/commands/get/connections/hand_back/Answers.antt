@@ -1,4 +1,4 @@
-use Rattle.std.proofs.Common.{◌≡◌, ◌++◌, ◌∷◌, [], refl, rules}
+use Rattle.std.proofs.Common.{rules}
 use Rattle.xet_tool.specs.declared.commands.get.tapped_client.TappedClient.{TappedClient}
 use Rattle.xet_tool.proofs.TapMoves.{one_back}
 use Rattle.xet_tool.proofs.commands.get.connections.hand_back.Goals as goal

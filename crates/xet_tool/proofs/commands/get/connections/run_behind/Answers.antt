@@ -1,4 +1,4 @@
-use Rattle.std.proofs.Common.{◌≡◌, ◌∙◌, List, ap, arith, length, map, refl, rules}
+use Rattle.std.proofs.Common.{◌≡◌, ◌∙◌, ap, arith, length, map, rules}
 use Rattle.std.specs.Prelude.{All}
 use denote.Param.{param}
 use denote.Ref.{NamedLft}
@@ -50,4 +50,4 @@ returns g c =
     let back : c.hand_back.new.taps.items ≡ map tap ys = c.hand_back.ensures ∙ ap (map tap) (take_front ys _ c.in-Ok.clients.len size) in
     rw back (behind_taps told tap (λ x. x.inner.store.now) (λ x. x.log) (λ x. told x.start.value) (λ x. x.given) (λ x. x.plans) (λ x. x.unexpired)
     c.honest_answers.ensures.pass c.args.store.now c.check_store.ensures c.args.wanted c.args.taps.now.items xs ys _ _ _ _ c.run_over_first-answer.result
-    (rw same taps) c.requires.count (rw same fresh) (record { legal = c.run_over_first-answer.ensures.legal; ran = c.run_over_first-answer.ensures.ran }) c.run_over_first-answer.ensures.past)
+    (rw same taps) c.requires.count (rw same fresh) c.run_over_first-answer.ensures.legal c.run_over_first-answer.ensures.past)

@@ -1,4 +1,4 @@
-use Rattle.std.proofs.Common.{◌≡◌, ap}
+use Rattle.std.proofs.Common.{ap}
 use Rattle.xet_outside.specs.Told.{CacheTold}
 use Rattle.xet_tool.proofs.TapLanes.{tapped, true_not}
 use Rattle.xet_tool.proofs.commands.get.connections.run_cached.Goals as goal
@@ -7,4 +7,4 @@ pub returns : goal.returns
 returns g c =
     tapped _ _ _ _ _ _ _ _ c.run_behind.result c.run_behind.ensures
     (ap (λ (k : CacheTold). k.entries) c.new-cache.ensures.told)
-    (λ w. absurd (true_not _ c.requires.cache w)) (λ w. c.new-cache.ensures.told)
+    (λ w. absurd (true_not _ c.requires.cache w))

@@ -1,6 +1,6 @@
 use Rattle.std.proofs.Common.{refl}
-use Rattle.xet_tool.proofs.TapLanes.{tapped, true_not}
+use Rattle.xet_tool.proofs.TapLanes.{tapped}
 use Rattle.xet_tool.proofs.commands.get.connections.run_plain.Goals as goal
 
 pub returns : goal.returns
-returns g c = tapped _ _ _ _ _ _ _ _ c.run_behind.result c.run_behind.ensures refl (λ w. refl) (λ w. absurd (true_not _ w c.requires.cache))
+returns g c = tapped _ _ _ _ _ _ _ _ c.run_behind.result c.run_behind.ensures refl (λ w. refl)
