@@ -6,6 +6,7 @@ mod DocumentChunks
 mod DocumentMembers
 mod DocumentTerms
 mod HashDigits
+mod Leads
 mod Listings
 mod Objects
 mod Placing

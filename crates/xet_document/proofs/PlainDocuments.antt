@@ -158,8 +158,8 @@ pub has_store : (text : List ℕ) (l : Listed) (s : Store) → IsUtf8 text → I
     → s.xorbs ≡ map (λ e. placed_xorb l.xorbs.joined.bytes.items l.xorbs.joined.ends.items e.1) l.xorbs.places.entries
     → s.files ≡ map (λ e. stored_file e.1) l.files.entries → IsValid s → HasStore text s
 has_store text l s utf8 r xorbs files valid =
-    let xs = xorbs_listed (λ t. t.now) l.xorbs.joined r.xorb_members l.xorbs.places.entries r.xorbs in
-    let fs = files_listed (λ t. t.now) r.file_members l.files.entries r.files in record {
+    let xs = xorbs_listed (λ k. k.text.now) l.xorbs.joined r.xorb_members l.xorbs.places.entries r.xorbs in
+    let fs = files_listed (λ k. k.text.now) r.file_members l.files.entries r.files in record {
       data_of = document_of r.xorb_members r.file_members;
       reads = record { utf8 = utf8; value = r.reads };
       store = record {

@@ -8,6 +8,7 @@ mod joined_chunks;
 mod plain_files;
 mod plain_store;
 mod plain_xorbs;
+mod text_key;
 mod text_store;
 mod unread;
 mod value_store;

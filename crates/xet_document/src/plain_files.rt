@@ -9,6 +9,7 @@ ghost use Rattle.xet_document.specs.Document.{term_of_items, terms_of_items};
 ghost use Rattle.xet_document.specs.steps.Reads.{Lists, ListsFile, ReadsItems, ReadsMembers, ReadsValue};
 
 use crate::hex_digits::{LastHash, hash_of};
+use crate::text_key::TextKey;
 use crate::unread::Unread;
 use fast_float::Numeral;
 use json::{Reader, Token};
@@ -29,9 +30,9 @@ pub(crate) struct ListedFile {
 pub(crate) fn read_files<'a>(
     alloc: Global,
     reader: &mut Reader<'a>,
-) -> Result<BTreeMap<&'a str, ListedFile>, Unread>
+) -> Result<BTreeMap<TextKey<'a>, ListedFile>, Unread>
     ensures listed { IfOk result (λ found. (ms : Members) × ReadsMembers 125 reader.old ms reader.new
-        × Lists (λ text. text.now) ListsFile ms found.entries) }
+        × Lists (λ key. key.text.now) ListsFile ms found.entries) }
     ensures shorter { OnOk result (length reader.new < length reader.old) }
 {
     let mut found = BTreeMap::new(alloc);
@@ -44,7 +45,7 @@ pub(crate) fn read_files<'a>(
         };
         let terms = read_terms(alloc, reader)?;
         let file = ListedFile { hash, terms };
-        drop(found.insert(text, file)?);
+        drop(found.insert(TextKey::of(text), file)?);
     }
     Ok(found)
 }

@@ -10,6 +10,7 @@ ghost use Rattle.xet_document.specs.steps.Reads.{IsRead, stored_file};
 use crate::joined_chunks::{JoinedChunks, xorb_at};
 use crate::plain_files::{ListedFile, read_files};
 use crate::plain_xorbs::{ListedXorbs, read_xorbs};
+use crate::text_key::TextKey;
 use crate::unread::Unread;
 use bytes::Bytes;
 use json::{Reader, Scratch, Token};
@@ -21,7 +22,7 @@ use xet_store::{MemStore, StoreRefused};
 #[derive(Drop)]
 pub(crate) struct Listed<'a> {
     xorbs: ListedXorbs<'a>,
-    files: BTreeMap<&'a str, ListedFile>,
+    files: BTreeMap<TextKey<'a>, ListedFile>,
 }
 
 /// The store of a document with the keys "xorbs" and "files" in this order and no others, read in one pass.
@@ -120,7 +121,7 @@ fn add_xorbs(alloc: Global, xorbs: ListedXorbs<'_>, store: &mut MemStore) -> Res
 // Adds the listed files.
 fn add_files(
     alloc: Global,
-    files: BTreeMap<&str, ListedFile>,
+    files: BTreeMap<TextKey<'_>, ListedFile>,
     store: &mut MemStore,
 ) -> Result<(), Unread>
     requires { IsValid store.old }

@@ -8,6 +8,7 @@ ghost use Rattle.xet_document.specs.steps.Reads.{Lists, ListsXorb, ReadsItems, R
 
 use crate::hex_digits::hash_of;
 use crate::joined_chunks::{JoinedChunks, XorbPlace};
+use crate::text_key::TextKey;
 use crate::unread::Unread;
 use crate::value_store::add_digits;
 use json::{Reader, Token};
@@ -21,7 +22,7 @@ pub(crate) struct ListedXorbs<'a> {
     /// The chunks of all xorbs.
     pub(crate) joined: JoinedChunks,
     /// Where the chunks of each xorb stand, by the text of its hash.
-    pub(crate) places: BTreeMap<&'a str, XorbPlace>,
+    pub(crate) places: BTreeMap<TextKey<'a>, XorbPlace>,
 }
 
 /// The xorbs of an object that was opened. There is room for so many bytes of chunks from the start.
@@ -31,7 +32,7 @@ pub(crate) fn read_xorbs<'a>(
     room: usize,
 ) -> Result<ListedXorbs<'a>, Unread>
     ensures listed { IfOk result (λ listed. (ms : Members) × ReadsMembers 125 reader.old ms reader.new
-        × Lists (λ text. text.now) (ListsXorb listed.joined) ms listed.places.entries) }
+        × Lists (λ key. key.text.now) (ListsXorb listed.joined) ms listed.places.entries) }
     ensures shorter { OnOk result (length reader.new < length reader.old) }
 {
     let mut joined = JoinedChunks {
@@ -44,7 +45,7 @@ pub(crate) fn read_xorbs<'a>(
             return Err(Unread::NotPlain);
         };
         let place = read_xorb(hash, reader, &mut joined)?;
-        drop(places.insert(text, place)?);
+        drop(places.insert(TextKey::of(text), place)?);
     }
     Ok(ListedXorbs { joined, places })
 }

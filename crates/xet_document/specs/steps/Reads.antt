@@ -63,5 +63,5 @@ pub record IsRead (text : List ℕ) (listed : Listed) : Type 0 where
   pub xorb_members : Members
   pub file_members : Members
   pub reads : read text ≡ Some (document_of xorb_members file_members)
-  pub xorbs : Lists (λ t. t.now) (ListsXorb listed.xorbs.joined) xorb_members listed.xorbs.places.entries
-  pub files : Lists (λ t. t.now) ListsFile file_members listed.files.entries
+  pub xorbs : Lists (λ k. k.text.now) (ListsXorb listed.xorbs.joined) xorb_members listed.xorbs.places.entries
+  pub files : Lists (λ k. k.text.now) ListsFile file_members listed.files.entries

@@ -16,20 +16,22 @@ members-init c = (no_members, no_members_yet 125 c.args.reader.now, rw c.new-fou
 pub members-preserved : goal.members-preserved
 members-preserved c =
     let l = c.members in
-    let key = c.in-Some.text in
+    let made = c.of.result in
+    let key = made.text.now in
+    let same : key ≡ c.in-Some.text.now = c.of.ensures in
     let rest = c.next_key.new.self in
     let hash = c.in-Some-hash_of.hash in
     let terms = c.in_ok-terms.terms in
     let read = c.in_ok-terms.ensures.terms in
     let d = array read.0 in
-    let named : read_key l.reader ≡ Some (Some key.now, rest) = rw c.in-Some.is at c.in_ok-text.ensures.value in
+    let named : read_key l.reader ≡ Some (Some key, rest) = rw same (rw c.in-Some.is at c.in_ok-text.ensures.value) in
     let opens : rest ≡ Token.begin_array ∷ c.next.new.self = search rules in
-    let spelt : hash_of_text key.now ≡ Some hash = search rules in
+    let spelt : hash_of_text c.in-Some.text.now ≡ Some hash = search rules in
     let value = rw (← opens) at (reads_array 125 c.next.new.self c.read_terms.new.reader read.0 (omega arith) read.1) in (
-      put key.now d l.invariant.0,
-      member_more 125 c.args.reader.now l.reader rest c.read_terms.new.reader l.invariant.0 key.now d l.invariant.1 named (omega (arith, ap length opens, c.in_ok-terms.ensures.shorter)) value,
-      subst (Lists (λ t. t.now) ListsFile (put key.now d l.invariant.0)) (sym c.in_ok-insert.ensures.entries)
-          (lists_put (λ t. t.now) ListsFile l.invariant.0 l.found.entries key d _ l.invariant.2 (file_is key.now d hash terms spelt (sym read.2))),
+      put key d l.invariant.0,
+      member_more 125 c.args.reader.now l.reader rest c.read_terms.new.reader l.invariant.0 key d l.invariant.1 named (omega (arith, ap length opens, c.in_ok-terms.ensures.shorter)) value,
+      subst (Lists (λ k. k.text.now) ListsFile (put key d l.invariant.0)) (sym c.in_ok-insert.ensures.entries)
+          (lists_put (λ k. k.text.now) ListsFile l.invariant.0 l.found.entries made d _ l.invariant.2 (file_is key d hash terms (rw same spelt) (sym read.2))),
     )
 
 pub returns-clause-listed : goal.returns-clause-listed

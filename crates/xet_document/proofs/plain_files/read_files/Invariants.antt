@@ -6,7 +6,7 @@ use Rattle.xet_document.proofs.plain_files.read_files.Given as goal
 
 abbrev pub invariant-members : goal.invariant-members
 invariant-members l =
-    (ms : Members) × MembersSoFar 125 l.initial.reader l.reader ms × Lists (λ t. t.now) ListsFile ms l.found.entries
+    (ms : Members) × MembersSoFar 125 l.initial.reader l.reader ms × Lists (λ k. k.text.now) ListsFile ms l.found.entries
 
 abbrev pub decreases-members : goal.decreases-members
 decreases-members l = length l.reader

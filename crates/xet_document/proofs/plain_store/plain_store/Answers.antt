@@ -11,7 +11,7 @@ pub add_xorbs-requires-clause-placed : goal.add_xorbs-requires-clause-placed
 add_xorbs-requires-clause-placed c =
     let l = c.in_ok-listed.listed in
     let r = c.in_ok-listed.ensures in
-    lists_all (λ t. t.now) (ListsXorb l.xorbs.joined) (λ e. IsPlaced l.xorbs.joined.bytes.items l.xorbs.joined.ends.items e.1) (λ k d e h. h.0) r.xorb_members l.xorbs.places.entries r.xorbs
+    lists_all (λ k. k.text.now) (ListsXorb l.xorbs.joined) (λ e. IsPlaced l.xorbs.joined.bytes.items l.xorbs.joined.ends.items e.1) (λ k d e h. h.0) r.xorb_members l.xorbs.places.entries r.xorbs
 
 pub returns : goal.returns
 returns c =

@@ -14,19 +14,21 @@ members-init c = (no_members, no_members_yet 125 c.args.reader.now, rw c.new-pla
 pub members-preserved : goal.members-preserved
 members-preserved c =
     let l = c.members in
-    let key = c.in-Some.text in
+    let made = c.of.result in
+    let key = made.text.now in
+    let same : key ≡ c.in-Some.text.now = c.of.ensures in
     let rest = c.next_key.new.self in
     let place = c.in_ok-place.place in
     let after = c.read_xorb.new.joined in
     let read = c.in_ok-place.ensures in
-    let named : read_key l.reader ≡ Some (Some key.now, rest) = rw c.in-Some.is at c.in_ok-text.ensures.value in
-    let hash : hash_of_text key.now ≡ Some place.hash = search rules in
-    let lists = lists_xorb after key.now read.value.0 place read.placed hash read.value.2 in
-    let still = lists_weaker (λ t. t.now) (ListsXorb l.joined) (ListsXorb after) (still_lists l.joined after _ read.adds) l.invariant.0 l.places.entries l.invariant.2 in (
-      put key.now read.value.0 l.invariant.0,
-      member_more 125 c.args.reader.now l.reader rest c.read_xorb.new.reader l.invariant.0 key.now read.value.0 l.invariant.1 named read.shorter read.value.1,
-      subst (Lists (λ t. t.now) (ListsXorb after) (put key.now read.value.0 l.invariant.0)) (sym c.in_ok-insert.ensures.entries)
-          (lists_put (λ t. t.now) (ListsXorb after) l.invariant.0 l.places.entries key read.value.0 place still lists),
+    let named : read_key l.reader ≡ Some (Some key, rest) = rw same (rw c.in-Some.is at c.in_ok-text.ensures.value) in
+    let spelt : hash_of_text c.in-Some.text.now ≡ Some place.hash = search rules in
+    let lists = lists_xorb after key read.value.0 place read.placed (rw same spelt) read.value.2 in
+    let still = lists_weaker (λ k. k.text.now) (ListsXorb l.joined) (ListsXorb after) (still_lists l.joined after _ read.adds) l.invariant.0 l.places.entries l.invariant.2 in (
+      put key read.value.0 l.invariant.0,
+      member_more 125 c.args.reader.now l.reader rest c.read_xorb.new.reader l.invariant.0 key read.value.0 l.invariant.1 named read.shorter read.value.1,
+      subst (Lists (λ k. k.text.now) (ListsXorb after) (put key read.value.0 l.invariant.0)) (sym c.in_ok-insert.ensures.entries)
+          (lists_put (λ k. k.text.now) (ListsXorb after) l.invariant.0 l.places.entries made read.value.0 place still lists),
     )
 
 pub returns-clause-listed : goal.returns-clause-listed
