@@ -329,5 +329,12 @@ got_from limit q b n text s status w d (inl g) = by_status status g
     by_status WriteFault g = (g.any.0, cut (λ all. (g.honest all).1) g.any.1)
     by_status NoMemory g = cut g.honest g.any
     by_status (BadBlock k) g = record { store = s; over = over; settings = g.settings; dishonest = g.honest; any = g.any }
-    by_status (BadSettings e) g = record { store = s; over = over; failing = g.settings.0; took = g.settings.1 }
+    by_status (BadSettings e) g = record {
+      store = s;
+      over = over;
+      failing = g.settings.0;
+      unasked = g.go_on.unasked e g.settings.0;
+      took = g.settings.1;
+      any = g.any;
+    }
     by_status _ g = absurd g.any

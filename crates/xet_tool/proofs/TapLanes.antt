@@ -1,6 +1,6 @@
 -- Runs behind the taps of the lanes.
 use Rattle.std.proofs.Common.{◌≡◌, ℕ, zero, suc, Bool, true, false, cond, List, [], ◌∷◌, ◌++◌, length, map, min, drop, take, Option, Some, None, Ok, Err, refl, sym, ap, ◌∙◌, arith, inl, inr, subst}
-use Rattle.std.specs.Prelude.{All, Contains, IfSome, OnOk, Result, count_by}
+use Rattle.std.specs.Prelude.{All, Contains, IfSome, OnOk, Result, count_by, option_map}
 use Rattle.std.specs.List.{AllZip, drop-map, take-map}
 use Rattle.std.specs.Result.{result_ok}
 use Rattle.std.proofs.Math.Seq.{drop-length}
@@ -20,6 +20,7 @@ use Rattle.xet_store.specs.Taps.{AreGiven, TapTold, given_count, said_behind}
 use Rattle.xet_store.proofs.CallerLemmas.{same_link}
 use Rattle.xet_error.specs.declared.error.FileReconstructionError.{FileReconstructionError}
 use Rattle.xet_error.specs.declared.error.FileReconstructionError.TheVariants as error
+use Rattle.xet_error.specs.declared.error.Setting.{Setting}
 use Rattle.xet_blocks.specs.ServedChunks.{AllServed}
 use Rattle.xet_reconstruct.specs.Laws.{HonestAnswersPass}
 use Rattle.xet_ties.specs.Causes.{expired_answers}
@@ -29,7 +30,7 @@ use Rattle.xet_ties.proofs.CallerLemmas.{all_told, if_some, looks_gained, told_n
 use Rattle.xet_ties.specs.Gains.{GaveServed}
 use Rattle.xet_ties.specs.Ties.{IsEntryOf}
 use Rattle.xet_ties.specs.Legal.{AllPlanned, IsPlannedServed, Legal, ServedOnce}
-use Rattle.xet_ties.specs.Setup.{AllTell, CacheTells, EachGoesOn}
+use Rattle.xet_ties.specs.Setup.{AllTell, CacheTells, EachGoesOn, RunTold}
 use Rattle.xet_tool.specs.declared.commands.get.wanted.Wanted.{Wanted}
 use Rattle.xet_tool.specs.declared.status.Status.TheVariants.{NoMemory}
 use Rattle.xet_tool.specs.GetOptions.{lanes_of}
@@ -54,8 +55,16 @@ bytes_in-front : (gave : List BlockBytes) (rest : List Said) → bytes_in (front
 bytes_in-front [] rest = refl
 bytes_in-front (b ∷ gave) rest = ap (λ (l : List BlockBytes). b ∷ l) (bytes_in-front gave rest)
 
+-- blocks that were given, as answers and back
+given_again : (o : Option (List BlockBytes)) → option_map bytes_in (option_map (λ gave. front gave ++ []) o) ≡ o
+given_again None = refl
+given_again (Some gave) = ap (λ (l : List BlockBytes). Some l) (bytes_in-front gave [] ∙ append-nil gave)
+
 some_same : {A : Type 0} (x y : A) → ◌≡◌ {A = Option A} (Some x) (Some y) → x ≡ y
 some_same x y e = cc
+
+cons_same : {A : Type 0} (x y : A) (xs ys : List A) → x ∷ xs ≡ y ∷ ys → (x ≡ y) × (xs ≡ ys)
+cons_same x y xs ys e = (cc, cc)
 
 abbrev new_log : ClientLog
 new_log = record { asked = []; said = []; served = [] }
@@ -152,6 +161,23 @@ module _ (s : Store) where
   honest [] = refl
   honest (a ∷ lanes) = rw (a.honest, honest lanes) refl
 
+  -- where a connection tells what it told before, its tap does
+  tap_same : (a : Lane) → client_after a ≡ client_before a → a.u ≡ a.t
+  tap_same a e =
+      let passed : a.u.passed ≡ a.t.passed = ap (λ (c : ClientTold). c.served) e in
+      let all : said_behind a.start a.log ≡ said_behind a.t new_log = ap (λ (c : ClientTold). c.said) e in
+      let gave : a.u.gave ≡ a.t.gave = sym a.given ∙ ap (λ (o : Option (List Said)). option_map bytes_in o) all ∙ given_again a.t.gave in
+      ap (λ (o : Option (List Served)). let y : TapTold = record { passed = o; gave = a.u.gave; honest = a.u.honest } in y) passed
+      ∙ ap (λ (o : Option (List BlockBytes)). let y : TapTold = record { passed = a.t.passed; gave = o; honest = a.u.honest } in y) gave
+      ∙ ap (λ (v : Bool). let y : TapTold = record { passed = a.t.passed; gave = a.t.gave; honest = v } in y) a.honest
+
+  -- so of all
+  taps_same : (lanes : List Lane) → afters lanes ≡ befores lanes → taps_after lanes ≡ taps_before lanes
+  taps_same [] e = refl
+  taps_same (a ∷ lanes) e =
+      let both = cons_same (client_after a) (client_before a) (afters lanes) (befores lanes) e in
+      rw (tap_same a both.0, taps_same lanes both.1) refl
+
   -- what was added to the lists of all
   record HaveSides (lanes : List Lane) (ps : List Passage) : Type 0 where
     xs : List Exchange
@@ -190,6 +216,7 @@ pub record BehindLanes (s : Store) (q : Wanted) (ts us : List TapTold) (k l : Ca
   pub any : k.entries ≡ Some [] → (q.options.cache ≡ false → l.entries ≡ Some [])
       → Wrote (λ status bytes. IfSome (all_passages ts us) (λ ps. MadeOf s q ps status bytes)) b n (status_of_answer answer) (result_ok answer)
   pub honest : map (λ t. t.honest) us ≡ map (λ t. t.honest) ts
+  pub unasked : (e : Setting) → failing_setting q ≡ Some e → us ≡ ts
 
 -- no look gave an entry of a cache that has none
 none_given : (looks : List Look) (entries : Option (List CacheEntry)) → entries ≡ Some [] → All (IsEntryOf entries) looks → count_by gave looks ≡ 0
@@ -213,6 +240,7 @@ behind_lanes pass s valid q lanes k l b n answer same h = record {
   chunks = λ honest none. on_ok answer (h.chunks s (record { tell = tell s lanes honest; valid = valid }) none);
   any = λ empty none. by empty (λ plain. none_given h.looks.list l.entries (none plain) h.looks.given) (all_passages (taps_before s lanes) (taps_after s lanes)) refl;
   honest = honest s lanes;
+  unasked = λ e f. taps_same s lanes (ap (λ (t : RunTold). t.clients) (h.settings e (same ∙ f)).1);
 }
   where
     on_ok : (a : Result ℕ FileReconstructionError) → OnOk a (AllServed s q.file q.range (served_of_all h.heard.list)) → OnOk a (IfSome (all_passed (taps_before s lanes) (taps_after s lanes)) (AllServed s q.file q.range))
@@ -285,7 +313,7 @@ unbehind s q ts k b = record {
   all = behind_none s q (LanesHonest q ts) k b;
   chunks = λ honest none. tt;
   any = λ empty none. by (all_passages (lane_taps q ts) (lane_taps q ts)) refl;
-  go_on = record { honest = refl; past = refl };
+  go_on = record { honest = refl; past = refl; unasked = λ e f. refl };
 }
   where
     by : (o : Option (List Passage)) → all_passages (lane_taps q ts) (lane_taps q ts) ≡ o → Wrote (FromTaps s q ts ts) b b NoMemory None
@@ -312,6 +340,11 @@ honest_both n ts us e f =
     let h : TapTold → Bool = λ t. t.honest in
     let same : map h (take n us) ++ map h (drop n us) ≡ map h (take n ts) ++ map h (drop n ts) = rw (e, f) refl in
     ap (map h) (sym (take-append-drop n us)) ∙ map-append h (take n us) (drop n us) ∙ same ∙ sym (map-append h (take n ts) (drop n ts)) ∙ ap (map h) (take-append-drop n ts)
+
+whole_same : (n : ℕ) (ts us : List TapTold) → take n us ≡ take n ts → drop n us ≡ drop n ts → us ≡ ts
+whole_same n ts us e f =
+    let same : take n us ++ drop n us ≡ take n ts ++ drop n ts = rw (e, f) refl in
+    sym (take-append-drop n us) ∙ same ∙ take-append-drop n ts
 
 module _ {X T : Type 0} (told : T → TapTold) (tap : X → T) (store : X → Store) (log : X → ClientLog) (start : X → TapTold)
     (given : (x : X) → AreGiven (said_behind (start x) (log x)) (told (tap x)))
@@ -379,7 +412,11 @@ module _ {X T : Type 0} (told : T → TapTold) (tap : X → T) (store : X → St
         all = same.all;
         chunks = same.chunks;
         any = same.any;
-        go_on = record { honest = honest_both c (map told olds) (map told (map tap ys)) same.honest rest; past = rest };
+        go_on = record {
+          honest = honest_both c (map told olds) (map told (map tap ys)) same.honest rest;
+          past = rest;
+          unasked = λ e f. whole_same c (map told olds) (map told (map tap ys)) (same.unasked e f) rest;
+        };
       }
     where
       lane_of : (zs : List X) → take (lanes_of q.options) (map told (map tap zs)) ≡ map told (map tap (take (lanes_of q.options) zs))

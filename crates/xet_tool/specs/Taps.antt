@@ -8,6 +8,7 @@ use Rattle.xet_outside.specs.declared.served.Served.{Served}
 use Rattle.xet_store.specs.HonestPlans.{PlansAreHonest}
 use Rattle.xet_store.specs.Taps.{TapTold}
 use Rattle.xet_error.specs.declared.error.Corruption.{Corruption}
+use Rattle.xet_error.specs.declared.error.Setting.{Setting}
 use Rattle.xet_error.specs.Errors.{corruption_number}
 use Rattle.xet_ties.specs.Causes.{BlockFails, TermFails}
 use Rattle.xet_ties.specs.Cuts.{IsSaidPiece, Planning, PlansAll, some_said}
@@ -31,10 +32,11 @@ lane_taps wanted taps = take (lanes_of wanted.options) taps
 abbrev pub LanesHonest : Wanted → List TapTold → Type 0
 LanesHonest wanted taps = All (λ t. t.honest ≡ true) (lane_taps wanted taps)
 
--- each tap is honest exactly where it was, and those past the lanes are as they were
+-- each tap is honest exactly where it was, and those past the lanes are as they were. Where a setting fails all are
 pub record TapsGoOn (wanted : Wanted) (before after : List TapTold) : Type 0 where
   pub honest : map (λ t. t.honest) after ≡ map (λ t. t.honest) before
   pub past : drop (lanes_of wanted.options) after ≡ drop (lanes_of wanted.options) before
+  pub unasked : (e : Setting) → failing_setting wanted ≡ Some e → after ≡ before
 
 -- ---- what passed
 

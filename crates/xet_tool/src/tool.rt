@@ -24,7 +24,8 @@ use xet_store::{Sink, Source, Tap};
 /// - 5, no line: only where the output's faults rose. Nothing more is written.
 /// - 6, `error memory`: where an allocation was refused; after some first digits, or all, a line end comes before it.
 /// - 7, a line end and `error settings K`: exactly where the input is a document of a valid store and setting K of the
-///   words fails first, whatever the file and the range are.
+///   words fails first, whatever the file and the range are. Nothing passed the taps of the lanes, where these tell it:
+///   all taps are as before.
 /// - 8, `error input`: exactly where the input has more than 67,108,864 bytes, which is the limit.
 /// - 12, `error block K` after the digits of some bytes and a line end: over a tap that isn't honest. Where the taps of
 ///   the lanes tell what passed and what they handed on, K is the test that a block of a plan of the store's, or a term
@@ -38,7 +39,7 @@ use xet_store::{Sink, Source, Tap};
 /// taps of any kind that tell what passed and what they handed on, the digits of status 0 are those of all terms of
 /// the store's own plans in these blocks, which pass their tests, and with another status those of some first bytes;
 /// with `cache` the data of some of these blocks may be what a tap handed on earlier in this run. No block of a plan
-/// passed them twice, and each that passed is a block of a plan, with each status but 7, of which this isn't said.
+/// passed them twice, and each that passed is a block of one of the store's plans.
 ///
 /// With 1, 2, 4 and 8, but 2 of `track`, that line and nothing else was printed. With 5 and 6 a prefix of one text was
 /// printed: of the text of another status, of which all that is said here holds; or of `error memory`, for `get` with

@@ -59,7 +59,7 @@ IsCutGet store wanted before after =
 -- ---- what holds of each run
 
 -- the input was read to its end and is a document of this store; each tap is as honest as it was, and none past the
--- lanes was asked
+-- lanes was asked, nor any where a setting fails
 pub record OverStore (limit : ℕ) (store : Store) (wanted : Wanted) (before after : Told) : Type 0 where
   pub read : WasReadToEnd limit before.source after.source
   pub document : IsOfStore before.source store
@@ -101,12 +101,14 @@ pub record GetReadFault (before after : Told) : Type 0 where
   pub unasked : after.taps ≡ before.taps
   pub took : Took before.sink.took after.sink.took (line ReadFault)
 
--- 7: this setting fails first
+-- 7: this setting fails first, and no tap was asked
 pub record GetBadSettings (limit : ℕ) (wanted : Wanted) (before after : Told) (e : Setting) : Type 0 where
   pub store : Store
   pub over : OverStore limit store wanted before after
   pub failing : failing_setting wanted ≡ Some e
+  pub unasked : after.taps ≡ before.taps
   pub took : Took before.sink.took after.sink.took (settings_text e)
+  pub any : GetAny store wanted before after (BadSettings e)
 
 -- 8: the input is longer than the limit
 pub record GetTooLong (limit : ℕ) (before after : Told) : Type 0 where
