@@ -132,7 +132,7 @@ pub record MadeOf (store : Store) (wanted : Wanted) (passages : List Passage) (s
     (bytes : List ℕ) : Type 0 where
   pub xs : List Exchange
   pub passed : AllZip (IsPassed store) passages xs
-  -- no block of a plan passed twice, whatever the status, and each that passed is a block of a plan that was said
+  -- no block of a plan passed twice, and each that passed is a block of a plan that was said
   pub once : ServedOnce (served_of_all xs)
   pub planned : AllPlanned (setup_of wanted) xs
   pub looks : List Look

@@ -19,7 +19,8 @@ use xet_store::{Sink, Source, Tap};
 /// - 2, `error store` for `get`: exactly where the input is within the limit and is no document of a valid store;
 ///   `error script` for `track`, after the lines of the calls before it: exactly where a line of it doesn't read.
 /// - 3, a line end and `error file not found`: exactly where the input is a document of a valid store, no setting
-///   fails, the range isn't empty and the store has no such file.
+///   fails, the range isn't empty and the store has no such file; that, and that with 0 the store has the file, is said
+///   over honest taps, or ones that tell what passed and what they handed on.
 /// - 4, `error read`: only where the input's faults rose.
 /// - 5, no line: only where the output's faults rose. Nothing more is written.
 /// - 6, `error memory`: where an allocation was refused; after some first digits, or all, a line end comes before it.
@@ -33,11 +34,11 @@ use xet_store::{Sink, Source, Tap};
 ///
 /// "Exactly" yields to 5 and 6, and for 2, 3, 7 and 8 to 4 too: a read may fail first. There are 64 taps: while a run
 /// of `get` goes on each is owned by a connection, the first by those of the lanes, and handed back then; the others
-/// are as before, and with 1, 2, 4 and 8 and for `track` all are. Each tap is as honest afterwards as it was. What is
-/// said of the bytes of a store's file is said where those of the lanes hand each block on as it came, for all options.
-/// Over such taps that tell what passed, each chunk with a byte in the range passed one of them with status 0. Over
-/// taps of any kind that tell what passed and what they handed on, the digits of status 0 are those of all terms of
-/// the store's own plans in these blocks, which pass their tests, and with another status those of some first bytes;
+/// are as before, and with 1, 2, 4, 7 and 8 and for `track` all are. Each tap is as honest afterwards as it was. What
+/// is said of the bytes of a store's file is said where those of the lanes hand each block on as it came, for all
+/// options. Over such taps that tell what passed, each chunk with a byte in the range passed one of them with status 0.
+/// Over taps of any kind that tell what passed and what they handed on, the digits of status 0 are those of all terms
+/// of the store's own plans in these blocks, which pass their tests, and with another status those of some first bytes;
 /// with `cache` the data of some of these blocks may be what a tap handed on earlier in this run. No block of a plan
 /// passed them twice, and each that passed is a block of one of the store's plans.
 ///
