@@ -1,8 +1,12 @@
 -- A term of a document, and the number that digits write.
-use Rattle.std.proofs.Common.{◌≡◌, ℕ, ◌<◌, ◌^◌, ◌==◌, List, [], ◌∷◌, false, length, Some, refl, ap, arith}
-use Rattle.std.specs.Prelude.{slice_index}
+use Rattle.std.proofs.Common.{◌≡◌, ℕ, ◌<◌, ◌^◌, ◌==◌, List, [], ◌∷◌, false, length, Some, Ok, Err, refl, sym, ap, ◌∙◌, arith}
+use Rattle.std.specs.Prelude.{IfSome, Option, Result, slice_index}
+use Rattle.std.specs.Float.Numeral.{Parts, minus, scan_numeral as scan, text_of}
+use Rattle.std.specs.Result.{result_ok}
+use Rattle.std.specs.Str.Parse.{AllDigits, IsNumeral, ParsesUnsigned, digits_value}
 use Rattle.std.proofs.lemmas.Bool.{lt-ltb}
-use Rattle.fast_float.specs.Text.{IsInteger, digits_of, minus, scan}
+use Rattle.std.proofs.lemmas.Float.Parse.{scan_numeral-text_of}
+use Rattle.std.proofs.lemmas.List.{append-nil}
 use Rattle.json.specs.Token.{Token}
 use Rattle.json.specs.Json.{after_end_array}
 use Rattle.serde_json.specs.Data.{item, no_items, number, string, unsigned}
@@ -13,10 +17,35 @@ use Rattle.xet_document.specs.Document.{term_of_items}
 use Rattle.xet_document.specs.steps.Reads.{ReadsItems}
 use Rattle.xet_document.proofs.Arrays.{item_more, items_read, no_items_yet, reads_number, reads_string}
 
--- digits without a sign write what they scan as
-pub digits_write : (s : List ℕ) → (slice_index s 0 == minus) ≡ false → IsInteger (scan s) → digits_of (scan s) < 2 ^ 64 → number_of s ≡ Some (unsigned (digits_of (scan s)))
+-- digits alone, as the parts of a numeral
+abbrev plain : List ℕ → Parts
+plain s = record { whole = s; point = false; fraction = []; exponent_negative = false; exponent = []; len = length s }
+
+scan_plain : (s : List ℕ) → AllDigits 10 s → scan s ≡ plain s
+scan_plain s all =
+    let text : text_of (plain s) ≡ s = append-nil s in
+    ap scan (sym text) ∙ scan_numeral-text_of (plain s) (record {
+      whole_digits = all;
+      fraction_digits = tt;
+      exponent_digits = tt;
+      no_point = λ e. refl;
+      no_exponent = λ e. refl;
+      len_is = sym (ap length text);
+    })
+
+-- digits without a sign write their number
+digits_write : (s : List ℕ) → (slice_index s 0 == minus) ≡ false → IsNumeral 10 s → digits_value 10 s < 2 ^ 64 → number_of s ≡ Some (unsigned (digits_value 10 s))
 unfolding number_of
-digits_write s sign whole small = rw (sign, lt-ltb 0 (length (scan s).whole) whole.0, whole.1, whole.2, lt-ltb (digits_of (scan s)) (2 ^ 64) small) refl
+digits_write s sign some small =
+    rw (sign, scan_plain s some.1, append-nil s, lt-ltb 0 (length s) some.0, lt-ltb (digits_value 10 s) (2 ^ 64) small) refl
+
+-- so does what std reads as a number, if no sign stands first
+pub parsed_write : {E : Type 0} (s : List ℕ) (r : Result ℕ E) (o : Option ℕ) → o ≡ result_ok r → (slice_index s 0 == 43) ≡ false → (slice_index s 0 == minus) ≡ false
+    → ParsesUnsigned 32 10 s r → IfSome o (λ n. number_of s ≡ Some (unsigned n))
+parsed_write s (Err e) o is plus sign parses = rw is tt
+parsed_write s (Ok n) o is plus sign parses =
+    let read : (IsNumeral 10 s × (digits_value 10 s < 2 ^ 32)) × (n ≡ digits_value 10 s) = rw plus at parses in
+    rw is (digits_write s sign read.0.0 (omega (arith, read.0.1)) ∙ ap (λ (m : ℕ). Some (unsigned m)) (sym read.1))
 
 -- a text and two numbers, and the bracket that closes their array
 pub term_items : (text a b : List ℕ) (from to : ℕ) (t u v w after : List Token) → t ≡ Token.string text ∷ u → u ≡ Token.number a ∷ v → v ≡ Token.number b ∷ w

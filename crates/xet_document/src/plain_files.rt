@@ -11,7 +11,6 @@ ghost use Rattle.xet_document.specs.steps.Reads.{Lists, ListsFile, ReadsItems, R
 use crate::hex_digits::{LastHash, hash_of};
 use crate::text_key::TextKey;
 use crate::unread::Unread;
-use fast_float::Numeral;
 use json::{Reader, Token};
 use std::alloc::Global;
 use std::collections::BTreeMap;
@@ -111,14 +110,12 @@ fn read_number(reader: &mut Reader<'_>) -> Result<u32, Unread>
     }
 }
 
-// The number that a text without a sign writes.
+// The number that digits write.
 fn number_of(text: &str) -> Option<u32>
     ensures { IfSome result (λ n. written_number text.now ≡ Some (unsigned n)) }
 {
-    let digits = text.as_bytes();
-    if *digits.first()? == b'-' {
+    if !text.as_bytes().first()?.is_ascii_digit() {
         return None;
     }
-    let number = Numeral::scan(digits).to_u64()?;
-    u32::try_from(number).ok()
+    text.parse().ok()
 }
