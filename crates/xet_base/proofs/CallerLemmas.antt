@@ -11,3 +11,5 @@ pub use Rattle.xet_base.proofs.Finds.{firsts-push, firsts_keeps, place, AllFound
 pub use Rattle.xet_base.proofs.Parts.{take-append, drop-append, take-nil, drop-nil}
 pub use Rattle.xet_base.proofs.Joined.{concat_more}
 pub use Rattle.xet_base.proofs.Windows.{slice_range-join, length-slice_range, window_length}
+-- numbers of eight bytes compare as these do
+pub use Rattle.xet_base.proofs.Words.{numbers_cmp, settled, split}

@@ -68,11 +68,11 @@ impl<'a> XorbOffers<'a> {
         })
     }
 
-    /// Whether they are those of the xorb with this hash. The order compares by words, and equality by bytes.
+    /// Whether they are those of the xorb with this hash.
     fn are_of(&self, xorb: &MerkleHash) -> bool
         ensures { result ≡ hash_eq self.now.xorb xorb.now }
     {
-        self.xorb.cmp(xorb).is_eq()
+        self.xorb.is_same(xorb)
     }
 
     /// The first range in which the term lies. Where the ranges ascend this place is looked at first.

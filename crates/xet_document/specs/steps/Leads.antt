@@ -1,10 +1,6 @@
 -- The number that the first bytes of a text write.
-use Rattle.std.specs.Prelude.{ℕ, ◌≡◌, ◌+◌, ◌*◌, ◌<◌, ◌≤◌, List, [], ◌∷◌, All, length, take}
-
--- the number whose digits to the base 256 are these, the highest first, behind those of another number
-abbrev pub number_of : ℕ → List ℕ → ℕ
-number_of m [] = m
-number_of m (b ∷ bs) = number_of (m * 256 + b) bs
+use Rattle.std.specs.Prelude.{ℕ, ◌≡◌, ◌<◌, ◌≤◌, List, All, length, take}
+use Rattle.xet_base.specs.steps.Words.{number_of}
 
 -- the text has eight bytes or more, and the number is the one that its first eight write
 pub record IsLead (lead : ℕ) (text : List ℕ) : Type 0 where
