@@ -77,8 +77,8 @@ pub fn offer<K: ChunkCache>(alloc: Global, block: &XorbBlock, cache: &mut K, ent
     }
 }
 
-/// Offers the data of a block of one range, as `offer` does. `OutOfMemory` where memory for the entry was refused, and
-/// then nothing was offered.
+/// Offers the data of a block of one range, as `offer` does, unless the cache takes no entries. `OutOfMemory` where
+/// memory for the entry was refused, and then nothing was offered.
 pub fn offer_data<K: ChunkCache>(
     alloc: Global,
     block: &XorbBlock,
@@ -87,6 +87,9 @@ pub fn offer_data<K: ChunkCache>(
 ) -> std::result::Result<(), OutOfMemory>
     ensures { OfferCall block.now found.now (K.told cache.old) (K.told cache.new) result }
 {
+    if !cache.takes_entries() {
+        return Ok(());
+    }
     let made = entry(alloc, found)?;
     offer(alloc, block, cache, &made);
     Ok(())

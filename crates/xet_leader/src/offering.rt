@@ -11,9 +11,9 @@ use xet_error::Result;
 use xet_outside::ChunkCache;
 use xet_parts::offer_block;
 
-/// Offers to the cache what the blocks at these places keep, each once, in order; a block of several ranges isn't
-/// offered, and a place of no block is passed over. `OutOfMemory` where memory was refused, and then the blocks before
-/// it were offered. A run that goes on goes on after it, or is to stop with that error.
+/// Offers to a cache that takes entries what the blocks at these places keep, each once, in order; a block of several
+/// ranges isn't offered, and a place of no block is passed over. `OutOfMemory` where memory was refused, and then the
+/// blocks before it were offered. A run that goes on goes on after it, or is to stop with that error.
 ///
 /// In the Rust crate: `XorbBlock::retrieve_data` offers each block on its own.
 pub fn offer_served<P: FetchPolicy, K: ChunkCache>(

@@ -1,5 +1,5 @@
 //! Caches of blocks.
-ghost use Rattle.std.specs.Prelude.{◌≡◌, [], None, Ok, Some};
+ghost use Rattle.std.specs.Prelude.{◌≡◌, [], false, None, Ok, Some};
 ghost use Rattle.xet_outside.specs.Told.{CacheTold, GetCall, PutCall};
 
 use crate::block::BlockBytes;
@@ -36,6 +36,16 @@ pub trait ChunkCache {
     ) -> Result<Option<BlockBytes>, CacheError>
         ensures { GetCall (told self.old) (told self.new) xorb.now range result };
 
+    /// Whether the cache may take an entry. Where it may not, its offers aren't told, and a caller may leave them out.
+    /// A cache without a body of its own may.
+    ///
+    /// The Rust crates have no such call: there the cache is an option.
+    fn takes_entries(&self) -> bool
+        ensures { result ≡ false → (told self.now).offers ≡ None }
+    {
+        true
+    }
+
     /// Offers an entry, which the cache may take or leave. `Failed` comes only where the count of faults rose.
     fn put(
         &mut self,
@@ -66,6 +76,14 @@ impl ChunkCache for NoCache {
         ensures none { result ≡ Ok None }
     {
         Ok(None)
+    }
+
+    /// It takes none.
+    fn takes_entries(&self) -> bool
+        ensures none { result ≡ false }
+        ensures untold { result ≡ false → (⟦<NoCache as ChunkCache>⟧.told self.now).offers ≡ None }
+    {
+        false
     }
 
     /// Leaves the entry.

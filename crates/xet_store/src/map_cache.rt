@@ -1,5 +1,5 @@
 //! A cache in memory.
-ghost use Rattle.std.specs.Prelude.{◌≡◌, ◌<◌, [], None, Some, IfOk, MatchOption, length, option_map, slice_get};
+ghost use Rattle.std.specs.Prelude.{◌≡◌, ◌<◌, [], None, Some, IfOk, MatchOption, length, option_map, slice_get, true};
 ghost use Rattle.xet_outside.specs.Told.{GetCall, PutCall};
 ghost use Rattle.xet_store.specs.MapCaches.{MapGet, MapPut, entry_at, key_of};
 
@@ -104,6 +104,13 @@ impl ChunkCache for MapCache {
         };
         self.log = self.log.and_look(xorb, &range, &found);
         Ok(found)
+    }
+
+    /// It takes entries.
+    fn takes_entries(&self) -> bool
+        ensures { result ≡ true }
+    {
+        true
     }
 
     /// Adds the entry where its key isn't there, and else leaves the entries. What is kept shares memory with the

@@ -236,7 +236,8 @@ pub record Legal (g : Setup) (before after : RunTold) (answer : Result ℕ FileR
   -- whatever store is told and whatever the answer, a cache lost no entry, and those that it gained are of such blocks,
   -- with data of the answers to their own requests
   pub gained : GainedServed g heard.list before.cache after.cache
-  -- it was offered one entry at most for each served block of one range, and on Ok one for each
+  -- by the count that it tells it was offered one entry at most for each served block of one range, and on Ok one for
+  -- each
   pub offers : OffersFew heard.list before.cache after.cache
   pub all_offered : OnOk answer (offers.puts ≡ count_by one_range (served_of_all heard.list))
   -- on Ok over connections that tell one valid store and a cache that had no entries before, each chunk of the file
