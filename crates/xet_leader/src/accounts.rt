@@ -9,7 +9,7 @@ use std::sync::Wait;
 use std::sync::ledger::Ledger;
 use xet_blocks::{FetchPolicy, FileTerm};
 use xet_error::{FileReconstructionError, Result};
-use xet_run::{RunPass, RunState};
+use xet_run::{HeldRun, RunPass, RunState};
 
 /// Records the admitted terms from the one of this number on, counted from 0, each by its length in bytes.
 /// `OutOfMemory` where memory was refused; those before it stay recorded.
@@ -27,18 +27,18 @@ pub(crate) fn record_terms<R: Wait, L: Ledger, P: FetchPolicy>(
 {
     let skip = number.saturating_sub(first_of(&leader.plans));
     let count = leader.admitted.saturating_sub(number);
+    let mut held = state.hold(rt);
     // each term is recorded, its block may be, and the lane that fetches it looks at the state
-    match state.make_room(rt, (count as usize).saturating_mul(3)) {
+    match held.make_room((count as usize).saturating_mul(3)) {
         Ok(()) => {}
         Err(_) => return Err(FileReconstructionError::OutOfMemory),
     }
-    record_from(rt, state, pass, &leader.plans, skip as usize, count)
+    record_from(&mut held, pass, &leader.plans, skip as usize, count)
 }
 
 /// Records so many terms of these plans, after so many.
-fn record_from<R: Wait, L: Ledger>(
-    rt: &R,
-    state: &RunState<L>,
+fn record_from<L: Ledger>(
+    held: &mut HeldRun<'_, L>,
     pass: &mut RunPass<L>,
     plans: &VecDeque<LedPlan>,
     skip: usize,
@@ -57,7 +57,7 @@ fn record_from<R: Wait, L: Ledger>(
             return Ok(());
         }
         let term = plans[at.plan].block.terms.as_slice()[at.term];
-        match record_term(rt, state, pass, term) {
+        match record_term(held, pass, term) {
             Ok(()) => at.term += 1,
             Err(error) => return Err(error),
         }
@@ -66,9 +66,8 @@ fn record_from<R: Wait, L: Ledger>(
 }
 
 /// Records a term by its length.
-fn record_term<R: Wait, L: Ledger>(
-    rt: &R,
-    state: &RunState<L>,
+fn record_term<L: Ledger>(
+    held: &mut HeldRun<'_, L>,
     pass: &mut RunPass<L>,
     term: FileTerm,
 ) -> Result<()>
@@ -76,7 +75,7 @@ fn record_term<R: Wait, L: Ledger>(
     ensures parts { pass.new.share.parts ≡ pass.old.share.parts }
 {
     let length = term.byte_range.end.saturating_sub(term.byte_range.start);
-    match state.record_new_term(rt, pass, length) {
+    match held.record_new_term(pass, length) {
         Ok(()) => Ok(()),
         Err(_) => Err(FileReconstructionError::OutOfMemory),
     }
@@ -94,8 +93,9 @@ pub(crate) fn record_blocks<R: Wait, L: Ledger>(
     ensures memory { IfErr result (λ e. e ≡ error.OutOfMemory) }
     ensures parts { pass.new.share.parts ≡ pass.old.share.parts }
 {
+    let mut held = state.hold(rt);
     'counted: for _ in 0..count {
-        match state.record_new_block(rt, pass) {
+        match held.record_new_block(pass) {
             Ok(()) => {}
             Err(_) => return Err(FileReconstructionError::OutOfMemory),
         }

@@ -7,6 +7,7 @@ ghost use Rattle.xet_run.specs.RunReplay.{book_after, book_after_all, all_replie
 ghost use Rattle.xet_run.specs.steps.RunLogs.{log, Logs, LogsError, LogsNone, LogsState};
 
 use crate::call_log::{CallLog, KeptCalls, ToldCalls};
+use crate::held_run::HeldRun;
 use crate::run_book::{RunBook, RunError};
 use crate::run_call::RunCall;
 use std::alloc::Global;
@@ -140,7 +141,7 @@ impl<L: Ledger, C: CallLog> Logged<L, C> {
     }
 
     // Room for so many calls more.
-    fn make_room(&mut self, calls: usize) -> Result<(), OutOfMemory> {
+    pub(crate) fn make_room(&mut self, calls: usize) -> Result<(), OutOfMemory> {
         self.history.reserve(calls)?;
         Ok(())
     }
@@ -206,7 +207,7 @@ impl<L: Ledger, C: CallLog> Logged<L, C> {
         Ok(())
     }
 
-    fn record_new_block(&mut self, mine: &mut RunPass<L>) -> Result<(), OutOfMemory>
+    pub(crate) fn record_new_block(&mut self, mine: &mut RunPass<L>) -> Result<(), OutOfMemory>
         ensures kept { OnOk result (Logs (log (C.calls self.old.history) mine.old.share.amount mine.old.last)
             (log (C.calls self.new.history) mine.new.share.amount mine.new.last) RunCall.NewBlock) }
         ensures refused { OnErr result (LogsNone (log (C.calls self.old.history) mine.old.share.amount mine.old.last)
@@ -220,7 +221,11 @@ impl<L: Ledger, C: CallLog> Logged<L, C> {
         Ok(())
     }
 
-    fn record_new_term(&mut self, mine: &mut RunPass<L>, term_size: u64) -> Result<(), OutOfMemory>
+    pub(crate) fn record_new_term(
+        &mut self,
+        mine: &mut RunPass<L>,
+        term_size: u64,
+    ) -> Result<(), OutOfMemory>
         ensures kept { OnOk result (Logs (log (C.calls self.old.history) mine.old.share.amount mine.old.last)
             (log (C.calls self.new.history) mine.new.share.amount mine.new.last) (RunCall.NewTerm term_size)) }
         ensures refused { OnErr result (LogsNone (log (C.calls self.old.history) mine.old.share.amount mine.old.last)
@@ -250,8 +255,9 @@ impl<L: Ledger, C: CallLog> Logged<L, C> {
 }
 
 /// The state of a run, which its threads share: a `RunBook` under a lock, with the history of the calls on it. Each
-/// call holds the lock once, goes into the history with its reply, and is counted by its pass, whose last call it is
-/// then. A call that finds no memory answers `OutOfMemory` and is neither in the history nor counted.
+/// call holds the lock once, or many of them do where it is held (`hold`); it goes into the history with its reply, and
+/// is counted by its pass, whose last call it is then. A call that finds no memory answers `OutOfMemory` and is neither
+/// in the history nor counted.
 ///
 /// The history is told to proofs alone, and then no call takes memory; `RunState<L, KeptCalls>` keeps it for `close`.
 ///
@@ -303,11 +309,14 @@ impl<L: Ledger, C: CallLog> RunState<L, C> {
         &self.file_hash
     }
 
-    /// Takes room for so many calls more at once, which else is taken call by call. It is no call itself.
+    /// The state under its lock, for many calls one after another. It is no call itself. The lock is given back when
+    /// this is dropped; a call on the state waits until then, so its holder makes none.
     ///
     /// The Rust crate has no such call.
-    pub fn make_room<R: Wait>(&self, rt: &R, calls: usize) -> Result<(), OutOfMemory> {
-        self.state.lock(rt).make_room(calls)
+    pub fn hold<R: Wait>(&self, rt: &R) -> HeldRun<'_, L, C> {
+        HeldRun {
+            logged: self.state.lock(rt),
+        }
     }
 
     /// Keeps the error where it is the first one, and marks the run as cancelled.
