@@ -1,18 +1,20 @@
 -- The references of blocks: a stable sort by their starts, and the lists of each block's terms.
-use Rattle.std.proofs.Common.{◌≡◌, ℕ, zero, suc, ◌+◌, ◌<◌, ◌≤◌, Bool, true, false, cond, not, ◌||◌, List, [], ◌∷◌, ◌++◌, filter, length, map, get_or, set, eqb, leb, ltb, nat_cmp, is_lt, refl, sym, ◌∙◌, ap, arith, inl, inr, suc-le-suc, zero-le}
+use Rattle.std.proofs.Common.{◌≡◌, ℕ, zero, suc, ◌+◌, ◌<◌, ◌≤◌, ◌≢◌, Bool, true, false, cond, not, ◌||◌, List, [], ◌∷◌, ◌++◌, filter, length, map, get_or, take, drop, set, eqb, leb, ltb, nat_cmp, is_lt, refl, sym, ◌∙◌, ap, arith, inl, inr, suc-le-suc, zero-le}
 use Rattle.std.specs.Prelude.{All}
 use Rattle.std.specs.List.{enumerate_from, list_any, position_or_len}
 use Rattle.std.specs.List.Sorted.{ties, IsNonDecreasingBy, IsStableByKey}
 use Rattle.std.proofs.lemmas.Bool.{cases_Bool, cond-false, cond-true, eqb-true, eq-eqb, false≢true, leb-false, leb-true, ltb-false, or_parts}
 use Rattle.std.proofs.lemmas.Bool.Decides.{nat_tests}
-use Rattle.std.proofs.lemmas.List.{append-nil, get_or_default, get_or-set_other, get_or-set_same, length-set, map-append}
+use Rattle.std.proofs.lemmas.List.{append-nil, drop-set-lt, drop_more, length-map, map-append, map_more, take_more_set}
 use Rattle.std.proofs.lemmas.List.Elements.{All-cons, All-head, All-tail, filter-append}
 use Rattle.xet_base.specs.Lists.{firsts}
 use Rattle.xet_outside.specs.declared.plan.PlanTerm.{PlanTerm}
 use Rattle.xet_outside.specs.Plan.{Shape}
+use Rattle.xet_blocks.specs.declared.reconstruction_terms.block_list.OfferedBlock.{OfferedBlock}
+use Rattle.xet_blocks.specs.declared.reconstruction_terms.xorb_block.XorbBlock.{XorbBlock}
 use Rattle.xet_blocks.specs.declared.reconstruction_terms.xorb_block.XorbReference.{XorbReference}
 use Rattle.xet_blocks.specs.Blocks.{PlanBlock, blocks_of, same_block, term_block}
-use Rattle.xet_blocks.specs.steps.Planning.{HasChunks, HasReferences, PlacedTerm, numbered_block, own_references, with_references}
+use Rattle.xet_blocks.specs.steps.Planning.{HasChunks, HasRanges, IsUnfinished, PlacedTerm, finished, numbered_block, own_references, plan_block, unsorted_block, unsorted_blocks, with_references}
 use Rattle.xet_blocks.proofs.PlacedTerms.{placed_term}
 use Rattle.xet_blocks.specs.TermBlocks.{by_start, reference_of, with_reference, xorb_block, xorb_blocks}
 use Rattle.xet_blocks.specs.Chain.{last_end}
@@ -171,38 +173,86 @@ own_more ts t k =
     go true = refl
     go false = refl
 
--- one more term
-pub has_more : (ts ts' : List PlacedTerm) (t : PlacedTerm) (n : ℕ) (ls ms : List (List XorbReference)) → HasReferences ts n 0 ls → ts' ≡ ts ++ t ∷ [] → t.block < n
-    → ms ≡ set ls t.block (get_or ls t.block [] ++ reference_of t.term ∷ []) → HasReferences ts' n 0 ms
-has_more ts ts' t n ls ms h more low e = record {
-  count = ap length e ∙ length-set ls t.block (get_or ls t.block [] ++ reference_of t.term ∷ []) ∙ h.count;
-  own = λ k from high. ap (λ (l : List (List XorbReference)). get_or l k []) e ∙ at k (eqb t.block k) refl high ∙ sym (own_more ts t k) ∙ ap (λ (l : List PlacedTerm). own_references l k) (sym more);
-}
+-- the references of a term's number have one more, and those of the other numbers stay
+own_here : (ts : List PlacedTerm) (t : PlacedTerm) (k : ℕ) → t.block ≡ k → own_references (ts ++ t ∷ []) k ≡ own_references ts k ++ reference_of t.term ∷ []
+own_here ts t k e = own_more ts t k ∙ ap (λ b. own_references ts k ++ cond b (reference_of t.term ∷ []) []) (eq-eqb t.block k e)
+
+own_elsewhere : (ts : List PlacedTerm) (t : PlacedTerm) (k : ℕ) → t.block ≢ k → own_references (ts ++ t ∷ []) k ≡ own_references ts k
+own_elsewhere ts t k ne = own_more ts t k ∙ go (eqb t.block k) refl
   where
-    at : (k : ℕ) (b : Bool) → eqb t.block k ≡ b → k < n
-        → get_or (set ls t.block (get_or ls t.block [] ++ reference_of t.term ∷ [])) k [] ≡ own_references ts k ++ cond (eqb t.block k) (reference_of t.term ∷ []) []
-    at k true same high =
-        let here : t.block ≡ k = eqb-true t.block k same in
-        ap (λ (j : ℕ). get_or (set ls t.block (get_or ls t.block [] ++ reference_of t.term ∷ [])) j []) (sym here)
-        ∙ get_or-set_same ls t.block (get_or ls t.block [] ++ reference_of t.term ∷ []) [] (omega (arith, low, h.count))
-        ∙ ap (λ l. l ++ reference_of t.term ∷ []) (h.own t.block zero-le low ∙ ap (own_references ts) here)
-        ∙ ap (λ b. own_references ts k ++ cond b (reference_of t.term ∷ []) []) (sym same)
-    at k false other high =
-        get_or-set_other ls t.block k (get_or ls t.block [] ++ reference_of t.term ∷ []) [] (λ e. false≢true (sym other ∙ eq-eqb t.block k (sym e)))
-        ∙ h.own k zero-le high
-        ∙ sym (append-nil (own_references ts k))
-        ∙ ap (λ b. own_references ts k ++ cond b (reference_of t.term ∷ []) []) (sym other)
+    go : (b : Bool) → eqb t.block k ≡ b → own_references ts k ++ cond b (reference_of t.term ∷ []) [] ≡ own_references ts k
+    go true e = absurd (ne (eqb-true t.block k e))
+    go false e = append-nil (own_references ts k)
 
--- a list that is taken out
-pub has_less : (ts : List PlacedTerm) (n k j : ℕ) (ls ms : List (List XorbReference)) (xs : List XorbReference) → HasReferences ts n k ls → ms ≡ set ls k xs → j ≡ k + 1 → HasReferences ts n j ms
-has_less ts n k j ls ms xs h e f = record {
-  count = ap length e ∙ length-set ls k xs ∙ h.count;
-  own = λ i low high. ap (λ (l : List (List XorbReference)). get_or l i []) e ∙ get_or-set_other ls k i xs [] (λ e. absurd (omega (arith, low, f, e))) ∙ h.own i (omega (arith, low, f)) high;
-}
+-- a block with these references
+abbrev holding : List XorbReference → XorbBlock → XorbBlock
+holding rs b = record b { references = rs }
 
--- a list by its number
-pub listed : (ls : List (List XorbReference)) (k : ℕ) (w : List XorbReference) → k < length ls → w ≡ get_or ls k w → get_or ls k [] ≡ w
-listed ls k w l e = get_or_default ls k [] w l ∙ sym e
+-- blocks past a term's number stay
+unsorted_rest : (ts : List PlacedTerm) (t : PlacedTerm) (n : ℕ) (bs : List PlanBlock) → t.block < n → map (unsorted_block ts) (enumerate_from n bs) ≡ map (unsorted_block (ts ++ t ∷ [])) (enumerate_from n bs)
+unsorted_rest ts t n [] low = refl
+unsorted_rest ts t n (b ∷ bs) low =
+    let here = sym (own_elsewhere ts t n (λ e. absurd (omega (arith, low, e)))) in
+    let next = unsorted_rest ts t (n + 1) bs (omega (arith, low)) in
+    λ i. holding (here i) (unsorted_block ts (n, b)) ∷ next i
+
+-- the block of a term's number is given its reference
+unsorted_set : (ts : List PlacedTerm) (t : PlacedTerm) (n k : ℕ) (bs : List PlanBlock) (d : XorbBlock) → t.block ≡ n + k → k < length bs
+    → set (map (unsorted_block ts) (enumerate_from n bs)) k (holding ((get_or (map (unsorted_block ts) (enumerate_from n bs)) k d).references ++ reference_of t.term ∷ []) (get_or (map (unsorted_block ts) (enumerate_from n bs)) k d))
+    ≡ map (unsorted_block (ts ++ t ∷ [])) (enumerate_from n bs)
+unsorted_set ts t n k [] d e l = absurd (omega (arith, l))
+unsorted_set ts t n zero (b ∷ bs) d e l =
+    let here = sym (own_here ts t n (omega (arith, e))) in
+    let next = unsorted_rest ts t (n + 1) bs (omega (arith, e)) in
+    λ i. holding (here i) (unsorted_block ts (n, b)) ∷ next i
+unsorted_set ts t n (suc k) (b ∷ bs) d e l =
+    let here = sym (own_elsewhere ts t n (λ f. absurd (omega (arith, e, f)))) in
+    let next = unsorted_set ts t (n + 1) k bs d (omega (arith, e)) (omega (arith, l)) in
+    λ i. holding (here i) (unsorted_block ts (n, b)) ∷ next i
+
+-- the list of the blocks with one more term
+pub unsorted_more : (ts ts' : List PlacedTerm) (t : PlacedTerm) (bs : List OfferedBlock) (ms : List XorbBlock) (d : XorbBlock) (rs : List XorbReference) → ms ≡ unsorted_blocks ts bs → ts' ≡ ts ++ t ∷ []
+    → t.block < length bs → rs ≡ (get_or ms t.block d).references ++ reference_of t.term ∷ [] → set ms t.block (holding rs (get_or ms t.block d)) ≡ unsorted_blocks ts' bs
+unsorted_more ts ts' t bs ms d rs e more low own =
+    (λ i. set ms t.block (holding (own i) (get_or ms t.block d)))
+    ∙ ap (λ (l : List XorbBlock). set l t.block (holding ((get_or l t.block d).references ++ reference_of t.term ∷ []) (get_or l t.block d))) e
+    ∙ unsorted_set ts t 0 t.block (map plan_block bs) d (omega arith) (omega (arith, low, length-map bs plan_block))
+    ∙ ap (λ (l : List PlacedTerm). unsorted_blocks l bs) (sym more)
+
+-- as many as the blocks are
+pub unsorted_count : (ts : List PlacedTerm) (bs : List OfferedBlock) → length (unsorted_blocks ts bs) ≡ length bs
+unsorted_count ts bs = count 0 (map plan_block bs) ∙ length-map bs plan_block
+  where
+    count : (n : ℕ) (xs : List PlanBlock) → length (map (unsorted_block ts) (enumerate_from n xs)) ≡ length xs
+    count n [] = refl
+    count n (x ∷ xs) = ap suc (count (n + 1) xs)
+
+-- ---- the end of the blocks
+
+-- lists that are the same from a place on: what is at it, and what is after it
+same_from : {A : Type 0} (xs ys : List A) (i : ℕ) (d : A) → length ys ≡ length xs → i < length ys → drop i ys ≡ drop i xs → (get_or ys i d ≡ get_or xs i d) × (drop (i + 1) ys ≡ drop (i + 1) xs)
+same_from xs ys i d count within h =
+    let low : i < length xs = omega (arith, count, within) in
+    let both : get_or ys i d ∷ drop (i + 1) ys ≡ get_or xs i d ∷ drop (i + 1) xs = sym (drop_more ys i d within) ∙ h ∙ drop_more xs i d low in (cc, cc)
+
+pub kept_at : {A : Type 0} (xs ys : List A) (i : ℕ) (d : A) → length ys ≡ length xs → i < length ys → drop i ys ≡ drop i xs → get_or ys i d ≡ get_or xs i d
+kept_at xs ys i d count within h = (same_from xs ys i d count within h).0
+
+-- a list of which the front is changed by f and the rest is as it was, one step on
+pub mapped_step : {A : Type 0} (f : A → A) (xs ys : List A) (i : ℕ) (d y : A) → length ys ≡ length xs → i < length ys → (take i ys ≡ map f (take i xs)) × (drop i ys ≡ drop i xs) → y ≡ f (get_or ys i d)
+    → (take (i + 1) (set ys i y) ≡ map f (take (i + 1) xs)) × (drop (i + 1) (set ys i y) ≡ drop (i + 1) xs)
+mapped_step {A} f xs ys i d y count within h is =
+    let low : i < length xs = omega (arith, count, within) in
+    let below : i < i + 1 = omega arith in
+    let same = same_from xs ys i d count within h.1 in (
+      take_more_set ys i y within ∙ ap (λ (zs : List A). zs ++ y ∷ []) h.0 ∙ ap (λ (z : A). map f (take i xs) ++ z ∷ []) (is ∙ ap f same.0) ∙ sym (map_more f xs i d low),
+      drop-set-lt (i + 1) ys i y below ∙ same.1,
+    )
+
+-- the blocks that are finished are those with their references by their starts and their sizes
+pub finished_blocks : (ts : List PlacedTerm) (bs : List (ℕ × PlanBlock)) → map finished (map (unsorted_block ts) bs) ≡ map (numbered_block ts) bs
+finished_blocks ts [] = refl
+finished_blocks ts (b ∷ bs) = ap (λ l. numbered_block ts b ∷ l) (finished_blocks ts bs)
 
 -- ---- the number of a block
 
@@ -395,3 +445,11 @@ block_ascends low (r ∷ rs) h =
         → Ascend r.chunks.end (last_end (map (λ r. r.chunks) (r ∷ ss))) (map (λ r. r.chunks) ss)
     rest [] h a = tt
     rest (s ∷ ss) h a = a
+
+-- the blocks with the references of such terms can be finished
+pub all_unfinished : (ts : List PlacedTerm) (n : ℕ) (bs : List OfferedBlock) → All HasRanges bs → All (λ t. HasChunks t.term) ts → All IsUnfinished (map (unsorted_block ts) (enumerate_from n (map plan_block bs)))
+all_unfinished ts n [] ascend some = λ k d l. absurd (omega arith)
+all_unfinished ts n (b ∷ bs) ascend some =
+    All-cons IsUnfinished (unsorted_block ts (n, plan_block b)) (map (unsorted_block ts) (enumerate_from (n + 1) (map plan_block bs)))
+    (record { ascend = block_ascends 0 b.ranges.now (All-head HasRanges b bs ascend); some = own_some ts n some })
+    (all_unfinished ts (n + 1) bs (All-tail HasRanges b bs ascend) some)

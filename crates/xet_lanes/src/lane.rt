@@ -78,7 +78,7 @@ fn step_of(
 {
     let (plan, index) = (request.acquisition.plan, request.index);
     match answer {
-        Ok(BlockAnswer::Bytes(bytes)) => match block.check(alloc, &bytes) {
+        Ok(BlockAnswer::Bytes(bytes)) => match block.accept(alloc, bytes) {
             Ok(found) => LaneStep::Served {
                 plan,
                 block: index,

@@ -1,7 +1,8 @@
 -- Blocks that entries offer, and the terms that are placed in them.
-use Rattle.std.specs.Prelude.{ℕ, ◌≡◌, ◌+◌, ◌-◌, ◌^◌, ◌<◌, ◌≤◌, Bool, false, Option, Some, None, List, [], ◌∷◌, ◌++◌, All, MatchOption, filter, length, map, min, nat_eq, position, slice_index_or}
+use Rattle.std.specs.Prelude.{ℕ, ◌≡◌, ◌+◌, ◌-◌, ◌^◌, ◌<◌, ◌≤◌, Bool, false, Option, Some, None, List, [], ◌∷◌, ◌++◌, All, MatchOption, filter, length, map, min, nat_eq, position}
 use Rattle.std.specs.List.{enumerate_from, position_or_len}
 use Rattle.xet_base.specs.declared.cas_types.FileRange.{FileRange}
+use Rattle.xet_base.specs.Ranges.{Ascend}
 use Rattle.xet_outside.specs.declared.plan.Plan.{Plan}
 use Rattle.xet_outside.specs.declared.plan.PlanTerm.{PlanTerm}
 use Rattle.xet_outside.specs.Plan.{Shape, shape}
@@ -15,6 +16,7 @@ use Rattle.xet_blocks.specs.declared.reconstruction_terms.retrieval_urls.TermBlo
 use Rattle.xet_blocks.specs.declared.reconstruction_terms.xorb_block.XorbBlock.{XorbBlock}
 use Rattle.xet_blocks.specs.declared.reconstruction_terms.xorb_block.XorbReference.{XorbReference}
 use Rattle.xet_blocks.specs.Blocks.{PlanBlock, block_ranges, blocks_of, same_block, start_index, term_block, transfer_sum}
+use Rattle.xet_blocks.specs.Chain.{last_end}
 use Rattle.xet_blocks.specs.steps.BlockKeys.{IsBlockOf, key_of, same_key}
 use Rattle.xet_blocks.specs.steps.Offers.{Offered, offer_of_term, ranges_block, xorb_place}
 use Rattle.xet_blocks.specs.PlanChecks.{unordered}
@@ -121,11 +123,6 @@ terms_at end place o (t ∷ ts) =
 abbrev pub own_references : List PlacedTerm → ℕ → List XorbReference
 own_references ts n = map (λ t. reference_of t.term) (filter (λ t. nat_eq t.block n) ts)
 
--- so many lists, which from a number on have the references of the terms with that number
-pub record HasReferences (ts : List PlacedTerm) (n from : ℕ) (lists : List (List XorbReference)) : Type 0 where
-  pub count : length lists ≡ n
-  pub own : (k : ℕ) → from ≤ k → k < n → slice_index_or lists k [] ≡ own_references ts k
-
 -- a block by its number, with these references by their starts and the size that they tell, before it is fetched
 abbrev pub with_references : List XorbReference → ℕ × PlanBlock → XorbBlock
 with_references rs b = record {
@@ -140,6 +137,29 @@ with_references rs b = record {
 -- a block by its number, with the references of the terms of that number
 abbrev pub numbered_block : List PlacedTerm → ℕ × PlanBlock → XorbBlock
 numbered_block ts b = with_references (own_references ts b.0) b
+
+-- such a block with the references in the order of the terms, and as yet without its size
+abbrev pub unsorted_block : List PlacedTerm → ℕ × PlanBlock → XorbBlock
+unsorted_block ts b = record (numbered_block ts b) {
+  references = own_references ts b.0;
+  uncompressed_size_if_known = None;
+}
+
+-- these blocks by their numbers, with the references of these terms in the terms' order, and as yet without sizes
+abbrev pub unsorted_blocks : List PlacedTerm → List OfferedBlock → List XorbBlock
+unsorted_blocks ts bs = map (unsorted_block ts) (enumerate_from 0 (map plan_block bs))
+
+-- the ranges of a block ascend, and its references have chunks
+pub record IsUnfinished (b : XorbBlock) : Type 0 where
+  pub ascend : Ascend 0 (last_end b.chunk_ranges) b.chunk_ranges
+  pub some : All (λ r. r.term_chunks.start < r.term_chunks.end) b.references
+
+-- a block with its references by their starts, and the size that they tell
+abbrev pub finished : XorbBlock → XorbBlock
+finished b = record b {
+  references = by_start b.references;
+  uncompressed_size_if_known = known_size b.chunk_ranges (by_start b.references);
+}
 
 -- the parts of a block of terms, made of a plan and these blocks of it and with these URLs
 pub record IsMadeOf (p : Plan) (q : FileRange) (s : PlanBlocks) (u : TermBlockRetrievalURLs)

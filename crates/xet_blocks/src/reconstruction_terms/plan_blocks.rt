@@ -5,7 +5,7 @@ ghost use Rattle.xet_outside.specs.Plan.{shape};
 ghost use Rattle.xet_blocks.specs.Blocks.{range_bytes, transfer_sum};
 ghost use Rattle.xet_blocks.specs.Refusals.{IsRefusal};
 ghost use Rattle.xet_blocks.specs.steps.Offers.{offered, xorb_place};
-ghost use Rattle.xet_blocks.specs.steps.Planning.{Fit, HasChunks, HasRanges, HasReferences, IsNumbered, IsPlaced, IsPlanned, IsToldApart, numbered_block, with_starts, plan_block, retrieval_url, terms_at, with_references};
+ghost use Rattle.xet_blocks.specs.steps.Planning.{Fit, HasChunks, HasRanges, IsNumbered, IsPlaced, IsPlanned, IsToldApart, IsUnfinished, finished, numbered_block, plan_block, retrieval_url, terms_at, unsorted_blocks, with_starts};
 ghost use Rattle.xet_blocks.specs.TermBlocks.{by_start};
 ghost use Rattle.xet_blocks.specs.PlanChecks.{no_range_test, ranges_test};
 
@@ -169,30 +169,48 @@ impl<'a> PlanBlocks<'a> {
         Ok(terms)
     }
 
-    /// The references of each block, in the order of the plan's terms.
-    fn references(
+    /// The blocks by their numbers, as yet without references and sizes.
+    fn bare_blocks(&self, alloc: Global) -> Result<Vec<XorbBlock>, OutOfMemory>
+        ensures { IfOk result (λ made. made.items ≡ unsorted_blocks [] self.now.blocks) }
+    {
+        let mut made = Vec::with_capacity(alloc, self.blocks.len())?;
+        for (number, block) in self.blocks.as_slice().iter().enumerate() {
+            made.push(XorbBlock {
+                xorb_hash: *block.xorb,
+                chunk_ranges: chunks_of(alloc, block.ranges)?,
+                xorb_block_index: number,
+                references: ShortList::new(),
+                uncompressed_size_if_known: None,
+                kept: None,
+            })?;
+        }
+        Ok(made)
+    }
+
+    /// Gives each block the references of its terms, in the order of the plan's terms.
+    fn add_references(
         &self,
         alloc: Global,
         plan: &Plan,
-    ) -> Result<Vec<ShortList<XorbReference>>, OutOfMemory>
+        blocks: &mut [XorbBlock],
+    ) -> Result<(), OutOfMemory>
         requires started { length self.now.starts ≡ length plan.now.terms }
         requires within { All (λ s. s.block < length self.now.blocks) self.now.starts }
-        ensures { IfOk result (λ references. HasReferences
-            (with_starts plan.now.terms self.now.starts) (length self.now.blocks) 0 references.items) }
+        requires bare { blocks.old ≡ unsorted_blocks [] self.now.blocks }
+        ensures { OnOk result (blocks.new
+            ≡ unsorted_blocks (with_starts plan.now.terms self.now.starts) self.now.blocks) }
     {
-        let mut references = Vec::with_capacity(alloc, self.blocks.len())?;
-        for _ in self.blocks.as_slice() {
-            references.push(ShortList::new())?;
-        }
         let starts = self.starts.as_slice();
         for (number, term) in plan.terms.as_slice().iter().enumerate() {
             let reference = XorbReference {
                 term_chunks: term.range,
                 uncompressed_size: term.unpacked_length as usize,
             };
-            references[starts[number].block].push(alloc, reference)?;
+            blocks[starts[number].block]
+                .references
+                .push(alloc, reference)?;
         }
-        Ok(references)
+        Ok(())
     }
 
     /// The blocks with their references and the sizes that these tell, before they are fetched.
@@ -208,13 +226,11 @@ impl<'a> PlanBlocks<'a> {
         ensures { IfOk result (λ made. made ≡ map (numbered_block (with_starts plan.now.terms self.now.starts))
             (enumerate_from 0 (map plan_block self.now.blocks))) }
     {
-        let mut references = self.references(alloc, plan)?;
-        let mut blocks = with_room(alloc, self.blocks.len())?;
-        for (number, block) in self.blocks.as_slice().iter().enumerate() {
-            let own = mem::replace(&mut references[number], ShortList::new());
-            blocks.push(xorb_block(alloc, number, block, own)?)?;
-        }
-        Ok(blocks)
+        let mut blocks = self.bare_blocks(alloc)?;
+        let all = blocks.as_mut_slice();
+        self.add_references(alloc, plan, all)?;
+        finish_blocks(alloc, all)?;
+        Ok(List::from_vec(blocks))
     }
 }
 
@@ -273,30 +289,28 @@ fn sorted_by_start(
     Ok(ShortList::from_vec(sorted))
 }
 
-/// A block by its number, with the references of its terms and the size that they tell.
-fn xorb_block(
-    alloc: Global,
-    number: usize,
-    block: &OfferedBlock,
-    references: ShortList<XorbReference>,
-) -> Result<XorbBlock, OutOfMemory>
-    requires ascends { HasRanges block.now }
-    requires some { All (λ r. r.term_chunks.start < r.term_chunks.end) references }
-    ensures { IfOk result (λ made. made ≡ with_references references (number, plan_block block.now)) }
+/// Sorts the references of each block by their starts, and finds the sizes that they tell.
+fn finish_blocks(alloc: Global, blocks: &mut [XorbBlock]) -> Result<(), OutOfMemory>
+    requires { All IsUnfinished blocks.old }
+    ensures { OnOk result (blocks.new ≡ map finished blocks.old) }
 {
-    let chunk_ranges = chunks_of(alloc, block.ranges)?;
-    let references = sorted_by_start(alloc, references)?;
-    let uncompressed_size_if_known = XorbBlock::determine_size_if_possible(
+    for block in blocks.iter_mut() {
+        finish_block(alloc, block)?;
+    }
+    Ok(())
+}
+
+/// Sorts the references of a block by their starts, and finds the size that they tell.
+fn finish_block(alloc: Global, block: &mut XorbBlock) -> Result<(), OutOfMemory>
+    requires { IsUnfinished block.old }
+    ensures { OnOk result (block.new ≡ finished block.old) }
+{
+    let references = mem::replace(&mut block.references, ShortList::new());
+    block.references = sorted_by_start(alloc, references)?;
+    block.uncompressed_size_if_known = XorbBlock::determine_size_if_possible(
         alloc,
-        chunk_ranges.as_slice(),
-        references.as_slice(),
+        block.chunk_ranges.as_slice(),
+        block.references.as_slice(),
     )?;
-    Ok(XorbBlock {
-        xorb_hash: *block.xorb,
-        chunk_ranges,
-        xorb_block_index: number,
-        references,
-        uncompressed_size_if_known,
-        kept: None,
-    })
+    Ok(())
 }

@@ -165,8 +165,27 @@ impl XorbBlock {
         check_block(ranges, self.uncompressed_size_if_known, block).map_err(
             FileReconstructionError::CorruptedReconstruction,
         )?;
-        let chunk_offsets = numbered_offsets(alloc, ranges, &block.offsets)?;
+        let chunk_offsets = numbered_offsets(alloc, ranges, block.offsets.copied()?)?;
         let bytes = block.bytes.clone().map_err(OutOfMemory::from)?;
+        Ok(XorbBlockData {
+            chunk_offsets,
+            bytes,
+        })
+    }
+
+    /// The data of a block that a connection answered, where it passes its tests: `check`, which takes the answer over
+    /// and counts no owner more.
+    ///
+    /// In the Rust crate: a step of `XorbBlock::retrieve_data`.
+    pub fn accept(&self, alloc: Global, block: BlockBytes) -> Result<XorbBlockData>
+        ensures { CheckCall self.now block result }
+    {
+        let ranges = self.chunk_ranges.as_slice();
+        check_block(ranges, self.uncompressed_size_if_known, &block).map_err(
+            FileReconstructionError::CorruptedReconstruction,
+        )?;
+        let BlockBytes { offsets, bytes } = block;
+        let chunk_offsets = numbered_offsets(alloc, ranges, offsets)?;
         Ok(XorbBlockData {
             chunk_offsets,
             bytes,
@@ -292,18 +311,18 @@ fn ascend_below(end: usize, first: u32, rest: &[u32]) -> bool
     ascend && (before as usize) < end
 }
 
-/// The number of each chunk of the ranges, with its offset, as far as there are both. Those of one range share memory
-/// with the offsets.
+/// The number of each chunk of the ranges, with its offset, as far as there are both. Those of one range are kept as
+/// the offsets are.
 fn numbered_offsets(
     alloc: Global,
     ranges: &[ChunkRange],
-    offsets: &Offsets,
+    offsets: Offsets,
 ) -> std::result::Result<ChunkOffsets, OutOfMemory>
-    ensures { IfOk result (λ chunks. chunks ≡ zip (numbers_in ranges.now) offsets.now) }
+    ensures { IfOk result (λ chunks. chunks ≡ zip (numbers_in ranges.now) offsets) }
 {
     match ranges {
         [range] if range.end.saturating_sub(range.start) as usize == offsets.len() => {
-            Ok(ChunkOffsets::of_run(range.start, offsets.copied()?))
+            Ok(ChunkOffsets::of_run(range.start, offsets))
         }
         _ => {
             let offsets = offsets.to_vec(alloc)?;
