@@ -1,5 +1,5 @@
 -- A run after its leader asked for the plan that was due.
-use Rattle.std.proofs.Common.{◌≡◌, ℕ, ◌+◌, ◌≤◌, Bool, true, false, cond, List, [], ◌∷◌, length, take, refl, sym, subst, ◌∙◌, ap, arith, inl, inr, ⊎_elim, Option, Some, None, Ok, Err}
+use Rattle.std.proofs.Common.{◌≡◌, ◌+◌, ◌≤◌, Bool, true, false, cond, List, [], ◌∷◌, length, take, refl, sym, subst, ◌∙◌, ap, arith, inl, inr, ⊎_elim, Option, Some, None, Ok, Err}
 use Rattle.std.specs.Prelude.{IfOk, Result}
 use Rattle.std.proofs.lemmas.List.{length-append, length-take-le}
 use Rattle.xet_base.specs.declared.unique_id.UniqueId.{UniqueId}

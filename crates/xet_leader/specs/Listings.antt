@@ -1,8 +1,8 @@
 -- Where the list of a turn's missing blocks starts, and what is listed.
-use Rattle.std.specs.Prelude.{ℕ, min, List, [], ◌∷◌, take, drop, Option, Some, None, unwrap_or}
+use Rattle.std.specs.Prelude.{ℕ, ◌==◌, cond, min, List, [], ◌∷◌, Option, Some, None, unwrap_or}
 use Rattle.xet_leader.specs.declared.leader.LedPlan.{LedPlan}
 use Rattle.xet_leader.specs.declared.missing_blocks.BlockAt.{BlockAt}
-use Rattle.xet_leader.specs.Lacking.{lacked_by, with_place}
+use Rattle.xet_leader.specs.Lacking.{with_place}
 
 -- blocks that are listed, and a table of them from this first plan on, and in it from this low block on
 pub record Listing : Type 0 where
@@ -24,17 +24,15 @@ abbrev pub lower : Option ℕ → ℕ → ℕ
 lower None n = n
 lower (Some k) n = min k n
 
--- the lowest of this number and of those of these blocks
-abbrev pub lowest_from : Option ℕ → List BlockAt → Option ℕ
-lowest_from o [] = o
-lowest_from o (c ∷ cs) = lowest_from (Some (lower o c.block)) cs
+-- the lower of this number and the block's, if the block is of this plan
+abbrev pub lowest_with : Option ℕ → ℕ → BlockAt → Option ℕ
+lowest_with o plan c = cond (c.plan == plan) (Some (lower o c.block)) o
 
--- the lowest number of a block that these terms of the first plan lack: some terms are passed over, and then so many
--- are taken
-abbrev pub first_lacked : ℕ → ℕ → List LedPlan → ℕ
-first_lacked skip count [] = 0
-first_lacked skip count (l ∷ ls) = unwrap_or (lowest_from None (lacked_by l (take count (drop skip l.block.terms)))) 0
+-- the lowest of this number and of those of the blocks of this plan among these
+abbrev pub lowest_from : Option ℕ → ℕ → List BlockAt → Option ℕ
+lowest_from o plan [] = o
+lowest_from o plan (c ∷ cs) = lowest_from (lowest_with o plan c) plan cs
 
--- nothing is listed of what these plans lack, in a table that starts where that does
-abbrev pub none_listed : ℕ → ℕ → List LedPlan → Listing
-none_listed skip count ls = record { first = first_number ls; low = first_lacked skip count ls; places = [] }
+-- nothing is listed of these blocks, in a table that starts with this plan, and there with its lowest block
+abbrev pub none_listed : ℕ → List BlockAt → Listing
+none_listed plan cs = record { first = plan; low = unwrap_or (lowest_from None plan cs) 0; places = [] }

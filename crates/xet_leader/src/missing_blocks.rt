@@ -1,10 +1,11 @@
 //! The blocks that are to be fetched, or found in the cache.
-ghost use Rattle.std.specs.Prelude.{◌≡◌, ◌-◌, [], IfOk, None, OnOk, slice_get, take, drop, unwrap_or};
+ghost use Rattle.std.specs.Prelude.{◌≡◌, ◌-◌, ◌++◌, [], IfOk, None, OnOk, slice_get, take, drop, unwrap_or};
 ghost use Rattle.xet_leader.specs.Lacking.{first_of, has_some, is_bare, lacked, lacked_by, lacked_in, lacks, missing_of, with_places};
-ghost use Rattle.xet_leader.specs.Listings.{first_lacked, first_number, lower, lowest_from, none_listed};
+ghost use Rattle.xet_leader.specs.Listings.{first_number, lower, lowest_from, lowest_with, none_listed};
 
 use crate::leader::{Leader, LedPlan};
 use crate::place_list::PlaceList;
+use crate::room::list_with_room;
 use std::alloc::Global;
 use std::collections::VecDeque;
 use xet_base::{FileRange, List, OutOfMemory};
@@ -31,7 +32,8 @@ pub fn missing<P: FetchPolicy>(
 {
     let skip = leader.finished.saturating_sub(terms_before(&leader.plans));
     let count = leader.admitted.saturating_sub(leader.finished);
-    lacked_blocks(alloc, &leader.plans, skip, count)
+    let lacked = all_lacked(alloc, &leader.plans, skip, count)?;
+    each_once(alloc, first_number(&leader.plans), lacked.as_slice())
 }
 
 /// How many planned terms come before those of the first plan.
@@ -44,16 +46,27 @@ fn terms_before(plans: &VecDeque<LedPlan>) -> u64
     }
 }
 
-/// The blocks that some terms of plans lack: so many terms, after those that are passed over.
-fn lacked_blocks(
+/// The number of the first plan; those of the others follow on it. 0 where there is no plan.
+fn first_number(plans: &VecDeque<LedPlan>) -> u64
+    ensures { result ≡ first_number plans.now.items }
+{
+    match plans.front() {
+        Some(plan) => plan.number,
+        None => 0,
+    }
+}
+
+/// The blocks that some terms of plans lack: so many terms, after those that are passed over. They are in the order of
+/// the terms, and a block that several terms lack is there for each.
+fn all_lacked(
     alloc: Global,
     plans: &VecDeque<LedPlan>,
     skip: u64,
     count: u64,
 ) -> Result<List<BlockAt>, OutOfMemory>
-    ensures { IfOk result (λ found. found ≡ with_places [] (lacked skip count plans.now.items)) }
+    ensures { IfOk result (λ found. found ≡ lacked skip count plans.now.items) }
 {
-    let mut found = none_listed(alloc, plans, skip, count);
+    let mut found = list_with_room(alloc, count as usize);
     let mut ahead = skip;
     let mut left = count;
     let mut at = 0;
@@ -65,72 +78,23 @@ fn lacked_blocks(
         ahead = ahead.saturating_sub(terms);
         at += 1;
     }
-    Ok(found.into_list())
+    Ok(found)
 }
 
-/// A list without blocks, for those that some terms of plans lack: so many terms, after those that are passed over. Its
-/// table starts with the first of these plans, and there with the lowest block that is lacked: it has no room for the
-/// plans and blocks before.
-fn none_listed(alloc: Global, plans: &VecDeque<LedPlan>, skip: u64, count: u64) -> PlaceList
-    ensures { result ≡ none_listed skip count plans.now.items }
+/// Adds the blocks that some terms of a plan lack: so many terms, after those that are passed over.
+fn add_lacked(
+    found: &mut List<BlockAt>,
+    plan: &LedPlan,
+    skip: u64,
+    count: u64,
+) -> Result<(), OutOfMemory>
+    ensures { OnOk result (found.new
+        ≡ found.old ++ lacked_by plan.now (take count (drop skip plan.now.block.terms))) }
 {
-    let first = first_number(plans);
-    let low = first_lacked(plans, skip, count);
-    PlaceList::new(alloc, first, low, count as usize)
-}
-
-/// The number of the first plan; those of the others follow on it. 0 where there is no plan.
-fn first_number(plans: &VecDeque<LedPlan>) -> u64
-    ensures { result ≡ first_number plans.now.items }
-{
-    match plans.front() {
-        Some(plan) => plan.number,
-        None => 0,
-    }
-}
-
-/// The lowest number of a block that the first plan's terms lack: so many terms, after those that are passed over. 0
-/// where they lack none.
-fn first_lacked(plans: &VecDeque<LedPlan>, skip: u64, count: u64) -> usize
-    ensures { result ≡ first_lacked skip count plans.now.items }
-{
-    match plans.front() {
-        Some(plan) => lowest_lacked(plan, skip, count),
-        None => 0,
-    }
-}
-
-/// The lowest number of a block that some terms of a plan lack: so many terms, after those that are passed over. 0
-/// where they lack none.
-fn lowest_lacked(plan: &LedPlan, skip: u64, count: u64) -> usize
-    ensures { result ≡ unwrap_or (lowest_from None
-        (lacked_by plan.now (take count (drop skip plan.now.block.terms)))) 0 }
-{
-    let mut lowest = None;
     for term in some_terms(plan, skip, count) {
-        lowest = lower_of(lowest, plan, *term);
+        add_term(found, plan, *term)?;
     }
-    lowest.unwrap_or(0)
-}
-
-/// The lower of a number and that of the block that a term lacks, if it lacks one.
-fn lower_of(lowest: Option<usize>, plan: &LedPlan, term: FileTerm) -> Option<usize>
-    ensures { result ≡ lowest_from lowest (lacked_in plan.now term) }
-{
-    if lacks(plan, term) {
-        return Some(lower(lowest, term.xorb_block));
-    }
-    lowest
-}
-
-/// The lower of both numbers, where there are both.
-fn lower(lowest: Option<usize>, block: usize) -> usize
-    ensures { result ≡ lower lowest block }
-{
-    match lowest {
-        Some(lowest) => lowest.min(block),
-        None => block,
-    }
+    Ok(())
 }
 
 /// Some terms of a plan: so many, after those that are passed over.
@@ -143,32 +107,16 @@ fn some_terms(plan: &LedPlan, skip: u64, count: u64) -> &[FileTerm]
     &terms[start..end]
 }
 
-/// Adds the blocks that some terms of a plan lack: so many terms, after those that are passed over.
-fn add_lacked(
-    found: &mut PlaceList,
-    plan: &LedPlan,
-    skip: u64,
-    count: u64,
-) -> Result<(), OutOfMemory>
-    ensures { OnOk result (found.new.places
-        ≡ with_places found.old.places (lacked_by plan.now (take count (drop skip plan.now.block.terms)))) }
-{
-    for term in some_terms(plan, skip, count) {
-        add_term(found, plan, *term)?;
-    }
-    Ok(())
-}
-
 /// Adds the block that a term lacks, if it lacks one.
-fn add_term(found: &mut PlaceList, plan: &LedPlan, term: FileTerm) -> Result<(), OutOfMemory>
-    ensures { OnOk result (found.new.places ≡ with_places found.old.places (lacked_in plan.now term)) }
+fn add_term(found: &mut List<BlockAt>, plan: &LedPlan, term: FileTerm) -> Result<(), OutOfMemory>
+    ensures { OnOk result (found.new ≡ found.old ++ lacked_in plan.now term) }
 {
     if !lacks(plan, term) {
         return Ok(());
     }
     let plan = plan.number;
     let block = term.xorb_block;
-    found.add(BlockAt { plan, block })
+    found.push(BlockAt { plan, block })
 }
 
 /// Whether a term has bytes, and its block keeps nothing.
@@ -192,5 +140,56 @@ fn is_bare(blocks: &[XorbBlock], number: usize) -> bool
     match blocks.get(number) {
         Some(block) => block.kept.is_none(),
         None => false,
+    }
+}
+
+/// These blocks, each once, in the order in which they come first. They are to be of the plan of this number and of
+/// later ones.
+fn each_once(alloc: Global, first: u64, places: &[BlockAt]) -> Result<List<BlockAt>, OutOfMemory>
+    ensures { IfOk result (λ found. found ≡ with_places [] places.now) }
+{
+    let mut found = none_listed(alloc, first, places);
+    for place in places {
+        found.add(*place)?;
+    }
+    Ok(found.into_list())
+}
+
+/// A list without blocks, for these. Its table starts with the plan of this number, and there with its lowest block: it
+/// has no room for the plans and blocks before.
+fn none_listed(alloc: Global, first: u64, places: &[BlockAt]) -> PlaceList
+    ensures { result ≡ none_listed first places.now }
+{
+    PlaceList::new(alloc, first, lowest_of(first, places), places.len())
+}
+
+/// The lowest number of a block of this plan among these. 0 where there is none.
+fn lowest_of(plan: u64, places: &[BlockAt]) -> usize
+    ensures { result ≡ unwrap_or (lowest_from None plan places.now) 0 }
+{
+    let mut lowest = None;
+    for place in places {
+        lowest = lowest_with(lowest, plan, *place);
+    }
+    lowest.unwrap_or(0)
+}
+
+/// The lower of a number and that of a block, if the block is of this plan.
+fn lowest_with(lowest: Option<usize>, plan: u64, place: BlockAt) -> Option<usize>
+    ensures { result ≡ lowest_with lowest plan place }
+{
+    if place.plan == plan {
+        return Some(lower(lowest, place.block));
+    }
+    lowest
+}
+
+/// The lower of both numbers, where there are both.
+fn lower(lowest: Option<usize>, block: usize) -> usize
+    ensures { result ≡ lower lowest block }
+{
+    match lowest {
+        Some(lowest) => lowest.min(block),
+        None => block,
     }
 }

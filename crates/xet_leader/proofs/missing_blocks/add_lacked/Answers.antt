@@ -4,5 +4,5 @@ use Rattle.xet_leader.proofs.missing_blocks.add_lacked.Goals as goal
 
 pub loop-term-preserved : goal.loop-term-preserved
 loop-term-preserved c =
-    lacked_more c.args.plan.now c.args.found.now.places c.loop-term.found.places c.add_term.new.found.places _
+    lacked_more c.args.plan.now c.args.found.now c.loop-term.found c.add_term.new.found _
     c.loop-term.term-index _ (search rules) c.loop-term.invariant c.in_ok-add_term.ensures
