@@ -72,7 +72,7 @@ fn draw_beside<
     wrote
 }
 
-/// The lanes draw and fetch, beside the writing where there is something to write, and else after it.
+/// The lanes draw and fetch, beside the writing where that is wanted, and else after it.
 fn draw_and_write<
     R: Threads + Wait + Sync,
     C: Client + Send,
@@ -160,8 +160,9 @@ fn join_lanes<
 /// One join: the lanes of the connections draw these fetches, and the writer writes what is ready. There is a lane for
 /// each connection, but no more than fetches and than 65,536; without fetches there is the writing alone.
 ///
-/// `beside` says that the writer has bytes to write. Then the lanes run in threads of their own while the caller's
-/// thread writes. Else the first lane runs in the caller's thread after the writing, so that one lane starts no thread.
+/// `beside` says that the writing is put beside the fetches. Then the lanes run in threads of their own while the
+/// caller's thread writes. Else the first lane runs in the caller's thread after the writing, so that one lane starts
+/// no thread.
 ///
 /// `OutOfMemory` where an allocation was refused before the join, and then nothing was asked and nothing written. Where
 /// memory runs out later, a lane is short or has a failed step that says so, or the writer's answer says so.

@@ -1,4 +1,4 @@
--- What a join does: lanes fetch blocks beside the writing of a window, and what that came to is taken in.
+-- What a join does: lanes fetch blocks, beside the writing of a window or after it, and what that came to is taken in.
 use Rattle.std.specs.Prelude.{ℕ, ◌≡◌, ◌⊎◌, ◌+◌, ◌-◌, ◌^◌, ◌≤◌, min, List, [], length, map, None, Result, IfOk, IfErr, OnOk}
 use Rattle.xet_outside.specs.Told.{ClientTold, SinkTold}
 use Rattle.xet_error.specs.declared.error.FileReconstructionError.{FileReconstructionError}
@@ -27,7 +27,7 @@ use Rattle.xet_leader.specs.Windows.{with_pieces}
 
 -- ---- the fetches, and the writing
 
--- lanes drew the fetches of these blocks, and what was ready was written beside them
+-- lanes drew the fetches of these blocks, and what was ready was written, beside them or before
 pub record FetchedBeside {S : Type 0} (told : S → SinkTold) (l : Led) (cs : List BlockAt) (a z : RoundTold S)
     (j : Joined) : Type 0 where
   pub asked : List Fetch

@@ -26,8 +26,8 @@ use xet_outside::{CancelSignal, ChunkCache, Client, Sink};
 use xet_run::{BudgetSource, EventLog, RunCore, RunPass};
 use xet_writers::SequentialWriter;
 
-/// Takes turns until all is written: asks for plans, admits terms, joins lanes that fetch blocks beside the writing,
-/// and settles what a join left.
+/// Takes turns until all is written: asks for plans, admits terms, joins lanes that fetch blocks with the writing, and
+/// settles what a join left.
 ///
 /// The error of the first part of a turn that failed, which isn't recorded yet. A steady run is steady after it, with
 /// all of it finished, or is to stop with that error. There is a last turn: each other one leaves less of the run.
