@@ -1,7 +1,9 @@
 //! Reads an input to its end.
+ghost use Rattle.std.specs.Prelude.{◌≡◌, ◌++◌, OnOk};
 ghost use Rattle.xet_tool.specs.steps.Reading.{ReadAll};
 
 use std::alloc::Global;
+use xet_base::OutOfMemory;
 use xet_store::Source;
 
 /// How many bytes the input may have.
@@ -36,9 +38,21 @@ pub fn read_to_end<I: Source>(
         if count == 0 {
             return Ok(all);
         }
-        if all.extend_from_slice(&buffer[..count]).is_err() {
+        if append(&mut all, &buffer[..count]).is_err() {
             return Err(ReadError::OutOfMemory);
         }
     }
     Err(ReadError::TooLong)
+}
+
+// Adds a piece. Where there is no room it takes room for half as many bytes more: a vector that doubles passes sooner
+// the size up to which the C library keeps memory that is given back.
+fn append(all: &mut Vec<u8>, piece: &[u8]) -> Result<(), OutOfMemory>
+    ensures { OnOk result (all.new.items ≡ all.old.items ++ piece.now) }
+{
+    if all.capacity() - all.len() < piece.len() {
+        all.reserve_exact(piece.len().max(all.len() / 2))?;
+    }
+    all.extend_from_slice(piece)?;
+    Ok(())
 }
