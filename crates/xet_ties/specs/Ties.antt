@@ -298,7 +298,7 @@ pub record IsRecorded (es : List Event) (stop : Stop) : Type 0 where
   pub answered : (e : FileReconstructionError) → first_error es ≡ Some e → stop ≡ Some e
   pub recorded : (e : FileReconstructionError) → stop ≡ Some e → (e ≡ error.OutOfMemory) ⊎ (first_error es ≡ Some e)
 
--- no block has more expired answers than tries, and one has so many where the run stopped for that
+-- no block is recorded as expired more often than tries, and one is so often where the run stopped for that
 pub record IsTried (tries : ℕ) (es : List Event) (stop : Stop) : Type 0 where
   pub at_most : (p k : ℕ) → count_by (expires p k) es ≤ tries
   pub spent : stop ≡ Some error.UrlExpired → (p : ℕ) × (k : ℕ) × (count_by (expires p k) es ≡ tries)
