@@ -16,17 +16,17 @@ use Rattle.xet_sinks.proofs.HexDigits.{all_hex-append, all_hex-drop, all_hex-enc
 use Rattle.xet_sinks.proofs.DigitsOut.{count_taken, hex_text}
 
 abbrev zeros : List ℕ
-zeros = replicate 128 48
+zeros = replicate 256 48
 
 -- what is in the array
-pub filled : (bs out rest : List ℕ) → IsBytes bs → length bs ≤ 64 → out ≡ encode_lower bs → rest ≡ zeros
+pub filled : (bs out rest : List ℕ) → IsBytes bs → length bs ≤ 128 → out ≡ encode_lower bs → rest ≡ zeros
     → Filled (out ++ drop (2 * length bs) rest) bs
 filled bs out rest b l e r =
     let c = length-encode_with lower_digits bs in
     let d = length-drop (2 * length bs) (zeros) in
     let a = length-append (encode_lower bs) (drop (2 * length bs) (zeros)) in
-    let q : length (zeros) ≡ 128 = refl in
-    let n : length (encode_lower bs ++ drop (2 * length bs) (zeros)) ≡ 128 = omega arith in
+    let q : length (zeros) ≡ 256 = refl in
+    let n : length (encode_lower bs ++ drop (2 * length bs) (zeros)) ≡ 256 = omega arith in
     rw (e, r) (record {
       bytes = b;
       size = n;

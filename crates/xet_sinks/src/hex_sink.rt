@@ -11,9 +11,9 @@ use std::snapshot::Snapshot;
 use xet_outside::sink::{Sink, SinkError};
 
 // how many bytes one piece of digits is of
-const BYTES: usize = 64;
+const BYTES: usize = 128;
 
-/// A sink that writes two lower-case hexadecimal digits for each byte to the sink below it, in pieces of 128 digits
+/// A sink that writes two lower-case hexadecimal digits for each byte to the sink below it, in pieces of 256 digits
 /// and a last one of fewer.
 ///
 /// A byte is taken once its first digit is out. A second digit that is missing then is kept, and the next write or
@@ -27,7 +27,7 @@ pub struct HexSink<O: Sink> {
     // the inner sink at first, and when the piece of digits was begun
     start: Snapshot<O>,
     known: Snapshot<O>,
-    digits: [u8; 128],
+    digits: [u8; 256],
     // the place of the second digit that is missing, 0 where none is
     at: usize,
     // the inner sink failed, and how much went out isn't known
@@ -37,12 +37,12 @@ pub struct HexSink<O: Sink> {
         digits at stopped },
 }
 
-// The digits of at most 64 bytes, and then zeros.
-fn digits_of(bytes: &[u8]) -> [u8; 128]
-    requires { length bytes.now ≤ 64 }
+// The digits of at most 128 bytes, and then zeros.
+fn digits_of(bytes: &[u8]) -> [u8; 256]
+    requires { length bytes.now ≤ 128 }
     ensures { Filled result bytes.now }
 {
-    let mut digits = [48; 128];
+    let mut digits = [48; 256];
     write_digits(bytes, &mut digits[..2 * bytes.len()]);
     digits
 }
@@ -61,7 +61,7 @@ impl<O: Sink> HexSink<O> {
             inner,
             start,
             known,
-            digits: [48; 128],
+            digits: [48; 256],
             at: 0,
             stopped: false,
         }
@@ -96,10 +96,10 @@ impl<O: Sink> HexSink<O> {
         }
     }
 
-    // Sends the digits of at most 64 bytes, where none is missing.
+    // Sends the digits of at most 128 bytes, where none is missing.
     fn send(&mut self, bytes: &[u8]) -> Result<usize, SinkError>
         requires whole { (self.old.at ≡ 0) × (self.old.stopped ≡ false) }
-        requires short { length bytes.now ≤ 64 }
+        requires short { length bytes.now ≤ 128 }
         ensures call { WriteCall (⟦<HexSink<O> as Sink>⟧.told self.old)
             (⟦<HexSink<O> as Sink>⟧.told self.new) bytes.now result }
         ensures fault { IsErrOf result SinkError.Failed → self.new.stopped ≡ true }
@@ -125,9 +125,9 @@ impl<O: Sink> HexSink<O> {
         }
     }
 
-    // Sends what is missing, and the digits of at most 64 bytes.
+    // Sends what is missing, and the digits of at most 128 bytes.
     fn put(&mut self, bytes: &[u8]) -> Result<usize, SinkError>
-        requires { length bytes.now ≤ 64 }
+        requires { length bytes.now ≤ 128 }
         ensures call { WriteCall (⟦<HexSink<O> as Sink>⟧.told self.old)
             (⟦<HexSink<O> as Sink>⟧.told self.new) bytes.now result }
         ensures fault { IsErrOf result SinkError.Failed → self.new.stopped ≡ true }

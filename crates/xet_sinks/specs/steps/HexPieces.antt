@@ -7,7 +7,7 @@ use Rattle.xet_sinks.specs.HexText.{all_hex, even, since, steps}
 -- the digits in front of the array are those of the bytes
 pub record Filled (f bs : List ℕ) : Type 0 where
   pub bytes : IsBytes bs
-  pub size : length f ≡ 128
+  pub size : length f ≡ 256
   pub hex : all_hex f ≡ true
   pub room : 2 * length bs ≤ length f
   pub front : take (2 * length bs) f ≡ encode_lower bs
