@@ -4,7 +4,6 @@ pub mod chunk_offsets;
 mod entry_offers;
 pub mod file_term;
 mod listed_offers;
-mod lists;
 mod plan_blocks;
 mod plan_checks;
 mod plan_offers;

@@ -67,13 +67,6 @@ fn add_chunk(value: &Value, bytes: &mut Vec<u8>) -> Result<bool, OutOfMemory>
     }
 }
 
-// An empty list with room for so many items.
-fn with_room<T>(alloc: Global, count: usize) -> Result<List<T>, OutOfMemory>
-    ensures { IfOk result (λ made. made ≡ []) }
-{
-    Ok(List::from_vec(Vec::with_capacity(alloc, count)?))
-}
-
 // The xorb with this hash of these chunks, which share one buffer, or none where one isn't a nonempty even number of
 // digits.
 fn joined_xorb(
@@ -143,7 +136,7 @@ fn terms_of(
     let Some(items) = value.as_array() else {
         return Ok(None);
     };
-    let mut terms = with_room(alloc, items.as_slice().len())?;
+    let mut terms = List::with_capacity(alloc, items.as_slice().len())?;
     let mut last = LastHash::of_text("");
     for item in items {
         let Some(term) = term_of(item, &mut last) else {

@@ -5,7 +5,7 @@ ghost use Rattle.xet_lanes.specs.Fetches.{LaneCall, NoneFailed, ask, ask_of, err
 
 use crate::gate::Gate;
 use std::alloc::Global;
-use xet_base::OutOfMemory;
+use xet_base::{List, OutOfMemory};
 use xet_blocks::{TermBlockRetrievalURLs, XorbBlock};
 use xet_error::FileReconstructionError;
 use xet_outside::{BlockAnswer, BlockRequest, Client, ClientError};
@@ -34,16 +34,6 @@ impl<'a> Fetch<'a> {
             Ok(Some(request)) => Ok(request),
             Ok(None) | Err(_) => Err(OutOfMemory),
         }
-    }
-}
-
-/// No steps, with room for so many, where memory allows it.
-fn steps_with_room(alloc: Global, count: usize) -> Vec<LaneStep>
-    ensures { result.items ≡ [] }
-{
-    match Vec::with_capacity(alloc, count) {
-        Ok(made) => made,
-        Err(_) => Vec::new(alloc),
     }
 }
 
@@ -123,7 +113,7 @@ impl<'a, C: Client> Lane<'a, C> {
     {
         Lane {
             client,
-            steps: steps_with_room(alloc, steps),
+            steps: List::with_hint(alloc, steps).into_inner(),
         }
     }
 

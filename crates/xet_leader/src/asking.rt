@@ -8,10 +8,9 @@ ghost use Rattle.xet_leader.specs.Asking.{AskLeads, AskTurn, FirstAsked, HandsOn
 ghost use Rattle.xet_leader.specs.Led.{IsLedManager, setup_of_job};
 
 use crate::leader::{Job, Leader, LedPlan, check_manager};
-use crate::room::vec_with_room;
 use std::alloc::Global;
 use std::sync::Wait;
-use xet_base::OutOfMemory;
+use xet_base::{List, OutOfMemory};
 use xet_blocks::{FetchPolicy, XorbBlock};
 use xet_error::{FileReconstructionError, Result};
 use xet_outside::{CancelSignal, Client};
@@ -148,7 +147,7 @@ fn hand_on<P: FetchPolicy>(alloc: Global, leader: &mut Leader<P>, number: u64) -
 fn no_tries(alloc: Global, blocks: &[XorbBlock]) -> std::result::Result<Vec<u32>, OutOfMemory>
     ensures { IfOk result (λ v. v.items ≡ map (λ _. 0) blocks.now) }
 {
-    let mut tries = vec_with_room(alloc, blocks.len());
+    let mut tries = List::with_hint(alloc, blocks.len()).into_inner();
     for _block in blocks {
         tries.push(0)?;
     }

@@ -10,7 +10,6 @@ ghost use Rattle.xet_leader.specs.Looks.{CanRequest};
 use crate::by_number::plan_index;
 use crate::leader::{Leader, LedPlan};
 use crate::missing_blocks::BlockAt;
-use crate::room::list_with_room;
 use std::alloc::Global;
 use std::collections::VecDeque;
 use xet_base::List;
@@ -54,7 +53,7 @@ fn fetches_of<'a>(
     ensures made { IfOk result (AreFetches plans.now.items first places.now) }
     ensures memory { IfErr result (λ e. e ≡ error.OutOfMemory) }
 {
-    let mut made = list_with_room(alloc, places.len());
+    let mut made = List::with_hint(alloc, places.len());
     for (place, block) in places.iter().enumerate() {
         let number = first.saturating_add(place as u64);
         match add_fetch(plans, number, *block, &mut made) {

@@ -23,7 +23,6 @@ pub mod queueing;
 pub mod recording;
 pub mod refreshing;
 pub mod reporting;
-mod room;
 pub mod round;
 pub mod running;
 pub mod settling;

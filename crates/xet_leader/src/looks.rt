@@ -9,7 +9,6 @@ ghost use Rattle.xet_leader.specs.Looks.{CanLook, CanLookAll, CanRequest, EndsSh
 use crate::by_number::plan_index;
 use crate::leader::{Leader, LedPlan};
 use crate::missing_blocks::{BlockAt, missing};
-use crate::room::list_with_room;
 use std::alloc::Global;
 use std::collections::VecDeque;
 use std::mem;
@@ -78,7 +77,7 @@ fn look_up_places<R: Wait, K: ChunkCache, E: EventLog>(
     ensures { LooksCall (K.told cache.old) (K.told cache.new) core.old core.new plans.old.items plans.new.items
         places.now result }
 {
-    let mut left = list_with_room(alloc, places.len());
+    let mut left = List::with_hint(alloc, places.len());
     for place in places {
         let found = match look_up_place(rt, alloc, core, cache, plans, progress, *place) {
             Ok(found) => found,

@@ -5,7 +5,6 @@ ghost use Rattle.xet_leader.specs.Listings.{first_number, lower, lowest_from, lo
 
 use crate::leader::{Leader, LedPlan};
 use crate::place_list::PlaceList;
-use crate::room::list_with_room;
 use std::alloc::Global;
 use std::collections::VecDeque;
 use xet_base::{FileRange, List, OutOfMemory};
@@ -66,7 +65,7 @@ fn all_lacked(
 ) -> Result<List<BlockAt>, OutOfMemory>
     ensures { IfOk result (λ found. found ≡ lacked skip count plans.now.items) }
 {
-    let mut found = list_with_room(alloc, count as usize);
+    let mut found = List::with_hint(alloc, count as usize);
     let mut ahead = skip;
     let mut left = count;
     let mut at = 0;

@@ -4,7 +4,6 @@ ghost use Rattle.xet_leader.specs.Lacking.{base_of, lists, with_place};
 ghost use Rattle.xet_leader.specs.Listings.{listed_with};
 
 use crate::missing_blocks::BlockAt;
-use crate::room::vec_with_room;
 use std::alloc::Global;
 use std::marker::Model;
 use xet_base::{List, OutOfMemory};
@@ -42,7 +41,7 @@ impl PlaceList {
         ensures { result ≡ record { first = first; low = low; places = [] } }
     {
         PlaceList {
-            places: vec_with_room(alloc, count),
+            places: List::with_hint(alloc, count).into_inner(),
             first,
             low,
             listed: BlockTable::new(alloc),

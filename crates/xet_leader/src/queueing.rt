@@ -5,7 +5,6 @@ ghost use Rattle.xet_leader.specs.RunWindows.{WindowLeads};
 ghost use Rattle.xet_leader.specs.Windows.{BytesOf, PieceQueued, TermTurn, WindowTurn, first_number, led_terms, of_plan, open_led};
 
 use crate::leader::{Leader, LedPlan};
-use crate::room::list_with_room;
 use bytes::Bytes;
 use std::alloc::Global;
 use std::collections::VecDeque;
@@ -92,7 +91,7 @@ fn queue_terms<S: Sink>(
 ) -> Result<List<u64>>
     ensures { WindowTurn (take most (drop skip (led_terms plans.now.items))) writer.old writer.new result }
 {
-    let mut lengths = list_with_room(alloc, most as usize);
+    let mut lengths = List::with_hint(alloc, most as usize);
     let mut at = Place {
         plan: 0,
         term: skip,

@@ -77,7 +77,7 @@ pub(crate) fn copied_terms<S: PlanSource>(
     ensures { IfOk result (λ terms. terms ≡ S.terms source.now) }
 {
     let count = source.term_count();
-    let mut terms = List::from_vec(Vec::with_capacity(alloc, count)?);
+    let mut terms = List::with_capacity(alloc, count)?;
     for at in 0..count {
         terms.push(source.term(at))?;
     }
@@ -92,7 +92,7 @@ pub(crate) fn copied_blocks<S: PlanSource>(
     ensures { IfOk result (λ blocks. blocks ≡ S.blocks source.now) }
 {
     let count = source.block_count();
-    let mut blocks = List::from_vec(Vec::with_capacity(alloc, count)?);
+    let mut blocks = List::with_capacity(alloc, count)?;
     for at in 0..count {
         blocks.push(source.block(alloc, at)?)?;
     }

@@ -12,7 +12,6 @@ mod mem_cut;
 mod mem_fetch;
 mod mem_plan;
 pub mod mem_store;
-mod room;
 pub mod script_client;
 pub mod script_signal;
 mod stored_xorb;

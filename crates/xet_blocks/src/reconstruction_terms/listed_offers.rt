@@ -5,7 +5,6 @@ ghost use Rattle.xet_blocks.specs.Blocks.{lies_in};
 ghost use Rattle.xet_blocks.specs.steps.Offers.{offered, xorb_offers};
 ghost use Rattle.xet_blocks.specs.PlanChecks.{unordered};
 
-use crate::reconstruction_terms::lists::with_room;
 use std::alloc::Global;
 use xet_base::{List, OutOfMemory, SharedText};
 use xet_outside::{FetchEntry, FetchRange, PlanTerm, PlanXorb};
@@ -123,7 +122,7 @@ impl<'a> ListedOffers<'a> {
     ) -> Result<ListedOffers<'a>, OutOfMemory>
         ensures { IfOk result (λ made. map offered made.offers ≡ xorb_offers multirange xorb.now) }
     {
-        let mut offers = with_room(alloc, first_count(xorb))?;
+        let mut offers = List::with_capacity(alloc, first_count(xorb))?;
         for entry in xorb.fetch.as_slice() {
             ListedOffers::add_entry(&mut offers, entry, multirange)?;
         }

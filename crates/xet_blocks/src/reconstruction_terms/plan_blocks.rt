@@ -12,7 +12,6 @@ ghost use Rattle.xet_blocks.specs.PlanChecks.{no_range_test, ranges_test};
 use crate::reconstruction_terms::block_list::{BlockList, OfferedBlock};
 use crate::reconstruction_terms::file_term::FileTerm;
 use crate::reconstruction_terms::listed_offers::Offer;
-use crate::reconstruction_terms::lists::with_room;
 use crate::reconstruction_terms::plan_offers::PlanOffers;
 use crate::reconstruction_terms::retrieval_urls::RetrievalUrl;
 use crate::reconstruction_terms::xorb_block::{XorbBlock, XorbReference};
@@ -75,7 +74,7 @@ impl<'a> PlanBlocks<'a> {
     {
         Ok(PlanBlocks {
             blocks: BlockList::with_room(alloc, terms)?,
-            starts: with_room(alloc, terms)?,
+            starts: List::with_capacity(alloc, terms)?,
         })
     }
 
@@ -129,7 +128,7 @@ impl<'a> PlanBlocks<'a> {
     pub(crate) fn urls(&self, alloc: Global) -> Result<List<RetrievalUrl>, OutOfMemory>
         ensures { IfOk result (λ urls. urls ≡ map retrieval_url self.now.blocks) }
     {
-        let mut urls = with_room(alloc, self.blocks.len())?;
+        let mut urls = List::with_capacity(alloc, self.blocks.len())?;
         for block in self.blocks.as_slice() {
             let url = block.url.copied()?;
             let ranges = bytes_of(alloc, block.ranges)?;
@@ -150,7 +149,7 @@ impl<'a> PlanBlocks<'a> {
         ensures { IfOk result (λ terms. terms ≡ terms_at query.end query.start plan.now.offset_into_first_range
             (with_starts plan.now.terms self.now.starts)) }
     {
-        let mut terms = with_room(alloc, plan.terms.len())?;
+        let mut terms = List::with_capacity(alloc, plan.terms.len())?;
         let starts = self.starts.as_slice();
         let mut place = query.start;
         let mut offset = plan.offset_into_first_range;

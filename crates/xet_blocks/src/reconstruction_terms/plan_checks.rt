@@ -9,7 +9,6 @@ ghost use Rattle.xet_blocks.specs.Refusals.{IsRefusal};
 ghost use Rattle.xet_blocks.specs.TermBlocks.{covered};
 ghost use Rattle.xet_blocks.specs.steps.Offers.{xorb_place};
 
-use crate::reconstruction_terms::lists::with_room;
 use crate::reconstruction_terms::plan_offers::PlanOffers;
 use std::alloc::Global;
 use xet_base::{FileRange, List};
@@ -67,7 +66,7 @@ pub(crate) fn check_xorbs(
         (λ numbers. (no_xorb_test (shape plan) ≡ None) × (numbers ≡ map (λ t. xorb_place plan t.xorb) plan.terms)) }
     ensures refused { IfErr result (IsRefusal (no_xorb_test (shape offers.now.plan.now))) }
 {
-    let mut numbers = with_room(alloc, offers.plan.terms.len())?;
+    let mut numbers = List::with_capacity(alloc, offers.plan.terms.len())?;
     let mut last = 0;
     for (place, term) in offers.plan.terms.as_slice().iter().enumerate() {
         let Some(number) = offers.number_near(&term.xorb, last) else {
