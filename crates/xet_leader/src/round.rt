@@ -22,12 +22,6 @@ use xet_outside::{Client, Sink};
 use xet_run::{EventLog, RunCore, RunPass, RunState};
 use xet_writers::SequentialWriter;
 
-/// Fewer fetches than these are few.
-const MANY_FETCHES: usize = 1_024;
-
-/// So many bytes are written for each of many fetches where the writing is put beside them.
-const BYTES_A_FETCH: u64 = 128;
-
 /// What a run lends to its parts.
 #[derive(Drop)]
 pub struct Around<'a, R, G, L: Ledger> {
@@ -42,8 +36,9 @@ pub struct Around<'a, R, G, L: Ledger> {
 }
 
 /// Fetches these blocks by the connections, each with a lane of its own, while the writer writes what it holds: the
-/// next terms, of these lengths in bytes. A few bytes are written before many fetches. Then all that came of it is
-/// recorded, the served blocks keep their data, the expired ones are counted, and the written terms go.
+/// next terms, of these lengths in bytes. Where there is one connection alone, which answers at once, they are written
+/// before. Then all that came of it is recorded, the served blocks keep their data, the expired ones are counted, and
+/// the written terms go.
 ///
 /// The error of the join, where it has one: want of memory first, then the writer's, then that of the lowest lane. Else
 /// `UrlExpired` where the tries of a block are used up. `OutOfMemory` where memory was refused. A run that goes on goes
@@ -114,7 +109,7 @@ fn fetch_and_take<
         result }
     ensures parts { pass.new.share.parts ≡ pass.old.share.parts }
 {
-    let beside = goes_beside(lengths.as_slice(), places.len(), clients.len());
+    let beside = total(lengths.as_slice()) != 0 && wait_for(clients);
     let joined = match fetch_blocks(around, leader, pass, clients, writer, places, beside) {
         Ok(joined) => joined,
         Err(error) => return Err(error),
@@ -124,16 +119,10 @@ fn fetch_and_take<
     take_outcome(around.alloc, leader, core, joined, lengths, tries)
 }
 
-/// Whether terms of these lengths, in bytes, are written beside so many fetches by so many connections: where there are
-/// bytes, but beside many fetches by one connection only where there are enough bytes for each. One connection's
-/// fetches run in this thread where they have no writing beside them, and what many of them made in another thread
-/// takes longer to come to this one than a few bytes take to be written.
-fn goes_beside(lengths: &[u64], fetches: usize, connections: usize) -> bool {
-    let bytes = total(lengths);
-    if connections > 1 || fetches < MANY_FETCHES {
-        return bytes != 0;
-    }
-    bytes >= BYTES_A_FETCH.saturating_mul(fetches as u64)
+/// Whether fetches by these connections are worth a thread beside the writing: not where there is one alone, which
+/// answers at once.
+fn wait_for<C: Client>(clients: &[C]) -> bool {
+    clients.len() != 1 || clients[0].waits()
 }
 
 /// The sum of these lengths, which stops at `u64::MAX`.

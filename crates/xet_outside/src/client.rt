@@ -38,7 +38,16 @@ pub trait Client {
     /// of expired answers.
     ghost told: { Self → ClientTold };
 
-    /// Asks for the plan of a range of a file, in bytes. `Failed` comes only where the count of faults rose.
+    /// Whether answers may be waited for, as over a network, so that other work is worth a thread beside them. It
+    /// changes no answer. A connection without a body of its own says yes.
+    ///
+    /// The Rust crates have no such call.
+    fn waits(&self) -> bool {
+        true
+    }
+
+    /// Asks for the plan of a range of a file, in bytes. `Failed` comes only where the count of faults rose; an answer
+    /// leaves that count.
     ///
     /// In the Rust crates: `cas_client::Client::get_reconstruction`.
     fn plan(
@@ -50,7 +59,7 @@ pub trait Client {
         ensures { PlanCall (told self.old) (told self.new) file.now range result };
 
     /// Asks for the bytes of one block. `Expired` comes only where the count of expired answers rose, and `Failed`
-    /// only where the count of faults rose.
+    /// only where the count of faults rose; an answer leaves that count.
     ///
     /// In the Rust crates: `cas_client::Client::get_file_term_data`.
     fn block(&mut self, alloc: Global, request: &BlockRequest) -> Result<BlockAnswer, ClientError>

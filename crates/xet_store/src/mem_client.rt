@@ -1,5 +1,5 @@
 //! An honest connection to a store in memory.
-ghost use Rattle.std.specs.Prelude.{◌≡◌, ◌+◌, ◌≤◌, [], Some, IfErr, IfOk, IfSome, length};
+ghost use Rattle.std.specs.Prelude.{◌≡◌, ◌+◌, ◌≤◌, [], false, Some, IfErr, IfOk, IfSome, length};
 ghost use Rattle.xet_base.specs.Store.{IsValid, terms_of_file};
 ghost use Rattle.xet_store.specs.steps.MemPlans.{IsWalk, bytes_before};
 ghost use Rattle.xet_outside.specs.Told.{BlockCall, PlanCall};
@@ -105,6 +105,13 @@ impl<'a> Client for MemClient<'a> {
       expiries = 0;
       link = [];
     } };
+
+    /// No: each answer is made from memory.
+    fn waits(&self) -> bool
+        ensures { result ≡ false }
+    {
+        false
+    }
 
     /// The plan of the range. The plans that were found are counted from 1, and the URL of all their entries is `mem:`
     /// and the number. `OutOfMemory` where an allocation was refused, or u64::MAX plans were found.

@@ -64,6 +64,11 @@ impl<'a, 't, T: Tap> TapClient<'a, 't, T> {
 impl<'a, 't, T: Tap> Client for TapClient<'a, 't, T> {
     ghost told = { λ c. behind c.inner.store.now c.log (T.told c.start.value) (T.told c.tap.now) c.tap.ghost_name };
 
+    /// As the connection behind the tap does.
+    fn waits(&self) -> bool {
+        self.inner.waits()
+    }
+
     fn plan(
         &mut self,
         alloc: Global,

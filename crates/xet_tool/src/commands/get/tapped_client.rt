@@ -60,6 +60,11 @@ impl<'a, T: Tap> TappedClient<'a, T> {
 impl<'a, T: Tap> Client for TappedClient<'a, T> {
     ghost told = { λ c. behind_own c.inner.store.now c.log (T.told c.start.value) (T.told c.tap) };
 
+    /// As the connection behind the tap does.
+    fn waits(&self) -> bool {
+        self.inner.waits()
+    }
+
     fn plan(
         &mut self,
         alloc: Global,
