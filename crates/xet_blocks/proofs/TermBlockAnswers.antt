@@ -224,10 +224,10 @@ module _ (before now : ClientTold) (query : PlanQuery) where
   -- and one that gave this answer
   pub call_answered : (a : PlanAnswer) (answer : Answer) → PlanCall before now query.file query.range (Ok a) → IsAnswer query a answer → TermBlockCall before now query answer
   call_answered a (Ok o) c h = record {
-    made = record { plan = a; asked = c.asked; said = c.said; honest = λ s e. c.honest s e; from = h.made };
+    made = record { plan = a; asked = c.asked; said = c.said; unfailed = c.unfailed; honest = λ s e. c.honest s e; from = h.made };
     cause = tt;
     store = c.store;
-    asks = inl (a, record { asked = c.asked; said = c.said; honest = λ s e. c.honest s e });
+    asks = inl (a, record { asked = c.asked; said = c.said; unfailed = c.unfailed; honest = λ s e. c.honest s e });
     unsaid = λ none. cc;
     served = c.served;
     faults = c.faults;
@@ -238,7 +238,7 @@ module _ (before now : ClientTold) (query : PlanQuery) where
     made = tt;
     cause = go h.refused;
     store = c.store;
-    asks = inl (a, record { asked = c.asked; said = c.said; honest = λ s e. c.honest s e });
+    asks = inl (a, record { asked = c.asked; said = c.said; unfailed = c.unfailed; honest = λ s e. c.honest s e });
     unsaid = λ none. let same : e ≡ error.ClientError = cc in absurd (not_client h.refused same);
     served = c.served;
     faults = c.faults;
@@ -256,4 +256,4 @@ module _ (before now : ClientTold) (query : PlanQuery) where
 
       go : ((e ≡ error.OutOfMemory) ⊎ FromAnswer query a (Err e)) → TermBlockCause before now query e
       go (inl h) = subst (λ (e : FileReconstructionError). TermBlockCause before now query e) (sym h) tt
-      go (inr h) = cause_of e (refused_by query a e h) (record { plan = a; asked = c.asked; said = c.said; honest = λ s e. c.honest s e; from = h })
+      go (inr h) = cause_of e (refused_by query a e h) (record { plan = a; asked = c.asked; said = c.said; unfailed = c.unfailed; honest = λ s e. c.honest s e; from = h })

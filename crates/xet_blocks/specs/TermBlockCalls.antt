@@ -37,18 +37,20 @@ FromAnswer query PastEnd answer = answer ≡ Ok None
 FromAnswer query NoFile answer = answer ≡ Err error.FileNotFound
 
 -- a connection was asked this query alone, and said one answer, which is that of the store that it tells and made this
--- one
+-- one. It told no fault
 pub record FromSaid (before after : ClientTold) (query : PlanQuery) (answer : Answer) : Type 0 where
   pub plan : PlanAnswer
   pub asked : Grew before.asked after.asked (query.file, query.range)
   pub said : Grew before.said after.said (said.Plan plan)
+  pub unfailed : after.faults ≡ before.faults
   pub honest : (s : Store) → before.store ≡ Some s → IsHonest s query.file query.range plan
   pub from : FromAnswer query plan answer
 
--- this was said in answer to a query that was asked, and it is the answer of the store that is told
+-- this was said in answer to a query that was asked, without a fault, and it is the answer of the store that is told
 pub record QueryAnswered (before after : ClientTold) (query : Query) (answer : PlanAnswer) : Type 0 where
   pub asked : Grew before.asked after.asked query
   pub said : Grew before.said after.said (said.Plan answer)
+  pub unfailed : after.faults ≡ before.faults
   pub honest : (s : Store) → before.store ≡ Some s → IsHonest s query.0 query.1 answer
 
 -- a query was asked at most once: it was asked and one answer said to it, or asked and nothing said, or not asked

@@ -58,7 +58,7 @@ module _ (b n : ClientTold) (r : Refresh) (id : UniqueId) where
   Q = record { file = r.file; range = r.range; multirange = r.multirange; id = id }
 
   answered_by : (a : Result (Option TermBlock) FileReconstructionError) (s : FromSaid b n Q a) → Answered r b n s.plan
-  answered_by a s = record { asked = s.asked; said = s.said; honest = λ t e. s.honest t e }
+  answered_by a s = record { asked = s.asked; said = s.said; unfailed = s.unfailed; honest = λ t e. s.honest t e }
 
   may_ask : (a : Result (Option TermBlock) FileReconstructionError) → TermBlockCall b n Q a → MayAsk r b n
   may_ask a c = record { store = c.store; asks = c.asks; served = c.served; faults = c.faults; expiries = c.expiries; link = c.link }

@@ -7,4 +7,4 @@ pub use Rattle.xet_lanes.proofs.Requests.{made_by, own_request}
 -- a list of fetches with one more
 pub use Rattle.xet_lanes.proofs.Draws.{asks_more}
 -- where the error of a join comes from, and what holds where it has none
-pub use Rattle.xet_lanes.proofs.ErrorCauses.{ErrorCause, FailedLane, error_cause, no_error}
+pub use Rattle.xet_lanes.proofs.ErrorCauses.{ErrorCause, FailedLane, NoErrorBelow, error_cause, no_error}

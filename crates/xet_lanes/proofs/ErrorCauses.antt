@@ -1,5 +1,5 @@
 -- Where the error of a join comes from.
-use Rattle.std.proofs.Common.{◌≡◌, ◌⊎◌, ℕ, suc, List, [], ◌∷◌, map, true, false, Bool, refl, ◌∙◌, inl, inr, Option, Some, None, Ok, Err}
+use Rattle.std.proofs.Common.{◌≡◌, ◌⊎◌, ℕ, zero, suc, List, [], ◌∷◌, map, true, false, Bool, refl, ◌∙◌, inl, inr, Option, Some, None, Ok, Err}
 use Rattle.std.specs.Prelude.{◌||◌, Result, cond, slice_get}
 use Rattle.std.specs.List.{list_any}
 use Rattle.std.specs.Result.{result_err}
@@ -9,12 +9,19 @@ use Rattle.xet_error.specs.declared.error.FileReconstructionError.TheVariants as
 use Rattle.xet_lanes.specs.JoinErrors.{end_error, first_error, lacks_memory, memory_was_short, wants_memory}
 use Rattle.xet_lanes.specs.Rounds.{End, NoneEndedBadly}
 
--- this is the error of the last step of a lane
+-- the last steps of the first lanes, so many, didn't fail
+abbrev pub NoErrorBelow : ℕ → List End → Type 0
+NoErrorBelow zero es = Unit {0}
+NoErrorBelow (suc i) [] = ⊥
+NoErrorBelow (suc i) (e ∷ es) = (end_error e ≡ None) × NoErrorBelow i es
+
+-- this is the error of the last step of a lane, the lowest one that has an error
 pub record FailedLane (es : List End) (e : FileReconstructionError) : Type 0 where
   pub at : ℕ
   pub end : End
   pub there : slice_get es at ≡ Some end
   pub error : end_error end ≡ Some e
+  pub below : NoErrorBelow at es
 
 -- memory was wanting, or the writer has this error, or a lane
 abbrev pub ErrorCause : Result ℕ FileReconstructionError → List End → FileReconstructionError → Type 0
@@ -64,8 +71,8 @@ failed_at (x ∷ es) e h = by_error (end_error x) refl (λ k. failed_at es e k) 
         → first_some (o ∷ map end_error es) ≡ Some e → FailedLane (x ∷ es) e
     by_error None is later k =
         let f = later k in
-        record { at = suc f.at; end = f.end; there = f.there; error = f.error }
-    by_error (Some y) is later k = record { at = 0; end = x; there = refl; error = is ∙ k }
+        record { at = suc f.at; end = f.end; there = f.there; error = f.error; below = (is, f.below) }
+    by_error (Some y) is later k = record { at = 0; end = x; there = refl; error = is ∙ k; below = tt }
 
 -- where it has one, this is its cause
 pub error_cause : (wrote : Result ℕ FileReconstructionError) (es : List End) (e : FileReconstructionError)

@@ -1,6 +1,6 @@
 -- What one more step makes of a lane.
-use Rattle.std.proofs.Common.{ℕ, ◌≡◌, ◌+◌, ◌-◌, ◌<◌, ◌≤◌, zero, suc, List, [], ◌∷◌, ◌++◌, length, refl, sym, ap, ◌∙◌, subst, false, inl, inr, arith, length-append, Option, Some, None}
-use Rattle.std.specs.Prelude.{Result, Ok, Err, slice_get}
+use Rattle.std.proofs.Common.{ℕ, ◌≡◌, ◌-◌, ◌<◌, zero, suc, List, [], ◌∷◌, ◌++◌, length, refl, sym, ap, ◌∙◌, subst, false, inl, inr, arith, length-append, Some, None}
+use Rattle.std.specs.Prelude.{Result, Ok, slice_get}
 use Rattle.xet_outside.specs.Answers.{IsPaired}
 use Rattle.xet_outside.specs.Told.{BlockCall, ClientTold}
 use Rattle.xet_outside.specs.declared.block.BlockAnswer.{BlockAnswer}
@@ -103,6 +103,7 @@ none_yet b = record {
   once = omega arith;
   late = refl;
   expired = omega arith;
+  unfailed = λ h. refl;
 }
 
 -- a lane none of whose steps failed goes on with one more
@@ -140,4 +141,5 @@ more_drawn b n qs rest ss d len =
       once = d.once;
       late = d.late ∙ sym (lates_more qs rest ss len);
       expired = d.expired;
+      unfailed = d.unfailed;
     }

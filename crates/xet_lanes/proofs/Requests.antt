@@ -1,5 +1,5 @@
 -- The requests of blocks by the tables of their plans.
-use Rattle.std.proofs.Common.{◌≡◌, ◌<◌, [], length, get_or, refl, ap, Option, Some, None}
+use Rattle.std.proofs.Common.{◌≡◌, ◌<◌, [], length, get_or, refl, Option, Some, None}
 use Rattle.std.proofs.lemmas.Option.{slice_get-get_or}
 use Rattle.std.specs.Prelude.{slice_get, MatchOption}
 use Rattle.xet_outside.specs.declared.block.BlockRequest.{BlockRequest}

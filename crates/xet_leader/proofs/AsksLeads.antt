@@ -24,7 +24,7 @@ use Rattle.xet_ties.specs.Saids.{InStep}
 use Rattle.xet_ties.specs.Setup.{RunTold, Setup}
 use Rattle.xet_ties.specs.steps.Moves.{heard_first}
 use Rattle.xet_ties.specs.steps.Parts.{plan_query}
-use Rattle.xet_ties.specs.Ties.{EachLane, MayLeave, NoneLate, Slack, Ties, all_of, IsNextQuery}
+use Rattle.xet_ties.specs.Ties.{EachLane, IsFaultless, MayLeave, NoneLate, Slack, Ties, all_of, IsNextQuery}
 use Rattle.xet_ties.proofs.CallerLemmas.{asked_own, first_tells, none_hidden, none_late, short_leaves, steady_leaves}
 use Rattle.xet_parts.specs.DueQueries.{CancelledDue, NoneDue, OneDue, TakesDue}
 use Rattle.xet_parts.specs.PlanAsks.{AskPlanCall, PlanFails, QueryFails}
@@ -160,11 +160,11 @@ module _ (g : Setup) (b : RunTold) (m : Moment) (l : Led) (s : IsGoing g b m no_
 
   -- a slack with this heard and lost leaves nothing else
   leaves : (e : FileReconstructionError) (sl : Slack) → sl.hidden ≡ s.slack.hidden → sl.late ≡ s.slack.late
-      → sl.ahead ≡ s.slack.ahead → MayLeave (Some e) b.clients sl
-  leaves e sl hidden late ahead =
+      → sl.ahead ≡ s.slack.ahead → (IsFaultless (Some e) → sl.calm ≡ length b.clients) → MayLeave (Some e) b.clients sl
+  leaves e sl hidden late ahead calm =
       steady_leaves b.clients e sl (ap all_of (hidden ∙ s.settled.hidden) ∙ none_hidden b.clients)
       (subst NoneLate (sym (late ∙ s.settled.late)) (none_late b.clients))
-      (ahead ∙ s.settled.ahead)
+      (ahead ∙ s.settled.ahead) calm
 
   -- where the signal said no, and the first connection is this one
   module _ (middle now : Manager) (d : PlanDue) (one : OneDue l.manager middle x y d) (c n : ClientTold)
@@ -238,6 +238,7 @@ module _ (g : Setup) (b : RunTold) (m : Moment) (l : Led) (s : IsGoing g b m no_
           pending = s.settled.pending;
           due = s.settled.due;
           step = recorded.1;
+          calm = s.settled.calm;
         };
         led = led k allowed hands;
         calm = calm y one.signal;
@@ -268,16 +269,23 @@ module _ (g : Setup) (b : RunTold) (m : Moment) (l : Led) (s : IsGoing g b m no_
 
       asked : AskedCause g b quiet fs polled (n ∷ others) e
       asked = ask_cause g b quiet m.events fs polled c n others middle now d.query d.id e is call s.settled.lost
-          s.settled.step next unpassed polled_ties
+          s.settled.step
+          (record { calm = s.settled.calm; hidden = ap all_of s.settled.hidden ∙ none_hidden b.clients })
+          next unpassed polled_ties
 
       vain : IsFailing g b (record { told = told; events = fs }) e
       vain = record {
-        slack = record polled { heard = heard_first asked.queries asked.answers polled.heard; lost = asked.queries };
+        slack = record polled {
+          heard = heard_first asked.queries asked.answers polled.heard;
+          lost = asked.queries;
+          calm = asked.calm;
+        };
         ties = asked.ties;
         left = leaves e (record polled {
           heard = heard_first asked.queries asked.answers polled.heard;
           lost = asked.queries;
-        }) refl refl refl;
+          calm = asked.calm;
+        }) refl refl refl asked.kept;
         cause = asked.cause;
         unfailed = any_unfailed b.sink.faults m.told.sink.faults e s.unfailed;
         spent = λ h. absurd (other h);
@@ -377,7 +385,7 @@ failing_due g b m l cs ns x y fs e at seen u s =
         record {
           slack = s.slack;
           ties = t.0;
-          left = leaves g b m l s x y seen error.Cancelled s.slack refl refl refl;
+          left = leaves g b m l s x y seen error.Cancelled s.slack refl refl refl (λ v. s.settled.calm);
           cause = t.1;
           unfailed = s.unfailed;
           spent = λ h. absurd (let z : error.Cancelled ≡ error.UrlExpired = h in cc);

@@ -93,6 +93,7 @@ pub record IsWhole (g : Setup) (b : RunTold) (m : Moment) : Type 0 where
   pub ties : Ties g b m.told m.events None slack
   pub leaves : LeavesNothing slack
   pub late : NoneLate slack.late
+  pub told_calm : slack.calm ≡ length b.clients
   pub calm : m.told.signal.yes ≡ b.signal.yes
   pub unfailed : m.told.sink.faults ≡ b.sink.faults
   pub cache_tells : (s : Store) → IsOver s b.clients → CacheTells s b.cache → CacheTells s m.told.cache
@@ -111,6 +112,7 @@ going_whole g b m l s =
         ahead = e.ahead;
       };
       late = subst NoneLate (sym e.late) (none_late b.clients);
+      told_calm = e.calm;
       calm = s.calm;
       unfailed = s.unfailed;
       cache_tells = s.cache_tells;
@@ -124,6 +126,7 @@ start_whole g b h = record {
   ties = tie_start g b h;
   leaves = record { hidden = none_hidden b.clients; due = refl; lost = refl; ahead = refl };
   late = none_late b.clients;
+  told_calm = refl;
   calm = refl;
   unfailed = refl;
   cache_tells = λ s o c. c;
@@ -144,7 +147,7 @@ whole_ends g b m to k j s f c =
       tied = record {
         slack = s.slack;
         ties = tie_flush g b m.told m.events s.slack to c.took c.faults c.link s.ties;
-        left = steady_ends b.clients s.slack s.leaves s.late;
+        left = steady_ends b.clients s.slack s.leaves s.late s.told_calm;
         cause = tt;
       };
       finished = subst (IsFinished g m.events) (sym c.count_is) f;
@@ -176,7 +179,7 @@ pub whole_fails : (g : Setup) (b : RunTold) (m : Moment) (to : SinkTold) (k : �
 whole_fails g b m to k e s c = record {
   slack = s.slack;
   ties = tie_flush g b m.told m.events s.slack to c.took c.faults c.link s.ties;
-  left = steady_leaves b.clients e s.slack s.leaves.hidden s.late s.leaves.ahead;
+  left = steady_leaves b.clients e s.slack s.leaves.hidden s.late s.leaves.ahead (λ v. s.told_calm);
   cause = sink_cause g s.slack.heard b (record m.told { sink = to }) m.told.sink.faults e s.ties.taken.faults c.cause;
   unfailed = sink_unfailed b.sink.faults to.faults m.told.sink.faults to.faults e c.cause;
   spent = λ h. sink_unspent m.told.sink.faults to.faults e c.cause h;

@@ -1,6 +1,6 @@
 -- The causes of the error of a lane.
 use Rattle.std.proofs.Common.{◌≡◌, ℕ, zero, suc, ◌+◌, ◌≤◌, Bool, true, cond, List, [], ◌∷◌, ◌++◌, length, refl, sym, subst, ◌∙◌, ap, arith, None, Some, Option, inl, inr, ⊎_elim}
-use Rattle.std.specs.Prelude.{All, IfSome, ◌⊎◌, false, nat_eq, option_map, slice_get}
+use Rattle.std.specs.Prelude.{All, IfSome, ◌⊎◌, drop, false, nat_eq, option_map, slice_get}
 use Rattle.std.specs.Option.{is_some}
 use Rattle.std.proofs.lemmas.Option.{slice_get-map}
 use Rattle.xet_base.specs.declared.cas_types.ChunkRange.{ChunkRange}
@@ -24,15 +24,15 @@ use Rattle.xet_blocks.specs.BlockCalls.{failed_check}
 use Rattle.xet_blocks.specs.BlockChecks.{chunk_total, count_test, length_test, misplaced_after, order_test}
 use Rattle.xet_blocks.specs.TermBlocks.{covered, xorb_blocks}
 use Rattle.xet_run.specs.declared.event.Event.{Event}
-use Rattle.xet_ties.specs.Causes.{BlockFailsIn, Cause, FirstFailed, IsBlockTest, QueryFailed, SomeFailed, SomeRose}
+use Rattle.xet_ties.specs.Causes.{BlockFailsIn, Cause, FirstFailed, FirstIs, IsBlockTest, LaneFails, LowestRose, QueryFailed, SomeFailed}
 use Rattle.xet_ties.specs.Cuts.{AskedCut, FirstCut, StartsAt}
 use Rattle.xet_ties.specs.History.{range_at}
-use Rattle.xet_ties.specs.InCall.{answers_of, EachExchange, EachGrew, Exchange, SomeOne, EachAskedAs, Place}
-use Rattle.xet_ties.specs.Lanes.{Ask, EachDrew, IsFor, entries_of}
-use Rattle.xet_ties.specs.Saids.{BlockOfPlan}
-use Rattle.xet_ties.specs.Setup.{IsOver, RunTold, Setup}
-use Rattle.xet_ties.specs.steps.Rounds.{IsMissingAsk, FailsAsk, IsHeardFailure, IsHeardStep}
-use Rattle.xet_ties.specs.Ties.{EachLane, FirstAsked, Slack, Ties}
+use Rattle.xet_ties.specs.InCall.{AllBelow, answers_of, EachExchange, EachGrew, Exchange, SomeOne, EachAskedAs, Place}
+use Rattle.xet_ties.specs.Lanes.{Ask, EachDrew, HoldsAsk, IsFor, bytes_of_ask, entries_of, error_faults}
+use Rattle.xet_ties.specs.Saids.{BlockOfPlan, ServedPassed}
+use Rattle.xet_ties.specs.Setup.{AllTell, IsOver, RunTold, Setup}
+use Rattle.xet_ties.specs.steps.Rounds.{AreLaneSteps, FailsAsk, IsLaneStep, IsMissingAsk, LaneFailure}
+use Rattle.xet_ties.specs.Ties.{EachLane, FirstAsked, FirstUnfailed, IsFaultless, Slack, Ties}
 use Rattle.xet_ties.proofs.CallerLemmas.{accepted_more, block_fails, fetch_entry, starts_at, tells_now}
 use Rattle.xet_lanes.specs.Fetches.{last_error}
 use Rattle.xet_lanes.specs.Rounds.{End, steps_of}
@@ -49,7 +49,7 @@ use Rattle.std.proofs.lemmas.List.Elements.{All-head, All-tail}
 -- ---- counts
 
 -- the last step of a lane failed so, on a connection that told this before and after
-record LaneFails (P : Ask → Type 0) (e : FileReconstructionError) : Type 0 where
+record FailedStep (P : Ask → Type 0) (e : FileReconstructionError) : Type 0 where
   before : ClientTold
   after : ClientTold
   served : List Served
@@ -58,7 +58,7 @@ record LaneFails (P : Ask → Type 0) (e : FileReconstructionError) : Type 0 whe
 
 lane_fails : (P : Ask → Type 0) (fs : List Ask) (bs ns : List ClientTold) (drawn : List (List ℕ)) (es : List End)
     (i : ℕ) (end : End) (e : FileReconstructionError) → All P fs → EachDrew fs bs ns drawn (steps_of es)
-    → slice_get es i ≡ Some end → last_error end.steps ≡ Some e → LaneFails P e
+    → slice_get es i ≡ Some end → last_error end.steps ≡ Some e → FailedStep P e
 lane_fails P fs bs ns drawn [] i end e h d at last = absurd (cc)
 lane_fails P fs bs ns [] (x ∷ es) i end e h d at last = absurd d
 lane_fails P fs [] ns (q ∷ qs) (x ∷ es) i end e h d at last = absurd d
@@ -77,33 +77,36 @@ lane_fails P fs (b ∷ bs) (n ∷ ns) (q ∷ qs) (x ∷ es) zero end e h d at la
 lane_fails P fs (b ∷ bs) (n ∷ ns) (q ∷ qs) (x ∷ es) (suc i) end e h d at last =
     lane_fails P fs bs ns qs es i end e h d.1 at last
 
-lane_rose : (fs : List Ask) (bs ns : List ClientTold) (drawn : List (List ℕ)) (es : List End) (i : ℕ) (end : End)
-    → EachDrew fs bs ns drawn (steps_of es) → slice_get es i ≡ Some end
-    → last_error end.steps ≡ Some error.ClientError → SomeRose bs ns
-lane_rose fs bs ns drawn [] i end d at last = absurd (cc)
-lane_rose fs bs ns [] (x ∷ es) i end d at last = absurd d
-lane_rose fs [] ns (q ∷ qs) (x ∷ es) i end d at last = absurd d
-lane_rose fs (b ∷ bs) [] (q ∷ qs) (x ∷ es) i end d at last = absurd d
-lane_rose fs (b ∷ bs) (n ∷ ns) (q ∷ qs) (x ∷ es) zero end d at last =
+lane_rose : (Q : Exchange → Type 0) (fs : List Ask) (bs ns : List ClientTold) (drawn : List (List ℕ)) (es : List End)
+    (i : ℕ) (end : End) (xs : List Exchange) → EachDrew fs bs ns drawn (steps_of es) → slice_get es i ≡ Some end
+    → last_error end.steps ≡ Some error.ClientError → AllBelow Q i xs → LowestRose Q bs ns xs
+lane_rose Q fs bs ns drawn [] i end xs d at last below = absurd (cc)
+lane_rose Q fs bs ns [] (x ∷ es) i end xs d at last below = absurd d
+lane_rose Q fs [] ns (q ∷ qs) (x ∷ es) i end xs d at last below = absurd d
+lane_rose Q fs (b ∷ bs) [] (q ∷ qs) (x ∷ es) i end xs d at last below = absurd d
+lane_rose Q fs (b ∷ bs) (n ∷ ns) (q ∷ qs) (x ∷ es) zero end xs d at last below =
     let same : x ≡ end = cc in
     let did = d.0.did in
     let f = last_fails (λ a. Unit {0}) b n (entries_of d.0.made x.steps ++ did.hidden) did.said d.0.made x.steps
     error.ClientError did.are (λ k y w. tt) (ap (λ (y : End). last_error y.steps) same ∙ last) in
     inl f.cause
-lane_rose fs (b ∷ bs) (n ∷ ns) (q ∷ qs) (x ∷ es) (suc i) end d at last =
-    inr (lane_rose fs bs ns qs es i end d.1 at last)
+lane_rose Q fs (b ∷ bs) (n ∷ ns) (q ∷ qs) (x ∷ es) (suc i) end [] d at last below = absurd below
+lane_rose Q fs (b ∷ bs) (n ∷ ns) (q ∷ qs) (x ∷ es) (suc i) end (y ∷ ys) d at last below =
+    inr (below.0, lane_rose Q fs bs ns qs es i end ys d.1 at last below.1)
 
 -- since the start
-since : (es : List Event) (l : ℕ) (bs ms ns : List ClientTold) (hs : List (List Served)) (ks : List (List Place))
-    → EachLane es l bs ms hs ks → SomeRose ms ns → SomeRose bs ns
-since es l bs [] ns hs ks t r = absurd r
-since es l [] (m ∷ ms) ns hs ks t r = absurd t
-since es l (b ∷ bs) (m ∷ ms) [] hs ks t r = absurd r
-since es l (b ∷ bs) (m ∷ ms) (n ∷ ns) [] ks t r = absurd t
-since es l (b ∷ bs) (m ∷ ms) (n ∷ ns) (h ∷ hs) [] t r = absurd t
-since es l (b ∷ bs) (m ∷ ms) (n ∷ ns) (h ∷ hs) (k ∷ ks) t r =
+since : (Q : Exchange → Type 0) (es : List Event) (l : ℕ) (bs ms ns : List ClientTold) (hs : List (List Served))
+    (ks : List (List Place)) (xs : List Exchange) → EachLane es l bs ms hs ks → LowestRose Q ms ns xs
+    → LowestRose Q bs ns xs
+since Q es l bs [] ns hs ks xs t r = absurd r
+since Q es l [] (m ∷ ms) ns hs ks xs t r = absurd t
+since Q es l (b ∷ bs) (m ∷ ms) [] hs ks xs t r = absurd r
+since Q es l (b ∷ bs) (m ∷ ms) (n ∷ ns) [] ks xs t r = absurd t
+since Q es l (b ∷ bs) (m ∷ ms) (n ∷ ns) (h ∷ hs) [] xs t r = absurd t
+since Q es l (b ∷ bs) (m ∷ ms) (n ∷ ns) (h ∷ hs) (k ∷ ks) xs t r =
     ⊎_elim (λ (x : Rose m.faults n.faults). inl (rose b.faults m.faults n.faults t.0.goes_on.faults x))
-    (λ (x : SomeRose ms ns). inr (since es (l + 1) bs ms ns hs ks t.1 x)) r
+    (λ (x : FirstIs Q xs × LowestRose Q ms ns (drop 1 xs)).
+    inr (x.0, since Q es (l + 1) bs ms ns hs ks (drop 1 xs) t.1 x.1)) r
   where
     rose : (x y z : ℕ) → x ≤ y → Rose y z → Rose x z
     rose x y z a h = omega arith
@@ -122,17 +125,47 @@ last_holds P (step.Failed x ∷ []) e h last =
 last_holds P (s ∷ t ∷ ss) e h last =
     last_holds P (t ∷ ss) e (All-tail P s (t ∷ ss) h) (sym (last_more s t ss) ∙ last)
 
--- so of the lane that has the error
-end_holds : (P : LaneStep → Type 0) (es : List End) (i : ℕ) (end : End) (e : FileReconstructionError)
-    → All (λ ss. All P ss) (steps_of es) → slice_get es i ≡ Some end → last_error end.steps ≡ Some e
-    → P (step.Failed e)
-end_holds P [] i end e h at last = absurd (cc)
-end_holds P (x ∷ es) zero end e h at last =
-    let same : x ≡ end = cc in
-    last_holds P x.steps e (All-head (λ ss. All P ss) x.steps (steps_of es) h)
-    (ap (λ (y : End). last_error y.steps) same ∙ last)
-end_holds P (x ∷ es) (suc i) end e h at last =
-    end_holds P es i end e (All-tail (λ ss. All P ss) x.steps (steps_of es) h) at last
+-- the bytes that failed a test, of the lowest lane that has an error; no connection tells a store whose block passes
+record LowestFailure (fs : List Ask) (bs : List ClientTold) (xs : List Exchange) (lane : ℕ) (k : Corruption)
+    : Type 0 where
+  number : ℕ
+  ask : Ask
+  at : slice_get fs number ≡ Some ask
+  exchange : Exchange
+  there : slice_get xs lane ≡ Some exchange
+  own : FailsAsk ask k exchange
+  dishonest : (s : Store) → AllTell s bs → HoldsAsk s ask → failed_check ask.block (bytes_of_ask s ask) ≡ None → ⊥
+
+lowest_failure : (fs : List Ask) (bs : List ClientTold) (xs : List Exchange) (es : List End)
+    (i : ℕ) (end : End) (k : Corruption) → AreLaneSteps fs bs xs (steps_of es) → slice_get es i ≡ Some end
+    → last_error end.steps ≡ Some (error.CorruptedReconstruction k) → LowestFailure fs bs xs i k
+lowest_failure fs bs xs [] i end k h at last = absurd (cc)
+lowest_failure fs [] xs (e ∷ es) i end k h at last = absurd h
+lowest_failure fs (b ∷ bs) [] (e ∷ es) i end k h at last = absurd h
+lowest_failure fs (b ∷ bs) (x ∷ xs) (e ∷ es) zero end k h at last =
+    let same : e ≡ end = cc in
+    let f : LaneFailure fs b x k = last_holds (IsLaneStep fs b x) e.steps (error.CorruptedReconstruction k) h.0
+    (ap (λ (y : End). last_error y.steps) same ∙ last) in
+    record {
+      number = f.number;
+      ask = f.ask;
+      at = f.at;
+      exchange = x;
+      there = refl;
+      own = f.bytes;
+      dishonest = λ s tell. f.dishonest s tell.0;
+    }
+lowest_failure fs (b ∷ bs) (x ∷ xs) (e ∷ es) (suc i) end k h at last =
+    let r = lowest_failure fs bs xs es i end k h.1 at last in
+    record {
+      number = r.number;
+      ask = r.ask;
+      at = r.at;
+      exchange = r.exchange;
+      there = r.there;
+      own = r.own;
+      dishonest = λ s tell. r.dishonest s tell.1;
+    }
 
 -- a fetch by its place
 ask_at : (P : Ask → Type 0) (fs : List Ask) (k : ℕ) (a : Ask) → All P fs → slice_get fs k ≡ Some a → P a
@@ -157,11 +190,11 @@ pub honest_ask : (g : Setup) (b : RunTold) (es : List Event) (sl : Slack) (l : L
 honest_ask g b es sl l a s led over h = led_honest g b es sl [] h.plan a.request.index a.block
     (plan_at (IsLedPlan g b es sl []) l.plans h.index h.plan h.at led.plans.each) h.in_plan s over
 
-some_of_all : (P Q : Exchange → Type 0) (xs : List Exchange) → ((x : Exchange) → P x → Q x) → SomeOne P xs
-    → SomeOne Q xs
-some_of_all P Q [] f h = h
-some_of_all P Q (x ∷ xs) f h = ⊎_elim (λ (p : P x). inl (f x p))
-    (λ (q : SomeOne P xs). inr (some_of_all P Q xs f q)) h
+some_at : (P : Exchange → Type 0) (xs : List Exchange) (i : ℕ) (x : Exchange) → slice_get xs i ≡ Some x → P x
+    → SomeOne P xs
+some_at P [] i x e h = absurd (cc)
+some_at P (y ∷ xs) zero x e h = let same : y ≡ x = cc in inl (subst P (sym same) h)
+some_at P (y ∷ xs) (suc i) x e h = inr (some_at P xs i x e h)
 
 -- a plan's number, where the first connection was asked the same
 first_cut : (xs ys : List Exchange) (cut : List FileRange) → EachAskedAs xs ys → FirstCut xs cut → FirstCut ys cut
@@ -189,43 +222,58 @@ starts_more g xs ys p start s h =
     }
 
 lane_failed : (g : Setup) (b : RunTold) (es : List Event) (sl : Slack) (l : Led) (a : Ask) (k : Corruption)
-    (ys : List Exchange) → IsLed g b es sl [] l → IsOwnAsk es l a → EachGrew sl.heard ys → EachAskedAs sl.heard ys
-    → ((p : ℕ) (r : FileRange) → range_at es p ≡ r ∷ [] → StartsAt g sl.heard p r.start) → SomeOne (FailsAsk a k) ys
-    → SomeFailed g ys k
-lane_failed g b es sl l a k ys led h grew asked starts bytes =
+    (ys : List Exchange) (ns : List ClientTold) (i : ℕ) (x : Exchange) → slice_get ys i ≡ Some x → FailsAsk a k x
+    → AllBelow (ServedPassed g ys) i ys → FirstUnfailed (suc i) b.clients ns → IsLed g b es sl [] l → IsOwnAsk es l a
+    → EachGrew sl.heard ys → EachAskedAs sl.heard ys
+    → ((p : ℕ) (r : FileRange) → range_at es p ≡ r ∷ [] → StartsAt g sl.heard p r.start)
+    → SomeFailed g ys k × LaneFails g ys b.clients ns k
+lane_failed g b es sl l a k ys ns i x listed own below unfailed led h grew asked starts =
     let m = h.led in
     let kk = a.request.index in
-    let p = plan_at (IsLedPlan g b es sl []) l.plans m.index m.plan m.at led.plans.each in
+    let q = plan_at (IsLedPlan g b es sl []) l.plans m.index m.plan m.at led.plans.each in
     let none : is_some a.block.kept ≡ false = led_keeps g b es sl [] l a.request.acquisition.plan kk a.block m led
     ∙ h.missing.absent in
     let same : bare a.block ≡ a.block = ap (λ (o : Option XorbBlockData). record a.block { kept = o })
     (sym (kept_none a.block.kept none)) in
-    let there : slice_get (xorb_blocks (shape p.plan) g.multirange) kk ≡ Some (bare a.block) =
-    ap (λ (l : List XorbBlock). slice_get l kk) (sym p.blocks) ∙ slice_get-map bare m.plan.block.blocks kk
+    let there : slice_get (xorb_blocks (shape q.plan) g.multirange) kk ≡ Some (bare a.block) =
+    ap (λ (l : List XorbBlock). slice_get l kk) (sym q.blocks) ∙ slice_get-map bare m.plan.block.blocks kk
     ∙ ap (λ (o : Option XorbBlock). option_map bare o) m.in_plan in
     let place : BlockOfPlan g ys = record {
-      plan = p.plan;
-      query = p.query;
-      accepted = accepted_more g sl.heard ys p.plan p.query grew p.accepted;
+      plan = q.plan;
+      query = q.query;
+      accepted = accepted_more g sl.heard ys q.plan q.query grew q.accepted;
       number = kk;
       block =
           a.block;
       numbered = there ∙ ap Some same;
     } in
-    let range : range_at es a.request.acquisition.plan ≡ covered (shape p.plan) p.query ∷ [] =
-    ap (λ (n : ℕ). range_at es n) (sym m.number) ∙ p.recorded.at_range
-    ∙ ap (λ (r : FileRange). r ∷ []) p.table.range_is in
-    let number : StartsAt g ys a.request.acquisition.plan p.query.start =
-    starts_more g sl.heard ys a.request.acquisition.plan p.query.start asked
-    (starts a.request.acquisition.plan (covered (shape p.plan) p.query) range) in
-    block_fails g ys k place a.request.acquisition.plan (sym m.number ∙ p.said_as) number
-    (some_of_all (FailsAsk a k) (BlockFailsIn g ys place a.request.acquisition.plan k) ys
-    (λ y f. record {
+    let range : range_at es a.request.acquisition.plan ≡ covered (shape q.plan) q.query ∷ [] =
+    ap (λ (n : ℕ). range_at es n) (sym m.number) ∙ q.recorded.at_range
+    ∙ ap (λ (r : FileRange). r ∷ []) q.table.range_is in
+    let number : StartsAt g ys a.request.acquisition.plan q.query.start =
+    starts_more g sl.heard ys a.request.acquisition.plan q.query.start asked
+    (starts a.request.acquisition.plan (covered (shape q.plan) q.query) range) in
+    let p : ℕ = a.request.acquisition.plan in
+    let next : suc i ≡ i + 1 = omega arith in
+    let fails : (y : Exchange) → FailsAsk a k y → BlockFailsIn g ys place p k y = λ y f. record {
       given = f.given;
-      answer = subst (λ (e : Served). AnswerTo y.served y.said e f.given)
-          (fetch_entry a h.own) f.answer;
+      answer = subst (λ (e : Served). AnswerTo y.served y.said e f.given) (fetch_entry a h.own) f.answer;
       fails = f.fails;
-    }) bytes)
+    } in (
+      block_fails g ys k place p (sym m.number ∙ q.said_as) number
+          (some_at (BlockFailsIn g ys place p k) ys i x listed (fails x own)),
+      record {
+        lane = i;
+        exchange = x;
+        at = listed;
+        place = place;
+        number = p;
+        own = sym m.number ∙ q.said_as;
+        bytes = fails x own;
+        passed = below;
+        unfailed = subst (λ (n : ℕ). FirstUnfailed n b.clients ns) next unfailed;
+      },
+    )
   where
     kept_none : (o : Option XorbBlockData) → is_some o ≡ false → o ≡ None
     kept_none None h = refl
@@ -269,11 +317,6 @@ is_check k x b h =
     (is_length k x.uncompressed_size_if_known b)
     h
 
-some_test : (a : Ask) (k : Corruption) (ys : List Exchange) → SomeOne (FailsAsk a k) ys → IsBlockTest k
-some_test a k [] h = absurd h
-some_test a k (y ∷ ys) h = ⊎_elim (λ (f : FailsAsk a k y). is_check k a.block f.given f.fails)
-    (λ (s : SomeOne (FailsAsk a k) ys). some_test a k ys s) h
-
 -- so the first connection needs to tell nothing of it
 first_failed : (g : Setup) (f : MerkleHash) (es : List Event) (lost : List Query) (bs ms ns : List ClientTold)
     (ys : List Exchange) (k : Corruption) → FirstAsked f es lost bs ms → EachExchange bs ns ys → IsBlockTest k
@@ -291,44 +334,47 @@ first_failed g f es lost (b ∷ bs) ms (n ∷ ns) ys k a t test = always (answer
 -- the error of a lane's last step has its cause, by what was heard after the join
 pub lane_cause : (g : Setup) (b at : RunTold) (es : List Event) (sl : Slack) (ns : List ClientTold) (fs : List Ask)
     (drawn : List (List ℕ)) (ends : List End) (l : Led) (e : FileReconstructionError) (ys : List Exchange)
-    → All (IsOwnAsk es l) fs → EachDrew fs at.clients ns drawn (steps_of ends) → FailedLane ends e
+    → All (IsOwnAsk es l) fs → EachDrew fs at.clients ns drawn (steps_of ends) → (f : FailedLane ends e)
     → EachGrew sl.heard ys → EachAskedAs sl.heard ys → EachExchange b.clients ns ys
-    → All (λ ss. All (IsHeardStep fs at.clients ys) ss) (steps_of ends)
+    → AreLaneSteps fs at.clients ys (steps_of ends) → AllBelow (ServedPassed g ys) f.at ys
+    → (error_faults e ≡ false → FirstUnfailed (suc f.at) b.clients ns)
     → Ties g b at es None sl → IsLed g b es sl [] l → Cause g ys b (record at { clients = ns }) e
-lane_cause g b at es sl ns fs drawn ends l error.OutOfMemory ys own d f grew asked each found t led = tt
-lane_cause g b at es sl ns fs drawn ends l error.ClientError ys own d f grew asked each found t led =
-    since es 0 b.clients at.clients ns sl.hidden sl.late t.served.lanes
-    (lane_rose fs at.clients ns drawn ends f.at f.end d f.there f.error)
-lane_cause g b at es sl ns fs drawn ends l error.FileNotFound ys own d f grew asked each found t led =
+lane_cause g b at es sl ns fs drawn ends l error.OutOfMemory ys own d f grew asked each failed below calm t led = tt
+lane_cause g b at es sl ns fs drawn ends l error.ClientError ys own d f grew asked each failed below calm t led =
+    let Q = ServedPassed g ys in
+    since Q es 0 b.clients at.clients ns sl.hidden sl.late ys t.served.lanes
+    (lane_rose Q fs at.clients ns drawn ends f.at f.end ys d f.there f.error below)
+lane_cause g b at es sl ns fs drawn ends l error.FileNotFound ys own d f grew asked each failed below calm t led =
     absurd (lane_fails (IsOwnAsk es l) fs at.clients ns drawn ends f.at f.end error.FileNotFound own d f.there
     f.error).last.cause
-lane_cause g b at es sl ns fs drawn ends l error.UrlExpired ys own d f grew asked each found t led =
+lane_cause g b at es sl ns fs drawn ends l error.UrlExpired ys own d f grew asked each failed below calm t led =
     absurd (lane_fails (IsOwnAsk es l) fs at.clients ns drawn ends f.at f.end error.UrlExpired own d f.there
     f.error).last.cause
-lane_cause g b at es sl ns fs drawn ends l error.IoError ys own d f grew asked each found t led =
+lane_cause g b at es sl ns fs drawn ends l error.IoError ys own d f grew asked each failed below calm t led =
     absurd (lane_fails (IsOwnAsk es l) fs at.clients ns drawn ends f.at f.end error.IoError own d f.there
     f.error).last.cause
-lane_cause g b at es sl ns fs drawn ends l (error.CorruptedReconstruction k) ys own d f grew asked each found t led =
-    let r : IsHeardFailure fs at.clients ys k =
-    end_holds (IsHeardStep fs at.clients ys) ends f.at f.end (error.CorruptedReconstruction k) found f.there f.error in
+lane_cause g b at es sl ns fs drawn ends l (error.CorruptedReconstruction k) ys own d f grew asked each failed below calm t led =
+    let r = lowest_failure fs at.clients ys ends f.at f.end k failed f.there f.error in
     let holds = ask_at (IsOwnAsk es l) fs r.number r.ask own r.at in
+    let fails = lane_failed g b es sl l r.ask k ys ns f.at r.exchange r.there r.own below (calm refl) led
+    holds grew asked (λ p q h. starts_at g b at es None sl p q t h) in
     record {
       untrue = λ s over.
           let honest = honest_ask g b es sl l r.ask s led over holds.led in
           r.dishonest s (tells_now s es 0 b.clients at.clients sl.hidden sl.late t.served.lanes over.tell)
           honest.holds honest.passes;
-      failed = lane_failed g b es sl l r.ask k ys led holds grew asked
-          (λ p q h. starts_at g b at es None sl p q t h) r.bytes;
+      failed = fails.0;
       first = first_failed g g.file es sl.lost b.clients at.clients ns ys k t.asked each
-          (some_test r.ask k ys r.bytes);
+          (is_check k r.ask.block r.own.given r.own.fails);
+      order = inr fails.1;
     }
-lane_cause g b at es sl ns fs drawn ends l (error.ConfigurationError e) ys own d f grew asked each found t led =
+lane_cause g b at es sl ns fs drawn ends l (error.ConfigurationError e) ys own d f grew asked each failed below calm t led =
     absurd (lane_fails (IsOwnAsk es l) fs at.clients ns drawn ends f.at f.end
     (error.ConfigurationError e) own d f.there f.error).last.cause
-lane_cause g b at es sl ns fs drawn ends l error.Cancelled ys own d f grew asked each found t led =
+lane_cause g b at es sl ns fs drawn ends l error.Cancelled ys own d f grew asked each failed below calm t led =
     absurd (lane_fails (IsOwnAsk es l) fs at.clients ns drawn ends f.at f.end error.Cancelled own d f.there
     f.error).last.cause
-lane_cause g b at es sl ns fs drawn ends l (error.InternalWriterError w) ys own d f grew asked each found t led =
+lane_cause g b at es sl ns fs drawn ends l (error.InternalWriterError w) ys own d f grew asked each failed below calm t led =
     absurd (lane_fails (IsOwnAsk es l) fs at.clients ns drawn ends f.at f.end
     (error.InternalWriterError w) own d f.there f.error).last.cause
 
@@ -338,3 +384,21 @@ pub never_spent : (g : Setup) (es : List Event) (l : Led) (ms ns : List ClientTo
     → FailedLane ends error.UrlExpired → ⊥
 never_spent g es l ms ns fs drawn ends own d f =
     (lane_fails (IsOwnAsk es l) fs ms ns drawn ends f.at f.end error.UrlExpired own d f.there f.error).last.cause
+
+-- nor an error that no failed call of a connection goes with
+pub never_calm : (g : Setup) (es : List Event) (l : Led) (ms ns : List ClientTold) (fs : List Ask)
+    (drawn : List (List ℕ)) (ends : List End) (e : FileReconstructionError) → All (IsOwnAsk es l) fs
+    → EachDrew fs ms ns drawn (steps_of ends) → FailedLane ends e → IsFaultless (Some e) → ⊥
+never_calm g es l ms ns fs drawn ends e own d f c =
+    by e c (lane_fails (IsOwnAsk es l) fs ms ns drawn ends f.at f.end e own d f.there f.error)
+  where
+    by : (x : FileReconstructionError) → IsFaultless (Some x) → FailedStep (IsOwnAsk es l) x → ⊥
+    by error.OutOfMemory c h = c
+    by error.ClientError c h = c
+    by error.FileNotFound c h = h.last.cause
+    by error.UrlExpired c h = h.last.cause
+    by error.IoError c h = c
+    by (error.CorruptedReconstruction k) c h = c
+    by (error.ConfigurationError k) c h = h.last.cause
+    by error.Cancelled c h = h.last.cause
+    by (error.InternalWriterError w) c h = h.last.cause

@@ -57,6 +57,7 @@ calm_goes g b m o l y c s =
         pending = s.settled.pending;
         due = s.settled.due;
         step = s.settled.step;
+        calm = s.settled.calm;
       };
       led = led_more g b m.events sl to o.stale l (tells_more_heard sl to (grew_none sl.heard) refl) s.led;
       calm = c.calm.no refl ∙ s.calm;
@@ -74,7 +75,7 @@ stop_fails g b m o l y e is c s =
       slack = sl;
       ties = r.0;
       left = steady_leaves b.clients error.Cancelled sl (ap all_of s.settled.hidden ∙ none_hidden b.clients)
-          (subst NoneLate (sym s.settled.late) (none_late b.clients)) s.settled.ahead;
+          (subst NoneLate (sym s.settled.late) (none_late b.clients)) s.settled.ahead (λ v. s.settled.calm);
       cause = r.1;
       unfailed = s.unfailed;
       spent = λ h. absurd (cc);

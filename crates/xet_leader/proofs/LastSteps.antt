@@ -1,6 +1,6 @@
 -- The last step of a lane, and which steps may hide a served block.
 use Rattle.std.proofs.Common.{◌≡◌, ℕ, zero, suc, ◌-◌, false, List, [], ◌∷◌, ◌++◌, length, refl, sym, subst, ◌∙◌, ap, arith, None, Some}
-use Rattle.std.specs.Prelude.{All, slice_get}
+use Rattle.std.specs.Prelude.{All, Bool, ◌||◌, cond, slice_get}
 use Rattle.std.specs.List.{list_any}
 use Rattle.std.proofs.lemmas.Bool.{or_parts}
 use Rattle.std.proofs.lemmas.List.Elements.{All-cons, All-head, All-nil, All-tail}
@@ -12,11 +12,14 @@ use Rattle.xet_error.specs.declared.error.FileReconstructionError.{FileReconstru
 use Rattle.xet_error.specs.declared.error.FileReconstructionError.TheVariants as error
 use Rattle.xet_ties.specs.declared.lane_step.LaneStep.{LaneStep}
 use Rattle.xet_ties.specs.declared.lane_step.LaneStep.TheVariants as step
-use Rattle.xet_ties.specs.Lanes.{AreAt, AreOf, Ask, EachDrew, HidesNone, IsOf, StepCause, entries_of, may_hide}
+use Rattle.xet_ties.specs.Lanes.{AreAt, AreOf, Ask, EachDrew, HidesNone, IsOf, StepCause, any_faults, entries_of, error_faults, faults_in, may_hide}
 use Rattle.xet_ties.specs.Setup.{AllTell}
+use Rattle.xet_ties.specs.Ties.{EachUnfailed, FirstUnfailed}
 use Rattle.xet_lanes.specs.Fetches.{NoneFailedBefore, error_at, error_in, last_error}
 use Rattle.xet_lanes.specs.JoinErrors.{lacks_memory, wants_memory}
 use Rattle.xet_lanes.specs.Rounds.{End, NoneEndedBadly, steps_of}
+use Rattle.xet_lanes.proofs.CallerLemmas.{NoErrorBelow}
+use Rattle.xet_ties.specs.steps.Rounds.{EachHides, NoneBelow, calm_after}
 use Rattle.xet_leader.proofs.HonestBlocks.{IsHonestOf}
 
 -- ---- the last step
@@ -133,3 +136,80 @@ lanes_well (x ∷ es) before w =
     let B : End → Type 0 = λ (e : End). NoneFailedBefore e.steps in
     All-cons HidesNone x.steps (steps_of es) (lane_well x.steps (All-head B x es before) w.1)
     (lanes_well es (All-tail B x es before) w.2)
+
+-- nor in a lane below one that has an error
+pub none_below : (es : List End) (hs : List (List Served)) (i : ℕ)
+    → All (λ (e : End). NoneFailedBefore e.steps) es → NoErrorBelow i es → EachHides (steps_of es) hs → NoneBelow i hs
+none_below es hs zero before w h = tt
+none_below [] hs (suc i) before w h = absurd w
+none_below (x ∷ es) [] (suc i) before w h = absurd h
+none_below (x ∷ es) (s ∷ hs) (suc i) before w h =
+    let B : End → Type 0 = λ (e : End). NoneFailedBefore e.steps in
+    (h.0 (lane_well x.steps (All-head B x es before) w.0), none_below es hs i (All-tail B x es before) w.1 h.1)
+
+-- ---- steps without a failed call
+
+calm_step : (s : LaneStep) → error_in s ≡ None → faults_in s ≡ false
+calm_step (step.Served p k d) h = refl
+calm_step (step.Expired p k) h = refl
+calm_step (step.Failed e) h = absurd (cc)
+
+pub lane_calm : (ss : List LaneStep) → NoneFailedBefore ss → last_error ss ≡ None → any_faults ss ≡ false
+lane_calm [] before w = refl
+lane_calm (x ∷ []) before w = ap (λ (v : Bool). v || false) (calm_step x w)
+lane_calm (x ∷ y ∷ ss) before w =
+    ap (λ (v : Bool). v || any_faults (y ∷ ss)) (calm_step x before.0)
+    ∙ lane_calm (y ∷ ss) before.1 (sym (last_more x y ss) ∙ w)
+
+-- so of each lane, where no step failed
+pub lanes_calm : (es : List End) → All (λ (e : End). NoneFailedBefore e.steps) es → NoneEndedBadly es
+    → All (λ ss. any_faults ss ≡ false) (steps_of es)
+lanes_calm [] before w = All-nil (λ ss. any_faults ss ≡ false)
+lanes_calm (x ∷ es) before w =
+    let B : End → Type 0 = λ (e : End). NoneFailedBefore e.steps in
+    All-cons (λ ss. any_faults ss ≡ false) x.steps (steps_of es) (lane_calm x.steps (All-head B x es before) w.1)
+    (lanes_calm es (All-tail B x es before) w.2)
+
+pub calm_whole : (k : ℕ) (ls : List (List LaneStep)) → All (λ ss. any_faults ss ≡ false) ls → calm_after k ls ≡ k
+calm_whole zero ls h = refl
+calm_whole (suc k) [] h = refl
+calm_whole (suc k) (ss ∷ ls) h =
+    let C : List LaneStep → Type 0 = λ ss. any_faults ss ≡ false in
+    ap (λ (v : Bool). cond v 0 (suc (calm_after k ls))) (All-head C ss ls h)
+    ∙ ap suc (calm_whole k ls (All-tail C ss ls h))
+
+-- nor where a last one failed without a failed call
+faults_of : (s : LaneStep) (e : FileReconstructionError) → error_in s ≡ Some e → error_faults e ≡ false
+    → faults_in s ≡ false
+faults_of (step.Served p k d) e h w = absurd (cc)
+faults_of (step.Expired p k) e h w = absurd (cc)
+faults_of (step.Failed x) e h w = let same : x ≡ e = cc in ap error_faults same ∙ w
+
+last_calm : (ss : List LaneStep) (e : FileReconstructionError) → NoneFailedBefore ss → last_error ss ≡ Some e
+    → error_faults e ≡ false → any_faults ss ≡ false
+last_calm [] e before w h = refl
+last_calm (x ∷ []) e before w h = ap (λ (v : Bool). v || false) (faults_of x e w h)
+last_calm (x ∷ y ∷ ss) e before w h =
+    ap (λ (v : Bool). v || any_faults (y ∷ ss)) (calm_step x before.0)
+    ∙ last_calm (y ∷ ss) e before.1 (sym (last_more x y ss) ∙ w) h
+
+-- the connections up to a lane whose error comes of no failed call, the lowest that has one, told no fault
+pub upto_unfailed : (fs : List Ask) (bs ms ns : List ClientTold) (drawn : List (List ℕ)) (es : List End) (i : ℕ)
+    (end : End) (e : FileReconstructionError) → EachDrew fs ms ns drawn (steps_of es) → EachUnfailed bs ms
+    → All (λ (e : End). NoneFailedBefore e.steps) es → NoErrorBelow i es → slice_get es i ≡ Some end
+    → last_error end.steps ≡ Some e → error_faults e ≡ false → FirstUnfailed (suc i) bs ns
+upto_unfailed fs bs ms ns drawn [] i end e d h before w at last faults = absurd (cc)
+upto_unfailed fs [] ms ns drawn (x ∷ es) i end e d h before w at last faults = tt
+upto_unfailed fs (b ∷ bs) ms ns [] (x ∷ es) i end e d h before w at last faults = absurd d
+upto_unfailed fs (b ∷ bs) [] ns (q ∷ qs) (x ∷ es) i end e d h before w at last faults = absurd d
+upto_unfailed fs (b ∷ bs) (m ∷ ms) [] (q ∷ qs) (x ∷ es) i end e d h before w at last faults = absurd d
+upto_unfailed fs (b ∷ bs) (m ∷ ms) (n ∷ ns) (q ∷ qs) (x ∷ es) zero end e d h before w at last faults =
+    let B : End → Type 0 = λ (e : End). NoneFailedBefore e.steps in
+    let same : x ≡ end = cc in
+    let calm = last_calm x.steps e (All-head B x es before) (ap (λ (y : End). last_error y.steps) same ∙ last) faults in
+    (d.0.did.unfailed calm ∙ h.0, tt)
+upto_unfailed fs (b ∷ bs) (m ∷ ms) (n ∷ ns) (q ∷ qs) (x ∷ es) (suc i) end e d h before w at last faults =
+    let B : End → Type 0 = λ (e : End). NoneFailedBefore e.steps in (
+      d.0.did.unfailed (lane_calm x.steps (All-head B x es before) w.0) ∙ h.0,
+      upto_unfailed fs bs ms ns qs es i end e d.1 h.1 (All-tail B x es before) w.1 at last faults,
+    )

@@ -143,8 +143,8 @@ module _ (g : Setup) (b : RunTold) (m : Moment) (l : Led) where
           spare = s.settled.spare;
           pending = refl;
           due = s.settled.due;
-          step =
-              s.settled.step;
+          step = s.settled.step;
+          calm = s.settled.calm;
         };
         led = led_more g b es sl to [] (record l { plans = ls }) (tells_more_looks sl to grew.0 refl grew.1) s.led;
         calm = s.calm;
@@ -217,6 +217,7 @@ module _ (g : Setup) (b : RunTold) (m : Moment) (l : Led) where
               s.settled.pending ∙ sym (blocks_stay es e acc named);
           due = s.settled.due;
           step = s.settled.step;
+          calm = s.settled.calm;
         };
         led = subst (λ (v : Event). IsLed g b (es ++ v ∷ []) to [] (record l { plans = ms })) event led;
         calm = s.calm;

@@ -190,8 +190,8 @@ offered_going g b m o a ps l x d at kept fetched call s =
         spare = s.settled.spare;
         pending = s.settled.pending;
         due = refl;
-        step =
-            s.settled.step;
+        step = s.settled.step;
+        calm = s.settled.calm;
       };
       led = led_more g b m.events s.slack (record s.slack { due = n }) o.stale l
           (tells_more_heard s.slack (record s.slack { due = n }) (grew_none s.slack.heard) refl) s.led;

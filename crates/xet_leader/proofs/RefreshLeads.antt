@@ -58,6 +58,7 @@ settled_same b o ps qs sl s = record {
   pending = s.pending;
   due = s.due;
   step = s.step;
+  calm = s.calm;
 }
 
 -- ---- a number of no plan
@@ -144,6 +145,7 @@ renewed_going g b m o cs c multi p place rest l a same is found r s =
         pending = s.settled.pending;
         due = s.settled.due;
         step = ties.1;
+        calm = s.settled.calm;
       };
       led = subst (λ (es : List Event). IsLed g b es to rest (with_plans l a)) (sym r.call.recorded)
           (subst (λ (ls : List LedPlan). IsLed g b (m.events ++ Refreshed p ∷ []) to rest (record l { plans = ls }))
@@ -167,19 +169,21 @@ refused g b m o cs c multi p place rest l a e same is found r s =
     let covers : range_at m.events p ≡ covered (shape plan) query ∷ [] =
     own.at_range ∙ ap (λ (q : FileRange). q ∷ []) table.range_is in
     let short = refresh_cause g b m.told m.events a.events s.slack p x.block r.block multi plan query c a.client cs e is
-    r.call (asks_again g x plan query multi same own.plan_is.blocks table) s.settled.lost s.settled.step covers
+    r.call (asks_again g x plan query multi same own.plan_is.blocks table) s.settled.lost s.settled.step
+    (record { calm = s.settled.calm; hidden = ap all_of s.settled.hidden ∙ none_hidden b.clients }) covers
     s.led.some own.plan_is.accepted
     (λ z over y h. refresh_passes g z over.valid plan query
     (own.plan_is.true_plan z over) own.plan_is.accepted.said.some y h) s.ties in
     let sl : Slack = record s.slack {
       heard = heard_first short.queries short.answers s.slack.heard;
       lost = short.queries;
+      calm = short.calm;
     } in
     record {
       slack = sl;
       ties = short.ties;
       left = steady_leaves b.clients e sl (ap all_of s.settled.hidden ∙ none_hidden b.clients)
-          (subst NoneLate (sym s.settled.late) (none_late b.clients)) s.settled.ahead;
+          (subst NoneLate (sym s.settled.late) (none_late b.clients)) s.settled.ahead short.kept;
       cause = short.cause;
       unfailed = any_unfailed b.sink.faults m.told.sink.faults e s.unfailed;
       spent = λ h. absurd (subst (λ (y : FileReconstructionError). RefreshCause (again x.block multi) c a.client y) h

@@ -45,7 +45,7 @@ use Rattle.xet_leader.specs.RunWindows.{IsWindow}
 use Rattle.xet_leader.specs.Steady.{IsFailing, IsGoing, IsIdle, IsSteady, Loose, Moment}
 use Rattle.xet_leader.proofs.AskedBlocks.{memory_fails}
 use Rattle.xet_leader.proofs.LaneEvents.{blocks_same, join_plans_none, round_still, still_all}
-use Rattle.xet_leader.proofs.LastSteps.{lanes_well}
+use Rattle.xet_leader.proofs.LastSteps.{calm_whole, lanes_calm, lanes_well}
 use Rattle.xet_leader.proofs.MoreTold.{led_more, tells_more_heard}
 use Rattle.xet_leader.proofs.RoundAsks.{are_led_asks}
 use Rattle.xet_leader.proofs.RoundLeads.{loose_after, round_goes, round_memory, round_planned, round_spent}
@@ -284,7 +284,8 @@ stopped told g b m l cs lengths a z j tries fs e few same p f h =
     subst (λ (x : List Event). IsFailing g b (after_round told m z x) e) (sym h.recorded)
     (⊎_elim
     (λ (x : join_error j ≡ Some e). round_stops g b at m.events sl z.clients
-    (map ask_of f.asked) ends l lengths j.wrote e t.asks t.drew t.left t.ties t.led x t.whole t.cause
+    (map ask_of f.asked) ends l lengths j.wrote e t.asks t.drew t.left t.ties t.led
+    p.going.settled.calm x t.whole t.cause
     t.unfailed p.going.cache_tells)
     (λ (x : (join_error j ≡ None) × KeepFails tries j.ends.items (fetched_led cs l) e).
     let n = no_error j.wrote ends x.0 in
@@ -295,7 +296,8 @@ stopped told g b m l cs lengths a z j tries fs e few same p f h =
     let some : spends g.tries (flat_map places_of ls) (plans_kept ls l.plans) ≡ true =
     ap (λ (i : ℕ). spends i (flat_map places_of ls) (plans_kept ls l.plans)) few ∙ y.1 in
     let spent = round_spent g b at m.events sl z.clients (map ask_of f.asked) ls l lengths t.left
-    (lanes_well ends t.drew.last n.1) some (t.whole n.0.0 n.0.1) (t.unfailed n.0.0 n.0.1)
+    (lanes_well ends t.drew.last n.1) some (t.whole n.0.0 n.0.1)
+    (calm_whole sl.calm ls (lanes_calm ends t.drew.last n.1) ∙ p.going.settled.calm) (t.unfailed n.0.0 n.0.1)
     p.going.cache_tells in
     subst (λ (i : FileReconstructionError). IsFailing g b
     (after_round told m z (m.events ++ join_events j lengths)) i) (sym y.0)
@@ -404,7 +406,8 @@ went told g b m l k cs lengths a z j tries fs o few same p f h =
     ap (λ (i : ℕ). spends i (flat_map places_of ls) (plans_kept ls l.plans)) few ∙ kept.left in
     let go = round_goes g b at es sl z.clients (map ask_of f.asked) ls l ts w.rest t.left
     (lanes_well ends t.drew.last n.1) tries_left w.next w.within
-    (t.whole n.0.0 n.0.1 ∙ ap total w.lengths_are) s.settled.lost s.settled.step s.calm
+    (t.whole n.0.0 n.0.1 ∙ ap total w.lengths_are) s.settled.lost s.settled.step
+    (calm_whole sl.calm ls (lanes_calm ends t.drew.last n.1) ∙ s.settled.calm) s.calm
     (t.unfailed n.0.0 n.0.1) s.cache_tells in
     let all = lanes_events ls ++ wrote_of (map size ts) in
     let events : fs ≡ es ++ all = h.recorded ∙ ap (λ (r : Result ℕ FileReconstructionError). es ++

@@ -21,7 +21,7 @@ use Rattle.xet_ties.specs.Setup.{CacheTells, IsOver, RunTold, Setup}
 use Rattle.xet_ties.specs.steps.Moves.{no_hidden, no_late}
 use Rattle.xet_ties.specs.steps.Parts.{total}
 use Rattle.xet_ties.specs.steps.Records.{Recorded, expired_on, fetched_on, lane_events, places_of, wrote_of}
-use Rattle.xet_ties.specs.steps.Rounds.{blocks_at, got_of}
+use Rattle.xet_ties.specs.steps.Rounds.{blocks_at, calm_after, got_of}
 use Rattle.xet_ties.specs.Ties.{NoneLate, Slack, Ties, all_of, has_one}
 use Rattle.xet_ties.proofs.CallerLemmas.{grew_none, have_expired, none_hidden, none_late, short_leaves, steady_leaves, tie_written, written_short}
 use Rattle.xet_leader.specs.Expiries.{spends, stale_after}
@@ -83,14 +83,15 @@ pub round_goes : (g : Setup) (b at : RunTold) (es : List Event) (sl : Slack) (ns
     → spends g.tries (flat_map places_of ls) (plans_kept ls l.plans) ≡ false
     → drop l.finished (planned es) ≡ ts ++ rest → l.finished + length ts ≤ l.admitted
     → sl.ahead ≡ total (map size ts)
-    → sl.lost ≡ [] → InStep sl.heard → at.signal.yes ≡ b.signal.yes → at.sink.faults ≡ b.sink.faults
+    → sl.lost ≡ [] → InStep sl.heard → calm_after sl.calm ls ≡ length b.clients
+    → at.signal.yes ≡ b.signal.yes → at.sink.faults ≡ b.sink.faults
     → ((s : Store) → IsOver s b.clients → CacheTells s b.cache → CacheTells s at.cache)
     → IsGoing g b (record {
       told = record at { clients = ns };
       events = es ++ (lanes_events ls ++ wrote_of (map size ts));
     }) (loose_after es ls sl.due)
     (advanced (length ts) (record l { plans = plans_after ls l.plans }))
-round_goes g b at es sl ns fs ls l ts rest r none left next within ahead lost step calm unfailed tells =
+round_goes g b at es sl ns fs ls l ts rest r none left next within ahead lost step told_calm calm unfailed tells =
     let n : RunTold = record at { clients = ns } in
     let mid = es ++ lanes_events ls in
     let sizes = map size ts in
@@ -116,6 +117,7 @@ round_goes g b at es sl ns fs ls l ts rest r none left next within ahead lost st
         pending = a.pending;
         due = a.due;
         step = a.step step;
+        calm = a.calm ∙ told_calm;
       };
       led = subst (λ (x : List Event). IsLed g b x to (stale_after (flat_map places_of ls) [])
           (advanced (length ts) k)) (append_assoc es (lanes_events ls) (wrote_of sizes)) moved;
@@ -147,10 +149,11 @@ memory_fails g b at es sl t tells = record {
 
 -- a block has no tries left, and all else is settled
 pub spent_fails : (g : Setup) (b at : RunTold) (es : List Event) (sl : Slack) → IsSpent g.tries es
-    → sl.hidden ≡ no_hidden b.clients → sl.late ≡ no_late b.clients → sl.ahead ≡ 0 → Ties g b at es None sl
+    → sl.hidden ≡ no_hidden b.clients → sl.late ≡ no_late b.clients → sl.ahead ≡ 0
+    → sl.calm ≡ length b.clients → Ties g b at es None sl
     → at.sink.faults ≡ b.sink.faults → ((s : Store) → IsOver s b.clients → CacheTells s b.cache → CacheTells s at.cache)
     → IsFailing g b (record { told = at; events = es }) error.UrlExpired
-spent_fails g b at es sl h hidden late ahead t unfailed tells =
+spent_fails g b at es sl h hidden late ahead calm t unfailed tells =
     let most = t.tried.at_most h.plan h.block in
     let many = h.many in
     let same : count_by (expires h.plan h.block) es ≡ g.tries = omega (arith, most, many) in
@@ -158,7 +161,7 @@ spent_fails g b at es sl h hidden late ahead t unfailed tells =
       slack = sl;
       ties = t;
       left = steady_leaves b.clients error.UrlExpired sl (ap all_of hidden ∙ none_hidden b.clients)
-          (subst NoneLate (sym late) (none_late b.clients)) ahead;
+          (subst NoneLate (sym late) (none_late b.clients)) ahead (λ v. calm);
       cause = have_expired g b at es None sl h.plan h.block same t;
       unfailed = unfailed;
       spent = λ e. (h.plan, h.block, same);
@@ -169,12 +172,13 @@ spent_fails g b at es sl h hidden late ahead t unfailed tells =
 pub round_spent : (g : Setup) (b at : RunTold) (es : List Event) (sl : Slack) (ns : List ClientTold) (fs : List Ask)
     (ls : List (List LaneStep)) (l : Led) (lengths : List ℕ) → RoundLeft g b at es sl ns fs ls l → All HidesNone ls
     → spends g.tries (flat_map places_of ls) (plans_kept ls l.plans) ≡ true → sl.ahead ≡ total lengths
+    → calm_after sl.calm ls ≡ length b.clients
     → at.sink.faults ≡ b.sink.faults → ((s : Store) → IsOver s b.clients → CacheTells s b.cache → CacheTells s at.cache)
     → IsFailing g b (record {
       told = record at { clients = ns };
       events = es ++ (lanes_events ls ++ wrote_of lengths);
     }) error.UrlExpired
-round_spent g b at es sl ns fs ls l lengths r none some ahead unfailed tells =
+round_spent g b at es sl ns fs ls l lengths r none some ahead calm unfailed tells =
     let n : RunTold = record at { clients = ns } in
     let mid = es ++ lanes_events ls in
     let a = r.after in
@@ -184,7 +188,7 @@ round_spent g b at es sl ns fs ls l lengths r none some ahead unfailed tells =
     subst (λ (x : List Event). IsFailing g b (record { told = n; events = x }) error.UrlExpired)
     (append_assoc es (lanes_events ls) (wrote_of lengths))
     (spent_fails g b n (mid ++ wrote_of lengths) (record r.slack { ahead = 0 }) spent
-    (a.none none) a.late refl tied unfailed tells)
+    (a.none none) a.late refl (a.calm ∙ calm) tied unfailed tells)
 
 -- memory was wanting while all was recorded, bytes of the window too
 pub round_memory : (g : Setup) (b at : RunTold) (es new : List Event) (sl : Slack) (ns : List ClientTold)

@@ -1,5 +1,5 @@
 -- A run after a join that has an error: it is to stop with it.
-use Rattle.std.proofs.Common.{◌≡◌, ℕ, get_or, Bool, true, false, List, [], ◌∷◌, ◌++◌, refl, sym, subst, ◌∙◌, ap, arith, append_assoc, ⊎_elim, None, Some, Ok, Err, inl, inr}
+use Rattle.std.proofs.Common.{◌≡◌, ℕ, get_or, Bool, true, false, List, [], ◌∷◌, ◌++◌, refl, sym, subst, ◌∙◌, ap, arith, append_assoc, length, ⊎_elim, None, Some, Ok, Err, inl, inr}
 use Rattle.std.specs.Prelude.{All, Result, ◌≢◌, ◌⊎◌, cond, map}
 use Rattle.std.specs.List.{list_any}
 use Rattle.std.specs.Result.{result_err}
@@ -19,8 +19,8 @@ use Rattle.xet_ties.specs.Lanes.{Ask}
 use Rattle.xet_ties.specs.Setup.{CacheTells, IsOver, RunTold, Setup}
 use Rattle.xet_ties.specs.steps.Parts.{total}
 use Rattle.xet_ties.specs.steps.Records.{wrote_of}
-use Rattle.xet_ties.specs.Ties.{MayLeave, NoneLate, Slack, Ties, all_of}
-use Rattle.xet_ties.proofs.CallerLemmas.{none_hidden, none_late, tells_now, tie_written}
+use Rattle.xet_ties.specs.Ties.{FirstUnfailed, IsFaultless, MayLeave, NoneLate, Slack, Ties, all_of}
+use Rattle.xet_ties.proofs.CallerLemmas.{below_passed, none_hidden, none_late, tells_now, tie_written}
 use Rattle.xet_lanes.specs.JoinErrors.{end_error, first_error, lacks_memory, memory_was_short, wants_memory}
 use Rattle.xet_lanes.specs.Rounds.{End, LanesDrew, steps_of}
 use Rattle.xet_lanes.proofs.CallerLemmas.{FailedLane, error_cause}
@@ -28,9 +28,9 @@ use Rattle.xet_leader.specs.Led.{IsLed, Led}
 use Rattle.xet_leader.specs.RoundRecords.{lanes_events, window_events}
 use Rattle.xet_leader.specs.Rounds.{AreLedAsks, RoundLeft}
 use Rattle.xet_leader.specs.Steady.{IsFailing}
-use Rattle.xet_leader.proofs.FailedLanes.{honest_ask, lane_cause, never_spent, own_asks}
+use Rattle.xet_leader.proofs.FailedLanes.{honest_ask, lane_cause, never_calm, never_spent, own_asks}
 use Rattle.xet_leader.proofs.HonestBlocks.{IsHonestOf}
-use Rattle.xet_leader.proofs.LastSteps.{lanes_honest}
+use Rattle.xet_leader.proofs.LastSteps.{lanes_honest, none_below, upto_unfailed}
 use Rattle.xet_leader.proofs.RoundLeads.{memory_fails}
 use Rattle.xet_leader.proofs.WriterFaults.{any_unfailed, sink_unfailed}
 
@@ -97,8 +97,8 @@ leaves : (g : Setup) (b at : RunTold) (es : List Event) (sl : Slack) (ns : List 
     → LanesDrew fs at.clients ns ends → (r : RoundLeft g b at es sl ns fs (steps_of ends) l)
     → list_any lacks_memory ends ≡ false
     → Ties g b at es None sl → IsLed g b es sl [] l → to.hidden ≡ r.slack.hidden → to.late ≡ r.slack.late
-    → (e ≢ error.IoError → to.ahead ≡ 0) → MayLeave (Some e) b.clients to
-leaves g b at es sl ns fs ends l e to asks d r memory t led hidden late ahead = record {
+    → (e ≢ error.IoError → to.ahead ≡ 0) → (IsFaultless (Some e) → ⊥) → MayLeave (Some e) b.clients to
+leaves g b at es sl ns fs ends l e to asks d r memory t led hidden late ahead loud = record {
   none = λ h. absurd (cc);
   honest = λ s over other.
       let honest : All (λ a. IsHonestOf s a.block) fs =
@@ -109,6 +109,7 @@ leaves g b at es sl ns fs ends l e to asks d r memory t led hidden late ahead = 
       ap all_of (hidden ∙ r.after.none none) ∙ none_hidden b.clients;
   late = λ other. subst NoneLate (sym (late ∙ r.after.late)) (none_late b.clients);
   counted = λ other io. ahead (λ h. io (ap Some h));
+  quiet = λ c. absurd (loud c);
 }
 
 -- the writer's error
@@ -135,7 +136,8 @@ write_stops g b at es sl ns fs ends l e new wrote asks d r t led m j sink tells 
     taken h = record {
       slack = j.slack;
       ties = j.ties;
-      left = leaves g b at es sl ns fs ends l e j.slack asks d r m t led j.hidden j.late (λ io. absurd (io h.0));
+      left = leaves g b at es sl ns fs ends l e j.slack asks d r m t led j.hidden j.late (λ io. absurd (io h.0))
+          (λ c. subst (λ (x : FileReconstructionError). IsFaultless (Some x)) h.0 c);
       cause = subst (Cause g j.slack.heard b n) (sym h.0) h.1;
       unfailed = sink_unfailed b.sink.faults at.sink.faults b.sink.faults at.sink.faults e sink;
       spent = λ u. absurd (let z : error.IoError ≡ error.UrlExpired = sym h.0 ∙ u in cc);
@@ -147,19 +149,24 @@ lane_stops : (g : Setup) (b at : RunTold) (es : List Event) (sl : Slack) (ns : L
     (ends : List End) (l : Led) (e : FileReconstructionError) (new : List Event) (k : ℕ)
     → AreLedAsks es sl.pending l.plans fs → LanesDrew fs at.clients ns ends
     → (r : RoundLeft g b at es sl ns fs (steps_of ends) l)
-    → Ties g b at es None sl → IsLed g b es sl [] l → list_any lacks_memory ends ≡ false
+    → Ties g b at es None sl → IsLed g b es sl [] l → sl.calm ≡ length b.clients → list_any lacks_memory ends ≡ false
     → JoinTied g b (record at { clients = ns }) new r.slack (Ok k) → FailedLane ends e
     → at.sink.faults ≡ b.sink.faults → ((s : Store) → IsOver s b.clients → CacheTells s b.cache → CacheTells s at.cache)
     → IsFailing g b (record { told = record at { clients = ns }; events = new }) e
-lane_stops g b at es sl ns fs ends l e new k asks d r t led m j f same tells =
+lane_stops g b at es sl ns fs ends l e new k asks d r t led calm m j f same tells =
     let own = own_asks es l fs asks.own asks.led asks.missing in
+    let below = below_passed g (es ++ lanes_events (steps_of ends)) r.slack.heard f.at 0 r.slack.heard r.slack.hidden
+    (none_below ends r.slack.hidden f.at d.last f.below r.after.hides) r.ties.heard_served r.ties.passed in
     record {
       slack = j.slack;
       ties = j.ties;
-      left = leaves g b at es sl ns fs ends l e j.slack asks d r m t led j.hidden j.late (λ io. j.ahead k refl);
+      left = leaves g b at es sl ns fs ends l e j.slack asks d r m t led j.hidden j.late (λ io. j.ahead k refl)
+          (never_calm g es l at.clients ns fs d.drew.drawn ends e own d.drew.each f);
       cause = subst (λ (xs : List Exchange). Cause g xs b (record at { clients = ns }) e) (sym j.heard)
           (lane_cause g b at es sl ns fs d.drew.drawn ends l e r.slack.heard own d.drew.each f r.after.grew
-          r.after.asked r.ties.heard (r.after.found asks.own) t led);
+          r.after.asked r.ties.heard r.after.failed below (λ h. upto_unfailed fs b.clients at.clients ns d.drew.drawn
+          ends f.at f.end e d.drew.each (subst (λ (i : ℕ). FirstUnfailed i b.clients at.clients) calm t.unfailed)
+          d.last f.below f.there f.error h) t led);
       unfailed = any_unfailed b.sink.faults at.sink.faults e same;
       spent = λ u. absurd (never_spent g es l at.clients ns fs d.drew.drawn ends own d.drew.each
           (subst (FailedLane ends) u f));
@@ -171,7 +178,7 @@ pub round_stops : (g : Setup) (b at : RunTold) (es : List Event) (sl : Slack) (n
     (ends : List End) (l : Led) (lengths : List ℕ) (wrote : Result ℕ FileReconstructionError)
     (e : FileReconstructionError) → AreLedAsks es sl.pending l.plans fs → LanesDrew fs at.clients ns ends
     → RoundLeft g b at es sl ns fs (steps_of ends) l → Ties g b at es None sl → IsLed g b es sl [] l
-    → first_error wrote ends ≡ Some e → ((k : ℕ) → wrote ≡ Ok k → sl.ahead ≡ total lengths)
+    → sl.calm ≡ length b.clients → first_error wrote ends ≡ Some e → ((k : ℕ) → wrote ≡ Ok k → sl.ahead ≡ total lengths)
     → ((x : FileReconstructionError) → wrote ≡ Err x → SinkCause b.sink.faults at.sink.faults x)
     → ((k : ℕ) → wrote ≡ Ok k → at.sink.faults ≡ b.sink.faults)
     → ((s : Store) → IsOver s b.clients → CacheTells s b.cache → CacheTells s at.cache)
@@ -179,7 +186,7 @@ pub round_stops : (g : Setup) (b at : RunTold) (es : List Event) (sl : Slack) (n
       told = record at { clients = ns };
       events = es ++ (lanes_events (steps_of ends) ++ window_events wrote lengths);
     }) e
-round_stops g b at es sl ns fs ends l lengths (Err x) e asks d r t led first whole sink same tells =
+round_stops g b at es sl ns fs ends l lengths (Err x) e asks d r t led calm first whole sink same tells =
     let j = join_tied g b at es sl ns fs (steps_of ends) l lengths (Err x) r whole in
     let n : RunTold = record at { clients = ns } in
     let new = es ++ (lanes_events (steps_of ends) ++ window_events (Err x) lengths) in
@@ -189,7 +196,7 @@ round_stops g b at es sl ns fs ends l lengths (Err x) e asks d r t led first who
     write_stops g b at es sl ns fs ends l e new (Err x) asks d r t led o.0 j
     (subst (SinkCause b.sink.faults at.sink.faults) is (sink x refl)) tells)
     (other_error (Err x) ends e first)
-round_stops g b at es sl ns fs ends l lengths (Ok k) e asks d r t led first whole sink same tells =
+round_stops g b at es sl ns fs ends l lengths (Ok k) e asks d r t led calm first whole sink same tells =
     let j = join_tied g b at es sl ns fs (steps_of ends) l lengths (Ok k) r whole in
     let n : RunTold = record at { clients = ns } in
     let new = es ++ (lanes_events (steps_of ends) ++ window_events (Ok k) lengths) in
@@ -200,7 +207,8 @@ round_stops g b at es sl ns fs ends l lengths (Ok k) e asks d r t led first whol
     (λ (o : (list_any lacks_memory ends ≡ false) × (first_some (None ∷ map end_error ends) ≡ Some e)).
     ⊎_elim memory
     (λ (c : (Ok k ≡ Err e) ⊎ FailedLane ends e). ⊎_elim (λ (w : Ok k ≡ Err e). absurd (cc))
-    (λ (f : FailedLane ends e). lane_stops g b at es sl ns fs ends l e new k asks d r t led o.0 j f (same k refl) tells) c)
+    (λ (f : FailedLane ends e). lane_stops g b at es sl ns fs ends l e new k asks d r t led calm o.0 j f
+    (same k refl) tells) c)
     (error_cause (Ok k) ends e first))
     (other_error (Ok k) ends e first)
 

@@ -106,6 +106,7 @@ first_starts j p k b h some = record {
     pending = refl;
     due = refl;
     step = in_step (setup_of_job j) b.clients h;
+    calm = refl;
   };
   led = led_start j p b k h some;
   calm = refl;

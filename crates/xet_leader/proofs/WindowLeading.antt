@@ -129,7 +129,7 @@ module _ (g : Setup) (b : RunTold) (m : Moment) (o : Loose) (l : Led) (s : IsGoi
       let hidden : all_of s.slack.hidden ≡ [] = ap all_of s.settled.hidden ∙ none_hidden b.clients in
       let late : NoneLate s.slack.late = subst NoneLate (sym s.settled.late)
       (none_late b.clients) in
-      steady_leaves b.clients e s.slack hidden late s.settled.ahead
+      steady_leaves b.clients e s.slack hidden late s.settled.ahead (λ v. s.settled.calm)
 
   -- a plan's number is that of its query
   numbered : {t : PlanTerm} → (led : IsLedTerm g b m.events s.slack o.stale t)
@@ -148,6 +148,7 @@ module _ (g : Setup) (b : RunTold) (m : Moment) (o : Loose) (l : Led) (s : IsGoi
         ties = s.ties;
         left = leaves (error.CorruptedReconstruction k);
         cause = is_corrupted g b m.told m.events None s.slack k s.ties
+            (record { calm = s.settled.calm; hidden = ap all_of s.settled.hidden ∙ none_hidden b.clients })
             (λ st over. let e : ◌≡◌ {A = Option Corruption} None (Some k) = sym
             (sound_passes g b m.events s.slack o.stale f.term led x.data_of x.kept st over) ∙ x.fails in
             absurd (cc))

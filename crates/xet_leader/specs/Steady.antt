@@ -1,5 +1,5 @@
 -- Where a run stands between the parts of a turn, and how it fails.
-use Rattle.std.specs.Prelude.{ℕ, ◌≡◌, false, List, [], count_by, None, Some, Result, Err, OnOk, IfErr}
+use Rattle.std.specs.Prelude.{ℕ, ◌≡◌, false, List, [], count_by, length, None, Some, Result, Err, OnOk, IfErr}
 use Rattle.xet_base.specs.Store.{Store}
 use Rattle.xet_outside.specs.Told.{SinkTold}
 use Rattle.xet_error.specs.declared.error.FileReconstructionError.{FileReconstructionError}
@@ -43,6 +43,8 @@ pub record IsSettled (b : RunTold) (o : Loose) (sl : Slack) : Type 0 where
   pub pending : sl.pending ≡ o.pending
   pub due : sl.due ≡ o.due
   pub step : InStep sl.heard
+  -- no connection told a fault
+  pub calm : sl.calm ≡ length b.clients
 
 -- the writer holds nothing back: it took what was written
 pub record IsIdle {S : Type 0} (told : S → SinkTold) (m : Moment) (w : Sequential S) : Type 0 where

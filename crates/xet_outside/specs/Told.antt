@@ -126,6 +126,7 @@ pub record PlanCall (before after : ClientTold) (file : MerkleHash) (range : Fil
   pub served : after.served ≡ before.served
   pub faults : before.faults ≤ after.faults
   pub failed : IsErrOf answer client_error.Failed → Rose before.faults after.faults
+  pub unfailed : OnOk answer (after.faults ≡ before.faults)
   pub expiries : before.expiries ≤ after.expiries
   pub link : after.link ≡ before.link
 
@@ -146,6 +147,7 @@ pub record BlockCall (before after : ClientTold) (request : BlockRequest)
   pub unserved : OnErr answer (after.served ≡ before.served)
   pub faults : before.faults ≤ after.faults
   pub failed : IsErrOf answer client_error.Failed → Rose before.faults after.faults
+  pub unfailed : OnOk answer (after.faults ≡ before.faults)
   pub expiries : before.expiries ≤ after.expiries
   pub link : after.link ≡ before.link
   pub expired : IfOk answer (λ a. a ≡ Expired → Rose before.expiries after.expiries)

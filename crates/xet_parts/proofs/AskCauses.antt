@@ -1,5 +1,5 @@
 -- The causes of the errors of asking for a plan.
-use Rattle.std.proofs.Common.{◌≡◌, ℕ, ◌+◌, ◌<◌, ◌≤◌, false, List, [], ◌∷◌, ◌++◌, Option, Some, None, Err, sym, subst, ◌∙◌, ap, arith, inl, ⊎_elim}
+use Rattle.std.proofs.Common.{◌≡◌, ℕ, ◌+◌, ◌<◌, ◌≤◌, false, List, [], ◌∷◌, ◌++◌, length, Option, Some, None, Err, sym, subst, ◌∙◌, ap, arith, inl, ⊎_elim}
 use Rattle.xet_base.specs.declared.cas_types.FileRange.{FileRange}
 use Rattle.xet_base.specs.declared.unique_id.UniqueId.{UniqueId}
 use Rattle.xet_base.specs.Store.{IsValid, Store}
@@ -23,13 +23,13 @@ use Rattle.xet_run.specs.Events.{plan_count}
 use Rattle.xet_history.specs.Queries.{CutFrom}
 use Rattle.xet_history.specs.TrueHistory.{queries}
 use Rattle.xet_terms.specs.Managers.{IsManager, Manager, PassesKnownEnd}
-use Rattle.xet_ties.specs.Causes.{Cause, SomeFailed, SomeRose}
+use Rattle.xet_ties.specs.Causes.{Cause, LowestRose, SomeFailed}
 use Rattle.xet_ties.specs.InCall.{Exchange, Place}
-use Rattle.xet_ties.specs.Saids.{InStep}
+use Rattle.xet_ties.specs.Saids.{InStep, ServedPassed}
 use Rattle.xet_ties.specs.Setup.{AllTell, IsOver, RunTold, Setup}
 use Rattle.xet_ties.specs.steps.Moves.{heard_first}
 use Rattle.xet_ties.specs.steps.Parts.{AskedSaid, plan_query, AskedShort}
-use Rattle.xet_ties.specs.Ties.{CutsRange, EachLane, Slack, Ties, IsNextQuery}
+use Rattle.xet_ties.specs.Ties.{IsQuiet, IsFaultless, CutsRange, EachLane, Slack, Ties, IsNextQuery}
 use Rattle.xet_ties.proofs.CallerLemmas.{ask_said, asked_own, corrupted, file_missing, first_tells, plan_fails, missing_file, ask_short}
 use Rattle.xet_parts.proofs.AskTies.{ask_fails_ties}
 use Rattle.xet_parts.specs.PlanAsks.{AskPlanCall, PlanFails, QueryFails}
@@ -37,11 +37,11 @@ use Rattle.xet_parts.specs.PlanAsks.{AskPlanCall, PlanFails, QueryFails}
 -- ---- counts
 
 -- the faults of the first connection rose since the start, where they rose in a call
-pub first_rose : (es : List Event) (bs : List ClientTold) (c n : ClientTold) (cs : List ClientTold) (hs : List (List Served)) (ks : List (List Place)) → EachLane es 0 bs (c ∷ cs) hs ks → Rose c.faults n.faults → SomeRose bs (n ∷ cs)
-first_rose es [] c n cs hs ks t r = absurd t
-first_rose es (b ∷ bs) c n cs [] ks t r = absurd t
-first_rose es (b ∷ bs) c n cs (h ∷ hs) [] t r = absurd t
-first_rose es (b ∷ bs) c n cs (h ∷ hs) (k ∷ ks) t r = inl (rose b.faults c.faults n.faults t.0.goes_on.faults r)
+pub first_rose : (Q : Exchange → Type 0) (es : List Event) (bs : List ClientTold) (c n : ClientTold) (cs : List ClientTold) (hs : List (List Served)) (ks : List (List Place)) (xs : List Exchange) → EachLane es 0 bs (c ∷ cs) hs ks → Rose c.faults n.faults → LowestRose Q bs (n ∷ cs) xs
+first_rose Q es [] c n cs hs ks xs t r = absurd t
+first_rose Q es (b ∷ bs) c n cs [] ks xs t r = absurd t
+first_rose Q es (b ∷ bs) c n cs (h ∷ hs) [] xs t r = absurd t
+first_rose Q es (b ∷ bs) c n cs (h ∷ hs) (k ∷ ks) xs t r = inl (rose b.faults c.faults n.faults t.0.goes_on.faults r)
   where
     rose : (x y z : ℕ) → x ≤ y → Rose y z → Rose x z
     rose x y z a h = omega arith
@@ -93,80 +93,83 @@ missing_cause g b at es sl c n cs q is t some answered heard =
 
 -- its faults rose
 pub rose_cause : (g : Setup) (b at : RunTold) (es : List Event) (sl : Slack) (c n : ClientTold) (cs : List ClientTold) → at.clients ≡ c ∷ cs → Ties g b at es None sl → Rose c.faults n.faults → (xs : List Exchange) → Cause g xs b (record at { clients = n ∷ cs }) error.ClientError
-rose_cause g b at es sl c n cs is t r xs = first_rose es b.clients c n cs sl.hidden sl.late (subst (λ (l : List ClientTold). EachLane es 0 b.clients l sl.hidden sl.late) is t.served.lanes) r
+rose_cause g b at es sl c n cs is t r xs = first_rose (ServedPassed g xs) es b.clients c n cs sl.hidden sl.late xs (subst (λ (l : List ClientTold). EachLane es 0 b.clients l sl.hidden sl.late) is t.served.lanes) r
 
 -- its answer fails this test, and over a valid store none does
-pub failed_cause : (g : Setup) (b at : RunTold) (es : List Event) (sl : Slack) (c n : ClientTold) (cs : List ClientTold) (q : FileRange) (a : PlanAnswer) (k : Corruption) → at.clients ≡ c ∷ cs → Ties g b at es None sl
+pub failed_cause : (g : Setup) (b at : RunTold) (es : List Event) (sl : Slack) (c n : ClientTold) (cs : List ClientTold) (q : FileRange) (a : PlanAnswer) (k : Corruption) → at.clients ≡ c ∷ cs → Ties g b at es None sl → IsQuiet b.clients sl
     → QueryAnswered c n (g.file, q) a → AskedSaid g b at es sl (n ∷ cs) q a → ((s : Store) → IsOver s b.clients → IsHonest s g.file q a → ⊥) → SomeFailed g (heard_first ((g.file, q) ∷ []) (said.Plan a ∷ []) sl.heard) k
     → Cause g (heard_first ((g.file, q) ∷ []) (said.Plan a ∷ []) sl.heard) b (record at { clients = n ∷ cs }) (error.CorruptedReconstruction k)
-failed_cause g b at es sl c n cs q a k is t answered heard untrue failed = corrupted g b (record at { clients = n ∷ cs }) es None _ k heard.ties (λ s over. untrue s over (answered.honest s (tells_now s g b at es sl c cs is t over.tell))) failed
+failed_cause g b at es sl c n cs q a k is t quiet answered heard untrue failed = corrupted g b (record at { clients = n ∷ cs }) es None _ k heard.ties (record { calm = quiet.calm; hidden = quiet.hidden }) (λ s over. untrue s over (answered.honest s (tells_now s g b at es sl c cs is t over.tell))) failed
 
 -- ---- asking
 
 answered_of : (g : Setup) (q : FileRange) (id : UniqueId) (c n : ClientTold) (answer : Answer) → (from : FromSaid c n (plan_query g q id) answer) → QueryAnswered c n (g.file, q) from.plan
-answered_of g q id c n answer from = record { asked = from.asked; said = from.said; honest = from.honest }
+answered_of g q id c n answer from = record { asked = from.asked; said = from.said; unfailed = from.unfailed; honest = from.honest }
 
 -- the first connection was asked, no event says so, and the error has its cause by what was heard then
 pub record AskedCause (g : Setup) (b at : RunTold) (es : List Event) (sl : Slack) (after : List ClientTold) (e : FileReconstructionError) : Type 0 where
   pub queries : List Query
   pub answers : List Said
-  pub ties : Ties g b (record at { clients = after }) es None (record sl { heard = heard_first queries answers sl.heard; lost = queries })
+  pub calm : ℕ
+  pub kept : IsFaultless (Some e) → calm ≡ length b.clients
+  pub ties : Ties g b (record at { clients = after }) es None (record sl { heard = heard_first queries answers sl.heard; lost = queries; calm = calm })
   pub cause : Cause g (heard_first queries answers sl.heard) b (record at { clients = after }) e
 
 -- whatever was answered
-pub short_cause : (g : Setup) (b at : RunTold) (es : List Event) (sl : Slack) (after : List ClientTold) (e : FileReconstructionError) → AskedShort g b at es sl after → ((xs : List Exchange) → Cause g xs b (record at { clients = after }) e)
+pub short_cause : (g : Setup) (b at : RunTold) (es : List Event) (sl : Slack) (after : List ClientTold) (e : FileReconstructionError) → AskedShort g b at es sl after → (IsFaultless (Some e) → ⊥) → ((xs : List Exchange) → Cause g xs b (record at { clients = after }) e)
     → AskedCause g b at es sl after e
-short_cause g b at es sl after e s c = record { queries = s.queries; answers = s.answers; ties = s.ties; cause = c (heard_first s.queries s.answers sl.heard) }
+short_cause g b at es sl after e s loud c = record { queries = s.queries; answers = s.answers; calm = 0; kept = λ v. absurd (loud v); ties = s.ties; cause = c (heard_first s.queries s.answers sl.heard) }
 
 -- by an answer that is the query's own
-pub said_cause : (g : Setup) (b at : RunTold) (es : List Event) (sl : Slack) (after : List ClientTold) (q : FileRange) (a : PlanAnswer) (e : FileReconstructionError) → AskedSaid g b at es sl after q a
+pub said_cause : (g : Setup) (b at : RunTold) (es : List Event) (sl : Slack) (after : List ClientTold) (q : FileRange) (a : PlanAnswer) (e : FileReconstructionError) → AskedSaid g b at es sl after q a → IsQuiet b.clients sl
     → Cause g (heard_first ((g.file, q) ∷ []) (said.Plan a ∷ []) sl.heard) b (record at { clients = after }) e → AskedCause g b at es sl after e
-said_cause g b at es sl after q a e s c = record { queries = (g.file, q) ∷ []; answers = said.Plan a ∷ []; ties = s.ties; cause = c }
+said_cause g b at es sl after q a e s quiet c = record { queries = (g.file, q) ∷ []; answers = said.Plan a ∷ []; calm = sl.calm; kept = λ v. quiet.calm; ties = s.ties; cause = c }
 
 query_cause : (g : Setup) (b at : RunTold) (es : List Event) (sl : Slack) (c n : ClientTold) (cs : List ClientTold) (q : FileRange) (id : UniqueId) (answer : Answer) (e : FileReconstructionError)
-    → at.clients ≡ c ∷ cs → sl.lost ≡ [] → InStep sl.heard → IsNextQuery g es q → Ties g b at es None sl → TermBlockCall c n (plan_query g q id) answer → TermBlockCause c n (plan_query g q id) e
+    → at.clients ≡ c ∷ cs → sl.lost ≡ [] → InStep sl.heard → IsQuiet b.clients sl → IsNextQuery g es q → Ties g b at es None sl → TermBlockCall c n (plan_query g q id) answer → TermBlockCause c n (plan_query g q id) e
     → AskedShort g b at es sl (n ∷ cs) → AskedCause g b at es sl (n ∷ cs) e
-query_cause g b at es sl c n cs q id answer error.OutOfMemory is none step next t call h short = short_cause g b at es sl (n ∷ cs) error.OutOfMemory short (λ xs. tt)
-query_cause g b at es sl c n cs q id answer error.ClientError is none step next t call h short = short_cause g b at es sl (n ∷ cs) error.ClientError short (rose_cause g b at es sl c n cs is t h)
-query_cause g b at es sl c n cs q id answer error.FileNotFound is none step next t call h short =
+query_cause g b at es sl c n cs q id answer error.OutOfMemory is none step quiet next t call h short = short_cause g b at es sl (n ∷ cs) error.OutOfMemory short (λ v. v) (λ xs. tt)
+query_cause g b at es sl c n cs q id answer error.ClientError is none step quiet next t call h short = short_cause g b at es sl (n ∷ cs) error.ClientError short (λ v. v) (rose_cause g b at es sl c n cs is t h)
+query_cause g b at es sl c n cs q id answer error.FileNotFound is none step quiet next t call h short =
     let within = query_within g (queries es) q next.cuts in
     let a = within.0 in
     let d = within.1 in
     let f = within.2 in
     let no_file : h.plan ≡ NoFile = file_missing g q id c n h in
     let own = subst (AskedSaid g b at es sl (n ∷ cs) q) no_file (ask_said g b at es sl c n cs q id answer (Err error.FileNotFound) is none step call h next t) in
-    said_cause g b at es sl (n ∷ cs) q NoFile error.FileNotFound own
+    said_cause g b at es sl (n ∷ cs) q NoFile error.FileNotFound own quiet
     (missing_cause g b at es sl c n cs q is t (omega (arith, a, d, f)) (subst (QueryAnswered c n (g.file, q)) no_file (answered_of g q id c n (Err error.FileNotFound) h)) own)
-query_cause g b at es sl c n cs q id answer error.UrlExpired is none step next t call h short = absurd h
-query_cause g b at es sl c n cs q id answer error.IoError is none step next t call h short = absurd h
-query_cause g b at es sl c n cs q id answer (error.CorruptedReconstruction k) is none step next t call h short =
+query_cause g b at es sl c n cs q id answer error.UrlExpired is none step quiet next t call h short = absurd h
+query_cause g b at es sl c n cs q id answer error.IoError is none step quiet next t call h short = absurd h
+query_cause g b at es sl c n cs q id answer (error.CorruptedReconstruction k) is none step quiet next t call h short =
     let within = query_within g (queries es) q next.cuts in
     let made : Answer = Err (error.CorruptedReconstruction k) in
     let heard = ask_said g b at es sl c n cs q id answer made is none step call h next t in
-    said_cause g b at es sl (n ∷ cs) q h.plan (error.CorruptedReconstruction k) heard
-    (failed_cause g b at es sl c n cs q h.plan k is t (answered_of g q id c n made h) heard
+    said_cause g b at es sl (n ∷ cs) q h.plan (error.CorruptedReconstruction k) heard quiet
+    (failed_cause g b at es sl c n cs q h.plan k is t quiet (answered_of g q id c n made h) heard
     (λ s over honest. honest_passes s over.valid g q id k h.plan honest h.from)
     (plan_fails g (heard_first ((g.file, q) ∷ []) (said.Plan h.plan ∷ []) sl.heard) (plan_count es + 1) q id k c n within.0 within.2 h (asked_own g b at es None sl q h.plan t none step next)))
-query_cause g b at es sl c n cs q id answer (error.ConfigurationError k) is none step next t call h short = absurd h
-query_cause g b at es sl c n cs q id answer error.Cancelled is none step next t call h short = absurd h
-query_cause g b at es sl c n cs q id answer (error.InternalWriterError k) is none step next t call h short = absurd h
+query_cause g b at es sl c n cs q id answer (error.ConfigurationError k) is none step quiet next t call h short = absurd h
+query_cause g b at es sl c n cs q id answer error.Cancelled is none step quiet next t call h short = absurd h
+query_cause g b at es sl c n cs q id answer (error.InternalWriterError k) is none step quiet next t call h short = absurd h
 
 -- each error of asking for a plan has its cause, where no answer passes the known end
 pub ask_cause : (g : Setup) (b at : RunTold) (es fs : List Event) (sl : Slack) (c n : ClientTold) (cs : List ClientTold) (m now : Manager) (q : FileRange) (id : UniqueId) (e : FileReconstructionError)
-    → at.clients ≡ c ∷ cs → AskPlanCall m now c n es fs (plan_query g q id) (Err e) → sl.lost ≡ [] → InStep sl.heard → IsNextQuery g es q → ((t : Option TermBlock) → PassesKnownEnd m q t → ⊥)
+    → at.clients ≡ c ∷ cs → AskPlanCall m now c n es fs (plan_query g q id) (Err e) → sl.lost ≡ [] → InStep sl.heard → IsQuiet b.clients sl → IsNextQuery g es q → ((t : Option TermBlock) → PassesKnownEnd m q t → ⊥)
     → Ties g b at es None sl → AskedCause g b at fs sl (n ∷ cs) e
-ask_cause g b at es fs sl c n cs m now q id e is call none step next unpassed t = ⊎_elim asked answered call.err
+ask_cause g b at es fs sl c n cs m now q id e is call none step quiet next unpassed t = ⊎_elim asked answered call.err
   where
     asked : QueryFails m now c n es fs (plan_query g q id) e → AskedCause g b at fs sl (n ∷ cs) e
     asked h =
         subst (λ (l : List Event). AskedCause g b at l sl (n ∷ cs) e) (sym h.unrecorded)
-        (query_cause g b at es sl c n cs q id (Err e) e is none step next t h.call h.call.cause (ask_short g b at es sl c n cs q id (Err e) is none h.call next t))
+        (query_cause g b at es sl c n cs q id (Err e) e is none step quiet next t h.call h.call.cause (ask_short g b at es sl c n cs q id (Err e) is none h.call next t))
 
     answered : PlanFails m now c n es fs (plan_query g q id) e → AskedCause g b at fs sl (n ∷ cs) e
     answered h =
         ⊎_elim
         (λ (short : e ≡ error.OutOfMemory).
         short_cause g b at fs sl (n ∷ cs) e (ask_fails_ties g b at es fs sl c n cs m now q id e is call none next t)
+        (λ v. subst (λ (x : FileReconstructionError). IsFaultless (Some x)) short v)
         (λ xs. subst (Cause g xs b (record at { clients = n ∷ cs })) (sym short) tt))
         (λ p. absurd (unpassed h.answer p.0))
         h.left.fails

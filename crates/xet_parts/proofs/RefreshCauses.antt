@@ -24,7 +24,7 @@ use Rattle.xet_ties.specs.Saids.{InStep, IsPlanAccepted}
 use Rattle.xet_ties.specs.Setup.{IsOver, RunTold, Setup}
 use Rattle.xet_ties.specs.steps.Moves.{heard_first}
 use Rattle.xet_ties.specs.steps.Parts.{AskedSaid, AskedShort, plan_refresh}
-use Rattle.xet_ties.specs.Ties.{Slack, Ties}
+use Rattle.xet_ties.specs.Ties.{IsQuiet, Slack, Ties}
 use Rattle.xet_ties.proofs.CallerLemmas.{accepted_more, grew_first, refresh_fails, refresh_said, refresh_short}
 use Rattle.xet_parts.specs.PlanRefreshes.{RefreshPlanCall, again}
 use Rattle.xet_parts.proofs.AskCauses.{AskedCause, failed_cause, missing_cause, rose_cause, said_cause, short_cause}
@@ -43,40 +43,40 @@ refused_missing q multi bs (Found p) h = absurd (by (nat_eq (length p.terms) 0) 
 
 -- what is asked again is what the plan's own refresh asks
 plan_cause : (g : Setup) (b at : RunTold) (es : List Event) (sl : Slack) (number : ℕ) (p : Plan) (q : FileRange) (c n : ClientTold) (cs : List ClientTold) (e : FileReconstructionError)
-    → at.clients ≡ c ∷ cs → MayAsk (plan_refresh g p q) c n → RefreshCause (plan_refresh g p q) c n e → sl.lost ≡ [] → InStep sl.heard → range_at es number ≡ covered (shape p) q ∷ [] → is_stale es number ≡ true → g.range.start < g.range.end
+    → at.clients ≡ c ∷ cs → MayAsk (plan_refresh g p q) c n → RefreshCause (plan_refresh g p q) c n e → sl.lost ≡ [] → InStep sl.heard → IsQuiet b.clients sl → range_at es number ≡ covered (shape p) q ∷ [] → is_stale es number ≡ true → g.range.start < g.range.end
     → IsPlanAccepted g sl.heard p q
     → ((s : Store) → IsOver s b.clients → (a : PlanAnswer) → IsHonest s g.file (covered (shape p) q) a → refusal_of (covered (shape p) q) g.multirange (plan_extents (shape p) g.multirange) a ≡ None)
     → Ties g b at es None sl → AskedShort g b at es sl (n ∷ cs) → AskedCause g b at es sl (n ∷ cs) e
-plan_cause g b at es sl number p q c n cs error.OutOfMemory is may h none step at_range stale some accepted honest t short = short_cause g b at es sl (n ∷ cs) error.OutOfMemory short (λ xs. tt)
-plan_cause g b at es sl number p q c n cs error.ClientError is may h none step at_range stale some accepted honest t short = short_cause g b at es sl (n ∷ cs) error.ClientError short (rose_cause g b at es sl c n cs is t h)
-plan_cause g b at es sl number p q c n cs error.FileNotFound is may h none step at_range stale some accepted honest t short =
+plan_cause g b at es sl number p q c n cs error.OutOfMemory is may h none step quiet at_range stale some accepted honest t short = short_cause g b at es sl (n ∷ cs) error.OutOfMemory short (λ v. v) (λ xs. tt)
+plan_cause g b at es sl number p q c n cs error.ClientError is may h none step quiet at_range stale some accepted honest t short = short_cause g b at es sl (n ∷ cs) error.ClientError short (λ v. v) (rose_cause g b at es sl c n cs is t h)
+plan_cause g b at es sl number p q c n cs error.FileNotFound is may h none step quiet at_range stale some accepted honest t short =
     let r = plan_refresh g p q in
     let no_file : h.answer ≡ NoFile = refused_missing r.range r.multirange r.blocks h.answer h.refused in
     let own = subst (AskedSaid g b at es sl (n ∷ cs) r.range) no_file (refresh_said g b at es sl number r c n cs h.answer is none step may h.answered at_range stale refl t) in
-    said_cause g b at es sl (n ∷ cs) r.range NoFile error.FileNotFound own
+    said_cause g b at es sl (n ∷ cs) r.range NoFile error.FileNotFound own quiet
     (missing_cause g b at es sl c n cs r.range is t some (subst (QueryAnswered c n (g.file, r.range)) no_file h.answered) own)
-plan_cause g b at es sl number p q c n cs error.UrlExpired is may h none step at_range stale some accepted honest t short = absurd h
-plan_cause g b at es sl number p q c n cs error.IoError is may h none step at_range stale some accepted honest t short = absurd h
-plan_cause g b at es sl number p q c n cs (error.CorruptedReconstruction k) is may h none step at_range stale some accepted honest t short =
+plan_cause g b at es sl number p q c n cs error.UrlExpired is may h none step quiet at_range stale some accepted honest t short = absurd h
+plan_cause g b at es sl number p q c n cs error.IoError is may h none step quiet at_range stale some accepted honest t short = absurd h
+plan_cause g b at es sl number p q c n cs (error.CorruptedReconstruction k) is may h none step quiet at_range stale some accepted honest t short =
     let r = plan_refresh g p q in
     let heard = heard_first ((g.file, r.range) ∷ []) (said.Plan h.answer ∷ []) sl.heard in
     let said_now = refresh_said g b at es sl number r c n cs h.answer is none step may h.answered at_range stale refl t in
-    said_cause g b at es sl (n ∷ cs) r.range h.answer (error.CorruptedReconstruction k) said_now
-    (failed_cause g b at es sl c n cs r.range h.answer k is t h.answered said_now
+    said_cause g b at es sl (n ∷ cs) r.range h.answer (error.CorruptedReconstruction k) said_now quiet
+    (failed_cause g b at es sl c n cs r.range h.answer k is t quiet h.answered said_now
     (λ s over true_of. let unrefused = honest s over h.answer true_of in let refused = h.refused in cc)
     (refresh_fails g heard p q h.answer k (accepted_more g sl.heard heard p q (grew_first ((g.file, r.range) ∷ []) (said.Plan h.answer ∷ []) sl.heard) accepted) said_now.own h.refused))
-plan_cause g b at es sl number p q c n cs (error.ConfigurationError k) is may h none step at_range stale some accepted honest t short = absurd h
-plan_cause g b at es sl number p q c n cs error.Cancelled is may h none step at_range stale some accepted honest t short = absurd h
-plan_cause g b at es sl number p q c n cs (error.InternalWriterError k) is may h none step at_range stale some accepted honest t short = absurd h
+plan_cause g b at es sl number p q c n cs (error.ConfigurationError k) is may h none step quiet at_range stale some accepted honest t short = absurd h
+plan_cause g b at es sl number p q c n cs error.Cancelled is may h none step quiet at_range stale some accepted honest t short = absurd h
+plan_cause g b at es sl number p q c n cs (error.InternalWriterError k) is may h none step quiet at_range stale some accepted honest t short = absurd h
 
 -- each error of a refresh of an accepted plan has its cause, where a valid store's answers to it are not refused
 pub refresh_cause : (g : Setup) (b at : RunTold) (es fs : List Event) (sl : Slack) (number : ℕ) (t u : TermBlock) (multi : Bool) (p : Plan) (q : FileRange) (c n : ClientTold) (cs : List ClientTold) (e : FileReconstructionError)
-    → at.clients ≡ c ∷ cs → RefreshPlanCall t u c n es fs number multi (Err e) → again t multi ≡ plan_refresh g p q → sl.lost ≡ [] → InStep sl.heard → range_at es number ≡ covered (shape p) q ∷ [] → g.range.start < g.range.end
+    → at.clients ≡ c ∷ cs → RefreshPlanCall t u c n es fs number multi (Err e) → again t multi ≡ plan_refresh g p q → sl.lost ≡ [] → InStep sl.heard → IsQuiet b.clients sl → range_at es number ≡ covered (shape p) q ∷ [] → g.range.start < g.range.end
     → IsPlanAccepted g sl.heard p q
     → ((s : Store) → IsOver s b.clients → (a : PlanAnswer) → IsHonest s g.file (covered (shape p) q) a → refusal_of (covered (shape p) q) g.multirange (plan_extents (shape p) g.multirange) a ≡ None)
     → Ties g b at es None sl → AskedCause g b at fs sl (n ∷ cs) e
-refresh_cause g b at es fs sl number t u multi p q c n cs e is call same none step at_range some accepted honest ties =
+refresh_cause g b at es fs sl number t u multi p q c n cs e is call same none step quiet at_range some accepted honest ties =
     let may = subst (λ (r : Refresh). MayAsk r c n) same call.may in
     subst (λ (l : List Event). AskedCause g b at l sl (n ∷ cs) e) (sym call.unrecorded)
-    (plan_cause g b at es sl number p q c n cs e is may (subst (λ (r : Refresh). RefreshCause r c n e) same call.cause) none step at_range call.stale some accepted honest ties
+    (plan_cause g b at es sl number p q c n cs e is may (subst (λ (r : Refresh). RefreshCause r c n e) same call.cause) none step quiet at_range call.stale some accepted honest ties
     (refresh_short g b at es sl number (plan_refresh g p q) c n cs is none may at_range call.stale refl ties))

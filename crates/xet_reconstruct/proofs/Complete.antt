@@ -6,6 +6,8 @@ use Rattle.xet_error.specs.declared.error.FileReconstructionError.{FileReconstru
 use Rattle.xet_error.specs.declared.error.FileReconstructionError.TheVariants as error
 use Rattle.xet_ties.specs.Causes.{Cause}
 use Rattle.xet_ties.specs.InCall.{Exchange}
+use Rattle.xet_ties.specs.Saids.{ServedPassed}
+use Rattle.xet_ties.proofs.CallerLemmas.{some_rose}
 use Rattle.xet_ties.specs.RunCalls.{IsLocal}
 use Rattle.xet_ties.specs.Setup.{IsEmptyRange, RunTold, Setup}
 use Rattle.xet_reconstruct.specs.Completeness.{HaveFile, LegalIsComplete, NothingFails}
@@ -18,7 +20,7 @@ not_both (Some x) s n = let z : true ≡ false = n in cc
 no_cause : (g : Setup) (xs : List Exchange) (b n : RunTold) (e : FileReconstructionError) → HaveFile g b.clients
     → NothingFails g b n → Cause g xs b n e → e ≡ error.OutOfMemory
 no_cause g xs b n error.OutOfMemory h f c = refl
-no_cause g xs b n error.ClientError h f c = absurd (f.clients c)
+no_cause g xs b n error.ClientError h f c = absurd (f.clients (some_rose (ServedPassed g xs) b.clients n.clients xs c))
 no_cause g xs b n error.FileNotFound h f c = absurd (not_both (file_of h.store g.file) h.stored (c.unstored h.store h.over.tell))
 no_cause g xs b n error.UrlExpired h f c = let t = c.counted f.counts in let e = f.expiries in absurd (omega (arith, t, e))
 no_cause g xs b n error.IoError h f c = absurd (f.sink c)

@@ -68,7 +68,7 @@ failed_ties g b to h took faults link rose =
       slack = sl;
       ties = tie_stop g b (record b { sink = to }) [] sl error.IoError (λ e. absurd (cc))
           (tie_flush g b b [] sl to took faults link (tie_start g b h));
-      left = steady_leaves b.clients error.IoError sl (none_hidden b.clients) (none_late b.clients) refl;
+      left = steady_leaves b.clients error.IoError sl (none_hidden b.clients) (none_late b.clients) refl (λ v. refl);
       cause = rose;
     }
 

@@ -56,6 +56,7 @@ unlimited_legal g b n answer l = record {
   flushed = l.flushed;
   cancelled = l.cancelled;
   unfailed = l.unfailed;
+  clients_unfailed = l.clients_unfailed;
   cause = if_err answer (Cause g l.heard.list b n) (Cause g l.heard.list (unlimited b) (unlimited n))
       (unlimited_cause g l.heard.list b n) l.cause;
   settings = λ e h. ((l.settings e h).0, ap unlimited (l.settings e h).1);
@@ -67,6 +68,7 @@ unlimited_legal g b n answer l = record {
   all_renewed = l.all_renewed;
   late = l.late;
   under = l.under;
+  at_most = l.at_most;
   served = l.served;
   planned = l.planned;
   passed = l.passed;

@@ -91,6 +91,7 @@ module _ (g : Setup) (b n : RunTold) (at : SinkTold) (flushed : Option ℕ) (fau
     flushed = l.flushed;
     cancelled = l.cancelled;
     unfailed = subst (λ (k : ℕ). Unfailed k n.sink.faults answer) same l.unfailed;
+    clients_unfailed = l.clients_unfailed;
     cause = if_err answer (Cause g l.heard.list at_start n) (Cause g l.heard.list other_start n)
         (other_cause l.heard.list) l.cause;
     settings = λ e h2. absurd (let z : None ≡ Some e = sym h ∙ h2 in cc);
@@ -102,6 +103,7 @@ module _ (g : Setup) (b n : RunTold) (at : SinkTold) (flushed : Option ℕ) (fau
     all_renewed = l.all_renewed;
     late = l.late;
     under = l.under;
+    at_most = l.at_most;
     served = l.served;
     planned = l.planned;
     passed = l.passed;

@@ -44,7 +44,7 @@ use Rattle.xet_ties.specs.Setup.{AllTell, RunTold, Setup}
 use Rattle.xet_ties.specs.steps.Moves.{QueryStep, heard_first}
 use Rattle.xet_ties.specs.steps.Parts.{blocks_of_answer, plan_event, plan_query, plan_refresh, terms_in}
 use Rattle.xet_ties.specs.Ties.{CutsRange, EachLane, FirstStarts, HeardAsked, IsLost, Slack, Ties, IsNextQuery}
-use Rattle.xet_ties.proofs.ClientMoves.{tie_planned, tie_query}
+use Rattle.xet_ties.proofs.ClientMoves.{first_unfailed, tie_planned, tie_query}
 use Rattle.xet_ties.proofs.Heard.{FirstEvent, step_query}
 use Rattle.xet_ties.proofs.NextPlaces.{asked_own}
 use Rattle.xet_ties.proofs.PastEnds.{past_none}
@@ -200,7 +200,7 @@ ask_ties g b at es fs sl spare c n cs q id o is call recorded none polls step ne
     let tells : (s : Store) → AllTell s b.clients → c.store ≡ Some s = (λ s h. first_tells s es b.clients c cs sl.hidden sl.late (subst (λ (l : List ClientTold). EachLane es 0 b.clients l sl.hidden sl.late) is t.served.lanes) h) in
     let first : Ties g b (record at { clients = c ∷ cs }) es None sl = subst (λ (l : List ClientTold). Ties g b (record at { clients = l }) es None sl) is t in
     let lost : sl.lost ++ qs ≡ qs = ap (λ (l : List Query). l ++ qs) none in
-    let told = tie_query g b (record at { clients = c ∷ cs }) es sl (n ∷ cs) qs all (asked, refl) (subst (λ (l : List Query). IsLost g es l) (sym lost) (refl, inl next)) first in (
+    let told = tie_query g b (record at { clients = c ∷ cs }) es sl (n ∷ cs) qs all (asked, refl) (subst (λ (l : List Query). IsLost g es l) (sym lost) (refl, inl next)) sl.calm (first_unfailed sl.calm b.clients c n cs from.unfailed first.unfailed) first in (
       subst (λ (l : List Event). Ties g b (record at { clients = n ∷ cs }) l None (record sl { heard = heard; lost = []; spare = spare })) (sym recorded)
           (tie_planned g b (record at { clients = n ∷ cs }) es (record sl { heard = heard; lost = sl.lost ++ qs }) spare (plan_count es + 1) q (terms_in o) (blocks_of_answer o) lost polls next
           (made_within g q (terms_in o) (blocks_of_answer o) a (cut_order g (queries es) q next.cuts) made)
@@ -232,7 +232,7 @@ refresh_ties g b at es fs sl p r us c n cs is may new recorded none step at_rang
     let renews : FirstRenewed g qs heard → FirstRenewed g [] heard =
     subst (λ (v : FileRange). FirstRenewed g ((g.file, v) ∷ []) (heard_first ((g.file, v) ∷ []) all sl.heard) → FirstRenewed g [] (heard_first ((g.file, v) ∷ []) all sl.heard)) (sym range)
     (renewed_refreshed g pl q (Found new.plan) sl.heard accepted step passes) in
-    let told = tie_query g b (record at { clients = c ∷ cs }) es sl (n ∷ cs) qs all (asked, refl) (subst (λ (l : List Query). IsLost g es l) (sym lost) (refl, inr (p, at_range, stale))) first in (
+    let told = tie_query g b (record at { clients = c ∷ cs }) es sl (n ∷ cs) qs all (asked, refl) (subst (λ (l : List Query). IsLost g es l) (sym lost) (refl, inr (p, at_range, stale))) sl.calm (first_unfailed sl.calm b.clients c n cs new.answered.unfailed first.unfailed) first in (
       subst (λ (v : List Event). Ties g b (record at { clients = n ∷ cs }) v None (record sl { heard = heard; lost = [] })) (sym recorded)
           (tie_refreshed g b (record at { clients = n ∷ cs }) es (record sl { heard = heard; lost = sl.lost ++ qs }) p r.range at_range lost (λ w. renews (subst (λ (l : List Query). FirstRenewed g l heard) lost w)) told),
       step_query qs all sl.heard refl step,

@@ -1,5 +1,5 @@
 -- The ties after a step of the connections.
-use Rattle.std.proofs.Common.{◌≡◌, ℕ, ◌+◌, ◌≤◌, min, List, [], ◌∷◌, ◌++◌, refl, sym, subst, ◌∙◌, ap, arith, append_assoc, Some, None, Option}
+use Rattle.std.proofs.Common.{◌≡◌, ℕ, zero, suc, ◌+◌, ◌≤◌, min, List, [], ◌∷◌, ◌++◌, refl, sym, subst, ◌∙◌, ap, arith, append_assoc, Some, None, Option}
 use Rattle.std.specs.Prelude.{IsSome, count_by, drop, option_map, All}
 use Rattle.std.proofs.lemmas.List.{append-nil}
 use Rattle.xet_base.specs.Store.{Store, file_of}
@@ -17,7 +17,7 @@ use Rattle.xet_base.specs.declared.merklehash.MerkleHash.{MerkleHash}
 use Rattle.xet_ties.specs.History.{IsNumberedNext, IsOneCached, IsRenewed, asked_by, served_by, fetches, IsWithin}
 use Rattle.xet_ties.specs.steps.Moves.{EachJoined, FirstQuery, JoinStep, QueryStep, no_hidden, no_late, heard_first, heard_join}
 use Rattle.xet_ties.specs.Setup.{AllTell, ClientGoesOn, IsOver, RunTold, Setup, download_of, most_lanes}
-use Rattle.xet_ties.specs.Ties.{EachUnasked, NoneLate, all_of, is_pair, EachLane, FirstAsked, FirstStarts, IsLane, Slack, Ties, IsLost, IsPlannedEntry, IsNextQuery, EachServed}
+use Rattle.xet_ties.specs.Ties.{EachUnasked, FirstUnfailed, NoneLate, all_of, is_pair, EachLane, FirstAsked, FirstStarts, IsLane, Slack, Ties, IsLost, IsPlannedEntry, IsNextQuery, EachServed}
 use Rattle.xet_ties.proofs.Lanes.{served_same}
 use Rattle.xet_ties.specs.InCall.{Place}
 use Rattle.xet_ties.proofs.Gains.{gained_more}
@@ -88,10 +88,16 @@ past_query bs [] ns qs all f h = absurd f
 past_query bs (m ∷ ms) [] qs all f h = absurd f
 past_query bs (m ∷ ms) (n ∷ ns) qs all f h = ap (λ (l : List ClientTold). drop 65535 l) f.1 ∙ h
 
+-- an answer of the first connection leaves the counts
+pub first_unfailed : (i : ℕ) (bs : List ClientTold) (c n : ClientTold) (cs : List ClientTold) → n.faults ≡ c.faults → FirstUnfailed i bs (c ∷ cs) → FirstUnfailed i bs (n ∷ cs)
+first_unfailed zero bs c n cs same h = tt
+first_unfailed (suc i) [] c n cs same h = tt
+first_unfailed (suc i) (b ∷ bs) c n cs same h = (same ∙ h.0, h.1)
+
 -- the first connection was asked and said something, and no event says it yet
-pub tie_query : (g : Setup) (b n : RunTold) (es : List Event) (sl : Slack) (to : List ClientTold) (qs : List Query) (all : List Said) → FirstQuery n.clients to qs all → IsLost g es (sl.lost ++ qs) → Ties g b n es None sl
-    → Ties g b (record n { clients = to }) es None (record sl { heard = heard_first qs all sl.heard; lost = sl.lost ++ qs })
-tie_query g b n es sl to qs all s l t = record {
+pub tie_query : (g : Setup) (b n : RunTold) (es : List Event) (sl : Slack) (to : List ClientTold) (qs : List Query) (all : List Said) → FirstQuery n.clients to qs all → IsLost g es (sl.lost ++ qs) → (calm : ℕ) → FirstUnfailed calm b.clients to → Ties g b n es None sl
+    → Ties g b (record n { clients = to }) es None (record sl { heard = heard_first qs all sl.heard; lost = sl.lost ++ qs; calm = calm })
+tie_query g b n es sl to qs all s l calm unfailed t = record {
   heard = exchange_query b.clients n.clients to sl.heard qs all s t.heard;
   true_of = t.true_of;
   cuts = t.cuts;
@@ -104,6 +110,7 @@ tie_query g b n es sl to qs all s l t = record {
   expired = expired_query es qs all sl.heard sl.late (first_late n.clients to qs all s) t.expired;
   late_planned = late_query es qs all sl.heard (first_late n.clients to qs all s) t.late_planned;
   heard_served = heard_served_query es qs all sl.heard sl.hidden t.heard_served;
+  unfailed = unfailed;
   asked = asked_query g.file es qs all sl.lost b.clients n.clients to s t.asked;
   heard_asked = heard_query g.file es qs all sl.lost sl.heard t.heard_asked;
   lost = l;
@@ -144,6 +151,7 @@ tie_planned g b n es sl spare plan query terms blocks lost polls next within sta
       expired = expired_same es e 0 sl.heard sl.late (λ l w. refl) t.expired;
       late_planned = late_push es e sl.heard t.late_planned;
       heard_served = heard_served_same es e 0 sl.heard sl.hidden (λ l w. refl) t.heard_served;
+      unfailed = t.unfailed;
       asked = first_push g.file es e sl.lost [] b.clients n.clients lost t.asked;
       heard_asked = heard_push g.file es e sl.lost [] sl.heard lost t.heard_asked;
       lost = tt;
@@ -213,8 +221,8 @@ asked_join f es lost (b ∷ bs) (m ∷ ms) (n ∷ ns) (h ∷ hs) (a ∷ alls) (k
 -- the lanes came back from a join
 pub tie_join : (g : Setup) (b n : RunTold) (es : List Event) (sl : Slack) (to : List ClientTold) (hs : List (List Served)) (alls : List (List Said)) (ks : List (List Place)) → EachJoined n.clients to hs alls ks
     → ((p k : ℕ) → count_by (fetches p k) es + count_by (is_pair p k) (all_of hs) ≤ 1) → All (IsPlannedEntry es) (all_of hs) → All (λ all. All (IsPlannedEntry es) (late_in all)) alls → drop most_lanes to ≡ drop most_lanes n.clients → sl.hidden ≡ no_hidden b.clients → sl.late ≡ no_late b.clients
-    → Ties g b n es None sl → Ties g b (record n { clients = to }) es None (record sl { heard = heard_join hs alls sl.heard; hidden = hs; late = ks })
-tie_join g b n es sl to hs alls ks j once planned lates past no_h no_k t =
+    → (calm : ℕ) → FirstUnfailed calm b.clients to → Ties g b n es None sl → Ties g b (record n { clients = to }) es None (record sl { heard = heard_join hs alls sl.heard; hidden = hs; late = ks; calm = calm })
+tie_join g b n es sl to hs alls ks j once planned lates past no_h no_k calm unfailed t =
     let match = join_match b.clients n.clients to hs alls ks sl.heard j t.heard in
     record {
       heard = exchange_join b.clients n.clients to hs alls ks sl.heard j t.heard;
@@ -235,6 +243,7 @@ tie_join g b n es sl to hs alls ks j once planned lates past no_h no_k t =
       expired = expired_join es 0 hs alls ks sl.late sl.heard match (joined_late n.clients to hs alls ks j) (subst (λ (l : List (List Place)). NoneLate l) (sym no_k) (none_late b.clients)) t.expired;
       late_planned = late_join es hs alls sl.heard match lates t.late_planned;
       heard_served = heard_served_join es 0 hs alls b.clients sl.heard match (subst (λ (l : List (List Served)). EachServed es 0 sl.heard l) no_h t.heard_served);
+      unfailed = unfailed;
       asked = asked_join g.file es sl.lost b.clients n.clients to hs alls ks j t.asked;
       heard_asked = heard_joined g.file es sl.lost hs alls sl.heard match t.heard_asked;
       lost = t.lost;

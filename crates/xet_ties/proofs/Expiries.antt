@@ -302,6 +302,14 @@ none_spent g b n es stop sl none under t p k =
     let c = late_bare p k 0 es sl.heard sl.late none t.expired in
     omega (arith, u, a, c)
 
+-- and never more often than there are tries
+pub none_past : (g : Setup) (b n : RunTold) (es : List Event) (stop : Stop) (sl : Slack) → NoneLate sl.late → Ties g b n es stop sl → (p k : ℕ) → late_answers p k sl.heard ≤ g.tries
+none_past g b n es stop sl none t p k =
+    let u = t.tried.at_most p k in
+    let a = block_late g b n es stop sl p k t in
+    let c = late_bare p k 0 es sl.heard sl.late none t.expired in
+    omega (arith, u, a, c)
+
 -- where one block has as many as tries, the connections answered so many requests for it as expired together
 pub have_expired : (g : Setup) (b n : RunTold) (es : List Event) (stop : Stop) (sl : Slack) (p k : ℕ) → count_by (expires p k) es ≡ g.tries → Ties g b n es stop sl → HaveExpired g.tries sl.heard b.clients n.clients
 have_expired g b n es stop sl p k spent t =

@@ -23,7 +23,8 @@ use Rattle.xet_ties.specs.Causes.{BlockFails, BlockFailsIn, FirstFailed, IsBlock
 use Rattle.xet_ties.specs.InCall.{EachExchange, Exchange, SomeOne, answers_of}
 use Rattle.xet_ties.specs.Saids.{AnswerOf, FirstSaid, IsPlanAccepted, IsPlanSaid}
 use Rattle.xet_ties.specs.Setup.{IsOver, RunTold, Setup}
-use Rattle.xet_ties.specs.Ties.{Slack, Stop, Ties}
+use Rattle.xet_ties.specs.Ties.{FirstUnfailed, IsQuiet, Slack, Stop, Ties}
+use Rattle.xet_ties.proofs.LowestLanes.{all_passed}
 use Rattle.xet_ties.proofs.Told.{answers_told, bare, if_some}
 
 -- ---- the tests of a block
@@ -113,9 +114,10 @@ first_failed g es k (b ∷ bs) (n ∷ ns) (x ∷ xs) h s f =
     (answers_told b n x h.0)
 
 -- where the connections don't tell one valid store, an answer that fails a test is the cause
-pub corrupted : (g : Setup) (b n : RunTold) (es : List Event) (stop : Stop) (sl : Slack) (k : Corruption) → Ties g b n es stop sl → ((s : Store) → IsOver s b.clients → ⊥) → SomeFailed g sl.heard k → IsCorrupted g sl.heard b.clients n.clients k
-corrupted g b n es stop sl k t untrue failed = record {
+pub corrupted : (g : Setup) (b n : RunTold) (es : List Event) (stop : Stop) (sl : Slack) (k : Corruption) → Ties g b n es stop sl → IsQuiet b.clients sl → ((s : Store) → IsOver s b.clients → ⊥) → SomeFailed g sl.heard k → IsCorrupted g sl.heard b.clients n.clients k
+corrupted g b n es stop sl k t quiet untrue failed = record {
   untrue = untrue;
   failed = failed;
   first = first_failed g es k b.clients n.clients sl.heard t.heard t.said failed;
+  order = inl (record { passed = all_passed g es sl.heard sl.hidden quiet.hidden t.heard_served t.passed; unfailed = subst (λ (i : ℕ). FirstUnfailed i b.clients n.clients) quiet.calm t.unfailed });
 }

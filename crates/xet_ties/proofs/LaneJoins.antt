@@ -14,8 +14,9 @@ use Rattle.xet_ties.specs.Lanes.{AreAt, AreOf, Ask, DrewApart, EachDrew, HidesNo
 use Rattle.xet_ties.specs.steps.Records.{asks_for, keys_of, places, places_of, Key, Place, entries_all, expired_on, expired_all, fetched_all, fetched_on, lanes_entries, lanes_expired, lanes_fetched, lanes_late, AreFresh, EachFresh, IsFreshAsk, blocks_all, key_of, lane_events}
 use Rattle.xet_claims.specs.ClaimViews.{once_below, times}
 use Rattle.xet_ties.specs.steps.Moves.{EachJoined, JoinStep, heard_join, no_hidden, no_late}
-use Rattle.xet_ties.specs.steps.Rounds.{IsHeardStep, got_of}
+use Rattle.xet_ties.specs.steps.Rounds.{AreLaneSteps, EachHides, IsHeardStep, IsLaneStep, got_of}
 use Rattle.xet_ties.specs.InCall.{Exchange, place_of}
+use Rattle.xet_ties.proofs.LowestLanes.{lane_failed}
 use Rattle.xet_ties.proofs.RoundData.{ArePaired, lanes_more}
 use Rattle.xet_ties.specs.Ties.{all_of, is_pair, is_range}
 use Rattle.xet_ties.specs.History.{fetches}
@@ -525,3 +526,29 @@ fetched_among fs bs ns es d x r =
     let c = flat_count x r j.keys in
     let q = asks_count x r fs in
     omega (arith, most, w, a, c, q)
+
+-- of each lane, by what its own connection said
+pub each_failed : (fs : List Ask) (bs ns : List ClientTold) (drawn : List (List ℕ)) (es : List (List LaneStep)) (xs : List Exchange) → (e : EachDrew fs bs ns drawn es) → ArePaired bs xs
+    → (let j = are_joined fs bs ns drawn es e in AreLaneSteps fs bs (heard_join (lanes_entries j.keys j.hidden) j.said xs) es)
+unfolding are_joined
+each_failed fs bs ns [] [] xs e p = tt
+each_failed fs bs ns [] (ss ∷ es) xs e p = absurd e
+each_failed fs bs ns (d ∷ ds) [] xs e p = absurd e
+each_failed fs [] ns (d ∷ ds) (ss ∷ es) xs e p = absurd e
+each_failed fs (b ∷ bs) [] (d ∷ ds) (ss ∷ es) xs e p = absurd e
+each_failed fs (b ∷ bs) (n ∷ ns) (d ∷ ds) (ss ∷ es) [] e p = absurd p
+each_failed fs (b ∷ bs) (n ∷ ns) (d ∷ ds) (ss ∷ es) (x ∷ xs) e p =
+    let lane = e.0 in
+    let did = lane.did in
+    let mine = lane_failed fs b n x (entries_of lane.made ss ++ did.hidden) did.said d lane.made ss p.0 lane.at did.are in
+    (subst (λ (l : List Served). All (IsLaneStep fs b (record { asked = x.asked; served = x.served ++ (l ++ did.hidden); said = x.said ++ did.said })) ss) (entries_keys lane.made ss) mine, each_failed fs bs ns ds es xs e.1 p.1)
+
+-- what each hides
+pub each_hides : (fs : List Ask) (bs ns : List ClientTold) (drawn : List (List ℕ)) (es : List (List LaneStep)) → (e : EachDrew fs bs ns drawn es) → (let j = are_joined fs bs ns drawn es e in EachHides es j.hidden)
+unfolding are_joined
+each_hides fs bs ns [] [] e = tt
+each_hides fs bs ns [] (ss ∷ es) e = absurd e
+each_hides fs bs ns (d ∷ ds) [] e = absurd e
+each_hides fs [] ns (d ∷ ds) (ss ∷ es) e = absurd e
+each_hides fs (b ∷ bs) [] (d ∷ ds) (ss ∷ es) e = absurd e
+each_hides fs (b ∷ bs) (n ∷ ns) (d ∷ ds) (ss ∷ es) e = (e.0.did.none, each_hides fs bs ns ds es e.1)

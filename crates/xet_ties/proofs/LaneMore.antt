@@ -1,6 +1,7 @@
 -- One more step keeps what is said of a lane: each step's data is of the answer to its own request.
 use Rattle.std.proofs.Common.{ℕ, ◌≡◌, ◌⊎◌, ◌+◌, ◌-◌, ◌^◌, ◌≤◌, min, true, List, [], ◌∷◌, ◌++◌, length, refl, sym, ap, ◌∙◌, subst, inl, inr, ⊎_elim, arith, append_assoc, length-append, Some, false, None, Option}
-use Rattle.std.specs.Prelude.{Result, Ok, Err, slice_get}
+use Rattle.std.specs.Prelude.{Bool, ◌||◌, Result, Ok, Err, slice_get}
+use Rattle.std.proofs.lemmas.Bool.{or_parts}
 use Rattle.std.proofs.lemmas.List.{append-nil}
 use Rattle.xet_outside.specs.declared.block.BlockAnswer.{BlockAnswer}
 use Rattle.xet_outside.specs.declared.block.BlockBytes.{BlockBytes}
@@ -10,7 +11,7 @@ use Rattle.xet_outside.specs.Told.{BlockCall, ClientTold, served_of, Added, Hold
 use Rattle.xet_outside.specs.declared.served.Served.{Served}
 use Rattle.xet_error.specs.declared.error.FileReconstructionError.{FileReconstructionError}
 use Rattle.xet_ties.specs.declared.lane_step.LaneStep.{LaneStep}
-use Rattle.xet_ties.specs.Lanes.{AnswerStep, AreOf, Ask, IsFor, IsOf, LaneDid, StepDid, entries_in, entries_of, expired_count, expired_in, hides_at, lates_in, lates_of, may_hide, HidesNone, HoldsAsk, StepCause, bytes_of_ask, error_hides}
+use Rattle.xet_ties.specs.Lanes.{AnswerStep, AreOf, Ask, IsFor, IsOf, LaneDid, StepDid, entries_in, entries_of, expired_count, expired_in, hides_at, lates_in, lates_of, may_hide, HidesNone, HoldsAsk, any_faults, faults_in, StepCause, bytes_of_ask, error_hides}
 use Rattle.xet_outside.specs.Answers.{IsPaired, bytes_in, late_in, late_said, plans_in}
 use Rattle.xet_outside.proofs.CallerLemmas.{added_none, answer_after, answer_before, paired_both, plans_both}
 use Rattle.xet_outside.specs.declared.block.BlockAnswer.TheVariants as block_answer
@@ -46,6 +47,7 @@ bytes_did a bb b n s hidden call shape is most none bare = record {
   once = omega arith;
   late = sym bare;
   expired = let e = call.expiries in omega (arith, e, none);
+  unfailed = λ h. call.unfailed;
 }
 
 quiet_did : (a : Ask) (b n : ClientTold) (x : ClientError) → BlockCall b n a.request (Err x) → StepDid b n a (step.Failed (of_client_error x))
@@ -61,8 +63,13 @@ quiet_did a b n x call = record {
   once = omega arith;
   late = refl;
   expired = let e = call.expiries in omega (arith, e);
+  unfailed = λ h. faulty x h;
 }
   where
+    faulty : (y : ClientError) → faults_in (step.Failed (of_client_error y)) ≡ false → n.faults ≡ b.faults
+    faulty client_error.OutOfMemory h = absurd (cc)
+    faulty client_error.Failed h = absurd (cc)
+
     cause : (y : ClientError) → BlockCall b n a.request (Err y) → StepCause b n [] [] a (of_client_error y)
     cause client_error.OutOfMemory k = tt
     cause client_error.Failed k = k.failed refl
@@ -80,6 +87,7 @@ late_did a b n call = record {
   once = omega arith;
   late = refl;
   expired = call.expired refl;
+  unfailed = λ h. call.unfailed;
 }
 
 -- the bytes of an honest connection
@@ -213,6 +221,13 @@ hides_last : (ss : List LaneStep) (s : LaneStep) → HidesNone (ss ++ s ∷ []) 
 hides_last [] s h = h.0
 hides_last (x ∷ ss) s h = hides_last ss s h.1
 
+faults_parts : (ss : List LaneStep) (s : LaneStep) → any_faults (ss ++ s ∷ []) ≡ false → (any_faults ss ≡ false) × (faults_in s ≡ false)
+faults_parts [] s h = (refl, (or_parts (faults_in s) false h).0)
+faults_parts (x ∷ ss) s h =
+    let p = or_parts (faults_in x) (any_faults (ss ++ s ∷ [])) h in
+    let r = faults_parts ss s p.1 in
+    (ap (λ (v : Bool). v || any_faults ss) p.0 ∙ r.0, r.1)
+
 -- a lane none of whose steps failed goes on with one more
 pub one_more : (b m n : ClientTold) (qs : List Ask) (xs : List LaneStep) (a : Ask) (s : LaneStep) → (d : LaneDid b m qs xs) → length qs ≡ length xs → d.hidden ≡ [] → StepDid m n a s → LaneDid b n (qs ++ a ∷ []) (xs ++ s ∷ [])
 one_more b m n qs xs a s d len bare t =
@@ -235,4 +250,5 @@ one_more b m n qs xs a s d len bare t =
       once = let u = d.once in let v = t.once in omega (arith, u, v, length-append d.said t.said, length-append xs (s ∷ []));
       late = flat_map-append late_said d.said t.said ∙ ap (λ (l : List Served). l ++ late_in t.said) d.late ∙ ap (λ (l : List Served). lates_of qs xs ++ l) t.late ∙ sym (lates_snoc qs xs a s len);
       expired = subst (λ (c : ℕ). min (b.expiries + c) (2 ^ 64 - 1) ≤ n.expiries) (sym (expired_snoc xs s)) (let u = d.expired in let v = t.expired in omega (arith, u, v));
+      unfailed = λ h. let p = faults_parts xs s h in t.unfailed p.1 ∙ d.unfailed p.0;
     }

@@ -1,5 +1,5 @@
 -- The lanes' ties after one more event.
-use Rattle.std.proofs.Common.{◌≡◌, ℕ, suc, ◌+◌, ◌≤◌, false, cond, List, [], ◌∷◌, ◌++◌, length, refl, sym, subst, ◌∙◌, ap, arith, append_assoc, length-append}
+use Rattle.std.proofs.Common.{◌≡◌, ℕ, ◌+◌, ◌≤◌, false, cond, List, [], ◌∷◌, ◌++◌, length, refl, sym, subst, ◌∙◌, ap, arith, append_assoc, length-append}
 use Rattle.std.specs.Prelude.{All, count_by, map, option_map}
 use Rattle.std.proofs.lemmas.List.Elements.{All-append, All-push, All-tail, All-weaker}
 use Rattle.std.proofs.lemmas.Bool.{eq-eqb, ne_eqb}

@@ -1,5 +1,5 @@
 -- A run that is tied gives a legal answer.
-use Rattle.std.proofs.Common.{◌≡◌, ℕ, ◌+◌, List, [], ◌∷◌, length, take, refl, sym, subst, ◌∙◌, ap, arith, length-append, Some, None, Option}
+use Rattle.std.proofs.Common.{◌≡◌, ℕ, ◌+◌, ◌≤◌, List, [], ◌∷◌, length, take, refl, sym, subst, ◌∙◌, ap, arith, length-append, Some, None, Option}
 use Rattle.std.specs.Prelude.{All, count_by, Ok, Err, Result}
 use Rattle.std.specs.List.{concat}
 use Rattle.std.proofs.lemmas.List.{append-nil, take_all, take-append-le}
@@ -13,23 +13,24 @@ use Rattle.xet_error.specs.declared.error.FileReconstructionError.TheVariants as
 use Rattle.xet_error.specs.declared.error.Setting.{Setting}
 use Rattle.xet_run.specs.declared.event.Event.{Event}
 use Rattle.xet_run.specs.Allowed.{IsAllowedHistory}
-use Rattle.xet_ties.specs.Causes.{failing_setting}
+use Rattle.xet_ties.specs.Causes.{failing_setting, late_answers}
 use Rattle.xet_ties.specs.History.{entry_of, fetched_in, telling, IsWithin}
 use Rattle.xet_ties.specs.InCall.{Exchange, Look, served_of_all, Place}
 use Rattle.xet_ties.specs.Cuts.{FirstCut, Planning}
-use Rattle.xet_ties.specs.Legal.{AllLatePlanned, AllLooked, AllPassed, AllPlanned, CacheGoesOn, EntryPassed, FirstAsks, IsPlannedServed, Legal, SignalGoesOn, TookTested, TookWhole, is_served}
+use Rattle.xet_ties.specs.Legal.{AllLatePlanned, AllLooked, AllPlanned, CacheGoesOn, FirstAsks, IsPlannedServed, Legal, SignalGoesOn, TookTested, TookWhole, is_served}
 use Rattle.xet_ties.specs.RunCalls.{IsFinished, RunCall, TookAll}
-use Rattle.xet_ties.specs.Saids.{FirstSaid, IsTested}
+use Rattle.xet_ties.specs.Saids.{AllPassed, EntryPassed, FirstSaid, IsTested}
 use Rattle.xet_ties.specs.Setup.{EachGoesOn, RunTold, Setup}
-use Rattle.xet_ties.specs.Ties.{EachLane, HeardAsked, IsEntryOf, IsPlannedEntry, LeavesNothing, Slack, Stop, Ties, all_of, has_one, is_one}
+use Rattle.xet_ties.specs.Ties.{EachLane, EachUnfailed, FirstUnfailed, HeardAsked, IsEntryOf, IsPlannedEntry, IsQuiet, LeavesNothing, Slack, Stop, Ties, all_of, has_one, is_one}
 use Rattle.xet_ties.proofs.Asks.{first_asks}
-use Rattle.xet_ties.proofs.Expiries.{none_spent}
+use Rattle.xet_ties.proofs.Expiries.{none_past, none_spent}
 use Rattle.xet_ties.proofs.FewAsks.{none_few, run_few}
 use Rattle.xet_ties.proofs.Gains.{gained_none}
 use Rattle.xet_ties.proofs.OfferCounts.{fetched_kept, served_counted}
 use Rattle.xet_ties.specs.Gains.{OffersFew, one_range}
 use Rattle.xet_ties.proofs.Headline as headline
-use Rattle.xet_ties.proofs.Pairs.{served_once, served_passed, served_planned}
+use Rattle.xet_ties.proofs.LowestLanes.{all_passed}
+use Rattle.xet_ties.proofs.Pairs.{served_once, served_planned}
 use Rattle.xet_ties.proofs.Plannings.{PlanningOf, first_pieces, first_plans_all, numbered_at, planning_heard, plans_end, some_pieces}
 use Rattle.xet_ties.proofs.Renewed.{renews_all, renews_but_last, renews_none}
 use Rattle.xet_ties.proofs.SaidTies.{block_said}
@@ -40,7 +41,7 @@ use Rattle.xet_ties.specs.steps.Moves.{no_exchange, no_hidden, no_late}
 use Rattle.xet_ties.proofs.Heard.{exchange_start}
 use Rattle.xet_ties.proofs.HeardServed.{each_heard, heard_served_start}
 use Rattle.xet_ties.proofs.Pushes.{grew_by_any, grew_by_none, reaches_any, reaches_start}
-use Rattle.xet_ties.proofs.Starts.{first_start, served_start}
+use Rattle.xet_ties.proofs.Starts.{first_start, served_start, unfailed_start}
 use Rattle.xet_ties.proofs.EarlyEnds.{cuts_none}
 
 -- ---- connections go on
@@ -169,12 +170,6 @@ late_heard g b n es stop sl t = by sl.heard refl
         (λ y h. All-weaker (IsPlannedEntry es) (IsPlannedServed g (x ∷ rest)) one (late_in y.said) h) sl.heard t.late_planned in
         subst (λ (l : List Exchange). All (λ y. All (IsPlannedServed g l) (late_in y.said)) sl.heard) (sym e) all
 
--- on Ok each served block has passed
-passed_heard : (g : Setup) (b n : RunTold) (es : List Event) (sl : Slack) → Ties g b n es None sl → all_of sl.hidden ≡ [] → AllPassed g sl.heard
-passed_heard g b n es sl t none =
-    let P : Served → Type 0 = EntryPassed g sl.heard in
-    each_heard P es 0 sl.heard sl.hidden (λ lane. served_passed g sl.heard lane [] es t.passed) (subst (λ (l : List Served). All P l) (sym none) (All-nil P)) t.heard_served
-
 -- ---- the legal answer
 
 none_took : (o : Option (List ℕ)) (whole : List ℕ) → TookPrefix o o whole
@@ -190,6 +185,13 @@ told_nothing g bs = each bs
     each : (l : List ClientTold) → All (λ (x : Exchange). All (IsPlannedServed g (no_exchange bs)) x.served) (no_exchange l)
     each [] = All-nil (λ (x : Exchange). All (IsPlannedServed g (no_exchange bs)) x.served)
     each (b ∷ l) = All-cons (λ (x : Exchange). All (IsPlannedServed g (no_exchange bs)) x.served) _ (no_exchange l) (All-nil (IsPlannedServed g (no_exchange bs))) (each l)
+
+passed_nothing : (g : Setup) (bs : List ClientTold) → AllPassed g (no_exchange bs)
+passed_nothing g bs = each bs
+  where
+    each : (l : List ClientTold) → All (λ (x : Exchange). All (EntryPassed g (no_exchange bs)) x.served) (no_exchange l)
+    each [] = All-nil (λ (x : Exchange). All (EntryPassed g (no_exchange bs)) x.served)
+    each (b ∷ l) = All-cons (λ (x : Exchange). All (EntryPassed g (no_exchange bs)) x.served) _ (no_exchange l) (All-nil (EntryPassed g (no_exchange bs))) (each l)
 
 late_nothing : (g : Setup) (bs : List ClientTold) → AllLatePlanned g (no_exchange bs)
 late_nothing g bs = each bs
@@ -210,6 +212,10 @@ plans_nothing g bs = record { parts = []; more = []; few = omega arith; is_cut =
     by [] = refl
     by (b ∷ l) = refl
 
+none_heard : (g : Setup) (bs : List ClientTold) (p k : ℕ) → late_answers p k (no_exchange bs) ≤ g.tries
+none_heard g [] p k = omega arith
+none_heard g (b ∷ bs) p k = let r = none_heard g bs p k in omega (arith, r)
+
 -- a run that its settings refuse
 legal_refused : (g : Setup) (b : RunTold) (x : Setting) → failing_setting g b.clients ≡ Some x → Legal g b b (Err (error.ConfigurationError x))
 legal_refused g b x h = record {
@@ -225,6 +231,7 @@ legal_refused g b x h = record {
   flushed = tt;
   cancelled = λ i. tt;
   unfailed = refl;
+  clients_unfailed = λ c. unfailed_start b.clients;
   cause = h;
   settings = λ e i. let j : x ≡ e = cc in (ap (λ (y : Setting). let r : Result ℕ FileReconstructionError = Err (error.ConfigurationError y) in r) j, refl);
   empty = λ i. record { untouched = record { clients = refl; cache = refl; signal = refl; limits = refl }; took = refl; none = tt; error = tt };
@@ -235,9 +242,10 @@ legal_refused g b x h = record {
   all_renewed = tt;
   late = late_nothing g b.clients;
   under = tt;
+  at_most = λ other p k. none_heard g b.clients p k;
   served = served_once [] b.clients b.clients (no_exchange b.clients) (no_hidden b.clients) (no_late b.clients) (exchange_start b.clients) (heard_served_start 0 b.clients) (served_start b.clients);
   planned = told_nothing g b.clients;
-  passed = tt;
+  passed = λ c. passed_nothing g b.clients;
   gained = gained_none g (no_exchange b.clients) b.cache;
   offers = record { puts = 0; offers = grew_by_none b.cache.offers; few = omega arith };
   all_offered = tt;
@@ -250,6 +258,16 @@ legal_refused g b x h = record {
   counts_later = record { offers = reaches_start b.cache.offers; faults = omega arith };
   link = refl;
 }
+
+all_unfailed : (bs ns : List ClientTold) (i : ℕ) → i ≡ length bs → FirstUnfailed i bs ns → EachUnfailed bs ns
+all_unfailed bs ns i e h = subst (λ (k : ℕ). FirstUnfailed k bs ns) e h
+
+-- no connection failed, and each block passed its tests
+quiet_unfailed : (g : Setup) (b n : RunTold) (es : List Event) (stop : Stop) (sl : Slack) → IsQuiet b.clients sl → Ties g b n es stop sl → EachUnfailed b.clients n.clients
+quiet_unfailed g b n es stop sl q t = all_unfailed b.clients n.clients sl.calm q.calm t.unfailed
+
+quiet_passed : (g : Setup) (b n : RunTold) (es : List Event) (stop : Stop) (sl : Slack) → IsQuiet b.clients sl → Ties g b n es stop sl → AllPassed g sl.heard
+quiet_passed g b n es stop sl q t = all_passed g es sl.heard sl.hidden q.hidden t.heard_served t.passed
 
 legal_ran : (g : Setup) (b n : RunTold) (es : List Event) (answer : Result ℕ FileReconstructionError) → failing_setting g b.clients ≡ None → IsAllowedHistory es → RunCall g b n es answer → Legal g b n answer
 legal_ran g b n es (Ok k) h a r =
@@ -268,6 +286,7 @@ legal_ran g b n es (Ok k) h a r =
       flushed = r.flushed;
       cancelled = r.cancelled;
       unfailed = r.unfailed;
+      clients_unfailed = λ c. quiet_unfailed g b n es None t.slack (t.left.quiet c) t.ties;
       cause = tt;
       settings = λ e i. absurd (cc);
       empty = r.empty;
@@ -280,7 +299,8 @@ legal_ran g b n es (Ok k) h a r =
       planned = planned_heard g b n es None t.slack t.ties;
       late = late_heard g b n es None t.slack t.ties;
       under = none_spent g b n es None t.slack (t.left.late (λ e. absurd (cc))) r.finished.under t.ties;
-      passed = passed_heard g b n es t.slack t.ties (t.left.none refl).hidden;
+      at_most = tt;
+      passed = λ c. quiet_passed g b n es None t.slack (t.left.quiet c) t.ties;
       gained = t.ties.gained;
       offers = offers_few g b n es None t.slack t.ties;
       all_offered = offers_all g b n es t.slack t.ties (t.left.none refl);
@@ -308,6 +328,7 @@ legal_ran g b n es (Err e) h a r =
       flushed = tt;
       cancelled = λ i. tt;
       unfailed = r.unfailed;
+      clients_unfailed = λ c. quiet_unfailed g b n es (Some e) t.slack (t.left.quiet c) t.ties;
       cause = t.cause;
       settings = λ x i. absurd (cc);
       empty = r.empty;
@@ -320,7 +341,8 @@ legal_ran g b n es (Err e) h a r =
       planned = planned_heard g b n es (Some e) t.slack t.ties;
       late = late_heard g b n es (Some e) t.slack t.ties;
       under = tt;
-      passed = tt;
+      at_most = λ other. none_past g b n es (Some e) t.slack (t.left.late (λ s. other (let same : e ≡ error.OutOfMemory = cc in same))) t.ties;
+      passed = λ c. quiet_passed g b n es (Some e) t.slack (t.left.quiet c) t.ties;
       gained = t.ties.gained;
       offers = offers_few g b n es (Some e) t.slack t.ties;
       all_offered = tt;

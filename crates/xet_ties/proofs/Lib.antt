@@ -19,6 +19,7 @@ mod LaneJoins
 mod LaneMore
 mod Lanes
 mod LaneTies
+mod LowestLanes
 mod Lates
 mod Legals
 mod Measures

@@ -20,7 +20,7 @@ use Rattle.xet_ties.specs.Saids.{EventPassed, FirstRenewed, FirstSaid, IsTested}
 use Rattle.xet_ties.proofs.Heard.{said_push}
 use Rattle.xet_ties.specs.steps.Moves.{Fits}
 use Rattle.xet_ties.specs.Setup.{CacheTells, IsOver, RunTold, Setup, download_of}
-use Rattle.xet_ties.specs.Ties.{AllAre, EachExpired, HeardAsked, IsAmong, IsEntryOf, IsLooked, IsTaken, LatePlanned, Slack, Ties, AllWithin, EachServed}
+use Rattle.xet_ties.specs.Ties.{FirstUnfailed, AllAre, EachExpired, HeardAsked, IsAmong, IsEntryOf, IsLooked, IsTaken, LatePlanned, Slack, Ties, AllWithin, EachServed}
 use Rattle.xet_ties.proofs.Lanes.{served_same}
 use Rattle.xet_ties.proofs.Lates.{expired_same, late_push}
 use Rattle.xet_ties.proofs.Pushes.{cuts_same, first_push, lost_push, limited_same, looked_push, offered_push, polled_push, reaches_more, recorded_same, starts_same, stored_same, taken_push, tried_push, true_same}
@@ -46,6 +46,7 @@ tie_event g b n es e sl to f t = record {
   expired = f.expired to.heard (subst (λ (l : List Exchange). EachExpired es 0 l sl.late) (sym f.heard) t.expired);
   late_planned = late_push es e to.heard (subst (λ (l : List Exchange). LatePlanned es l) (sym f.heard) t.late_planned);
   heard_served = f.heard_served to.heard (subst (λ (l : List Exchange). EachServed es 0 l sl.hidden) (sym f.heard) t.heard_served);
+  unfailed = subst (λ (i : ℕ). FirstUnfailed i b.clients n.clients) (sym f.calm) t.unfailed;
   asked = first_push g.file es e sl.lost to.lost b.clients n.clients f.asked t.asked;
   heard_asked = subst (λ (l : List Exchange). HeardAsked g.file (es ++ e ∷ []) to.lost l) (sym f.heard) (heard_push g.file es e sl.lost to.lost sl.heard f.asked t.heard_asked);
   lost = lost_push g es e sl.lost (asked_in g.file es e) to.lost f.query refl f.asked t.lost;
@@ -85,6 +86,7 @@ tie_poll g b n es sl to a t = record {
   expired = t.expired;
   late_planned = t.late_planned;
   heard_served = t.heard_served;
+  unfailed = t.unfailed;
   asked = t.asked;
   heard_asked = t.heard_asked;
   lost = t.lost;
@@ -152,6 +154,7 @@ tie_limit g b n es sl to l c t = record {
   expired = t.expired;
   late_planned = t.late_planned;
   heard_served = t.heard_served;
+  unfailed = t.unfailed;
   asked = t.asked;
   heard_asked = t.heard_asked;
   lost = t.lost;
@@ -197,6 +200,7 @@ tie_admit g b n es sl to l c t =
       expired = expired_same es e 0 sl.heard sl.late (λ l w. refl) t.expired;
       late_planned = late_push es e sl.heard t.late_planned;
       heard_served = heard_served_same es e 0 sl.heard sl.hidden (λ l w. refl) t.heard_served;
+      unfailed = t.unfailed;
       asked = first_push g.file es e sl.lost sl.lost b.clients n.clients refl t.asked;
       heard_asked = heard_push g.file es e sl.lost sl.lost sl.heard refl t.heard_asked;
       lost = lost_push g es e sl.lost [] sl.lost refl refl refl t.lost;
@@ -251,6 +255,7 @@ tie_window g b n es sl to bytes took faults link t p q = record {
   expired = t.expired;
   late_planned = t.late_planned;
   heard_served = t.heard_served;
+  unfailed = t.unfailed;
   asked = t.asked;
   heard_asked = t.heard_asked;
   lost = t.lost;
@@ -304,6 +309,7 @@ tie_fail g b n es sl x spent t =
       expired = expired_same es e 0 sl.heard sl.late (λ l w. refl) t.expired;
       late_planned = late_push es e sl.heard t.late_planned;
       heard_served = heard_served_same es e 0 sl.heard sl.hidden (λ l w. refl) t.heard_served;
+      unfailed = t.unfailed;
       asked = first_push g.file es e sl.lost sl.lost b.clients n.clients refl t.asked;
       heard_asked = heard_push g.file es e sl.lost sl.lost sl.heard refl t.heard_asked;
       lost = lost_push g es e sl.lost [] sl.lost refl refl refl t.lost;
@@ -345,6 +351,7 @@ tie_short g b n es sl t = record {
   expired = t.expired;
   late_planned = t.late_planned;
   heard_served = t.heard_served;
+  unfailed = t.unfailed;
   asked = t.asked;
   heard_asked = t.heard_asked;
   lost = t.lost;

@@ -1,5 +1,5 @@
 -- The ties after the events that take from the slack.
-use Rattle.std.proofs.Common.{◌≡◌, ℕ, suc, ◌+◌, ◌≤◌, ◌<◌, Bool, true, false, cond, List, [], ◌∷◌, ◌++◌, length, refl, sym, subst, ◌∙◌, ap, arith, None}
+use Rattle.std.proofs.Common.{◌≡◌, ℕ, ◌+◌, ◌≤◌, ◌<◌, Bool, true, false, cond, List, [], ◌∷◌, ◌++◌, length, refl, sym, subst, ◌∙◌, ap, arith, None}
 use Rattle.std.specs.Prelude.{count_by, map}
 use Rattle.xet_base.specs.declared.cas_types.ChunkRange.{ChunkRange}
 use Rattle.xet_base.specs.declared.merklehash.MerkleHash.{MerkleHash}
@@ -32,6 +32,7 @@ tie_fetched g b n es sl m p k x h before after rest at fresh is hidden pending p
     (record {
       heard = refl;
       looks = refl;
+      calm = refl;
       query = refl;
       true_of = λ s. tt;
       said = λ x. tt;
@@ -71,6 +72,7 @@ tie_expired g b n es sl m p k j before after fresh left is late spare fits t =
     (record {
       heard = refl;
       looks = refl;
+      calm = refl;
       query = refl;
       true_of = λ s. tt;
       said = λ x. tt;
@@ -111,6 +113,7 @@ tie_refreshed g b n es sl p r at lost renewed t =
     (record {
       heard = refl;
       looks = refl;
+      calm = refl;
       query = refl;
       true_of = λ s. tt;
       said = λ x. tt;
@@ -143,6 +146,7 @@ tie_wrote g b n es sl taken rest is t =
     (record {
       heard = refl;
       looks = refl;
+      calm = refl;
       query = refl;
       true_of = λ s. tt;
       said = λ x. tt;
@@ -183,6 +187,7 @@ tie_rest g b n es sl rest spare fewer less t = record {
   expired = t.expired;
   late_planned = t.late_planned;
   heard_served = t.heard_served;
+  unfailed = t.unfailed;
   asked = t.asked;
   heard_asked = t.heard_asked;
   lost = t.lost;

@@ -1,29 +1,25 @@
 -- The data of a round's Served steps, by all that was heard after it.
 use Rattle.std.proofs.Common.{◌≡◌, ℕ, ◌+◌, List, [], ◌∷◌, ◌++◌, length, ◌∙◌, ap, inl, inr}
-use Rattle.std.specs.Prelude.{All, Some, slice_get}
+use Rattle.std.specs.Prelude.{All}
 use Rattle.std.proofs.lemmas.List.Elements.{All-cons, All-head, All-nil, All-tail, All-weaker}
 use Rattle.xet_base.specs.Store.{Store}
 use Rattle.xet_outside.specs.Answers.{bytes_in}
 use Rattle.xet_outside.specs.declared.block.BlockBytes.{BlockBytes}
 use Rattle.xet_outside.specs.declared.said.Said.{Said}
 use Rattle.xet_outside.specs.declared.served.Served.{Served}
-use Rattle.xet_outside.specs.Told.{ClientTold, served_of}
-use Rattle.xet_outside.proofs.CallerLemmas.{answer_after}
-use Rattle.xet_error.specs.declared.error.Corruption.{Corruption}
-use Rattle.xet_error.specs.declared.error.FileReconstructionError.{FileReconstructionError}
-use Rattle.xet_error.specs.declared.error.FileReconstructionError.TheVariants as error
+use Rattle.xet_outside.specs.Told.{ClientTold}
 use Rattle.xet_blocks.specs.BlockChecks.{block_data}
 use Rattle.xet_blocks.specs.declared.reconstruction_terms.xorb_block.XorbBlockData.{XorbBlockData}
 use Rattle.xet_run.specs.declared.event.Event.{Event}
 use Rattle.xet_ties.specs.InCall.{EachExchange, Exchange, Place}
-use Rattle.xet_ties.specs.Lanes.{AreAt, AreOf, Ask, BytesFail, IsFor, IsOf, StepCause}
+use Rattle.xet_ties.specs.Lanes.{AreAt, AreOf, Ask, IsFor, IsOf}
 use Rattle.xet_ties.specs.Saids.{IsServedData}
 use Rattle.xet_ties.specs.Setup.{AllTell}
 use Rattle.xet_ties.specs.Ties.{EachLane}
 use Rattle.xet_ties.specs.declared.lane_step.LaneStep.{LaneStep}
 use Rattle.xet_ties.specs.declared.lane_step.LaneStep.TheVariants as step
 use Rattle.xet_ties.specs.steps.Moves.{heard_join}
-use Rattle.xet_ties.specs.steps.Rounds.{FailsAsk, IsHeardError, IsHeardStep}
+use Rattle.xet_ties.specs.steps.Rounds.{IsHeardStep}
 use Rattle.xet_ties.proofs.SaidTies.{step_data}
 
 -- connections go on telling their store
@@ -54,26 +50,13 @@ are_paired (b ∷ bs) (n ∷ ns) (x ∷ xs) h = (h.0.paired, are_paired bs ns xs
 
 -- ---- one lane
 
-error_heard : (fs : List Ask) (b n : ClientTold) (bs : List ClientTold) (y : Exchange) (ys : List Exchange) (sv : List Served) (all : List Said) (number : ℕ) (a : Ask) (e : FileReconstructionError)
-    → ((a : Ask) (k : Corruption) → BytesFail b sv all a k → FailsAsk a k y) → slice_get fs number ≡ Some a → StepCause b n sv all a e → IsHeardError fs (b ∷ bs) (y ∷ ys) e
-error_heard fs b n bs y ys sv all number a error.OutOfMemory fails at c = tt
-error_heard fs b n bs y ys sv all number a error.ClientError fails at c = tt
-error_heard fs b n bs y ys sv all number a error.FileNotFound fails at c = tt
-error_heard fs b n bs y ys sv all number a error.UrlExpired fails at c = tt
-error_heard fs b n bs y ys sv all number a error.IoError fails at c = tt
-error_heard fs b n bs y ys sv all number a (error.CorruptedReconstruction k) fails at c = record { number = number; ask = a; at = at; bytes = inl (fails a k c); dishonest = λ s tell holds passes. c.dishonest s tell.0 holds passes }
-error_heard fs b n bs y ys sv all number a (error.ConfigurationError k) fails at c = tt
-error_heard fs b n bs y ys sv all number a error.Cancelled fails at c = tt
-error_heard fs b n bs y ys sv all number a (error.InternalWriterError k) fails at c = tt
-
 lane_heard : (fs : List Ask) (b n : ClientTold) (bs : List ClientTold) (y : Exchange) (ys : List Exchange) (sv : List Served) (all : List Said) (ks : List ℕ) (qs : List Ask) (ss : List LaneStep)
     → ((a : Ask) (p k : ℕ) (d : XorbBlockData) → IsFor a → IsOf b n sv all a (step.Served p k d) → IsServedData y p k a.block d)
-    → ((a : Ask) (k : Corruption) → BytesFail b sv all a k → FailsAsk a k y)
     → AreAt fs ks qs → AreOf b n sv all qs ss → All IsFor qs → All (IsHeardStep fs (b ∷ bs) (y ∷ ys)) ss
-lane_heard fs b n bs y ys sv all ks qs [] made fails at are own = All-nil (IsHeardStep fs (b ∷ bs) (y ∷ ys))
-lane_heard fs b n bs y ys sv all ks [] (s ∷ ss) made fails at are own = absurd are
-lane_heard fs b n bs y ys sv all [] (a ∷ qs) (s ∷ ss) made fails at are own = absurd at
-lane_heard fs b n bs y ys sv all (j ∷ ks) (a ∷ qs) (step.Served p k d ∷ ss) made fails at are own =
+lane_heard fs b n bs y ys sv all ks qs [] made at are own = All-nil (IsHeardStep fs (b ∷ bs) (y ∷ ys))
+lane_heard fs b n bs y ys sv all ks [] (s ∷ ss) made at are own = absurd are
+lane_heard fs b n bs y ys sv all [] (a ∷ qs) (s ∷ ss) made at are own = absurd at
+lane_heard fs b n bs y ys sv all (j ∷ ks) (a ∷ qs) (step.Served p k d ∷ ss) made at are own =
     let P = IsHeardStep fs (b ∷ bs) (y ∷ ys) in
     let i = are.0.2 in
     All-cons P (step.Served p k d) ss
@@ -86,29 +69,18 @@ lane_heard fs b n bs y ys sv all (j ∷ ks) (a ∷ qs) (step.Served p k d ∷ ss
       served = inl (made a p k d (All-head IsFor a qs own) are.0);
       honest = λ s t h. i.made ∙ ap (λ (g : BlockBytes). block_data a.block.chunk_ranges g) (i.honest s t.0 h);
     })
-    (lane_heard fs b n bs y ys sv all ks qs ss made fails at.1 are.1 (All-tail IsFor a qs own))
-lane_heard fs b n bs y ys sv all (j ∷ ks) (a ∷ qs) (step.Expired p k ∷ ss) made fails at are own =
-    All-cons (IsHeardStep fs (b ∷ bs) (y ∷ ys)) (step.Expired p k) ss tt (lane_heard fs b n bs y ys sv all ks qs ss made fails at.1 are.1 (All-tail IsFor a qs own))
-lane_heard fs b n bs y ys sv all (j ∷ ks) (a ∷ qs) (step.Failed e ∷ ss) made fails at are own =
-    All-cons (IsHeardStep fs (b ∷ bs) (y ∷ ys)) (step.Failed e) ss (error_heard fs b n bs y ys sv all j a e fails at.0 are.0) (lane_heard fs b n bs y ys sv all ks qs ss made fails at.1 are.1 (All-tail IsFor a qs own))
+    (lane_heard fs b n bs y ys sv all ks qs ss made at.1 are.1 (All-tail IsFor a qs own))
+lane_heard fs b n bs y ys sv all (j ∷ ks) (a ∷ qs) (step.Expired p k ∷ ss) made at are own =
+    All-cons (IsHeardStep fs (b ∷ bs) (y ∷ ys)) (step.Expired p k) ss tt (lane_heard fs b n bs y ys sv all ks qs ss made at.1 are.1 (All-tail IsFor a qs own))
+lane_heard fs b n bs y ys sv all (j ∷ ks) (a ∷ qs) (step.Failed e ∷ ss) made at are own =
+    All-cons (IsHeardStep fs (b ∷ bs) (y ∷ ys)) (step.Failed e) ss tt (lane_heard fs b n bs y ys sv all ks qs ss made at.1 are.1 (All-tail IsFor a qs own))
 
 -- ---- all lanes
-
-error_weaker : (fs : List Ask) (b : ClientTold) (bs : List ClientTold) (y : Exchange) (ys : List Exchange) (e : FileReconstructionError) → IsHeardError fs bs ys e → IsHeardError fs (b ∷ bs) (y ∷ ys) e
-error_weaker fs b bs y ys error.OutOfMemory h = tt
-error_weaker fs b bs y ys error.ClientError h = tt
-error_weaker fs b bs y ys error.FileNotFound h = tt
-error_weaker fs b bs y ys error.UrlExpired h = tt
-error_weaker fs b bs y ys error.IoError h = tt
-error_weaker fs b bs y ys (error.CorruptedReconstruction k) h = record { number = h.number; ask = h.ask; at = h.at; bytes = inr h.bytes; dishonest = λ s tell holds passes. h.dishonest s tell.1 holds passes }
-error_weaker fs b bs y ys (error.ConfigurationError k) h = tt
-error_weaker fs b bs y ys error.Cancelled h = tt
-error_weaker fs b bs y ys (error.InternalWriterError k) h = tt
 
 step_weaker : (fs : List Ask) (b : ClientTold) (bs : List ClientTold) (y : Exchange) (ys : List Exchange) (s : LaneStep) → IsHeardStep fs bs ys s → IsHeardStep fs (b ∷ bs) (y ∷ ys) s
 step_weaker fs b bs y ys (step.Served p k d) h = record { number = h.number; ask = h.ask; at = h.at; plan = h.plan; index = h.index; served = inr h.served; honest = λ s t o. h.honest s t.1 o }
 step_weaker fs b bs y ys (step.Expired p k) h = tt
-step_weaker fs b bs y ys (step.Failed e) h = error_weaker fs b bs y ys e h
+step_weaker fs b bs y ys (step.Failed e) h = tt
 
 -- one more lane
 pub lanes_more : (fs : List Ask) (b n : ClientTold) (bs : List ClientTold) (sv : List Served) (all : List Said) (hs : List (List Served)) (alls : List (List Said)) (d : List ℕ) (made : List Ask) (ss : List LaneStep) (ls : List (List LaneStep))
@@ -120,5 +92,5 @@ lanes_more fs b n bs sv all hs alls d made ss ls at are own more (x ∷ xs) p =
     let y : Exchange = record { asked = x.asked; served = x.served ++ sv; said = x.said ++ all } in
     let ys = heard_join hs alls xs in
     let P = IsHeardStep fs (b ∷ bs) (y ∷ ys) in
-    let mine = lane_heard fs b n bs y ys sv all d made ss (λ a q k v o i. step_data b n x sv all a q k v p.0 o i) (λ a k f. record { given = f.given; answer = answer_after x.served sv x.said all (served_of a.request) f.given p.0 f.answer; fails = f.fails }) at are own in
+    let mine = lane_heard fs b n bs y ys sv all d made ss (λ a q k v o i. step_data b n x sv all a q k v p.0 o i) at are own in
     All-cons (λ (l : List LaneStep). All P l) ss ls mine (All-weaker (λ (l : List LaneStep). All (IsHeardStep fs bs ys) l) (λ (l : List LaneStep). All P l) (λ l h. All-weaker (IsHeardStep fs bs ys) P (step_weaker fs b bs y ys) l h) ls (more xs p.1))

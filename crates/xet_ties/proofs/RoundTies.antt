@@ -1,6 +1,6 @@
 -- The ties after a whole round: the lanes came back, and all that they did is recorded.
 use Rattle.std.proofs.Common.{◌≡◌, ℕ, zero, suc, ◌+◌, ◌<◌, ◌≤◌, List, [], ◌∷◌, ◌++◌, length, map, refl, sym, subst, ◌∙◌, ap, arith, inl, inr, ⊎_elim, None, Some}
-use Rattle.std.specs.Prelude.{count_by, drop, All, slice_get}
+use Rattle.std.specs.Prelude.{Bool, cond, count_by, drop, false, true, All, slice_get}
 use Rattle.std.specs.List.{flat_map}
 use Rattle.std.proofs.lemmas.List.{append-nil}
 use Rattle.xet_base.specs.declared.cas_types.ChunkRange.{ChunkRange}
@@ -13,18 +13,19 @@ use Rattle.xet_run.specs.declared.event.PlannedBlock.{PlannedBlock}
 use Rattle.xet_ties.specs.declared.lane_step.LaneStep.{LaneStep}
 use Rattle.xet_ties.specs.declared.lane_step.LaneStep.TheVariants as step
 use Rattle.xet_ties.specs.InCall.{EachGrew, Exchange, SomeOne}
-use Rattle.xet_ties.specs.Lanes.{Ask, DrewApart, EachDrew, IsFor}
+use Rattle.xet_ties.specs.Lanes.{Ask, DrewApart, EachDrew, IsFor, any_faults}
 use Rattle.xet_ties.specs.Saids.{HasPassed, IsServedData, PassedIn}
 use Rattle.xet_ties.specs.steps.Records.{AreFresh, asks_for, Key, Place, places, places_of, EachFresh, EachMayExpire, blocks_all, expired_on, fetched_on, lanes_entries, lane_events, lanes_late, IsFreshAsk, key_of, lanes_expired, lanes_fetched}
 use Rattle.xet_ties.specs.steps.Moves.{no_hidden, no_late, heard_join}
 use Rattle.xet_ties.specs.Setup.{RunTold, Setup, most_lanes}
-use Rattle.xet_ties.specs.Ties.{EachLane, Slack, Ties, has_one, is_one, is_pair, IsPlannedEntry}
+use Rattle.xet_ties.specs.Ties.{EachLane, FirstUnfailed, Slack, Ties, has_one, is_one, is_pair, IsPlannedEntry}
 use Rattle.xet_ties.specs.History.{block_at, fetches}
-use Rattle.xet_ties.specs.steps.Rounds.{AfterRound, IsHeardData, IsHeardStep, IsPlanAsk, blocks_at, got_of}
+use Rattle.xet_ties.specs.steps.Rounds.{AfterRound, calm_after, IsHeardData, IsHeardStep, IsPlanAsk, blocks_at, got_of}
 use Rattle.xet_ties.proofs.Heard.{asked_join, block_more, grew_join, join_match, step_join}
 use Rattle.xet_ties.proofs.ClientMoves.{tie_join}
 use Rattle.xet_ties.proofs.LaneJoins.{AreJoined, are_joined, fetched_among, joined_among, lates_among, served_apart}
 use Rattle.xet_ties.proofs.LaneTies.{ArePassed, EachPassed, tie_lanes_expired, tie_lanes_fetched, InRound}
+use Rattle.xet_ties.proofs.LaneJoins.{each_failed, each_hides}
 use Rattle.xet_ties.proofs.Recording.{tie_rest}
 use Rattle.xet_ties.proofs.RoundData.{are_paired}
 use Rattle.std.proofs.lemmas.List.Elements.{All-append, All-cons, All-head, All-map, All-nil, All-tail, All-weaker}
@@ -79,6 +80,7 @@ joined_slack fs bs ns drawn ls j sl = record sl {
   hidden = lanes_entries j.keys j.hidden;
   late = lanes_late (map places_of ls) (no_late bs);
   pending = flat_map blocks_all j.keys;
+  calm = calm_after sl.calm ls;
 }
 
 -- and after the Fetched events: what the lanes served goes from the pending blocks to those that are to be offered, and
@@ -90,6 +92,7 @@ fetched_slack fs bs ns drawn ls j sl = record sl {
   late = lanes_late (map places_of ls) (no_late bs);
   pending = [];
   due = sl.due + count_by has_one (flat_map blocks_all j.keys);
+  calm = calm_after sl.calm ls;
 }
 
 -- no more lanes than connections
@@ -106,6 +109,25 @@ past_drew k fs (b ∷ bs) [] (d ∷ ds) (ss ∷ es) e h = absurd e
 past_drew zero fs (b ∷ bs) (n ∷ ns) (d ∷ ds) (ss ∷ es) e h = absurd (omega (arith, h))
 past_drew (suc k) fs (b ∷ bs) (n ∷ ns) (d ∷ ds) (ss ∷ es) e h = past_drew k fs bs ns ds es e.1 (omega (arith, h))
 
+-- the counts of the first connections, whose lanes had no failed call, are as before
+drew_unfailed : (fs : List Ask) (i : ℕ) (bs ms ns : List ClientTold) (ds : List (List ℕ)) (es : List (List LaneStep)) → EachDrew fs ms ns ds es → FirstUnfailed i bs ms → FirstUnfailed (calm_after i es) bs ns
+drew_unfailed fs zero bs ms ns ds es e h = tt
+drew_unfailed fs (suc i) bs ms ns [] [] e h = subst (λ (l : List ClientTold). FirstUnfailed (suc i) bs l) (sym e) h
+drew_unfailed fs (suc i) bs ms ns [] (ss ∷ es) e h = absurd e
+drew_unfailed fs (suc i) bs ms ns (d ∷ ds) [] e h = absurd e
+drew_unfailed fs (suc i) bs [] ns (d ∷ ds) (ss ∷ es) e h = absurd e
+drew_unfailed fs (suc i) bs (m ∷ ms) [] (d ∷ ds) (ss ∷ es) e h = absurd e
+drew_unfailed fs (suc i) [] (m ∷ ms) (n ∷ ns) (d ∷ ds) (ss ∷ es) e h = none (cond (any_faults ss) 0 (suc (calm_after i es)))
+  where
+    none : (k : ℕ) → FirstUnfailed k [] (n ∷ ns)
+    none zero = tt
+    none (suc k) = tt
+drew_unfailed fs (suc i) (b ∷ bs) (m ∷ ms) (n ∷ ns) (d ∷ ds) (ss ∷ es) e h = by (any_faults ss) refl (drew_unfailed fs i bs ms ns ds es e.1 h.1)
+  where
+    by : (v : Bool) → any_faults ss ≡ v → FirstUnfailed (calm_after i es) bs ns → FirstUnfailed (cond v 0 (suc (calm_after i es))) (b ∷ bs) (n ∷ ns)
+    by true f rest = tt
+    by false f rest = (e.0.did.unfailed f ∙ h.0, rest)
+
 -- the lanes came back
 pub round_joined : (g : Setup) (b at : RunTold) (es : List Event) (sl : Slack) (fs : List Ask) (ns : List ClientTold) (ls : List (List LaneStep)) → (d : DrewApart fs at.clients ns ls)
     → ((p k : ℕ) → count_by (fetches p k) es + count_by (is_pair p k) (map asks_for fs) ≤ 1) → All (IsFreshAsk es) fs
@@ -120,8 +142,8 @@ round_joined g b at es sl fs ns ls d new fresh waits none_h none_l t =
     let planned : All (IsPlannedEntry es) (map asks_for fs) = All-map (IsPlannedEntry es) asks_for fs (All-weaker (IsFreshAsk es) (λ a. IsPlannedEntry es (asks_for a)) (λ a h. ((key_of a).2, h.planned, refl)) fs fresh) in
     let entries = joined_among (IsPlannedEntry es) fs at.clients ns d.drawn ls d.each planned in
     let lates = lates_among (IsPlannedEntry es) fs at.clients ns d.drawn ls d.each planned in
-    let first = tie_join g b at es sl ns served j.said late j.joined (served_apart es fs at.clients ns ls d new) entries lates (past_drew most_lanes fs at.clients ns d.drawn ls d.each d.few) none_h none_l t in
-    tie_rest g b (record at { clients = ns }) es (record sl { heard = heard; hidden = served; late = late }) (flat_map blocks_all j.keys) sl.spare
+    let first = tie_join g b at es sl ns served j.said late j.joined (served_apart es fs at.clients ns ls d new) entries lates (past_drew most_lanes fs at.clients ns d.drawn ls d.each d.few) none_h none_l (calm_after sl.calm ls) (drew_unfailed fs sl.calm b.clients at.clients ns d.drawn ls d.each t.unfailed) t in
+    tie_rest g b (record at { clients = ns }) es (record sl { heard = heard; hidden = served; late = late; calm = calm_after sl.calm ls }) (flat_map blocks_all j.keys) sl.spare
     (λ x r. let a = fetched_among fs at.clients ns ls d x r in let w = waits x r in omega (arith, a, w)) (omega arith) first
 
 -- ---- what was served has passed
@@ -214,7 +236,7 @@ round_tied g b at es sl fs ns ls d new fresh waits none_h none_l asks may asked 
     let from = round_fetched g b at es sl fs ns ls d new fresh waits none_h none_l asks asked t in
     let all = tie_lanes_expired g b now got (record (fetched_slack fs at.clients ns d.drawn ls j sl) { spare = from.left }) 0 (map places_of ls) (no_late at.clients) [] may (late_places at.clients ls j.ends) refl refl
     (λ h. from.goes (asked_may expired_on (λ m. refl) es sl.spare fs at.clients ns d.drawn ls d.each asked (some_same (lanes_expired 0 (map places_of ls)) (lane_events expired_on 0 ls) (j.expired 0) h))) from.ties in
-    let to : Slack = record sl { heard = heard_join (lanes_entries j.keys j.hidden) j.said sl.heard; hidden = j.hidden; late = no_late b.clients; pending = []; due = sl.due + count_by has_one (flat_map blocks_all j.keys); spare = 0 } in
+    let to : Slack = record sl { heard = heard_join (lanes_entries j.keys j.hidden) j.said sl.heard; hidden = j.hidden; late = no_late b.clients; pending = []; due = sl.due + count_by has_one (flat_map blocks_all j.keys); spare = 0; calm = calm_after sl.calm ls } in
     let after_all = subst (λ (l : List Event). Ties g b now (got ++ l) None (record to { late = no_late at.clients; spare = all.left })) (j.expired 0) all.ties in
     let named = tie_rest g b now (got ++ lane_events expired_on 0 ls) (record to { late = no_late at.clients; spare = all.left }) [] 0 (λ x r. omega arith) (omega arith) after_all in
     let tied = subst (λ (l : List (List Place)). Ties g b now (got ++ lane_events expired_on 0 ls) None (record to { late = l })) (same_late es 0 b.clients at.clients sl.hidden sl.late t.served.lanes) named in
@@ -225,6 +247,8 @@ round_tied g b at es sl fs ns ls d new fresh waits none_h none_l asks may asked 
       step = step_join (lanes_entries j.keys j.hidden) j.said sl.heard match;
       asked = asked_join (lanes_entries j.keys j.hidden) j.said sl.heard match;
       found = j.found sl.heard (are_paired b.clients at.clients sl.heard t.heard);
+      failed = each_failed fs at.clients ns d.drawn ls sl.heard d.each (are_paired b.clients at.clients sl.heard t.heard);
+      hides = each_hides fs at.clients ns d.drawn ls d.each;
       looks = refl;
       none = λ h. j.none h ∙ same_hidden es 0 b.clients at.clients sl.hidden sl.late t.served.lanes;
       late = refl;
@@ -233,5 +257,6 @@ round_tied g b at es sl fs ns ls d new fresh waits none_h none_l asks may asked 
       spare = refl;
       lost = refl;
       ahead = refl;
+      calm = refl;
     } in
     (to, tied, after)

@@ -21,7 +21,7 @@ use Rattle.xet_ties.specs.History.{IsNumberedNext, IsOneCached, IsRenewed, IsOnL
 use Rattle.xet_ties.specs.steps.Moves.{no_slack, no_hidden, no_late, no_exchange}
 use Rattle.xet_ties.specs.Causes.{failing_setting}
 use Rattle.xet_ties.specs.Setup.{RunTold, Setup, download_of}
-use Rattle.xet_ties.specs.Ties.{all_of, is_pair, EachLane, EachUnasked, FirstAsked, HeardAsked, IsEntryOf, IsLane, MayLeave, NoneLate, Slack, Ties, IsPlannedEntry, LeavesNothing, IsServed}
+use Rattle.xet_ties.specs.Ties.{all_of, is_pair, EachLane, EachUnasked, EachUnfailed, FirstAsked, IsFaultless, HeardAsked, IsEntryOf, IsLane, MayLeave, NoneLate, Slack, Ties, IsPlannedEntry, LeavesNothing, IsServed}
 use Rattle.xet_ties.proofs.Lanes.{served_same}
 use Rattle.xet_ties.proofs.Lates.{expired_same, expired_start, late_push, late_start}
 use Rattle.xet_ties.proofs.Moves.{tie_fail, tie_admit, tie_limit}
@@ -85,6 +85,10 @@ served_start bs = record { lanes = lanes_start 0 bs; once = λ p k. let n = none
 pub first_start : (f : MerkleHash) (b : ClientTold) (bs : List ClientTold) → FirstAsked f [] [] (b ∷ bs) (b ∷ bs)
 first_start f b bs = (record { asked = same_list b.asked }, unasked_start bs)
 
+pub unfailed_start : (bs : List ClientTold) → EachUnfailed bs bs
+unfailed_start [] = tt
+unfailed_start (b ∷ bs) = (refl, unfailed_start bs)
+
 -- at the start all is tied
 pub tie_start : (g : Setup) (b : RunTold) → failing_setting g b.clients ≡ None → Ties g b b [] None (no_slack b.clients)
 tie_start g b h = record {
@@ -100,6 +104,7 @@ tie_start g b h = record {
   expired = expired_start 0 b.clients;
   late_planned = late_start b.clients;
   heard_served = heard_served_start 0 b.clients;
+  unfailed = unfailed_start b.clients;
   asked = asked_start g b.clients h;
   heard_asked = heard_start g b.clients h;
   lost = tt;
@@ -144,6 +149,7 @@ tie_cancel g b n es sl t =
       expired = expired_same es e 0 sl.heard sl.late (λ l w. refl) t.expired;
       late_planned = late_push es e sl.heard t.late_planned;
       heard_served = heard_served_same es e 0 sl.heard sl.hidden (λ l w. refl) t.heard_served;
+      unfailed = t.unfailed;
       asked = first_push g.file es e sl.lost sl.lost b.clients n.clients refl t.asked;
       heard_asked = heard_push g.file es e sl.lost sl.lost sl.heard refl t.heard_asked;
       lost = lost_push g es e sl.lost [] sl.lost refl refl refl t.lost;
@@ -203,6 +209,7 @@ tie_flush g b n es sl to took faults link t = record {
   expired = t.expired;
   late_planned = t.late_planned;
   heard_served = t.heard_served;
+  unfailed = t.unfailed;
   asked = t.asked;
   heard_asked = t.heard_asked;
   lost = t.lost;
@@ -237,13 +244,13 @@ none_hidden [] = refl
 none_hidden (b ∷ bs) = none_hidden bs
 
 pub short_leaves : (bs : List ClientTold) (sl : Slack) → MayLeave (Some error.OutOfMemory) bs sl
-short_leaves bs sl = record { none = λ e. absurd (cc); honest = λ s o other. absurd (other refl); late = λ other. absurd (other refl); counted = λ other _. absurd (other refl) }
+short_leaves bs sl = record { none = λ e. absurd (cc); honest = λ s o other. absurd (other refl); late = λ other. absurd (other refl); counted = λ other _. absurd (other refl); quiet = λ c. absurd c }
 
-pub steady_leaves : (bs : List ClientTold) (e : FileReconstructionError) (sl : Slack) → all_of sl.hidden ≡ [] → NoneLate sl.late → sl.ahead ≡ 0 → MayLeave (Some e) bs sl
-steady_leaves bs e sl hidden late ahead = record { none = λ h. absurd (cc); honest = λ s o other. hidden; late = λ other. late; counted = λ other io. ahead }
+pub steady_leaves : (bs : List ClientTold) (e : FileReconstructionError) (sl : Slack) → all_of sl.hidden ≡ [] → NoneLate sl.late → sl.ahead ≡ 0 → (IsFaultless (Some e) → sl.calm ≡ length bs) → MayLeave (Some e) bs sl
+steady_leaves bs e sl hidden late ahead calm = record { none = λ h. absurd (cc); honest = λ s o other. hidden; late = λ other. late; counted = λ other io. ahead; quiet = λ c. record { calm = calm c; hidden = hidden } }
 
-pub steady_ends : (bs : List ClientTold) (sl : Slack) → LeavesNothing sl → NoneLate sl.late → MayLeave None bs sl
-steady_ends bs sl l late = record { none = λ h. l; honest = λ s o other. l.hidden; late = λ other. late; counted = λ other io. l.ahead }
+pub steady_ends : (bs : List ClientTold) (sl : Slack) → LeavesNothing sl → NoneLate sl.late → sl.calm ≡ length bs → MayLeave None bs sl
+steady_ends bs sl l late calm = record { none = λ h. l; honest = λ s o other. l.hidden; late = λ other. late; counted = λ other io. l.ahead; quiet = λ c. record { calm = calm; hidden = l.hidden } }
 
 -- ---- limits
 

@@ -1,5 +1,5 @@
 -- What each error of a run shows of what its arguments tell.
-use Rattle.std.specs.Prelude.{ℕ, ◌≡◌, ◌⊎◌, ◌+◌, ◌-◌, ◌^◌, ◌<◌, ◌≤◌, List, [], ◌∷◌, cond, nat_eq, nat_lt, Option, Some, None, IsNone, IfSome, slice_get, length, count_by}
+use Rattle.std.specs.Prelude.{ℕ, ◌≡◌, ◌⊎◌, ◌+◌, ◌-◌, ◌^◌, ◌<◌, ◌≤◌, List, [], ◌∷◌, cond, drop, nat_eq, nat_lt, Option, Some, None, IsNone, IfSome, slice_get, length, count_by}
 use Rattle.xet_base.specs.declared.cas_types.FileRange.{FileRange}
 use Rattle.xet_base.specs.Store.{Store, file_of}
 use Rattle.xet_outside.specs.Answers.{late_in, plans_in}
@@ -22,10 +22,10 @@ use Rattle.xet_blocks.specs.PlanChecks.{failed_test}
 use Rattle.xet_blocks.specs.TermBlocks.{covered}
 use Rattle.xet_fetch.specs.Refreshes.{plan_extents, refusal_of}
 use Rattle.xet_ties.specs.Cuts.{StartsAt}
-use Rattle.xet_ties.specs.InCall.{Exchange, SomeOne, answers_of, expired_said, new_in}
-use Rattle.xet_ties.specs.Saids.{BlockOfPlan, IsBlockAnswer, IsPlanAccepted, IsPlanSaid, IsQueryAnswer, TermOfPlan}
+use Rattle.xet_ties.specs.InCall.{AllBelow, Exchange, SomeOne, answers_of, expired_said, new_in}
+use Rattle.xet_ties.specs.Saids.{AllPassed, BlockOfPlan, IsBlockAnswer, IsPlanAccepted, IsPlanSaid, IsQueryAnswer, ServedPassed, TermOfPlan}
 use Rattle.xet_ties.specs.Setup.{AllTell, IsOver, RunTold, Setup}
-use Rattle.xet_ties.specs.Ties.{is_pair}
+use Rattle.xet_ties.specs.Ties.{EachUnfailed, FirstUnfailed, is_pair}
 
 -- ---- settings
 
@@ -48,6 +48,17 @@ abbrev pub SomeRose : List ClientTold → List ClientTold → Type 0
 SomeRose (b ∷ bs) (n ∷ ns) = Rose b.faults n.faults ⊎ SomeRose bs ns
 SomeRose [] ns = ⊥
 SomeRose (b ∷ bs) [] = ⊥
+
+-- Q holds of the first of these connections
+abbrev pub FirstIs : (Exchange → Type 0) → List Exchange → Type 0
+FirstIs Q [] = ⊥
+FirstIs Q (x ∷ xs) = Q x
+
+-- the faults of some connection rose, and Q holds of each below it
+abbrev pub LowestRose : (Exchange → Type 0) → List ClientTold → List ClientTold → List Exchange → Type 0
+LowestRose Q (b ∷ bs) (n ∷ ns) xs = Rose b.faults n.faults ⊎ (FirstIs Q xs × LowestRose Q bs ns (drop 1 xs))
+LowestRose Q [] ns xs = ⊥
+LowestRose Q (b ∷ bs) [] xs = ⊥
 
 -- the expired answers of all connections
 abbrev pub total_expiries : List ClientTold → ℕ
@@ -168,6 +179,24 @@ pub record IsMissingFile (g : Setup) (xs : List Exchange) (before after : List C
   pub first : FirstSaysNone before after
   pub unstored : (s : Store) → AllTell s before → IsNone (file_of s g.file)
 
+-- bytes of a block that the connection of this number said fail this test. It told no fault, nor did a lower one, and
+-- the blocks that lower ones served passed their tests: of the errors of several lanes it is the lowest one's
+pub record LaneFails (g : Setup) (xs : List Exchange) (before after : List ClientTold) (k : Corruption) : Type 0 where
+  pub lane : ℕ
+  pub exchange : Exchange
+  pub at : slice_get xs lane ≡ Some exchange
+  pub place : BlockOfPlan g xs
+  pub number : ℕ
+  pub own : number ≡ place.accepted.said.number
+  pub bytes : BlockFailsIn g xs place number k exchange
+  pub passed : AllBelow (ServedPassed g xs) lane xs
+  pub unfailed : FirstUnfailed (lane + 1) before after
+
+-- no connection told a fault, and each block that was served passed its tests
+pub record NothingElse (g : Setup) (xs : List Exchange) (before after : List ClientTold) : Type 0 where
+  pub passed : AllPassed g xs
+  pub unfailed : EachUnfailed before after
+
 -- an answer failed this test, and the connections don't tell one valid store
 pub record IsCorrupted (g : Setup) (xs : List Exchange) (before after : List ClientTold) (k : Corruption)
     : Type 0 where
@@ -175,12 +204,14 @@ pub record IsCorrupted (g : Setup) (xs : List Exchange) (before after : List Cli
   pub failed : SomeFailed g xs k
   -- whatever the other connections tell
   pub first : FirstFailed g before after k
+  -- nothing else failed, or nothing in this connection and below
+  pub order : NothingElse g xs before after ⊎ LaneFails g xs before after k
 
 -- the cause of each error, by what the connections were asked, served and said; want of memory is free, and a run is
 -- never at fault itself
 abbrev pub Cause : Setup → List Exchange → RunTold → RunTold → FileReconstructionError → Type 0
 Cause g xs before after error.OutOfMemory = Unit {0}
-Cause g xs before after error.ClientError = SomeRose before.clients after.clients
+Cause g xs before after error.ClientError = LowestRose (ServedPassed g xs) before.clients after.clients xs
 Cause g xs before after error.FileNotFound = IsMissingFile g xs before.clients after.clients
 Cause g xs before after error.UrlExpired = HaveExpired g.tries xs before.clients after.clients
 Cause g xs before after error.IoError = Rose before.sink.faults after.sink.faults

@@ -1,5 +1,5 @@
 -- What connections were asked, served and said in a call, by the lists that they tell before and after.
-use Rattle.std.specs.Prelude.{ℕ, ◌≡◌, ◌⊎◌, Bool, false, true, List, [], ◌∷◌, ◌++◌, drop, length, map, Option, Some, None}
+use Rattle.std.specs.Prelude.{ℕ, zero, suc, ◌≡◌, ◌⊎◌, Bool, false, true, List, [], ◌∷◌, ◌++◌, drop, length, map, Option, Some, None}
 use Rattle.std.specs.List.{flat_map}
 use Rattle.xet_base.specs.declared.cas_types.ChunkRange.{ChunkRange}
 use Rattle.xet_base.specs.declared.merklehash.MerkleHash.{MerkleHash}
@@ -38,6 +38,12 @@ late_places all = map place_of (late_in all)
 abbrev pub SomeOne : (Exchange → Type 0) → List Exchange → Type 0
 SomeOne P [] = ⊥
 SomeOne P (x ∷ xs) = P x ⊎ SomeOne P xs
+
+-- this holds of the first of these connections, so many
+abbrev pub AllBelow : (Exchange → Type 0) → ℕ → List Exchange → Type 0
+AllBelow P zero xs = Unit {0}
+AllBelow P (suc i) [] = ⊥
+AllBelow P (suc i) (x ∷ xs) = P x × AllBelow P i xs
 
 -- the lists of a connection, each where it is told, grew by these, and it said an answer with bytes for each served
 -- block

@@ -1,6 +1,6 @@
 -- What the steps of a lane say of its connection, and what the lanes of a round draw.
 use Rattle.std.specs.Prelude.{ℕ, ◌≡◌, ◌⊎◌, ◌+◌, ◌-◌, ◌^◌, ◌<◌, ◌≤◌, min, Bool, true, false, List, [], ◌∷◌, ◌++◌, length, Option, Some, None, Result, Ok, Err, slice_get}
-use Rattle.std.specs.List.{AllZip, concat}
+use Rattle.std.specs.List.{AllZip, concat, list_any}
 use Rattle.xet_base.specs.Store.{Store}
 use Rattle.xet_outside.specs.Answers.{AnswerTo, IsPaired, late_in, plans_in}
 use Rattle.xet_outside.specs.Plan.{block_of}
@@ -165,6 +165,27 @@ lates_of qs [] = []
 lates_of [] (s ∷ ss) = []
 lates_of (a ∷ qs) (s ∷ ss) = lates_in a s ++ lates_of qs ss
 
+-- a call failed, or memory was wanting
+abbrev pub error_faults : FileReconstructionError → Bool
+error_faults error.OutOfMemory = true
+error_faults error.ClientError = true
+error_faults error.FileNotFound = false
+error_faults error.UrlExpired = false
+error_faults error.IoError = false
+error_faults (error.CorruptedReconstruction k) = false
+error_faults (error.ConfigurationError e) = false
+error_faults error.Cancelled = false
+error_faults (error.InternalWriterError w) = false
+
+abbrev pub faults_in : LaneStep → Bool
+faults_in (step.Served p k d) = false
+faults_in (step.Expired p k) = false
+faults_in (step.Failed e) = error_faults e
+
+-- so it was in one of these steps
+abbrev pub any_faults : List LaneStep → Bool
+any_faults ss = list_any faults_in ss
+
 -- ---- lanes
 
 abbrev pub expired_in : LaneStep → ℕ
@@ -198,6 +219,7 @@ pub record StepDid (before after : ClientTold) (a : Ask) (s : LaneStep) : Type 0
   pub once : length said ≤ 1
   pub late : late_in said ≡ lates_in a s
   pub expired : min (before.expiries + expired_in s) (2 ^ 64 - 1) ≤ after.expiries
+  pub unfailed : faults_in s ≡ false → after.faults ≡ before.faults
 
 -- the steps of a lane, made for the first of these fetches, against what its connection tells before and after
 pub record LaneDid (before after : ClientTold) (qs : List Ask) (ss : List LaneStep) : Type 0 where
@@ -216,6 +238,7 @@ pub record LaneDid (before after : ClientTold) (qs : List Ask) (ss : List LaneSt
   pub late : late_in said ≡ lates_of qs ss
   -- as many expired answers as Expired steps, unless their count stands at its last value
   pub expired : min (before.expiries + expired_count ss) (2 ^ 64 - 1) ≤ after.expiries
+  pub unfailed : any_faults ss ≡ false → after.faults ≡ before.faults
 
 -- ---- rounds
 

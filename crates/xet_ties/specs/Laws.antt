@@ -50,7 +50,7 @@ use Rattle.xet_ties.specs.steps.Parts.{AdmitsCall, LookedShort, LookedUp, OfferO
 use Rattle.xet_ties.specs.steps.Rounds.{AfterRound, IsMissingAsk, IsPlanAsk}
 use Rattle.xet_ties.specs.steps.Records.{Apart, AreMissing, AreUnkept, EachMayExpire, HasTry, IsFreshAsk, HaveTries, Place, Spot, asks_for, blocks_all, expired_at, expired_on, fetched_at, fetched_on, key_of, lane_events, lane_spots, places_of, wrote_of}
 use Rattle.xet_ties.specs.steps.Windows.{AreKept, IsAt, is_wanted, open_terms}
-use Rattle.xet_ties.specs.Ties.{IsNextQuery, Slack, Stop, Ties, is_one, is_pair}
+use Rattle.xet_ties.specs.Ties.{IsNextQuery, IsQuiet, Slack, Stop, Ties, is_one, is_pair}
 
 -- ---- runs
 
@@ -382,8 +382,8 @@ FilesAreMissing = (g : Setup) (b n : RunTold) (es : List Event) (stop : Stop) (s
 -- an answer that fails a test is the cause, where the connections don't tell one valid store
 abbrev pub FailuresAreCauses : Type 0
 FailuresAreCauses = (g : Setup) (b n : RunTold) (es : List Event) (stop : Stop) (sl : Slack) (k : Corruption)
-    → Ties g b n es stop sl → ((s : Store) → IsOver s b.clients → ⊥) → SomeFailed g sl.heard k
-    → IsCorrupted g sl.heard b.clients n.clients k
+    → Ties g b n es stop sl → IsQuiet b.clients sl → ((s : Store) → IsOver s b.clients → ⊥)
+    → SomeFailed g sl.heard k → IsCorrupted g sl.heard b.clients n.clients k
 
 -- a failed step's bytes fail as those of a block of an accepted plan, by the answer to the block's own request
 abbrev pub StepsFail : Type 0

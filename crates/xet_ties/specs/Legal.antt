@@ -1,5 +1,5 @@
 -- Which answers of a run are legal, by what its arguments tell before and after.
-use Rattle.std.specs.Prelude.{ℕ, ◌≡◌, ◌⊎◌, ◌+◌, ◌-◌, ◌<◌, ◌≤◌, ◌&&◌, Bool, List, [], ◌∷◌, drop, length, take, All, Some, IsSome, IfSome, OnOk, option_map, count_by, Result, Err, IfOk, IfErr}
+use Rattle.std.specs.Prelude.{ℕ, ◌≡◌, ◌⊎◌, ◌+◌, ◌-◌, ◌<◌, ◌≤◌, ◌&&◌, ◌≢◌, Bool, List, [], ◌∷◌, drop, length, take, All, Some, IsSome, IfSome, OnOk, option_map, count_by, Result, Err, IfOk, IfErr}
 use Rattle.std.specs.List.{AllZip, concat}
 use Rattle.xet_base.specs.declared.cas_types.ChunkRange.{ChunkRange}
 use Rattle.xet_base.specs.declared.cas_types.FileRange.{FileRange}
@@ -18,10 +18,10 @@ use Rattle.xet_ties.specs.Cuts.{AskedCut, IsNumbered, IsSaidPiece, Planning, Pla
 use Rattle.xet_ties.specs.Gains.{GainedServed, OffersFew, one_range}
 use Rattle.xet_ties.specs.History.{entry_of}
 use Rattle.xet_ties.specs.InCall.{EachExchange, Exchange, Look, answers_of, new_in, served_of_all}
-use Rattle.xet_ties.specs.RunCalls.{DidNothing, Unfailed}
-use Rattle.xet_ties.specs.Saids.{AllRenewed, BlockOfPlan, HasPassed, planned_of}
+use Rattle.xet_ties.specs.RunCalls.{DidNothing, Unfailed, stop_of}
+use Rattle.xet_ties.specs.Saids.{AllPassed, AllRenewed, BlockOfPlan, planned_of}
 use Rattle.xet_ties.specs.Setup.{AllTell, CacheTells, EachGoesOn, IsEmptyRange, IsOver, RunTold, Setup, most_lanes}
-use Rattle.xet_ties.specs.Ties.{CutsRange, EachUnasked, IsEntryOf, Reaches, is_look, is_pair, is_range}
+use Rattle.xet_ties.specs.Ties.{CutsRange, EachUnasked, EachUnfailed, IsEntryOf, IsFaultless, Reaches, is_look, is_pair, is_range}
 
 -- ---- what was heard
 
@@ -135,14 +135,6 @@ pub record IsPlannedServed (g : Setup) (xs : List Exchange) (e : Served) : Type 
 abbrev pub AllPlanned : Setup → List Exchange → Type 0
 AllPlanned g xs = All (λ x. All (IsPlannedServed g xs) x.served) xs
 
--- an answer to its own request passes the tests of the block, of the very plan of its number
-abbrev pub EntryPassed : Setup → List Exchange → Served → Type 0
-EntryPassed g xs e = HasPassed g xs e.plan e.index
-
--- so of each that was served
-abbrev pub AllPassed : Setup → List Exchange → Type 0
-AllPassed g xs = All (λ x. All (EntryPassed g xs) x.served) xs
-
 -- ---- expired answers
 
 -- each request that was answered as expired is for a block of a plan that was said and passes its tests
@@ -152,6 +144,10 @@ AllLatePlanned g xs = All (λ x. All (IsPlannedServed g xs) (late_in x.said)) xs
 -- the requests for no block were answered as expired as often as it may be asked for
 abbrev pub NoneSpent : Setup → List Exchange → Type 0
 NoneSpent g xs = (p k : ℕ) → late_answers p k xs < g.tries
+
+-- nor, unless memory is wanting, more often than that
+abbrev pub NonePast : Setup → List Exchange → FileReconstructionError → Type 0
+NonePast g xs e = e ≢ error.OutOfMemory → (p k : ℕ) → late_answers p k xs ≤ g.tries
 
 -- ---- looks
 
@@ -204,6 +200,9 @@ pub record Legal (g : Setup) (before after : RunTold) (answer : Result ℕ FileR
   pub cancelled : before.signal.yes < after.signal.yes → OnOk answer ⊥
   -- where a call of the writer failed the answer is its error, or want of memory
   pub unfailed : Unfailed before.sink.faults after.sink.faults answer
+  -- where a call of a connection failed the answer is its error, one that goes before it, or a failed test: no count of
+  -- faults rose on Ok, and with any other error
+  pub clients_unfailed : IsFaultless (stop_of answer) → EachUnfailed before.clients after.clients
   -- each error has its cause, by the same
   pub cause : IfErr answer (Cause g heard.list before after)
   -- a failing setting is always told, before all else
@@ -227,12 +226,15 @@ pub record Legal (g : Setup) (before after : RunTold) (answer : Result ℕ FileR
   pub late : AllLatePlanned g heard.list
   -- on Ok no block's URL expired as often as it may be asked for
   pub under : OnOk answer (NoneSpent g heard.list)
+  -- and with an error, but for want of memory, no more often than it may be
+  pub at_most : IfErr answer (NonePast g heard.list)
   -- no block of a plan was served twice
   pub served : ServedOnce (served_of_all heard.list)
   -- and each is a block of a plan that was said and passes its tests
   pub planned : AllPlanned g heard.list
-  -- and on Ok the answer to it passes the block's tests, whether or not its data came of that
-  pub passed : OnOk answer (AllPassed g heard.list)
+  -- and on Ok, and with any error but these, the answer to it passes the block's tests, whether or not its data came of
+  -- that
+  pub passed : IsFaultless (stop_of answer) → AllPassed g heard.list
   -- whatever store is told and whatever the answer, a cache lost no entry, and those that it gained are of such blocks,
   -- with data of the answers to their own requests
   pub gained : GainedServed g heard.list before.cache after.cache

@@ -11,6 +11,7 @@ use Rattle.xet_outside.specs.declared.block.BlockBytes.{BlockBytes}
 use Rattle.xet_outside.specs.declared.plan.Plan.{Plan}
 use Rattle.xet_outside.specs.declared.plan.PlanAnswer.{PlanAnswer}
 use Rattle.xet_outside.specs.declared.plan.PlanAnswer.TheVariants.{Found, PastEnd, NoFile}
+use Rattle.xet_outside.specs.declared.served.Served.{Served}
 use Rattle.xet_blocks.specs.declared.reconstruction_terms.file_term.FileTerm.{FileTerm}
 use Rattle.xet_blocks.specs.declared.reconstruction_terms.xorb_block.XorbBlock.{XorbBlock}
 use Rattle.xet_blocks.specs.declared.reconstruction_terms.xorb_block.XorbBlockData.{XorbBlockData}
@@ -196,6 +197,18 @@ pub record HasPassed (g : Setup) (xs : List Exchange) (p k : ℕ) : Type 0 where
 abbrev pub EventPassed : Setup → List Exchange → Event → Type 0
 EventPassed g xs (Fetched lane p k) = HasPassed g xs p k
 EventPassed g xs _ = Unit {0}
+
+-- and for the block of an entry
+abbrev pub EntryPassed : Setup → List Exchange → Served → Type 0
+EntryPassed g xs e = HasPassed g xs e.plan e.index
+
+-- so for each block that this connection served
+abbrev pub ServedPassed : Setup → List Exchange → Exchange → Type 0
+ServedPassed g xs x = All (EntryPassed g xs) x.served
+
+-- and for each that was served at all
+abbrev pub AllPassed : Setup → List Exchange → Type 0
+AllPassed g xs = All (ServedPassed g xs) xs
 
 -- a term of an accepted plan, with its block
 pub record TermOfPlan (g : Setup) (xs : List Exchange) : Type 0 where

@@ -1,5 +1,5 @@
 -- How a run's history is tied to what the run's arguments tell before and after.
-use Rattle.std.specs.Prelude.{ℕ, ◌≡◌, ◌⊎◌, ◌+◌, ◌-◌, ◌^◌, ◌<◌, ◌≤◌, ◌==◌, ◌&&◌, ◌≢◌, min, Bool, true, false, not, List, [], ◌∷◌, ◌++◌, drop, length, count_by, nat_eq, Option, Some, None, IfSome, IsSome, All, Contains}
+use Rattle.std.specs.Prelude.{ℕ, zero, suc, ◌≡◌, ◌⊎◌, ◌+◌, ◌-◌, ◌^◌, ◌<◌, ◌≤◌, ◌==◌, ◌&&◌, ◌≢◌, min, Bool, true, false, not, List, [], ◌∷◌, ◌++◌, drop, length, count_by, nat_eq, Option, Some, None, IfSome, IsSome, All, Contains}
 use Rattle.std.specs.List.{flat_map}
 use lib.Pointwise.{pointwise}
 use Rattle.xet_base.specs.declared.cas_types.ChunkRange.{ChunkRange}
@@ -50,6 +50,8 @@ pub record Slack : Type 0 where
   pub lost : List Query
   -- the bytes that were taken
   pub ahead : ℕ
+  -- the first connections, so many, told no fault
+  pub calm : ℕ
 
 -- ---- connections
 
@@ -60,6 +62,17 @@ pub record IsLane (es : List Event) (lane : ℕ) (before after : ClientTold) (hi
   pub served : Added before.served after.served (served_by lane es ++ hidden)
   -- its expired answers are at least its Expired events, unless their count stands at its last value
   pub expired : min (before.expiries + (expired_by lane es + length late)) (2 ^ 64 - 1) ≤ after.expiries
+
+-- the first connections, so many, told no fault
+abbrev pub FirstUnfailed : ℕ → List ClientTold → List ClientTold → Type 0
+FirstUnfailed zero bs ns = Unit {0}
+FirstUnfailed (suc i) [] ns = Unit {0}
+FirstUnfailed (suc i) (b ∷ bs) [] = ⊥
+FirstUnfailed (suc i) (b ∷ bs) (n ∷ ns) = (n.faults ≡ b.faults) × FirstUnfailed i bs ns
+
+-- none of them did
+abbrev pub EachUnfailed : List ClientTold → List ClientTold → Type 0
+EachUnfailed bs ns = FirstUnfailed (length bs) bs ns
 
 -- the same of each lane from a number on
 abbrev pub EachLane : List Event → ℕ → List ClientTold → List ClientTold → List (List Served) → List (List Place)
@@ -322,6 +335,8 @@ pub record Ties (g : Setup) (before after : RunTold) (es : List Event) (stop : S
   -- over connections that tell a store, valid or not, a plan is of a stored file
   pub stored : (s : Store) → AllTell s before.clients → 0 < plan_count es → IsSome (file_of s g.file)
   pub served : IsServed es slack.hidden slack.late before.clients after.clients
+  -- of the first connections, so many as the slack says, no call failed
+  pub unfailed : FirstUnfailed slack.calm before.clients after.clients
   pub expired : EachExpired es 0 slack.heard slack.late
   pub late_planned : LatePlanned es slack.heard
   pub heard_served : EachServed es 0 slack.heard slack.hidden
@@ -364,6 +379,20 @@ abbrev pub NoneLate : List (List Place) → Type 0
 NoneLate [] = Unit {0}
 NoneLate (l ∷ ls) = (l ≡ []) × NoneLate ls
 
+-- Ok, and the errors with which no connection failed: not want of memory, a connection's or the writer's, and no failed
+-- test
+abbrev pub IsFaultless : Stop → Type 0
+IsFaultless (Some error.OutOfMemory) = ⊥
+IsFaultless (Some error.ClientError) = ⊥
+IsFaultless (Some error.IoError) = ⊥
+IsFaultless (Some (error.CorruptedReconstruction k)) = ⊥
+IsFaultless stop = Unit {0}
+
+-- no connection told a fault, and an event says each block that was served
+pub record IsQuiet (clients : List ClientTold) (slack : Slack) : Type 0 where
+  pub calm : slack.calm ≡ length clients
+  pub hidden : all_of slack.hidden ≡ []
+
 -- what a run may leave that no event says
 pub record MayLeave (stop : Stop) (clients : List ClientTold) (slack : Slack) : Type 0 where
   -- nothing on Ok
@@ -374,3 +403,5 @@ pub record MayLeave (stop : Stop) (clients : List ClientTold) (slack : Slack) : 
   pub late : IsOther stop → NoneLate slack.late
   -- bytes that were taken for want of memory and after the writer's failure alone
   pub counted : IsOther stop → stop ≢ Some error.IoError → slack.ahead ≡ 0
+  -- a fault of a connection, and a served block that failed its test, with the other errors alone
+  pub quiet : IsFaultless stop → IsQuiet clients slack

@@ -1,6 +1,6 @@
 -- Runs over connections to a valid store behind taps.
 use Rattle.std.proofs.Common.{◌≡◌, ℕ, ◌+◌, ◌<◌, ◌≤◌, zero, suc, true, false, cond, Bool, List, [], ◌∷◌, ◌++◌, length, take, Option, Some, None, IsNone, IsSome, Ok, Err, refl, sym, ap, ◌∙◌, arith, inl, inr, subst}
-use Rattle.std.specs.Prelude.{All, IfErr, IfOk, IfSome, Result, count_by, nat_eq, slice_get}
+use Rattle.std.specs.Prelude.{All, IfErr, IfOk, IfSome, Result, count_by, drop, nat_eq, slice_get}
 use Rattle.std.specs.List.{AllZip, concat}
 use Rattle.std.specs.Result.{result_ok}
 use Rattle.std.proofs.lemmas.Bool.{eqb-true}
@@ -29,12 +29,12 @@ use Rattle.xet_error.specs.declared.error.Setting.TheVariants.{NoConnection}
 use Rattle.xet_error.specs.Errors.{corruption_number}
 use Rattle.xet_blocks.specs.declared.reconstruction_terms.xorb_block.XorbBlock.{XorbBlock}
 use Rattle.xet_reconstruct.specs.Laws.{AreHonest, HonestAnswersPass}
-use Rattle.xet_ties.specs.Causes.{Cause, NoneAtEnd, PlanFails, RefreshFails, SomeFailed, SomeRose, expired_answers, failing_size, total_expiries}
+use Rattle.xet_ties.specs.Causes.{Cause, NoneAtEnd, PlanFails, RefreshFails, LowestRose, SomeFailed, expired_answers, failing_size, total_expiries}
 use Rattle.xet_ties.specs.Causes as causes
 use Rattle.xet_ties.specs.Cuts.{AskedCut, IsSaidPiece, SaidTerm, some_said}
 use Rattle.xet_ties.specs.InCall.{Exchange, Look, SomeOne, all_exchanges, expired_said}
 use Rattle.xet_ties.specs.Legal.{FirstAsksFew, Legal, TookCounted, TookTested, TookWhole}
-use Rattle.xet_ties.specs.Saids.{IsBlockAnswer, IsPlanAccepted, IsPlanSaid, IsQueryAnswer}
+use Rattle.xet_ties.specs.Saids.{IsBlockAnswer, IsPlanAccepted, IsPlanSaid, IsQueryAnswer, ServedPassed}
 use Rattle.xet_ties.proofs.CallerLemmas.{all_told}
 use Rattle.xet_ties.specs.Setup.{AllTell, RunTold}
 use Rattle.xet_ties.specs.Ties.{CutsRange}
@@ -70,11 +70,11 @@ abbrev pub AreCalm : List ClientTold → Type 0
 AreCalm [] = Unit {0}
 AreCalm (c ∷ cs) = (c.faults ≡ 0) × (c.expiries ≡ 0) × AreCalm cs
 
-none_rose : (cs ds : List ClientTold) → AreCalm ds → SomeRose cs ds → ⊥
-none_rose [] ds calm h = h
-none_rose (c ∷ cs) [] calm h = h
-none_rose (c ∷ cs) (d ∷ ds) calm (inl h) = let z = calm.0 in omega (arith, z, h)
-none_rose (c ∷ cs) (d ∷ ds) calm (inr h) = none_rose cs ds calm.2 h
+none_rose : (Q : Exchange → Type 0) (cs ds : List ClientTold) (xs : List Exchange) → AreCalm ds → LowestRose Q cs ds xs → ⊥
+none_rose Q [] ds xs calm h = h
+none_rose Q (c ∷ cs) [] xs calm h = h
+none_rose Q (c ∷ cs) (d ∷ ds) xs calm (inl h) = let z = calm.0 in omega (arith, z, h)
+none_rose Q (c ∷ cs) (d ∷ ds) xs calm (inr h) = none_rose Q cs ds (drop 1 xs) calm.2 h.1
 
 none_at_end : (ds : List ClientTold) → AreCalm ds → NoneAtEnd ds
 none_at_end [] calm = tt
@@ -103,7 +103,7 @@ module _ (s : Store) (valid : IsValid s) (q : Wanted) (H : Type 0) (cs ds : List
     (tells : H → AllTell s cs) (calm : AreCalm ds) (same : causes.failing_setting (setup_of q) cs ≡ failing_setting q) where
   by_cause : (xs : List Exchange) (e : FileReconstructionError) → Cause (setup_of q) xs (told_of cs k b) (told_of ds l n) e → TapCause s q H b n e
   by_cause xs error.OutOfMemory h = tt
-  by_cause xs error.ClientError h = none_rose cs ds calm h
+  by_cause xs error.ClientError h = none_rose (ServedPassed (setup_of q) xs) cs ds xs calm h
   by_cause xs error.FileNotFound h = λ honest. (h.some, h.unstored s (tells honest))
   by_cause xs error.UrlExpired h =
       let grew = h.counted (none_at_end ds calm) in

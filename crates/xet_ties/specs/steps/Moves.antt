@@ -72,6 +72,7 @@ pub record PutStep (g : Setup) (xs : List Exchange) (before after : CacheTold) :
 pub record Fits (g : Setup) (es : List Event) (e : Event) (sl to : Slack) : Type 0 where
   pub heard : to.heard ≡ sl.heard
   pub looks : to.looks ≡ sl.looks
+  pub calm : to.calm ≡ sl.calm
   pub query : queries_in e ≡ []
   pub true_of : (s : Store) → IsTrueEvent s g.file g.multirange e
   pub said : (x : Exchange) → IsEventSaid g x e
@@ -146,4 +147,5 @@ no_slack bs = record {
   spare = 0;
   lost = [];
   ahead = 0;
+  calm = length bs;
 }

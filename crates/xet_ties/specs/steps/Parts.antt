@@ -81,7 +81,7 @@ pub record AskedShort (g : Setup) (before at : RunTold) (es : List Event) (slack
   pub queries : List Query
   pub answers : List Said
   pub ties : Ties g before (record at { clients = after }) es None
-      (record slack { heard = heard_first queries answers slack.heard; lost = queries })
+      (record slack { heard = heard_first queries answers slack.heard; lost = queries; calm = 0 })
 
 -- it was asked this and said this answer to it
 pub record AskedSaid (g : Setup) (before at : RunTold) (es : List Event) (slack : Slack)

@@ -1,9 +1,10 @@
 -- What a whole round leaves.
-use Rattle.std.specs.Prelude.{ℕ, ◌≡◌, ◌+◌, List, [], ◌∷◌, count_by, All, None, Some, slice_get}
+use Rattle.std.specs.Prelude.{ℕ, zero, suc, ◌≡◌, ◌+◌, List, [], ◌∷◌, cond, count_by, All, None, Some, slice_get}
 use Rattle.std.specs.List.{flat_map}
 use Rattle.xet_base.specs.Store.{Store}
 use Rattle.xet_outside.specs.Answers.{AnswerTo}
 use Rattle.xet_outside.specs.declared.block.BlockBytes.{BlockBytes}
+use Rattle.xet_outside.specs.declared.served.Served.{Served}
 use Rattle.xet_outside.specs.Told.{ClientTold, served_of}
 use Rattle.xet_error.specs.declared.error.Corruption.{Corruption}
 use Rattle.xet_error.specs.declared.error.FileReconstructionError.{FileReconstructionError}
@@ -16,7 +17,7 @@ use Rattle.xet_run.specs.declared.event.PlannedBlock.{PlannedBlock}
 use Rattle.xet_run.specs.Allowed.{IsMissing}
 use Rattle.xet_ties.specs.History.{block_at}
 use Rattle.xet_ties.specs.InCall.{EachAskedAs, EachGrew, Exchange, SomeOne}
-use Rattle.xet_ties.specs.Lanes.{Ask, HidesNone, HoldsAsk, IsFor, bytes_of_ask}
+use Rattle.xet_ties.specs.Lanes.{Ask, HidesNone, HoldsAsk, IsFor, any_faults, bytes_of_ask}
 use Rattle.xet_ties.specs.Saids.{BlockOfPlan, InStep, IsServedData}
 use Rattle.xet_ties.specs.Setup.{AllTell, Setup}
 use Rattle.xet_ties.specs.Ties.{Slack, has_one}
@@ -70,23 +71,54 @@ pub record FailsAsk (a : Ask) (k : Corruption) (x : Exchange) : Type 0 where
   pub answer : AnswerTo x.served x.said (served_of a.request) given
   pub fails : failed_check a.block given ≡ Some k
 
--- a failed test is of one of these fetches, by such bytes of some connection; no connection tells a store whose block
--- passes
-pub record IsHeardFailure (fs : List Ask) (bs : List ClientTold) (xs : List Exchange) (k : Corruption) : Type 0 where
-  pub number : ℕ
-  pub ask : Ask
-  pub at : slice_get fs number ≡ Some ask
-  pub bytes : SomeOne (FailsAsk ask k) xs
-  pub dishonest : (s : Store) → AllTell s bs → HoldsAsk s ask → failed_check ask.block (bytes_of_ask s ask) ≡ None → ⊥
-
-abbrev pub IsHeardError : List Ask → List ClientTold → List Exchange → FileReconstructionError → Type 0
-IsHeardError fs bs xs (error.CorruptedReconstruction k) = IsHeardFailure fs bs xs k
-IsHeardError fs bs xs e = Unit {0}
-
 abbrev pub IsHeardStep : List Ask → List ClientTold → List Exchange → LaneStep → Type 0
 IsHeardStep fs bs xs (step.Served p k d) = IsHeardData fs bs xs p k d
 IsHeardStep fs bs xs (step.Expired p k) = Unit {0}
-IsHeardStep fs bs xs (step.Failed e) = IsHeardError fs bs xs e
+IsHeardStep fs bs xs (step.Failed e) = Unit {0}
+
+-- a lane's failed test is of one of these fetches, by such bytes of its own connection, which tells no store whose
+-- block passes
+pub record LaneFailure (fs : List Ask) (b : ClientTold) (x : Exchange) (k : Corruption) : Type 0 where
+  pub number : ℕ
+  pub ask : Ask
+  pub at : slice_get fs number ≡ Some ask
+  pub bytes : FailsAsk ask k x
+  pub dishonest : (s : Store) → b.store ≡ Some s → HoldsAsk s ask
+      → failed_check ask.block (bytes_of_ask s ask) ≡ None → ⊥
+
+abbrev pub IsLaneError : List Ask → ClientTold → Exchange → FileReconstructionError → Type 0
+IsLaneError fs b x (error.CorruptedReconstruction k) = LaneFailure fs b x k
+IsLaneError fs b x e = Unit {0}
+
+abbrev pub IsLaneStep : List Ask → ClientTold → Exchange → LaneStep → Type 0
+IsLaneStep fs b x (step.Served p k d) = Unit {0}
+IsLaneStep fs b x (step.Expired p k) = Unit {0}
+IsLaneStep fs b x (step.Failed e) = IsLaneError fs b x e
+
+-- so are the failed steps of each lane
+abbrev pub AreLaneSteps : List Ask → List ClientTold → List Exchange → List (List LaneStep) → Type 0
+AreLaneSteps fs bs xs [] = Unit {0}
+AreLaneSteps fs [] xs (ss ∷ ls) = ⊥
+AreLaneSteps fs (b ∷ bs) [] (ss ∷ ls) = ⊥
+AreLaneSteps fs (b ∷ bs) (x ∷ xs) (ss ∷ ls) = All (IsLaneStep fs b x) ss × AreLaneSteps fs bs xs ls
+
+-- of each lane no entry is hidden where no step of it may hide one
+abbrev pub EachHides : List (List LaneStep) → List (List Served) → Type 0
+EachHides [] hs = Unit {0}
+EachHides (ss ∷ ls) [] = ⊥
+EachHides (ss ∷ ls) (h ∷ hs) = (HidesNone ss → h ≡ []) × EachHides ls hs
+
+-- the first of these lists are empty, so many
+abbrev pub NoneBelow : ℕ → List (List Served) → Type 0
+NoneBelow zero hs = Unit {0}
+NoneBelow (suc i) [] = ⊥
+NoneBelow (suc i) (h ∷ hs) = (h ≡ []) × NoneBelow i hs
+
+-- how many of the first connections told no fault in a round either
+abbrev pub calm_after : ℕ → List (List LaneStep) → ℕ
+calm_after zero ls = zero
+calm_after (suc i) [] = suc i
+calm_after (suc i) (ss ∷ ls) = cond (any_faults ss) 0 (suc (calm_after i ls))
 
 -- what was told and isn't recorded after a round, all of whose steps were recorded
 pub record AfterRound (bs ms : List ClientTold) (es : List Event) (fs : List Ask) (ls : List (List LaneStep))
@@ -95,11 +127,13 @@ pub record AfterRound (bs ms : List ClientTold) (es : List Event) (fs : List Ask
   pub grew : EachGrew sl.heard to.heard
   pub step : InStep sl.heard → InStep to.heard
   pub asked : EachAskedAs sl.heard to.heard
-  -- where each fetch asks for its own block, the data of Served steps was heard, and the bytes that failed a test
+  -- where each fetch asks for its own block, the data of Served steps was heard; and of each failed test the bytes
   pub found : All IsFor fs → All (λ ss. All (IsHeardStep fs ms to.heard) ss) ls
+  pub failed : AreLaneSteps fs ms to.heard ls
   pub looks : to.looks ≡ sl.looks
   -- no entry is hidden where no step may hide one
   pub none : All HidesNone ls → to.hidden ≡ no_hidden bs
+  pub hides : EachHides ls to.hidden
   pub late : to.late ≡ no_late bs
   pub pending : to.pending ≡ []
   -- each served block of one range is to be offered
@@ -107,3 +141,4 @@ pub record AfterRound (bs ms : List ClientTold) (es : List Event) (fs : List Ask
   pub spare : to.spare ≡ 0
   pub lost : to.lost ≡ sl.lost
   pub ahead : to.ahead ≡ sl.ahead
+  pub calm : to.calm ≡ calm_after sl.calm ls

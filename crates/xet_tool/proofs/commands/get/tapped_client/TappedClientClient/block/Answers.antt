@@ -29,6 +29,7 @@ returns g c = record {
   unserved = search rules;
   faults = search rules;
   failed = search rules;
+  unfailed = search rules;
   expiries = search rules;
   link = search rules;
   expired = search rules;
