@@ -66,6 +66,7 @@ unlimited_legal g b n answer l = record {
   refreshed = l.refreshed;
   renewed = l.renewed;
   all_renewed = l.all_renewed;
+  in_order = l.in_order;
   late = l.late;
   under = l.under;
   at_most = l.at_most;

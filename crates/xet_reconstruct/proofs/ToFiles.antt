@@ -101,6 +101,7 @@ module _ (g : Setup) (b n : RunTold) (at : SinkTold) (flushed : Option ℕ) (fau
     refreshed = l.refreshed;
     renewed = l.renewed;
     all_renewed = l.all_renewed;
+    in_order = l.in_order;
     late = l.late;
     under = l.under;
     at_most = l.at_most;

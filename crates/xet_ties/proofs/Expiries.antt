@@ -16,7 +16,7 @@ use Rattle.xet_ties.specs.Causes.{HaveExpired, NoneAtEnd, expired_answers, late_
 use Rattle.xet_ties.specs.History.{IsOnLane, expired_by, expires_on, is_expiry, late_by, late_on}
 use Rattle.xet_ties.specs.Setup.{RunTold, Setup}
 use Rattle.xet_ties.specs.InCall.{EachExchange, Exchange, Place, expired_said, late_places, place_of}
-use Rattle.xet_ties.specs.Ties.{EachExpired, EachLane, NoneLate, Slack, Stop, Ties, is_pair}
+use Rattle.xet_ties.specs.Ties.{at_place, EachExpired, EachLane, NoneLate, Slack, Stop, Ties, is_pair}
 use Rattle.xet_ties.proofs.Telling.{count-append}
 
 -- the Expired events of the lanes from a number on, as many as connections
@@ -173,9 +173,6 @@ all_expired g b n es stop sl t =
     omega (arith, m, heard)
 
 -- ---- of one block
-
-abbrev at_place : ℕ → ℕ → Place → Bool
-at_place p k c = c.0 == p && c.1 == k
 
 -- its Expired events, by lane, from a number on, and those that one event adds
 abbrev lates_on : ℕ → ℕ → ℕ → List Event → List Exchange → ℕ

@@ -17,6 +17,7 @@ use Rattle.xet_ties.specs.steps.Moves.{EachJoined, JoinStep, heard_join, no_hidd
 use Rattle.xet_ties.specs.steps.Rounds.{AreLaneSteps, EachHides, IsHeardStep, IsLaneStep, got_of}
 use Rattle.xet_ties.specs.InCall.{Exchange, place_of}
 use Rattle.xet_ties.proofs.LowestLanes.{lane_failed}
+use Rattle.xet_ties.proofs.Orders.{FirstCounts}
 use Rattle.xet_ties.proofs.RoundData.{ArePaired, lanes_more}
 use Rattle.xet_ties.specs.Ties.{all_of, is_pair, is_range}
 use Rattle.xet_ties.specs.History.{fetches}
@@ -83,6 +84,42 @@ lane_weighs h b n served all (a ∷ qs) (s ∷ t ∷ ss) hidden are i =
     let w = weigh_append h (entries_in a s) (entries_of qs (t ∷ ss)) in
     let f = in_weighs h a s in
     omega arith
+
+in_both : (h : Served → ℕ) (a : Ask) (s : LaneStep) → weigh h (entries_in a s) + weigh h (lates_in a s) ≤ h (asks_for a)
+in_both h a (step.Served p k d) = omega arith
+in_both h a (step.Expired p k) = omega arith
+in_both h a (step.Failed e) = omega arith
+
+-- a step that may hide an entry is no expired one
+hides_late : (h : Served → ℕ) (a : Ask) (s : LaneStep) → may_hide s ≡ true → weigh h (lates_in a s) ≡ 0
+hides_late h a (step.Served p k d) e = cc
+hides_late h a (step.Expired p k) e = cc
+hides_late h a (step.Failed x) e = refl
+
+-- what a lane served, hid and was answered as expired is of its fetches, each once
+lane_all : (h : Served → ℕ) (b n : ClientTold) (served : List Served) (all : List Said) (qs : List Ask) (ss : List LaneStep) (hidden : List Served) → AreOf b n served all qs ss → IsHidden qs ss hidden
+    → (weigh h (entries_of qs ss) + weigh h hidden) + weigh h (lates_of qs ss) ≤ weigh h (map asks_for qs)
+lane_all h b n served all qs [] hidden are (inl e) = let f : weigh h hidden ≡ 0 = ap (weigh h) e in omega arith
+lane_all h b n served all qs [] hidden are (inr t) = let some = t.some in absurd (omega arith)
+lane_all h b n served all [] (s ∷ ss) hidden are i = absurd are
+lane_all h b n served all (a ∷ qs) (s ∷ []) hidden are (inl e) =
+    let f : weigh h hidden ≡ 0 = ap (weigh h) e in
+    let w = weigh_append h (entries_in a s) [] in
+    let v = weigh_append h (lates_in a s) [] in
+    let g = in_both h a s in
+    omega (arith, f, w, v, g)
+lane_all h b n served all (a ∷ qs) (s ∷ []) hidden are (inr t) =
+    let f = last_weighs h a qs s hidden (inr t) in
+    let w = weigh_append h (entries_in a s) [] in
+    let v = weigh_append h (lates_in a s) [] in
+    let g = hides_late h a s t.may in
+    omega (arith, f, w, v, g)
+lane_all h b n served all (a ∷ qs) (s ∷ t ∷ ss) hidden are i =
+    let r = lane_all h b n served all qs (t ∷ ss) hidden are.1 (hidden_after a qs s t ss hidden i) in
+    let w = weigh_append h (entries_in a s) (entries_of qs (t ∷ ss)) in
+    let v = weigh_append h (lates_in a s) (lates_of qs (t ∷ ss)) in
+    let f = in_both h a s in
+    omega (arith, r, w, v, f)
 
 -- ---- the numbers of a lane
 
@@ -552,3 +589,37 @@ each_hides fs bs ns (d ∷ ds) [] e = absurd e
 each_hides fs [] ns (d ∷ ds) (ss ∷ es) e = absurd e
 each_hides fs (b ∷ bs) [] (d ∷ ds) (ss ∷ es) e = absurd e
 each_hides fs (b ∷ bs) (n ∷ ns) (d ∷ ds) (ss ∷ es) e = (e.0.did.none, each_hides fs bs ns ds es e.1)
+
+-- what the first lane was answered is for no more than the round's fetches
+first_weighs : (fs : List Ask) (bs ns : List ClientTold) (drawn : List (List ℕ)) (es : List (List LaneStep)) → (e : EachDrew fs bs ns drawn es)
+    → ((h : Served → ℕ) → weigh_at h fs (concat drawn) ≤ weigh h (map asks_for fs))
+    → (let j = are_joined fs bs ns drawn es e in FirstCounts fs (lanes_entries j.keys j.hidden) j.said)
+unfolding are_joined
+first_weighs fs [] ns [] [] e most = tt
+first_weighs fs (b ∷ bs) ns [] [] e most = λ p k. omega arith
+first_weighs fs bs ns [] (ss ∷ es) e most = absurd e
+first_weighs fs bs ns (d ∷ ds) [] e most = absurd e
+first_weighs fs [] ns (d ∷ ds) (ss ∷ es) e most = absurd e
+first_weighs fs (b ∷ bs) [] (d ∷ ds) (ss ∷ es) e most = absurd e
+first_weighs fs (b ∷ bs) (n ∷ ns) (d ∷ ds) (ss ∷ es) e most = λ p k.
+    let lane = e.0 in
+    let did = lane.did in
+    let h : Served → ℕ = λ x. cond (is_pair p k x) 1 0 in
+    let mine = entries_all (keys_of lane.made ss) ++ did.hidden in
+    let l = lane_all h b n (entries_of lane.made ss ++ did.hidden) did.said lane.made ss did.hidden did.are did.at_most in
+    let m = made_weighs h fs d lane.made lane.at in
+    let s = at_append h fs d (concat ds) in
+    let w = most h in
+    let x = weigh_append h (entries_all (keys_of lane.made ss)) did.hidden in
+    let y = ap (weigh h) (entries_keys lane.made ss) in
+    let a = counted p k mine in
+    let c = counted p k (map asks_for fs) in
+    let u = counted p k (late_in did.said) in
+    let v = ap (weigh h) did.late in
+    omega (arith, l, m, s, w, x, y, a, c, u, v)
+
+pub first_counts : (fs : List Ask) (bs ns : List ClientTold) (es : List (List LaneStep)) → (d : DrewApart fs bs ns es)
+    → (let j = are_joined fs bs ns d.drawn es d.each in FirstCounts fs (lanes_entries j.keys j.hidden) j.said)
+first_counts fs bs ns es d =
+    first_weighs fs bs ns d.drawn es d.each
+    (λ h. numbers_weigh h fs (concat d.drawn) (λ x. let a = d.apart x in let o = once_most x d.count in omega (arith, a, o)) (λ x l. let w = d.within in d.apart x ∙ once_past x d.count (omega (arith, w, l))))

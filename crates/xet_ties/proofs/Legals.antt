@@ -30,6 +30,7 @@ use Rattle.xet_ties.proofs.OfferCounts.{fetched_kept, served_counted}
 use Rattle.xet_ties.specs.Gains.{OffersFew, one_range}
 use Rattle.xet_ties.proofs.Headline as headline
 use Rattle.xet_ties.proofs.LowestLanes.{all_passed}
+use Rattle.xet_ties.proofs.Orders.{in_order_start}
 use Rattle.xet_ties.proofs.Pairs.{served_once, served_planned}
 use Rattle.xet_ties.proofs.Plannings.{PlanningOf, first_pieces, first_plans_all, numbered_at, planning_heard, plans_end, some_pieces}
 use Rattle.xet_ties.proofs.Renewed.{renews_all, renews_but_last, renews_none}
@@ -240,6 +241,7 @@ legal_refused g b x h = record {
   refreshed = none_few g b.clients;
   renewed = renews_none g b.clients;
   all_renewed = tt;
+  in_order = in_order_start b.clients;
   late = late_nothing g b.clients;
   under = tt;
   at_most = λ other p k. none_heard g b.clients p k;
@@ -297,6 +299,7 @@ legal_ran g b n es (Ok k) h a r =
       all_renewed = renews_all g b n es None t.slack t.ties (t.left.none refl).lost;
       served = served_once es b.clients n.clients t.slack.heard t.slack.hidden t.slack.late t.ties.heard t.ties.heard_served t.ties.served;
       planned = planned_heard g b n es None t.slack t.ties;
+      in_order = t.ties.in_order;
       late = late_heard g b n es None t.slack t.ties;
       under = none_spent g b n es None t.slack (t.left.late (λ e. absurd (cc))) r.finished.under t.ties;
       at_most = tt;
@@ -339,6 +342,7 @@ legal_ran g b n es (Err e) h a r =
       all_renewed = tt;
       served = served_once es b.clients n.clients t.slack.heard t.slack.hidden t.slack.late t.ties.heard t.ties.heard_served t.ties.served;
       planned = planned_heard g b n es (Some e) t.slack t.ties;
+      in_order = t.ties.in_order;
       late = late_heard g b n es (Some e) t.slack t.ties;
       under = tt;
       at_most = λ other. none_past g b n es (Some e) t.slack (t.left.late (λ s. other (let same : e ≡ error.OutOfMemory = cc in same))) t.ties;

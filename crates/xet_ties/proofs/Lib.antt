@@ -29,6 +29,7 @@ mod NewPairs
 mod NextPlaces
 mod Numbers
 mod OfferCounts
+mod Orders
 mod Pairs
 mod PartTies
 mod PastEnds

@@ -18,14 +18,15 @@ use Rattle.xet_ties.specs.Saids.{HasPassed, IsServedData, PassedIn}
 use Rattle.xet_ties.specs.steps.Records.{AreFresh, asks_for, Key, Place, places, places_of, EachFresh, EachMayExpire, blocks_all, expired_on, fetched_on, lanes_entries, lane_events, lanes_late, IsFreshAsk, key_of, lanes_expired, lanes_fetched}
 use Rattle.xet_ties.specs.steps.Moves.{no_hidden, no_late, heard_join}
 use Rattle.xet_ties.specs.Setup.{RunTold, Setup, most_lanes}
-use Rattle.xet_ties.specs.Ties.{EachLane, FirstUnfailed, Slack, Ties, has_one, is_one, is_pair, IsPlannedEntry}
+use Rattle.xet_ties.specs.Ties.{EachLane, FirstLate, FirstUnfailed, Slack, Ties, has_one, is_one, is_pair, IsPlannedEntry}
 use Rattle.xet_ties.specs.History.{block_at, fetches}
 use Rattle.xet_ties.specs.steps.Rounds.{AfterRound, calm_after, IsHeardData, IsHeardStep, IsPlanAsk, blocks_at, got_of}
 use Rattle.xet_ties.proofs.Heard.{asked_join, block_more, grew_join, join_match, step_join}
 use Rattle.xet_ties.proofs.ClientMoves.{tie_join}
 use Rattle.xet_ties.proofs.LaneJoins.{AreJoined, are_joined, fetched_among, joined_among, lates_among, served_apart}
 use Rattle.xet_ties.proofs.LaneTies.{ArePassed, EachPassed, tie_lanes_expired, tie_lanes_fetched, InRound}
-use Rattle.xet_ties.proofs.LaneJoins.{each_failed, each_hides}
+use Rattle.xet_ties.proofs.LaneJoins.{each_failed, each_hides, first_counts}
+use Rattle.xet_ties.proofs.Orders.{first_joined}
 use Rattle.xet_ties.proofs.Recording.{tie_rest}
 use Rattle.xet_ties.proofs.RoundData.{are_paired}
 use Rattle.std.proofs.lemmas.List.Elements.{All-append, All-cons, All-head, All-map, All-nil, All-tail, All-weaker}
@@ -142,7 +143,8 @@ round_joined g b at es sl fs ns ls d new fresh waits none_h none_l t =
     let planned : All (IsPlannedEntry es) (map asks_for fs) = All-map (IsPlannedEntry es) asks_for fs (All-weaker (IsFreshAsk es) (λ a. IsPlannedEntry es (asks_for a)) (λ a h. ((key_of a).2, h.planned, refl)) fs fresh) in
     let entries = joined_among (IsPlannedEntry es) fs at.clients ns d.drawn ls d.each planned in
     let lates = lates_among (IsPlannedEntry es) fs at.clients ns d.drawn ls d.each planned in
-    let first = tie_join g b at es sl ns served j.said late j.joined (served_apart es fs at.clients ns ls d new) entries lates (past_drew most_lanes fs at.clients ns d.drawn ls d.each d.few) none_h none_l (calm_after sl.calm ls) (drew_unfailed fs sl.calm b.clients at.clients ns d.drawn ls d.each t.unfailed) t in
+    let joined = first_joined es fs served j.said b.clients at.clients sl.heard (first_counts fs at.clients ns ls d) (λ p k. let one = new p k in omega (arith, one)) fresh t.heard (subst (λ (l : List (List Place)). FirstLate es l sl.heard) none_l t.first_late) in
+    let first = tie_join g b at es sl ns served j.said late j.joined (served_apart es fs at.clients ns ls d new) entries lates (past_drew most_lanes fs at.clients ns d.drawn ls d.each d.few) none_h none_l joined (calm_after sl.calm ls) (drew_unfailed fs sl.calm b.clients at.clients ns d.drawn ls d.each t.unfailed) t in
     tie_rest g b (record at { clients = ns }) es (record sl { heard = heard; hidden = served; late = late; calm = calm_after sl.calm ls }) (flat_map blocks_all j.keys) sl.spare
     (λ x r. let a = fetched_among fs at.clients ns ls d x r in let w = waits x r in omega (arith, a, w)) (omega arith) first
 

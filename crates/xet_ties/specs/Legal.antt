@@ -21,7 +21,7 @@ use Rattle.xet_ties.specs.InCall.{EachExchange, Exchange, Look, answers_of, new_
 use Rattle.xet_ties.specs.RunCalls.{DidNothing, Unfailed, stop_of}
 use Rattle.xet_ties.specs.Saids.{AllPassed, AllRenewed, BlockOfPlan, planned_of}
 use Rattle.xet_ties.specs.Setup.{AllTell, CacheTells, EachGoesOn, IsEmptyRange, IsOver, RunTold, Setup, most_lanes}
-use Rattle.xet_ties.specs.Ties.{CutsRange, EachUnasked, EachUnfailed, IsEntryOf, IsFaultless, Reaches, is_look, is_pair, is_range}
+use Rattle.xet_ties.specs.Ties.{CutsRange, EachUnasked, EachUnfailed, FirstInOrder, IsEntryOf, IsFaultless, Reaches, is_look, is_pair, is_range}
 
 -- ---- what was heard
 
@@ -222,6 +222,9 @@ pub record Legal (g : Setup) (before after : RunTold) (answer : Result ℕ FileR
   pub renewed : FirstRenewsBut g 1 heard.list
   -- and on Ok the last one too
   pub all_renewed : OnOk answer (FirstRenewsBut g 0 heard.list)
+  -- by what the first connection served and said, in its order, an expired block is answered again only behind an answer
+  -- to a query, whatever the run's answer
+  pub in_order : FirstInOrder heard.list
   -- each request that was answered as expired is for a block of a plan that was said
   pub late : AllLatePlanned g heard.list
   -- on Ok no block's URL expired as often as it may be asked for

@@ -8,6 +8,8 @@ use Rattle.xet_base.specs.declared.merklehash.MerkleHash.{MerkleHash}
 use Rattle.xet_base.specs.Hashes.{hash_eq}
 use Rattle.xet_base.specs.Store.{Store, file_of}
 use Rattle.xet_outside.specs.declared.block.BlockBytes.{BlockBytes}
+use Rattle.xet_outside.specs.declared.said.Said.{Said}
+use Rattle.xet_outside.specs.declared.said.Said.TheVariants as said
 use Rattle.xet_outside.specs.declared.served.Served.{Served}
 use Rattle.xet_outside.specs.Answers.{late_in}
 use Rattle.xet_outside.specs.Plan.{block_of}
@@ -23,7 +25,7 @@ use Rattle.xet_history.specs.Laws.{IsPrefix}
 use Rattle.xet_history.specs.Queries.{CutFrom}
 use Rattle.xet_history.specs.TrueHistory.{EndsEarly, IsTrueHistory, SomeEndsEarly, pieces, queries}
 use Rattle.xet_ties.specs.Gains.{GainedServed, GrewBy}
-use Rattle.xet_ties.specs.History.{EachAfter, IsNumberedNext, IsOnLane, IsOneCached, IsRenewed, IsWithin, asked_by, block_at, cached_in, entry_of, expired_by, fetched_in, fetches, kept_in, late_by, limits_of, range_at, served_by, telling, round_count}
+use Rattle.xet_ties.specs.History.{EachAfter, IsNumberedNext, IsOnLane, IsOneCached, IsRenewed, IsWithin, asked_by, block_at, cached_in, entry_of, expired_by, fetched_in, fetches, is_expired, kept_in, late_by, limits_of, range_at, served_by, telling, round_count}
 use Rattle.xet_ties.specs.InCall.{EachExchange, Exchange, Look, Place, late_places}
 use Rattle.xet_ties.specs.Saids.{EventPassed, FirstRenewed, FirstSaid, IsTested}
 use Rattle.xet_ties.specs.Setup.{AllTell, CacheTells, ClientGoesOn, IsOver, RunTold, Setup, download_of, most_lanes}
@@ -115,6 +117,43 @@ EachExpired es lane xs ls = ⊥
 -- each request that a connection answered as expired is for a planned block
 abbrev pub LatePlanned : List Event → List Exchange → Type 0
 LatePlanned es xs = All (λ x. All (IsPlannedEntry es) (late_in x.said)) xs
+
+-- the requests that a connection answered as expired since its last answer to a query, the last one first, by what it
+-- said in its order; those before it said that are given
+abbrev pub late_since : List Served → List Said → List Served
+late_since late [] = late
+late_since late (said.Plan a ∷ all) = late_since [] all
+late_since late (said.Block b ∷ all) = late_since late all
+late_since late (said.Expired e ∷ all) = late_since (e ∷ late) all
+
+-- the entry is of none of their blocks
+abbrev pub IsOfNone : Served → List Served → Type 0
+IsOfNone e late = count_by (is_pair e.plan e.index) late ≡ 0
+
+-- after an expired answer a block's next one comes behind an answer to a query, by what a connection served and said in
+-- its order; the requests that were answered as expired before are given
+abbrev pub NoneAgain : List Served → List Served → List Said → Type 0
+NoneAgain late served [] = Unit {0}
+NoneAgain late served (said.Plan a ∷ all) = NoneAgain [] served all
+NoneAgain late served (said.Expired e ∷ all) = IsOfNone e late × NoneAgain (e ∷ late) served all
+NoneAgain late [] (said.Block b ∷ all) = NoneAgain late [] all
+NoneAgain late (e ∷ served) (said.Block b ∷ all) = IsOfNone e late × NoneAgain late served all
+
+-- so of the first connection, which answers the queries
+abbrev pub FirstInOrder : List Exchange → Type 0
+FirstInOrder [] = Unit {0}
+FirstInOrder (x ∷ xs) = NoneAgain [] x.served x.said
+
+abbrev pub at_place : ℕ → ℕ → Place → Bool
+at_place p k c = c.0 == p && c.1 == k
+
+-- a block that the first connection answered as expired since its last answer to a query is expired by the history, or
+-- no event says so yet
+abbrev pub FirstLate : List Event → List (List Place) → List Exchange → Type 0
+FirstLate es (l ∷ ls) (x ∷ xs) = (p k : ℕ) → 0 < count_by (is_pair p k) (late_since [] x.said)
+    → (is_expired es p k ≡ true) ⊎ (0 < count_by (at_place p k) l)
+FirstLate es [] xs = Unit {0}
+FirstLate es (l ∷ ls) [] = Unit {0}
 
 -- of each lane from a number on, whether or not its connection tells its list: it served the entries of its Fetched
 -- events, then those that no event says yet
@@ -339,6 +378,9 @@ pub record Ties (g : Setup) (before after : RunTold) (es : List Event) (stop : S
   pub unfailed : FirstUnfailed slack.calm before.clients after.clients
   pub expired : EachExpired es 0 slack.heard slack.late
   pub late_planned : LatePlanned es slack.heard
+  -- the first connection answers for an expired block again only behind an answer to a query
+  pub in_order : FirstInOrder slack.heard
+  pub first_late : FirstLate es slack.late slack.heard
   pub heard_served : EachServed es 0 slack.heard slack.hidden
   pub asked : FirstAsked g.file es slack.lost before.clients after.clients
   pub heard_asked : HeardAsked g.file es slack.lost slack.heard
@@ -403,5 +445,5 @@ pub record MayLeave (stop : Stop) (clients : List ClientTold) (slack : Slack) : 
   pub late : IsOther stop → NoneLate slack.late
   -- bytes that were taken for want of memory and after the writer's failure alone
   pub counted : IsOther stop → stop ≢ Some error.IoError → slack.ahead ≡ 0
-  -- a fault of a connection, and a served block that failed its test, with the other errors alone
+  -- a fault of a connection, and a served block that no event says, with errors that aren't faultless alone
   pub quiet : IsFaultless stop → IsQuiet clients slack

@@ -17,7 +17,7 @@ use Rattle.xet_ties.specs.History.{IsOneCached, IsRenewed, IsWithin, asked_in, c
 use Rattle.xet_ties.specs.InCall.{Exchange, Place, late_places}
 use Rattle.xet_ties.specs.Saids.{EventPassed, FirstRenewed, IsEventSaid}
 use Rattle.xet_ties.specs.Setup.{ClientGoesOn, Setup}
-use Rattle.xet_ties.specs.Ties.{EachExpired, EachServed, IsEntryOf, IsServed, Slack, has_one, is_one}
+use Rattle.xet_ties.specs.Ties.{FirstLate, EachExpired, EachServed, IsEntryOf, IsServed, Slack, has_one, is_one}
 
 -- ---- queries
 
@@ -83,6 +83,7 @@ pub record Fits (g : Setup) (es : List Event) (e : Event) (sl to : Slack) : Type
       → IsServed (es ++ e ∷ []) to.hidden to.late bs ns
   pub expired : (xs : List Exchange) → EachExpired es 0 xs sl.late → EachExpired (es ++ e ∷ []) 0 xs to.late
   pub heard_served : (xs : List Exchange) → EachServed es 0 xs sl.hidden → EachServed (es ++ e ∷ []) 0 xs to.hidden
+  pub first_late : FirstLate es sl.late sl.heard → FirstLate (es ++ e ∷ []) to.late sl.heard
   pub asked : sl.lost ≡ asked_in g.file es e ++ to.lost
   pub tried : (p k : ℕ) → count_by (expires p k) es + cond (expires p k e) 1 0 ≤ g.tries
   pub renewed : IsRenewed es e
