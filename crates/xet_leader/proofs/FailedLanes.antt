@@ -1,27 +1,22 @@
 -- The causes of the error of a lane.
-use Rattle.std.proofs.Common.{◌≡◌, ℕ, zero, suc, ◌+◌, ◌≤◌, Bool, true, cond, List, [], ◌∷◌, ◌++◌, length, refl, sym, subst, ◌∙◌, ap, arith, None, Some, Option, inl, inr, ⊎_elim}
-use Rattle.std.specs.Prelude.{All, IfSome, ◌⊎◌, drop, false, nat_eq, option_map, slice_get}
+use Rattle.std.proofs.Common.{◌≡◌, ℕ, zero, suc, ◌+◌, ◌≤◌, List, [], ◌∷◌, ◌++◌, refl, sym, subst, ◌∙◌, ap, arith, None, Some, Option, inl, inr, ⊎_elim}
+use Rattle.std.specs.Prelude.{All, IfSome, ◌⊎◌, drop, false, option_map, slice_get}
 use Rattle.std.specs.Option.{is_some}
 use Rattle.std.proofs.lemmas.Option.{slice_get-map}
-use Rattle.xet_base.specs.declared.cas_types.ChunkRange.{ChunkRange}
 use Rattle.xet_base.specs.declared.cas_types.FileRange.{FileRange}
 use Rattle.xet_base.specs.declared.merklehash.MerkleHash.{MerkleHash}
-use Rattle.xet_base.specs.Lists.{first_some}
 use Rattle.xet_base.specs.Store.{Store}
 use Rattle.xet_outside.specs.Answers.{AnswerTo}
-use Rattle.xet_outside.specs.declared.block.BlockBytes.{BlockBytes}
 use Rattle.xet_outside.specs.declared.said.Said.{Said}
 use Rattle.xet_outside.specs.declared.served.Served.{Served}
 use Rattle.xet_outside.specs.Plan.{shape}
 use Rattle.xet_outside.specs.Told.{ClientTold, Query, Rose}
 use Rattle.xet_error.specs.declared.error.Corruption.{Corruption}
-use Rattle.xet_error.specs.declared.error.Corruption.TheVariants.{BlockLength, OffsetCount, OffsetOrder}
 use Rattle.xet_error.specs.declared.error.FileReconstructionError.{FileReconstructionError}
 use Rattle.xet_error.specs.declared.error.FileReconstructionError.TheVariants as error
 use Rattle.xet_blocks.specs.declared.reconstruction_terms.xorb_block.XorbBlock.{XorbBlock}
 use Rattle.xet_blocks.specs.declared.reconstruction_terms.xorb_block.XorbBlockData.{XorbBlockData}
 use Rattle.xet_blocks.specs.BlockCalls.{failed_check}
-use Rattle.xet_blocks.specs.BlockChecks.{chunk_total, count_test, length_test, misplaced_after, order_test}
 use Rattle.xet_blocks.specs.TermBlocks.{covered, xorb_blocks}
 use Rattle.xet_run.specs.declared.event.Event.{Event}
 use Rattle.xet_ties.specs.Causes.{BlockFailsIn, Cause, FirstFailed, FirstIs, IsBlockTest, LaneFails, LowestRose, QueryFailed, SomeFailed}
@@ -33,7 +28,7 @@ use Rattle.xet_ties.specs.Saids.{BlockOfPlan, ServedPassed}
 use Rattle.xet_ties.specs.Setup.{AllTell, IsOver, RunTold, Setup}
 use Rattle.xet_ties.specs.steps.Rounds.{AreLaneSteps, FailsAsk, IsLaneStep, IsMissingAsk, LaneFailure}
 use Rattle.xet_ties.specs.Ties.{EachLane, FirstAsked, FirstUnfailed, IsFaultless, Slack, Ties}
-use Rattle.xet_ties.proofs.CallerLemmas.{accepted_more, block_fails, fetch_entry, starts_at, tells_now}
+use Rattle.xet_ties.proofs.CallerLemmas.{accepted_more, block_fails, fetch_entry, is_check, starts_at, tells_now}
 use Rattle.xet_lanes.specs.Fetches.{last_error}
 use Rattle.xet_lanes.specs.Rounds.{End, steps_of}
 use Rattle.xet_lanes.proofs.CallerLemmas.{FailedLane}
@@ -279,45 +274,9 @@ lane_failed g b es sl l a k ys ns i x listed own below unfailed led h grew asked
     kept_none None h = refl
     kept_none (Some d) h = absurd (cc)
 
--- ---- the test is one of a block
+-- ---- what the first connection alone tells
 
-is_order : (k : Corruption) (o : Option ℕ) → option_map (λ (i : ℕ). OffsetOrder i) o ≡ Some k → IsBlockTest k
-is_order k None h = absurd (cc)
-is_order k (Some i) h = let same : OffsetOrder i ≡ k = cc in subst IsBlockTest same tt
-
-is_length : (k : Corruption) (o : Option ℕ) (b : BlockBytes) → length_test o b ≡ Some k → IsBlockTest k
-is_length k None b h = absurd (cc)
-is_length k (Some n) b h = by (nat_eq n (length b.bytes)) h
-  where
-    by : (v : Bool) → cond {A = Option Corruption} v None (Some (BlockLength n (length b.bytes))) ≡ Some k
-        → IsBlockTest k
-    by true e = absurd (cc)
-    by false e = let same : BlockLength n (length b.bytes) ≡ k = cc in subst IsBlockTest same tt
-
-is_count : (k : Corruption) (rs : List ChunkRange) (b : BlockBytes) → count_test rs b ≡ Some k → IsBlockTest k
-is_count k rs b h = by (nat_eq (chunk_total rs) (length b.offsets)) h
-  where
-    by : (v : Bool) → cond {A = Option Corruption} v None
-        (Some (OffsetCount (chunk_total rs) (length b.offsets))) ≡ Some k → IsBlockTest k
-    by true e = absurd (cc)
-    by false e = let same : OffsetCount (chunk_total rs) (length b.offsets) ≡ k = cc in subst IsBlockTest same tt
-
-one_of : (P : Corruption → Type 0) (k : Corruption) (a b c : Option Corruption) → (a ≡ Some k → P k)
-    → (b ≡ Some k → P k) → (c ≡ Some k → P k) → first_some (a ∷ b ∷ c ∷ []) ≡ Some k → P k
-one_of P k (Some x) b c f g h e = f e
-one_of P k None (Some x) c f g h e = g e
-one_of P k None None (Some x) f g h e = h e
-one_of P k None None None f g h e = absurd (cc)
-
-is_check : (k : Corruption) (x : XorbBlock) (b : BlockBytes) → failed_check x b ≡ Some k → IsBlockTest k
-is_check k x b h =
-    one_of IsBlockTest k (count_test x.chunk_ranges b) (order_test b) (length_test x.uncompressed_size_if_known b)
-    (is_count k x.chunk_ranges b)
-    (is_order k (misplaced_after (length b.bytes) None b.offsets))
-    (is_length k x.uncompressed_size_if_known b)
-    h
-
--- so the first connection needs to tell nothing of it
+-- where the test is one of a block it needs to tell nothing of it
 first_failed : (g : Setup) (f : MerkleHash) (es : List Event) (lost : List Query) (bs ms ns : List ClientTold)
     (ys : List Exchange) (k : Corruption) → FirstAsked f es lost bs ms → EachExchange bs ns ys → IsBlockTest k
     → FirstFailed g bs ns k

@@ -67,6 +67,7 @@ unlimited_legal g b n answer l = record {
   renewed = l.renewed;
   all_renewed = l.all_renewed;
   in_order = l.in_order;
+  answered = l.answered;
   late = l.late;
   under = l.under;
   at_most = l.at_most;

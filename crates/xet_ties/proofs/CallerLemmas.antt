@@ -57,7 +57,7 @@ pub use Rattle.xet_ties.proofs.Plannings.{starts_at}
 pub use Rattle.xet_ties.proofs.NextPlaces.{asked_own}
 pub use Rattle.xet_ties.proofs.CutPlaces.{cut_answer_more, own_answer}
 pub use Rattle.xet_ties.proofs.FileCauses.{missing_file}
-pub use Rattle.xet_ties.proofs.FirstCauses.{corrupted}
+pub use Rattle.xet_ties.proofs.FirstCauses.{corrupted, is_check}
 pub use Rattle.xet_ties.proofs.Told.{told_new, if_some, all_told}
 -- the answer and the measure
 pub use Rattle.xet_ties.proofs.Headline.{exact, is_stored, prefix}

@@ -250,7 +250,7 @@ late_all p k (e ∷ es) xs a =
     omega (arith, one, r, s, c)
 
 -- requests by their places
-places_count : (p k : ℕ) (es : List Served) → count_by (at_place p k) (map place_of es) ≡ count_by (is_pair p k) es
+pub places_count : (p k : ℕ) (es : List Served) → count_by (at_place p k) (map place_of es) ≡ count_by (is_pair p k) es
 places_count p k [] = refl
 places_count p k (e ∷ es) =
     let r = places_count p k es in
@@ -269,7 +269,7 @@ late_heard p k l es (x ∷ xs) (k' ∷ ls) t =
     let c = places_count p k (late_in x.said) in
     omega (arith, r, e, a, c)
 
-late_bare : (p k l : ℕ) (es : List Event) (xs : List Exchange) (ls : List (List Place)) → NoneLate ls → EachExpired es l xs ls → late_answers p k xs ≡ lates_on p k l es xs
+pub late_bare : (p k l : ℕ) (es : List Event) (xs : List Exchange) (ls : List (List Place)) → NoneLate ls → EachExpired es l xs ls → late_answers p k xs ≡ lates_on p k l es xs
 late_bare p k l es [] ls none t = refl
 late_bare p k l es (x ∷ xs) [] none t = absurd t
 late_bare p k l es (x ∷ xs) (k' ∷ ls) none t =
@@ -287,7 +287,7 @@ heard_length (b ∷ bs) [] xs h = absurd h
 heard_length (b ∷ bs) (n ∷ ns) [] h = absurd h
 heard_length (b ∷ bs) (n ∷ ns) (x ∷ xs) h = let r = heard_length bs ns xs h.1 in omega (arith, r)
 
-block_late : (g : Setup) (b n : RunTold) (es : List Event) (stop : Stop) (sl : Slack) (p k : ℕ) → Ties g b n es stop sl → lates_on p k 0 es sl.heard ≡ count_by (expires p k) es
+pub block_late : (g : Setup) (b n : RunTold) (es : List Event) (stop : Stop) (sl : Slack) (p k : ℕ) → Ties g b n es stop sl → lates_on p k 0 es sl.heard ≡ count_by (expires p k) es
 block_late g b n es stop sl p k t = late_all p k es sl.heard (subst (λ (m : ℕ). All (IsOnLane m) es) (sym (heard_length b.clients n.clients sl.heard t.heard)) t.served.on_lanes)
 
 -- where no request is left that no event says, each block's requests were answered as expired as often as it has such

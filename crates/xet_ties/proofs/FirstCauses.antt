@@ -54,7 +54,8 @@ one_of P k None (Some x) c f g h e = g e
 one_of P k None None (Some x) f g h e = h e
 one_of P k None None None f g h e = absurd (cc)
 
-is_check : (k : Corruption) (x : XorbBlock) (b : BlockBytes) → failed_check x b ≡ Some k → IsBlockTest k
+-- a test of a block's bytes
+pub is_check : (k : Corruption) (x : XorbBlock) (b : BlockBytes) → failed_check x b ≡ Some k → IsBlockTest k
 is_check k x b h =
     one_of IsBlockTest k (count_test x.chunk_ranges b) (order_test b) (length_test x.uncompressed_size_if_known b)
     (is_count k x.chunk_ranges b)

@@ -17,11 +17,11 @@ use Rattle.xet_ties.specs.Causes.{failing_setting, late_answers}
 use Rattle.xet_ties.specs.History.{entry_of, fetched_in, telling, IsWithin}
 use Rattle.xet_ties.specs.InCall.{Exchange, Look, served_of_all, Place}
 use Rattle.xet_ties.specs.Cuts.{FirstCut, Planning}
-use Rattle.xet_ties.specs.Legal.{AllLatePlanned, AllLooked, AllPlanned, CacheGoesOn, FirstAsks, IsPlannedServed, Legal, SignalGoesOn, TookTested, TookWhole, is_served}
+use Rattle.xet_ties.specs.Legal.{AllLatePlanned, AllLooked, AllPlanned, AnswersFew, CacheGoesOn, FirstAsks, IsPlannedServed, Legal, SignalGoesOn, TookTested, TookWhole, is_served}
 use Rattle.xet_ties.specs.RunCalls.{IsFinished, RunCall, TookAll}
 use Rattle.xet_ties.specs.Saids.{AllPassed, EntryPassed, FirstSaid, IsTested}
 use Rattle.xet_ties.specs.Setup.{EachGoesOn, RunTold, Setup}
-use Rattle.xet_ties.specs.Ties.{EachLane, EachUnfailed, FirstUnfailed, HeardAsked, IsEntryOf, IsPlannedEntry, IsQuiet, LeavesNothing, Slack, Stop, Ties, all_of, has_one, is_one}
+use Rattle.xet_ties.specs.Ties.{EachLane, EachUnfailed, FirstUnfailed, HeardAsked, IsEntryOf, IsFaultless, IsOther, IsPlannedEntry, IsQuiet, LeavesNothing, Slack, Stop, Ties, all_of, has_one, is_one, is_pair}
 use Rattle.xet_ties.proofs.Asks.{first_asks}
 use Rattle.xet_ties.proofs.Expiries.{none_past, none_spent}
 use Rattle.xet_ties.proofs.FewAsks.{none_few, run_few}
@@ -32,6 +32,7 @@ use Rattle.xet_ties.proofs.Headline as headline
 use Rattle.xet_ties.proofs.LowestLanes.{all_passed}
 use Rattle.xet_ties.proofs.Orders.{in_order_start}
 use Rattle.xet_ties.proofs.Pairs.{served_once, served_planned}
+use Rattle.xet_ties.proofs.PlanAnswers.{answers_few}
 use Rattle.xet_ties.proofs.Plannings.{PlanningOf, first_pieces, first_plans_all, numbered_at, planning_heard, plans_end, some_pieces}
 use Rattle.xet_ties.proofs.Renewed.{renews_all, renews_but_last, renews_none}
 use Rattle.xet_ties.proofs.SaidTies.{block_said}
@@ -173,6 +174,21 @@ late_heard g b n es stop sl t = by sl.heard refl
 
 -- ---- the legal answer
 
+none_answered : (bs : List ClientTold) → AnswersFew (no_exchange bs)
+none_answered [] = tt
+none_answered (b ∷ bs) = λ p k. let l = none_late bs p k in let s = none_served bs p k in omega (arith, l, s)
+  where
+    none_late : (l : List ClientTold) (p k : ℕ) → late_answers p k (no_exchange l) ≡ 0
+    none_late [] p k = refl
+    none_late (c ∷ l) p k = let r = none_late l p k in omega (arith, r)
+
+    none_served : (l : List ClientTold) (p k : ℕ) → count_by (is_pair p k) (served_of_all (no_exchange l)) ≡ 0
+    none_served [] p k = refl
+    none_served (c ∷ l) p k = none_served l p k
+
+faultless_other : (stop : Stop) → IsFaultless stop → IsOther stop
+faultless_other stop c e = subst IsFaultless e c
+
 none_took : (o : Option (List ℕ)) (whole : List ℕ) → TookPrefix o o whole
 none_took o whole = record { count = 0; within = omega arith; took = same o }
   where
@@ -242,6 +258,7 @@ legal_refused g b x h = record {
   renewed = renews_none g b.clients;
   all_renewed = tt;
   in_order = in_order_start b.clients;
+  answered = λ c. none_answered b.clients;
   late = late_nothing g b.clients;
   under = tt;
   at_most = λ other p k. none_heard g b.clients p k;
@@ -300,6 +317,7 @@ legal_ran g b n es (Ok k) h a r =
       served = served_once es b.clients n.clients t.slack.heard t.slack.hidden t.slack.late t.ties.heard t.ties.heard_served t.ties.served;
       planned = planned_heard g b n es None t.slack t.ties;
       in_order = t.ties.in_order;
+      answered = λ c. answers_few g b n es None t.slack a (t.left.quiet c).hidden (t.left.late (λ e. absurd (cc))) t.ties;
       late = late_heard g b n es None t.slack t.ties;
       under = none_spent g b n es None t.slack (t.left.late (λ e. absurd (cc))) r.finished.under t.ties;
       at_most = tt;
@@ -343,6 +361,7 @@ legal_ran g b n es (Err e) h a r =
       served = served_once es b.clients n.clients t.slack.heard t.slack.hidden t.slack.late t.ties.heard t.ties.heard_served t.ties.served;
       planned = planned_heard g b n es (Some e) t.slack t.ties;
       in_order = t.ties.in_order;
+      answered = λ c. answers_few g b n es (Some e) t.slack a (t.left.quiet c).hidden (t.left.late (faultless_other (Some e) c)) t.ties;
       late = late_heard g b n es (Some e) t.slack t.ties;
       under = tt;
       at_most = λ other. none_past g b n es (Some e) t.slack (t.left.late (λ s. other (let same : e ≡ error.OutOfMemory = cc in same))) t.ties;

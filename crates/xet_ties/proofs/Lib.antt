@@ -30,9 +30,11 @@ mod NextPlaces
 mod Numbers
 mod OfferCounts
 mod Orders
+mod OwnQueries
 mod Pairs
 mod PartTies
 mod PastEnds
+mod PlanAnswers
 mod Plannings
 mod Pushes
 mod Recording

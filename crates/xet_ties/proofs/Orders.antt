@@ -1,8 +1,8 @@
 -- In which order the first connection answers for a block that expired.
-use Rattle.std.proofs.Common.{◌≡◌, ◌⊎◌, ℕ, ◌+◌, ◌<◌, ◌≤◌, ◌==◌, ◌&&◌, Bool, true, false, cond, List, [], ◌∷◌, ◌++◌, length, refl, sym, subst, ◌∙◌, ap, arith, inl, inr, ⊎_elim}
-use Rattle.std.specs.Prelude.{All, count_by, map}
+use Rattle.std.proofs.Common.{◌≡◌, ◌⊎◌, ℕ, ◌+◌, ◌<◌, ◌≤◌, ◌==◌, ◌&&◌, Bool, true, false, cond, List, [], ◌∷◌, ◌++◌, length, refl, sym, subst, ◌∙◌, ap, arith, inl, inr, ⊎_elim, Option, None, Some, ◌-◌}
+use Rattle.std.specs.Prelude.{All, count_by, map, not, slice_get}
 use Rattle.std.specs.List.{flat_map}
-use Rattle.std.proofs.lemmas.Bool.{cases_lt, eq-eqb}
+use Rattle.std.proofs.lemmas.Bool.{cases_lt, eq-eqb, eqb-true}
 use Rattle.std.proofs.lemmas.List.{append-nil}
 use Rattle.std.proofs.lemmas.List.Elements.{All-head, All-tail}
 use Rattle.xet_outside.specs.Answers.{bytes_in, late_in, plans_in}
@@ -12,18 +12,137 @@ use Rattle.xet_outside.specs.declared.said.Said.TheVariants as said
 use Rattle.xet_outside.specs.declared.served.Served.{Served}
 use Rattle.xet_outside.proofs.CallerLemmas.{count_by-cons}
 use Rattle.xet_run.specs.declared.event.Event.{Event}
-use Rattle.xet_run.specs.declared.event.Event.TheVariants.{Expired}
+use Rattle.xet_run.specs.declared.event.Event.TheVariants.{Expired, Refreshed}
 use Rattle.xet_run.specs.Events.{last_of}
 use Rattle.xet_run.proofs.CallerLemmas.{flat-push, last_of-append, same_numbers}
 use Rattle.xet_ties.specs.History.{expiry_of, is_expired}
-use Rattle.xet_ties.specs.InCall.{EachExchange, Exchange, Place, place_of}
+use Rattle.xet_ties.specs.InCall.{EachExchange, Exchange, Place}
 use Rattle.xet_ties.specs.Lanes.{Ask}
 use Rattle.xet_ties.specs.steps.Moves.{heard_first, heard_join, no_exchange, no_late}
 use Rattle.xet_ties.specs.steps.Records.{IsFreshAsk, asks_for}
-use Rattle.xet_ties.specs.Ties.{FirstInOrder, FirstLate, NoneAgain, at_place, is_pair, late_since}
+use Rattle.xet_ties.specs.Saids.{asks_for_plan, cut_places, own_query, query_at, same_start}
+use Rattle.xet_ties.specs.Ties.{FirstInOrder, FirstLate, NoneAgain, at_place, is_pair, late_since, of_others}
+use Rattle.xet_ties.proofs.CutPlaces.{cut_end, first_at, places_append}
+use Rattle.xet_ties.proofs.Expiries.{places_count}
 use Rattle.xet_ties.proofs.Heard.{Match}
 use Rattle.xet_ties.proofs.Lates.{SaidLate}
 use Rattle.xet_ties.proofs.Telling.{expired-push}
+
+-- ---- what a query asks for
+
+-- a plan's own query stays the same when more is asked
+own_more : (asked more : List Query) (p : ℕ) (q : Query) → own_query asked p ≡ Some q → own_query (asked ++ more) p ≡ Some q
+own_more asked more p q h = by (slice_get (cut_places 0 0 asked) (p - 1)) refl
+  where
+    by : (o : Option ℕ) → slice_get (cut_places 0 0 asked) (p - 1) ≡ o → own_query (asked ++ more) p ≡ Some q
+    by None e = absurd (let n : None ≡ Some q = sym (ap (λ (o : Option ℕ). query_at asked o) e) ∙ h in cc)
+    by (Some i) e =
+        let at : slice_get (cut_places 0 0 (asked ++ more)) (p - 1) ≡ Some i =
+        ap (λ (l : List ℕ). slice_get l (p - 1)) (places_append 0 0 asked more) ∙ first_at (cut_places 0 0 asked) (cut_places (0 + length asked) (cut_end 0 asked) more) (p - 1) i e in
+        let is : slice_get asked i ≡ Some q = sym (ap (λ (o : Option ℕ). query_at asked o) e) ∙ h in
+        ap (λ (o : Option ℕ). query_at (asked ++ more) o) at ∙ first_at asked more i q is
+
+-- and so does what a query asks for
+asks_more : (asked more : List Query) (i p : ℕ) → asks_for_plan asked i p ≡ true → asks_for_plan (asked ++ more) i p ≡ true
+asks_more asked more i p h = by (slice_get asked i) (own_query asked p) refl refl h
+  where
+    by : (o c : Option Query) → slice_get asked i ≡ o → own_query asked p ≡ c → same_start o c ≡ true → asks_for_plan (asked ++ more) i p ≡ true
+    by None c e f h = absurd (let z : false ≡ true = h in cc)
+    by (Some q) None e f h = absurd (let z : false ≡ true = h in cc)
+    by (Some q) (Some c) e f h =
+        ap (λ (o : Option Query). same_start o (own_query (asked ++ more) p)) (first_at asked more i q e)
+        ∙ ap (λ (o : Option Query). same_start (Some q) o) (own_more asked more p c f)
+        ∙ h
+
+most : (v : Bool) (n : ℕ) → cond {A = ℕ} v 0 n ≤ n
+most true n = omega arith
+most false n = omega arith
+
+-- the requests of one block that stay late behind an answer to a query
+others_count : (asked : List Query) (i p k : ℕ) (late : List Served) → count_by (is_pair p k) (of_others asked i late) ≡ cond {A = ℕ} (asks_for_plan asked i p) 0 (count_by (is_pair p k) late)
+others_count asked i p k [] = by (asks_for_plan asked i p)
+  where
+    by : (v : Bool) → 0 ≡ cond {A = ℕ} v 0 0
+    by true = refl
+    by false = refl
+others_count asked i p k (e ∷ late) = by (asks_for_plan asked i e.plan) refl (is_pair p k e) refl (asks_for_plan asked i p) refl (others_count asked i p k late)
+  where
+    rest : List Served
+    rest = of_others asked i late
+
+    one : (w : Bool) → is_pair p k e ≡ w → cond {A = ℕ} (is_pair p k e) 1 0 ≡ cond {A = ℕ} w 1 0
+    one w h = ap (λ (v : Bool). cond {A = ℕ} v 1 0) h
+
+    by : (v : Bool) → asks_for_plan asked i e.plan ≡ v → (w : Bool) → is_pair p k e ≡ w → (a : Bool) → asks_for_plan asked i p ≡ a → count_by (is_pair p k) rest ≡ cond {A = ℕ} a 0 (count_by (is_pair p k) late)
+        → count_by (is_pair p k) (cond (not v) (e ∷ rest) rest) ≡ cond {A = ℕ} a 0 (count_by (is_pair p k) (e ∷ late))
+    by true ev true ew true ea r = r
+    by true ev true ew false ea r = absurd (let same : true ≡ false = sym ev ∙ ap (λ (j : ℕ). asks_for_plan asked i j) (same_numbers e.plan e.index p k ew).0 ∙ ea in cc)
+    by true ev false ew true ea r = r
+    by true ev false ew false ea r = let n = count_by-cons (is_pair p k) e late in let z = one false ew in omega (arith, n, z, r)
+    by false ev true ew true ea r = absurd (let same : false ≡ true = sym ev ∙ ap (λ (j : ℕ). asks_for_plan asked i j) (same_numbers e.plan e.index p k ew).0 ∙ ea in cc)
+    by false ev true ew false ea r = let m = count_by-cons (is_pair p k) e rest in let n = count_by-cons (is_pair p k) e late in omega (arith, m, n, r)
+    by false ev false ew true ea r = let m = count_by-cons (is_pair p k) e rest in let z = one false ew in omega (arith, m, z, r)
+    by false ev false ew false ea r = let m = count_by-cons (is_pair p k) e rest in let n = count_by-cons (is_pair p k) e late in omega (arith, m, n, r)
+
+others_most : (asked : List Query) (i p k : ℕ) (late : List Served) → count_by (is_pair p k) (of_others asked i late) ≤ count_by (is_pair p k) late
+others_most asked i p k late =
+    let c = others_count asked i p k late in
+    let m = most (asks_for_plan asked i p) (count_by (is_pair p k) late) in
+    omega (arith, c, m)
+
+-- of each block the first ones have no more requests
+abbrev Fewer : List Served → List Served → Type 0
+Fewer less late = (p k : ℕ) → count_by (is_pair p k) less ≤ count_by (is_pair p k) late
+
+fewer_cons : (e : Served) (less late : List Served) → Fewer less late → Fewer (e ∷ less) (e ∷ late)
+fewer_cons e less late f p k =
+    let h = f p k in
+    let m = count_by-cons (is_pair p k) e less in
+    let n = count_by-cons (is_pair p k) e late in
+    omega (arith, h, m, n)
+
+-- when more is asked no more requests stay late
+others_fewer : (asked more : List Query) (i : ℕ) (less late : List Served) → Fewer less late → Fewer (of_others (asked ++ more) i less) (of_others asked i late)
+others_fewer asked more i less late f p k =
+    let a = others_count (asked ++ more) i p k less in
+    let b = others_count asked i p k late in
+    let m = most (asks_for_plan (asked ++ more) i p) (count_by (is_pair p k) less) in
+    let h = f p k in
+    by (asks_for_plan asked i p) refl a b m h
+  where
+    now : ℕ
+    now = cond {A = ℕ} (asks_for_plan (asked ++ more) i p) 0 (count_by (is_pair p k) less)
+
+    by : (v : Bool) → asks_for_plan asked i p ≡ v → count_by (is_pair p k) (of_others (asked ++ more) i less) ≡ now
+        → count_by (is_pair p k) (of_others asked i late) ≡ cond {A = ℕ} (asks_for_plan asked i p) 0 (count_by (is_pair p k) late)
+        → now ≤ count_by (is_pair p k) less → count_by (is_pair p k) less ≤ count_by (is_pair p k) late
+        → count_by (is_pair p k) (of_others (asked ++ more) i less) ≤ count_by (is_pair p k) (of_others asked i late)
+    by true e a b m h =
+        let z : now ≡ 0 = ap (λ (v : Bool). cond {A = ℕ} v 0 (count_by (is_pair p k) less)) (asks_more asked more i p e) in
+        omega (arith, a, z)
+    by false e a b m h =
+        let y : cond {A = ℕ} (asks_for_plan asked i p) 0 (count_by (is_pair p k) late) ≡ count_by (is_pair p k) late = ap (λ (v : Bool). cond {A = ℕ} v 0 (count_by (is_pair p k) late)) e in
+        omega (arith, a, b, y, m, h)
+
+since_more : (asked more : List Query) (i : ℕ) (less late : List Served) (a : List Said) → Fewer less late → Fewer (late_since (asked ++ more) i less a) (late_since asked i late a)
+since_more asked more i less late [] f = f
+since_more asked more i less late (said.Plan v ∷ a) f = since_more asked more (i + 1) (of_others (asked ++ more) i less) (of_others asked i late) a (others_fewer asked more i less late f)
+since_more asked more i less late (said.Expired v ∷ a) f = since_more asked more i (v ∷ less) (v ∷ late) a (fewer_cons v less late f)
+since_more asked more i less late (said.Block v ∷ a) f = since_more asked more i less late a f
+
+-- so the answers stay in order
+again_more : (asked more : List Query) (i : ℕ) (less late h : List Served) (a : List Said) → Fewer less late → NoneAgain asked i late h a → NoneAgain (asked ++ more) i less h a
+again_more asked more i less late h [] f t = tt
+again_more asked more i less late h (said.Plan v ∷ a) f t = again_more asked more (i + 1) (of_others (asked ++ more) i less) (of_others asked i late) h a (others_fewer asked more i less late f) t
+again_more asked more i less late h (said.Expired v ∷ a) f t =
+    let m = f v.plan v.index in
+    let z = t.0 in
+    (omega (arith, m, z), again_more asked more i (v ∷ less) (v ∷ late) h a (fewer_cons v less late f) t.1)
+again_more asked more i less late [] (said.Block v ∷ a) f t = again_more asked more i less late [] a f t
+again_more asked more i less late (e ∷ h) (said.Block v ∷ a) f t =
+    let m = f e.plan e.index in
+    let z = t.0 in
+    (omega (arith, m, z), again_more asked more i less late h a f t.1)
 
 -- ---- lists of answers
 
@@ -35,70 +154,78 @@ self e =
     ap (λ (v : Bool). cond {A = ℕ} (v && e.index == e.index) 1 0) p ∙ ap (λ (v : Bool). cond {A = ℕ} v 1 0) k
 
 -- answers for different blocks, none of which was late before
-pub ordered_join : (late h : List Served) (a : List Said) → ((p k : ℕ) → count_by (is_pair p k) h + count_by (is_pair p k) (late_in a) ≤ 1)
-    → ((p k : ℕ) → 0 < count_by (is_pair p k) h + count_by (is_pair p k) (late_in a) → count_by (is_pair p k) late ≡ 0) → NoneAgain late h a
-ordered_join late h [] c d = tt
-ordered_join late h (said.Plan v ∷ a) c d = ordered_join [] h a c (λ p k i. refl)
-ordered_join late h (said.Expired e ∷ a) c d =
+pub ordered_join : (asked : List Query) (i : ℕ) (late h : List Served) (a : List Said) → ((p k : ℕ) → count_by (is_pair p k) h + count_by (is_pair p k) (late_in a) ≤ 1)
+    → ((p k : ℕ) → 0 < count_by (is_pair p k) h + count_by (is_pair p k) (late_in a) → count_by (is_pair p k) late ≡ 0) → NoneAgain asked i late h a
+ordered_join asked i late h [] c d = tt
+ordered_join asked i late h (said.Plan v ∷ a) c d = ordered_join asked (i + 1) (of_others asked i late) h a c (λ p k j. let n = d p k j in let m = others_most asked i p k late in omega (arith, n, m))
+ordered_join asked i late h (said.Expired e ∷ a) c d =
     let own = self e in
     let mine = count_by-cons (is_pair e.plan e.index) e (late_in a) in (
       d e.plan e.index (omega (arith, own, mine)),
-      ordered_join (e ∷ late) h a
+      ordered_join asked i (e ∷ late) h a
           (λ p k. let one = c p k in let n = count_by-cons (is_pair p k) e (late_in a) in omega (arith, one, n))
-          (λ p k i.
+          (λ p k j.
           let one = c p k in
           let n = count_by-cons (is_pair p k) e (late_in a) in
           let m = count_by-cons (is_pair p k) e late in
-          let none = d p k (omega (arith, i, n)) in
-          omega (arith, one, n, m, none, i)),
+          let none = d p k (omega (arith, j, n)) in
+          omega (arith, one, n, m, none, j)),
     )
-ordered_join late [] (said.Block b ∷ a) c d = ordered_join late [] a c d
-ordered_join late (e ∷ h) (said.Block b ∷ a) c d =
+ordered_join asked i late [] (said.Block b ∷ a) c d = ordered_join asked i late [] a c d
+ordered_join asked i late (e ∷ h) (said.Block b ∷ a) c d =
     let own = self e in
     let mine = count_by-cons (is_pair e.plan e.index) e h in (
       d e.plan e.index (omega (arith, own, mine)),
-      ordered_join late h a
+      ordered_join asked i late h a
           (λ p k. let one = c p k in let n = count_by-cons (is_pair p k) e h in omega (arith, one, n))
-          (λ p k i. let n = count_by-cons (is_pair p k) e h in d p k (omega (arith, i, n))),
+          (λ p k j. let n = count_by-cons (is_pair p k) e h in d p k (omega (arith, j, n))),
     )
 
 -- two lists of answers, one after the other
-pub ordered_append : (late h g : List Served) (a c : List Said) → length h ≡ length (bytes_in a) → NoneAgain late h a → NoneAgain (late_since late a) g c → NoneAgain late (h ++ g) (a ++ c)
-ordered_append late [] g [] c e x y = y
-ordered_append late (s ∷ h) g [] c e x y = absurd (omega (arith, e))
-ordered_append late h g (said.Plan v ∷ a) c e x y = ordered_append [] h g a c e x y
-ordered_append late h g (said.Expired v ∷ a) c e x y = (x.0, ordered_append (v ∷ late) h g a c e x.1 y)
-ordered_append late [] g (said.Block v ∷ a) c e x y = absurd (omega (arith, e))
-ordered_append late (s ∷ h) g (said.Block v ∷ a) c e x y = (x.0, ordered_append late h g a c (omega (arith, e)) x.1 y)
+pub ordered_append : (asked : List Query) (i : ℕ) (late h g : List Served) (a c : List Said) → length h ≡ length (bytes_in a) → NoneAgain asked i late h a → NoneAgain asked (i + length (plans_in a)) (late_since asked i late a) g c
+    → NoneAgain asked i late (h ++ g) (a ++ c)
+ordered_append asked i late [] g [] c e x y = let z : i + 0 ≡ i = omega arith in subst (λ (j : ℕ). NoneAgain asked j late g c) z y
+ordered_append asked i late (s ∷ h) g [] c e x y = absurd (omega (arith, e))
+ordered_append asked i late h g (said.Plan v ∷ a) c e x y =
+    let z : i + length (v ∷ plans_in a) ≡ (i + 1) + length (plans_in a) = omega arith in
+    ordered_append asked (i + 1) (of_others asked i late) h g a c e x (subst (λ (j : ℕ). NoneAgain asked j (late_since asked (i + 1) (of_others asked i late) a) g c) z y)
+ordered_append asked i late h g (said.Expired v ∷ a) c e x y = (x.0, ordered_append asked i (v ∷ late) h g a c e x.1 y)
+ordered_append asked i late [] g (said.Block v ∷ a) c e x y = absurd (omega (arith, e))
+ordered_append asked i late (s ∷ h) g (said.Block v ∷ a) c e x y = (x.0, ordered_append asked i late h g a c (omega (arith, e)) x.1 y)
 
 -- no expired answer
-ordered_none : (late : List Served) (a : List Said) → late_in a ≡ [] → NoneAgain late [] a
-ordered_none late [] e = tt
-ordered_none late (said.Plan v ∷ a) e = ordered_none [] a e
-ordered_none late (said.Expired v ∷ a) e = absurd (cc)
-ordered_none late (said.Block v ∷ a) e = ordered_none late a e
+ordered_none : (asked : List Query) (i : ℕ) (late : List Served) (a : List Said) → late_in a ≡ [] → NoneAgain asked i late [] a
+ordered_none asked i late [] e = tt
+ordered_none asked i late (said.Plan v ∷ a) e = ordered_none asked (i + 1) (of_others asked i late) a e
+ordered_none asked i late (said.Expired v ∷ a) e = absurd (cc)
+ordered_none asked i late (said.Block v ∷ a) e = ordered_none asked i late a e
 
-since_append : (late : List Served) (a c : List Said) → late_since late (a ++ c) ≡ late_since (late_since late a) c
-since_append late [] c = refl
-since_append late (said.Plan v ∷ a) c = since_append [] a c
-since_append late (said.Expired v ∷ a) c = since_append (v ∷ late) a c
-since_append late (said.Block v ∷ a) c = since_append late a c
+since_append : (asked : List Query) (i : ℕ) (late : List Served) (a c : List Said) → late_since asked i late (a ++ c) ≡ late_since asked (i + length (plans_in a)) (late_since asked i late a) c
+since_append asked i late [] c = let z : i ≡ i + 0 = omega arith in ap (λ (j : ℕ). late_since asked j late c) z
+since_append asked i late (said.Plan v ∷ a) c =
+    let z : (i + 1) + length (plans_in a) ≡ i + length (v ∷ plans_in a) = omega arith in
+    since_append asked (i + 1) (of_others asked i late) a c ∙ ap (λ (j : ℕ). late_since asked j (late_since asked (i + 1) (of_others asked i late) a) c) z
+since_append asked i late (said.Expired v ∷ a) c = since_append asked i (v ∷ late) a c
+since_append asked i late (said.Block v ∷ a) c = since_append asked i late a c
 
-since_fewer : (p k : ℕ) (late : List Served) (a : List Said) → late_in a ≡ [] → count_by (is_pair p k) (late_since late a) ≤ count_by (is_pair p k) late
-since_fewer p k late [] e = omega arith
-since_fewer p k late (said.Plan v ∷ a) e = let r = since_fewer p k [] a e in omega (arith, r)
-since_fewer p k late (said.Expired v ∷ a) e = absurd (cc)
-since_fewer p k late (said.Block v ∷ a) e = since_fewer p k late a e
+since_fewer : (asked : List Query) (i p k : ℕ) (late : List Served) (a : List Said) → late_in a ≡ [] → count_by (is_pair p k) (late_since asked i late a) ≤ count_by (is_pair p k) late
+since_fewer asked i p k late [] e = omega arith
+since_fewer asked i p k late (said.Plan v ∷ a) e =
+    let r = since_fewer asked (i + 1) p k (of_others asked i late) a e in
+    let m = others_most asked i p k late in
+    omega (arith, r, m)
+since_fewer asked i p k late (said.Expired v ∷ a) e = absurd (cc)
+since_fewer asked i p k late (said.Block v ∷ a) e = since_fewer asked i p k late a e
 
-since_both : (p k : ℕ) (late : List Served) (a : List Said) → plans_in a ≡ [] → count_by (is_pair p k) (late_since late a) ≡ count_by (is_pair p k) late + count_by (is_pair p k) (late_in a)
-since_both p k late [] e = omega arith
-since_both p k late (said.Plan v ∷ a) e = absurd (cc)
-since_both p k late (said.Expired v ∷ a) e =
-    let r = since_both p k (v ∷ late) a e in
+since_both : (asked : List Query) (i p k : ℕ) (late : List Served) (a : List Said) → plans_in a ≡ [] → count_by (is_pair p k) (late_since asked i late a) ≡ count_by (is_pair p k) late + count_by (is_pair p k) (late_in a)
+since_both asked i p k late [] e = omega arith
+since_both asked i p k late (said.Plan v ∷ a) e = absurd (cc)
+since_both asked i p k late (said.Expired v ∷ a) e =
+    let r = since_both asked i p k (v ∷ late) a e in
     let n = count_by-cons (is_pair p k) v late in
     let m = count_by-cons (is_pair p k) v (late_in a) in
     omega (arith, r, n, m)
-since_both p k late (said.Block v ∷ a) e = since_both p k late a e
+since_both asked i p k late (said.Block v ∷ a) e = since_both asked i p k late a e
 
 -- ---- the start
 
@@ -151,19 +278,39 @@ first_late_expired es m a c j [] after (x ∷ xs) t = λ p k i.
 
 -- ---- queries
 
--- nothing was answered as expired since the last answer to a query
-abbrev pub FirstClear : List Exchange → Type 0
-FirstClear [] = Unit {0}
-FirstClear (x ∷ xs) = late_since [] x.said ≡ []
+-- no request for a block of this plan was answered as expired without an answer since to a query for the plan
+abbrev pub FirstClear : ℕ → List Exchange → Type 0
+FirstClear p [] = Unit {0}
+FirstClear p (x ∷ xs) = (k : ℕ) → count_by (is_pair p k) (late_since x.asked 0 [] x.said) ≡ 0
 
-pub first_clear : (qs : List Query) (v : _) (xs : List Exchange) → FirstClear (heard_first qs (said.Plan v ∷ []) xs)
-first_clear qs v [] = tt
-first_clear qs v (x ∷ xs) = since_append [] x.said (said.Plan v ∷ [])
+-- the last answer is that to a query for this plan
+abbrev pub FirstAnswered : ℕ → List Query → List Exchange → Type 0
+FirstAnswered p qs [] = Unit {0}
+FirstAnswered p qs (x ∷ xs) = asks_for_plan (x.asked ++ qs) (0 + length (plans_in x.said)) p ≡ true
 
-pub first_late_clear : (es : List Event) (ls : List (List Place)) (xs : List Exchange) → FirstClear xs → FirstLate es ls xs
-first_late_clear es [] xs c = tt
-first_late_clear es (l ∷ ls) [] c = tt
-first_late_clear es (l ∷ ls) (x ∷ xs) c = λ p k i. absurd (let n = ap (λ (s : List Served). count_by (is_pair p k) s) c in omega (arith, n, i))
+pub first_clear : (p : ℕ) (qs : List Query) (v : _) (xs : List Exchange) → FirstAnswered p qs xs → FirstClear p (heard_first qs (said.Plan v ∷ []) xs)
+first_clear p qs v [] a = tt
+first_clear p qs v (x ∷ xs) a = λ k.
+    let asked = x.asked ++ qs in
+    let place = 0 + length (plans_in x.said) in
+    let late = late_since asked 0 [] x.said in
+    ap (λ (l : List Served). count_by (is_pair p k) l) (since_append asked 0 [] x.said (said.Plan v ∷ []))
+    ∙ others_count asked place p k late
+    ∙ ap (λ (v : Bool). cond {A = ℕ} v 0 (count_by (is_pair p k) late)) a
+
+-- so it is after the refresh of the plan is recorded
+pub first_late_clear : (es : List Event) (p : ℕ) (ls : List (List Place)) (xs : List Exchange) → FirstClear p xs → FirstLate es ls xs → FirstLate (es ++ Refreshed p ∷ []) ls xs
+first_late_clear es p [] xs c t = tt
+first_late_clear es p (l ∷ ls) [] c t = tt
+first_late_clear es p (l ∷ ls) (x ∷ xs) c t = λ r k i. by r k i (p == r) refl
+  where
+    by : (r k : ℕ) → 0 < count_by (is_pair r k) (late_since x.asked 0 [] x.said) → (v : Bool) → (p == r) ≡ v → (is_expired (es ++ Refreshed p ∷ []) r k ≡ true) ⊎ (0 < count_by (at_place r k) l)
+    by r k i true e =
+        let n = subst (λ (q : ℕ). count_by (is_pair q k) (late_since x.asked 0 [] x.said) ≡ 0) (eqb-true p r e) (c k) in
+        absurd (omega (arith, n, i))
+    by r k i false e =
+        let none : expiry_of r k (Refreshed p) ≡ [] = ap (λ (v : Bool). cond {A = List Bool} v (false ∷ []) []) e in
+        ⊎_elim (λ (h : is_expired es r k ≡ true). inl (expired-push es (Refreshed p) r k none ∙ h)) (λ (h : 0 < count_by (at_place r k) l). inr h) (t r k i)
 
 pub in_order_query : (bs ns : List ClientTold) (qs : List Query) (a : List Said) (xs : List Exchange) → late_in a ≡ [] → EachExchange bs ns xs → FirstInOrder xs → FirstInOrder (heard_first qs a xs)
 in_order_query bs ns qs a [] e t o = tt
@@ -171,22 +318,26 @@ in_order_query [] [] qs a (x ∷ xs) e t o = absurd t
 in_order_query [] (n ∷ ns) qs a (x ∷ xs) e t o = absurd t
 in_order_query (b ∷ bs) [] qs a (x ∷ xs) e t o = absurd t
 in_order_query (b ∷ bs) (n ∷ ns) qs a (x ∷ xs) e t o =
-    subst (λ (s : List Served). NoneAgain [] s (x.said ++ a)) (append-nil x.served)
-    (ordered_append [] x.served [] x.said a t.0.paired o (ordered_none (late_since [] x.said) a e))
+    let asked = x.asked ++ qs in
+    let before : NoneAgain asked 0 [] x.served x.said = again_more x.asked qs 0 [] [] x.served x.said (λ p k. omega arith) o in
+    subst (λ (s : List Served). NoneAgain asked 0 [] s (x.said ++ a)) (append-nil x.served)
+    (ordered_append asked 0 [] x.served [] x.said a t.0.paired before (ordered_none asked (0 + length (plans_in x.said)) (late_since asked 0 [] x.said) a e))
 
 pub first_late_query : (es : List Event) (ls : List (List Place)) (qs : List Query) (a : List Said) (xs : List Exchange) → late_in a ≡ [] → FirstLate es ls xs → FirstLate es ls (heard_first qs a xs)
 first_late_query es [] qs a xs e t = tt
 first_late_query es (l ∷ ls) qs a [] e t = tt
 first_late_query es (l ∷ ls) qs a (x ∷ xs) e t = λ p k i.
-    let same = ap (λ (s : List Served). count_by (is_pair p k) s) (since_append [] x.said a) in
-    let fewer = since_fewer p k (late_since [] x.said) a e in
-    t p k (omega (arith, same, fewer, i))
+    let asked = x.asked ++ qs in
+    let same = ap (λ (s : List Served). count_by (is_pair p k) s) (since_append asked 0 [] x.said a) in
+    let fewer = since_fewer asked (0 + length (plans_in x.said)) p k (late_since asked 0 [] x.said) a e in
+    let more = since_more x.asked qs 0 [] [] x.said (λ p k. omega arith) p k in
+    t p k (omega (arith, same, fewer, more, i))
 
 -- ---- joins
 
 -- what the first connection served and said in a join goes on in order
 abbrev pub FirstJoined : List (List Served) → List (List Said) → List Exchange → Type 0
-FirstJoined (h ∷ hs) (a ∷ alls) (x ∷ xs) = NoneAgain (late_since [] x.said) h a
+FirstJoined (h ∷ hs) (a ∷ alls) (x ∷ xs) = NoneAgain x.asked (0 + length (plans_in x.said)) (late_since x.asked 0 [] x.said) h a
 FirstJoined [] alls xs = Unit {0}
 FirstJoined (h ∷ hs) [] xs = Unit {0}
 FirstJoined (h ∷ hs) (a ∷ alls) [] = Unit {0}
@@ -198,15 +349,7 @@ in_order_join bs ns (h ∷ hs) (a ∷ alls) [] t j o = tt
 in_order_join [] [] (h ∷ hs) (a ∷ alls) (x ∷ xs) t j o = absurd t
 in_order_join [] (n ∷ ns) (h ∷ hs) (a ∷ alls) (x ∷ xs) t j o = absurd t
 in_order_join (b ∷ bs) [] (h ∷ hs) (a ∷ alls) (x ∷ xs) t j o = absurd t
-in_order_join (b ∷ bs) (n ∷ ns) (h ∷ hs) (a ∷ alls) (x ∷ xs) t j o = ordered_append [] x.served h x.said a t.0.paired o j
-
-places_count : (p k : ℕ) (es : List Served) → count_by (at_place p k) (map place_of es) ≡ count_by (is_pair p k) es
-places_count p k [] = refl
-places_count p k (e ∷ es) =
-    let r = places_count p k es in
-    let a = count_by-cons (at_place p k) (place_of e) (map place_of es) in
-    let b = count_by-cons (is_pair p k) e es in
-    omega (arith, r, a, b)
+in_order_join (b ∷ bs) (n ∷ ns) (h ∷ hs) (a ∷ alls) (x ∷ xs) t j o = ordered_append x.asked 0 [] x.served h x.said a t.0.paired o j
 
 pub first_late_join : (es : List Event) (hs : List (List Served)) (alls : List (List Said)) (ks : List (List Place)) (bs ns : List ClientTold) (xs : List Exchange) → EachExchange bs ns xs → Match hs alls xs → SaidLate alls ks → FirstLate es (no_late bs) xs
     → FirstLate es ks (heard_join hs alls xs)
@@ -219,9 +362,9 @@ first_late_join es (h ∷ hs) (a ∷ alls) (l ∷ ks) bs ns [] t m s o = absurd 
 first_late_join es (h ∷ hs) (a ∷ alls) (l ∷ ks) [] [] (x ∷ xs) t m s o = absurd t
 first_late_join es (h ∷ hs) (a ∷ alls) (l ∷ ks) [] (n ∷ ns) (x ∷ xs) t m s o = absurd t
 first_late_join es (h ∷ hs) (a ∷ alls) (l ∷ ks) (b ∷ bs) ns (x ∷ xs) t m s o = λ p k i.
-    let old = late_since [] x.said in
-    let same = ap (λ (v : List Served). count_by (is_pair p k) v) (since_append [] x.said a) in
-    let both = since_both p k old a m.0 in
+    let old = late_since x.asked 0 [] x.said in
+    let same = ap (λ (v : List Served). count_by (is_pair p k) v) (since_append x.asked 0 [] x.said a) in
+    let both = since_both x.asked (0 + length (plans_in x.said)) p k old a m.0 in
     let new = places_count p k (late_in a) in
     let named = ap (λ (v : List Place). count_by (at_place p k) v) s.0 in
     ⊎_elim
@@ -258,8 +401,8 @@ first_joined es fs (h ∷ hs) (a ∷ alls) bs ns [] c one fresh t o = tt
 first_joined es fs (h ∷ hs) (a ∷ alls) [] [] (x ∷ xs) c one fresh t o = absurd t
 first_joined es fs (h ∷ hs) (a ∷ alls) [] (n ∷ ns) (x ∷ xs) c one fresh t o = absurd t
 first_joined es fs (h ∷ hs) (a ∷ alls) (b ∷ bs) ns (x ∷ xs) c one fresh t o =
-    let old = late_since [] x.said in
-    ordered_join old h a (λ p k. let m = c p k in let s = one p k in omega (arith, m, s))
+    let old = late_since x.asked 0 [] x.said in
+    ordered_join x.asked (0 + length (plans_in x.said)) old h a (λ p k. let m = c p k in let s = one p k in omega (arith, m, s))
     (λ p k i.
     let m = c p k in
     let f = asked_fresh es fs p k fresh (omega (arith, m, i)) in

@@ -101,7 +101,7 @@ split_event p k before e es l (b ∷ bs) =
     let c = count-append (is_pair p k) (served_in l before e) (telling (served_in l) (before ++ e ∷ []) es) in
     omega (arith, r, c)
 
-lanes_most : (p k : ℕ) (before es : List Event) (l : ℕ) (bs : List ClientTold) → in_events p k before es l bs ≤ count_by (fetches p k) es
+pub lanes_most : (p k : ℕ) (before es : List Event) (l : ℕ) (bs : List ClientTold) → in_events p k before es l bs ≤ count_by (fetches p k) es
 lanes_most p k before [] l bs = let z = none_more p k before l bs in omega (arith, z)
 lanes_most p k before (e ∷ es) l bs =
     let s = split_event p k before e es l bs in
@@ -112,7 +112,7 @@ lanes_most p k before (e ∷ es) l bs =
 
 -- ---- all that was served
 
-heard_count : (p k : ℕ) (es : List Event) (l : ℕ) (bs ns : List ClientTold) (xs : List Exchange) (hs : List (List Served)) → EachExchange bs ns xs → EachServed es l xs hs
+pub heard_count : (p k : ℕ) (es : List Event) (l : ℕ) (bs ns : List ClientTold) (xs : List Exchange) (hs : List (List Served)) → EachExchange bs ns xs → EachServed es l xs hs
     → count_by (is_pair p k) (served_of_all xs) ≡ in_events p k [] es l bs + count_by (is_pair p k) (all_of hs)
 heard_count p k es l [] [] [] [] e t = refl
 heard_count p k es l [] [] [] (h ∷ hs) e t = absurd t

@@ -108,7 +108,7 @@ tie_expired g b n es sl m p k j before after fresh left is late spare fits t =
         omega (arith, l)
 
 -- the refresh of a plan is recorded
-pub tie_refreshed : (g : Setup) (b n : RunTold) (es : List Event) (sl : Slack) (p : ℕ) (r : FileRange) → range_at es p ≡ r ∷ [] → sl.lost ≡ (g.file, r) ∷ [] → (FirstRenewed g sl.lost sl.heard → FirstRenewed g [] sl.heard) → FirstClear sl.heard
+pub tie_refreshed : (g : Setup) (b n : RunTold) (es : List Event) (sl : Slack) (p : ℕ) (r : FileRange) → range_at es p ≡ r ∷ [] → sl.lost ≡ (g.file, r) ∷ [] → (FirstRenewed g sl.lost sl.heard → FirstRenewed g [] sl.heard) → FirstClear p sl.heard
     → Ties g b n es None sl → Ties g b n (es ++ Refreshed p ∷ []) None (record sl { lost = [] })
 tie_refreshed g b n es sl p r at lost renewed clear t =
     let e : Event = Refreshed p in
@@ -126,7 +126,7 @@ tie_refreshed g b n es sl p r at lost renewed clear t =
       served = λ bs ns v. served_same es e sl.hidden sl.late bs ns (λ l. refl) (λ l. refl) (λ q k. refl) (λ m. tt) v;
       expired = λ xs v. expired_same es e 0 xs sl.late (λ l w. refl) v;
       heard_served = λ xs v. heard_served_same es e 0 xs sl.hidden (λ l w. refl) v;
-      first_late = λ v. first_late_clear (es ++ e ∷ []) sl.late sl.heard clear;
+      first_late = λ v. first_late_clear es p sl.late sl.heard clear v;
       asked = lost ∙ ap (λ (l : List FileRange). map (λ v. (g.file, v)) l ++ []) (sym at);
       tried = λ q j. let a = t.tried.at_most q j in omega (arith, a);
       renewed = tt;

@@ -204,7 +204,7 @@ pub record IsCorrupted (g : Setup) (xs : List Exchange) (before after : List Cli
   pub failed : SomeFailed g xs k
   -- whatever the other connections tell
   pub first : FirstFailed g before after k
-  -- nothing else failed, or nothing in this connection and below
+  -- no call of a connection failed and no test of a served block, or none in this connection and below
   pub order : NothingElse g xs before after ⊎ LaneFails g xs before after k
 
 -- the cause of each error, by what the connections were asked, served and said; want of memory is free, and a run is

@@ -19,7 +19,7 @@ use Rattle.xet_ties.specs.Gains.{GainedServed, OffersFew, one_range}
 use Rattle.xet_ties.specs.History.{entry_of}
 use Rattle.xet_ties.specs.InCall.{EachExchange, Exchange, Look, answers_of, new_in, served_of_all}
 use Rattle.xet_ties.specs.RunCalls.{DidNothing, Unfailed, stop_of}
-use Rattle.xet_ties.specs.Saids.{AllPassed, AllRenewed, BlockOfPlan, planned_of}
+use Rattle.xet_ties.specs.Saids.{AllPassed, AllRenewed, BlockOfPlan, own_query, planned_of, same_start}
 use Rattle.xet_ties.specs.Setup.{AllTell, CacheTells, EachGoesOn, IsEmptyRange, IsOver, RunTold, Setup, most_lanes}
 use Rattle.xet_ties.specs.Ties.{CutsRange, EachUnasked, EachUnfailed, FirstInOrder, IsEntryOf, IsFaultless, Reaches, is_look, is_pair, is_range}
 
@@ -149,6 +149,17 @@ NoneSpent g xs = (p k : ℕ) → late_answers p k xs < g.tries
 abbrev pub NonePast : Setup → List Exchange → FileReconstructionError → Type 0
 NonePast g xs e = e ≢ error.OutOfMemory → (p k : ℕ) → late_answers p k xs ≤ g.tries
 
+-- how many of these queries are for this plan: its own one, and the refreshes that start where that does
+abbrev pub plan_queries : List Query → ℕ → ℕ
+plan_queries asked p = count_by (λ q. same_start (Some q) (own_query asked p)) asked
+
+-- the requests for a block were answered, as expired or with bytes, by all connections together, no more often than the
+-- first one was asked for the block's plan
+abbrev pub AnswersFew : List Exchange → Type 0
+AnswersFew [] = Unit {0}
+AnswersFew (x ∷ xs) = (p k : ℕ)
+    → late_answers p k (x ∷ xs) + count_by (is_pair p k) (served_of_all (x ∷ xs)) ≤ plan_queries x.asked p
+
 -- ---- looks
 
 -- the entry is of this one range of this xorb
@@ -222,9 +233,12 @@ pub record Legal (g : Setup) (before after : RunTold) (answer : Result ℕ FileR
   pub renewed : FirstRenewsBut g 1 heard.list
   -- and on Ok the last one too
   pub all_renewed : OnOk answer (FirstRenewsBut g 0 heard.list)
-  -- by what the first connection served and said, in its order, an expired block is answered again only behind an answer
-  -- to a query, whatever the run's answer
+  -- by what the first connection was asked, and what it served and said in its order, an expired block is answered
+  -- again only behind an answer to a query for its own plan, whatever the run's answer
   pub in_order : FirstInOrder heard.list
+  -- and on Ok, and with any error but these, a block has no more answers of all connections than its plan has queries:
+  -- behind each expired answer but the last one is a refresh of its own plan
+  pub answered : IsFaultless (stop_of answer) → AnswersFew heard.list
   -- each request that was answered as expired is for a block of a plan that was said
   pub late : AllLatePlanned g heard.list
   -- on Ok no block's URL expired as often as it may be asked for

@@ -1,5 +1,5 @@
 -- How a run's history is tied to what the run's arguments tell before and after.
-use Rattle.std.specs.Prelude.{ℕ, zero, suc, ◌≡◌, ◌⊎◌, ◌+◌, ◌-◌, ◌^◌, ◌<◌, ◌≤◌, ◌==◌, ◌&&◌, ◌≢◌, min, Bool, true, false, not, List, [], ◌∷◌, ◌++◌, drop, length, count_by, nat_eq, Option, Some, None, IfSome, IsSome, All, Contains}
+use Rattle.std.specs.Prelude.{ℕ, zero, suc, ◌≡◌, ◌⊎◌, ◌+◌, ◌-◌, ◌^◌, ◌<◌, ◌≤◌, ◌==◌, ◌&&◌, ◌≢◌, min, Bool, true, false, not, List, [], ◌∷◌, ◌++◌, drop, filter, length, count_by, nat_eq, Option, Some, None, IfSome, IsSome, All, Contains}
 use Rattle.std.specs.List.{flat_map}
 use lib.Pointwise.{pointwise}
 use Rattle.xet_base.specs.declared.cas_types.ChunkRange.{ChunkRange}
@@ -27,7 +27,7 @@ use Rattle.xet_history.specs.TrueHistory.{EndsEarly, IsTrueHistory, SomeEndsEarl
 use Rattle.xet_ties.specs.Gains.{GainedServed, GrewBy}
 use Rattle.xet_ties.specs.History.{EachAfter, IsNumberedNext, IsOnLane, IsOneCached, IsRenewed, IsWithin, asked_by, block_at, cached_in, entry_of, expired_by, fetched_in, fetches, is_expired, kept_in, late_by, limits_of, range_at, served_by, telling, round_count}
 use Rattle.xet_ties.specs.InCall.{EachExchange, Exchange, Look, Place, late_places}
-use Rattle.xet_ties.specs.Saids.{EventPassed, FirstRenewed, FirstSaid, IsTested}
+use Rattle.xet_ties.specs.Saids.{EventPassed, FirstRenewed, FirstSaid, IsTested, asks_for_plan}
 use Rattle.xet_ties.specs.Setup.{AllTell, CacheTells, ClientGoesOn, IsOver, RunTold, Setup, download_of, most_lanes}
 
 -- where a run stands: none while it goes on and where it answered Ok, else the error that it answered
@@ -118,39 +118,47 @@ EachExpired es lane xs ls = ⊥
 abbrev pub LatePlanned : List Event → List Exchange → Type 0
 LatePlanned es xs = All (λ x. All (IsPlannedEntry es) (late_in x.said)) xs
 
--- the requests that a connection answered as expired since its last answer to a query, the last one first, by what it
--- said in its order; those before it said that are given
-abbrev pub late_since : List Served → List Said → List Served
-late_since late [] = late
-late_since late (said.Plan a ∷ all) = late_since [] all
-late_since late (said.Block b ∷ all) = late_since late all
-late_since late (said.Expired e ∷ all) = late_since (e ∷ late) all
+-- the requests for blocks of other plans than the query at this place asks for
+abbrev pub of_others : List Query → ℕ → List Served → List Served
+of_others asked place late = filter (λ e. not (asks_for_plan asked place e.plan)) late
+
+-- the requests that a connection answered as expired, without an answer since to a query for the block's own plan, the
+-- last one first: by what it was asked, and what it said in its order; those before it said that are given, and the
+-- place of the query that it answers next
+abbrev pub late_since : List Query → ℕ → List Served → List Said → List Served
+late_since asked place late [] = late
+late_since asked place late (said.Plan a ∷ all) = late_since asked (place + 1) (of_others asked place late) all
+late_since asked place late (said.Block b ∷ all) = late_since asked place late all
+late_since asked place late (said.Expired e ∷ all) = late_since asked place (e ∷ late) all
 
 -- the entry is of none of their blocks
 abbrev pub IsOfNone : Served → List Served → Type 0
 IsOfNone e late = count_by (is_pair e.plan e.index) late ≡ 0
 
--- after an expired answer a block's next one comes behind an answer to a query, by what a connection served and said in
--- its order; the requests that were answered as expired before are given
-abbrev pub NoneAgain : List Served → List Served → List Said → Type 0
-NoneAgain late served [] = Unit {0}
-NoneAgain late served (said.Plan a ∷ all) = NoneAgain [] served all
-NoneAgain late served (said.Expired e ∷ all) = IsOfNone e late × NoneAgain (e ∷ late) served all
-NoneAgain late [] (said.Block b ∷ all) = NoneAgain late [] all
-NoneAgain late (e ∷ served) (said.Block b ∷ all) = IsOfNone e late × NoneAgain late served all
+-- after an expired answer a block's next one comes behind an answer to a query for its plan, by what a connection was
+-- asked, and what it served and said in its order; the requests that were answered as expired before are given
+abbrev pub NoneAgain : List Query → ℕ → List Served → List Served → List Said → Type 0
+NoneAgain asked place late served [] = Unit {0}
+NoneAgain asked place late served (said.Plan a ∷ all) =
+    NoneAgain asked (place + 1) (of_others asked place late) served all
+NoneAgain asked place late served (said.Expired e ∷ all) =
+    IsOfNone e late × NoneAgain asked place (e ∷ late) served all
+NoneAgain asked place late [] (said.Block b ∷ all) = NoneAgain asked place late [] all
+NoneAgain asked place late (e ∷ served) (said.Block b ∷ all) =
+    IsOfNone e late × NoneAgain asked place late served all
 
 -- so of the first connection, which answers the queries
 abbrev pub FirstInOrder : List Exchange → Type 0
 FirstInOrder [] = Unit {0}
-FirstInOrder (x ∷ xs) = NoneAgain [] x.served x.said
+FirstInOrder (x ∷ xs) = NoneAgain x.asked 0 [] x.served x.said
 
 abbrev pub at_place : ℕ → ℕ → Place → Bool
 at_place p k c = c.0 == p && c.1 == k
 
--- a block that the first connection answered as expired since its last answer to a query is expired by the history, or
--- no event says so yet
+-- a block that the first connection answered as expired, without an answer since to a query for its plan, is expired by
+-- the history, or no event says so yet
 abbrev pub FirstLate : List Event → List (List Place) → List Exchange → Type 0
-FirstLate es (l ∷ ls) (x ∷ xs) = (p k : ℕ) → 0 < count_by (is_pair p k) (late_since [] x.said)
+FirstLate es (l ∷ ls) (x ∷ xs) = (p k : ℕ) → 0 < count_by (is_pair p k) (late_since x.asked 0 [] x.said)
     → (is_expired es p k ≡ true) ⊎ (0 < count_by (at_place p k) l)
 FirstLate es [] xs = Unit {0}
 FirstLate es (l ∷ ls) [] = Unit {0}
@@ -378,7 +386,7 @@ pub record Ties (g : Setup) (before after : RunTold) (es : List Event) (stop : S
   pub unfailed : FirstUnfailed slack.calm before.clients after.clients
   pub expired : EachExpired es 0 slack.heard slack.late
   pub late_planned : LatePlanned es slack.heard
-  -- the first connection answers for an expired block again only behind an answer to a query
+  -- the first connection answers for an expired block again only behind an answer to a query for the block's plan
   pub in_order : FirstInOrder slack.heard
   pub first_late : FirstLate es slack.late slack.heard
   pub heard_served : EachServed es 0 slack.heard slack.hidden
