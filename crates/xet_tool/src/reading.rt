@@ -2,12 +2,19 @@
 ghost use Rattle.std.specs.Prelude.{◌≡◌, ◌++◌, OnOk};
 ghost use Rattle.xet_tool.specs.steps.Reading.{ReadAll};
 
+use crate::kept_memory::keep_freed_memory;
 use std::alloc::Global;
 use xet_base::OutOfMemory;
 use xet_store::Source;
 
 /// How many bytes the input may have.
 pub const LIMIT: usize = 67_108_864;
+
+// How many bytes are read at once. Each page of the buffer costs time once, so it is no larger than a small input needs.
+const PIECE: usize = 16_384;
+
+// A text that grows past this size is a large one.
+const LARGE: usize = 65_536;
 
 /// Why an input was not read to its end.
 #[derive(Clone, Copy, PartialEq, Eq, Debug)]
@@ -29,7 +36,7 @@ pub fn read_to_end<I: Source>(
     ensures { ReadAll (I.told input.old) (I.told input.new) limit result }
 {
     let mut all = Vec::new(alloc);
-    let mut buffer = [0u8; 65_536];
+    let mut buffer = [0u8; PIECE];
     'pieces: while all.len() <= limit {
         let count = match input.read(&mut buffer) {
             Ok(count) => count,
@@ -38,7 +45,7 @@ pub fn read_to_end<I: Source>(
         if count == 0 {
             return Ok(all);
         }
-        if append(&mut all, &buffer[..count]).is_err() {
+        if append(alloc, &mut all, &buffer[..count]).is_err() {
             return Err(ReadError::OutOfMemory);
         }
     }
@@ -46,12 +53,16 @@ pub fn read_to_end<I: Source>(
 }
 
 // Adds a piece. Where there is no room it takes room for half as many bytes more: a vector that doubles passes sooner
-// the size up to which the C library keeps memory that is given back.
-fn append(all: &mut Vec<u8>, piece: &[u8]) -> Result<(), OutOfMemory>
+// the size up to which the C library keeps memory that is given back. It is to keep it once the text is large.
+fn append(alloc: Global, all: &mut Vec<u8>, piece: &[u8]) -> Result<(), OutOfMemory>
     ensures { OnOk result (all.new.items ≡ all.old.items ++ piece.now) }
 {
     if all.capacity() - all.len() < piece.len() {
-        all.reserve_exact(piece.len().max(all.len() / 2))?;
+        let more = piece.len().max(all.len() / 2);
+        if all.capacity() <= LARGE && LARGE - all.len() < more {
+            keep_freed_memory(alloc);
+        }
+        all.reserve_exact(more)?;
     }
     all.extend_from_slice(piece)?;
     Ok(())
