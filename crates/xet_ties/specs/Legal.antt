@@ -227,7 +227,7 @@ pub record Legal (g : Setup) (before after : RunTold) (answer : Result ℕ FileR
   pub asked : FirstAsks g before.clients after.clients
   -- on Ok it was planned to the range's end or the file's, by what the first connection alone tells
   pub all_asked : OnOk answer (FirstPlansAll g before.clients after.clients)
-  -- no plan's URLs were asked for again without an expired answer
+  -- plans' URLs were asked for again no more often than expired answers came
   pub refreshed : FirstAsksFew g heard.list
   -- each such refresh but perhaps the last query was answered, and its answer isn't refused, whatever the answer
   pub renewed : FirstRenewsBut g 1 heard.list
@@ -236,8 +236,8 @@ pub record Legal (g : Setup) (before after : RunTold) (answer : Result ℕ FileR
   -- by what the first connection was asked, and what it served and said in its order, an expired block is answered
   -- again only behind an answer to a query for its own plan, whatever the run's answer
   pub in_order : FirstInOrder heard.list
-  -- and on Ok, and with any error but these, a block has no more answers of all connections than its plan has queries:
-  -- behind each expired answer but the last one is a refresh of its own plan
+  -- and on Ok, and with any error but these, a block has no more answers of all connections than its plan has queries,
+  -- the own one and refreshes
   pub answered : IsFaultless (stop_of answer) → AnswersFew heard.list
   -- each request that was answered as expired is for a block of a plan that was said
   pub late : AllLatePlanned g heard.list

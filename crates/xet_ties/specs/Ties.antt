@@ -424,7 +424,7 @@ pub record LeavesNothing (slack : Slack) : Type 0 where
   pub lost : slack.lost ≡ []
   pub ahead : slack.ahead ≡ 0
 
--- no request was answered as expired
+-- no request was answered as expired that no event says
 abbrev pub NoneLate : List (List Place) → Type 0
 NoneLate [] = Unit {0}
 NoneLate (l ∷ ls) = (l ≡ []) × NoneLate ls

@@ -4,7 +4,7 @@ use Rattle.std.specs.Prelude.{All, Contains, IfSome, OnOk, Result, count_by, opt
 use Rattle.std.specs.List.{AllZip, drop-map, take-map}
 use Rattle.std.specs.Result.{result_ok}
 use Rattle.std.proofs.Math.Seq.{drop-length}
-use Rattle.std.proofs.lemmas.List.{append-nil, drop_at, length-map, length-take, map-append, take-append-drop}
+use Rattle.std.proofs.lemmas.List.{append-nil, drop_at, length-map, map-append, take-append-drop}
 use Rattle.std.proofs.lemmas.List.Sums.{sum_by-cons}
 use Rattle.std.proofs.lemmas.List.Elements.{All-cons, All-head, All-nil, All-tail, All-weaker}
 use Rattle.xet_base.specs.Store.{IsValid, Store}
@@ -39,6 +39,7 @@ use Rattle.xet_tool.specs.steps.PrintedDigits.{AllPassed, Tapped, Wrote, status_
 use Rattle.xet_tool.specs.steps.TapRuns.{BehindAll, BehindTaps, IsNew}
 use Rattle.xet_tool.specs.Taps.{FromTaps, GaveNothing, gave, gave_some, IsPassed, LanesHonest, MadeOf, Passage, all_passages, all_passed, lane_taps, passage}
 use Rattle.xet_tool.specs.Wanted.{failing_setting, setup_of}
+use Rattle.xet_tool.proofs.TapMoves.{first_same}
 use Rattle.xet_tool.proofs.TapRuns.{AreCalm, FirstHonest, behind_all, behind_none, made, no_some, same_setting, took_same}
 
 -- ---- one lane
@@ -390,51 +391,42 @@ module _ {X T : Type 0} (told : T → TapTold) (tap : X → T) (store : X → St
         u_is = ap (λ (l : List TapTold). told (tap y) ∷ l) rest.u_is;
       }
 
-  pub behind_taps : (pass : HonestAnswersPass) (s : Store) (valid : IsValid s) (q : Wanted) (olds : List T) (xs ys : List X) (k l : CacheTold) (b n : SinkTold) (answer : Result ℕ FileReconstructionError)
-      → map tap xs ≡ olds → length olds ≡ 64 → All (λ x. IsNew s (told (tap x)) (client x)) xs
-      → Legal (setup_of q) (told_of (map client (take (lanes_of q.options) xs)) k b) (told_of (map client (take (lanes_of q.options) ys)) l n) answer
-      → drop (lanes_of q.options) ys ≡ drop (lanes_of q.options) xs
-      → BehindTaps s q (map told olds) (map told (map tap ys)) k l b n answer
-  behind_taps pass s valid q olds xs ys k l b n answer is count new h past =
+  pub behind_taps : (pass : HonestAnswersPass) (s : Store) (valid : IsValid s) (q : Wanted) (olds rest : List T) (xs ys : List X) (k l : CacheTold) (b n : SinkTold) (answer : Result ℕ FileReconstructionError)
+      → map tap xs ++ rest ≡ olds → length olds ≡ 64 → length xs ≡ min (lanes_of q.options) 64 → length ys ≡ length xs → All (λ x. IsNew s (told (tap x)) (client x)) xs
+      → Legal (setup_of q) (told_of (map client xs) k b) (told_of (map client ys) l n) answer
+      → BehindTaps s q (map told olds) (map told (map tap ys ++ rest)) k l b n answer
+  behind_taps pass s valid q olds rest xs ys k l b n answer is count few same new h =
       let c : ℕ = lanes_of q.options in
-      let some = are_lanes s (take c xs) (take c ys) (all_taken (λ (x : X). IsNew s (told (tap x)) (client x)) c xs new) h.goes_on in
-      let fits : causes.failing_setting (setup_of q) (map client (take c xs)) ≡ failing_setting q = settings in
+      let nows : List T = map tap ys ++ rest in
+      let some = are_lanes s xs ys new h.goes_on in
       let run : BehindLanes s q (taps_before s some.lanes) (taps_after s some.lanes) k l b n answer =
       behind_lanes pass s valid q some.lanes k l b n answer
-      (subst (λ (cs : List ClientTold). causes.failing_setting (setup_of q) cs ≡ failing_setting q) some.before_is fits)
+      (subst (λ (cs : List ClientTold). causes.failing_setting (setup_of q) cs ≡ failing_setting q) some.before_is settings)
       (subst (λ (ds : List ClientTold). Legal (setup_of q) (told_of (befores s some.lanes) k b) (told_of ds l n) answer) some.after_is
-      (subst (λ (cs : List ClientTold). Legal (setup_of q) (told_of cs k b) (told_of (map client (take c ys)) l n) answer) some.before_is h)) in
-      let first : lane_taps q (map told olds) ≡ taps_before s some.lanes = rw (← is) (lane_of xs ∙ some.t_is) in
-      let last : lane_taps q (map told (map tap ys)) ≡ taps_after s some.lanes = lane_of ys ∙ some.u_is in
-      let same : BehindLanes s q (lane_taps q (map told olds)) (lane_taps q (map told (map tap ys))) k l b n answer = rw (first, last) run in
-      let rest : drop c (map told (map tap ys)) ≡ drop c (map told olds) = rw (← is) (rest_of ys ∙ ap (λ (zs : List X). map told (map tap zs)) past ∙ sym (rest_of xs)) in
+      (subst (λ (cs : List ClientTold). Legal (setup_of q) (told_of cs k b) (told_of (map client ys) l n) answer) some.before_is h)) in
+      let a = length-map xs tap in
+      let d = length-map ys tap in
+      let parts = first_same c olds nows (map tap xs) (map tap ys) rest (sym is) refl count (omega (arith, a, few)) (omega (arith, a, d, same)) in
+      let first : lane_taps q (map told olds) ≡ taps_before s some.lanes = take-map told c olds ∙ ap (map told) parts.0 ∙ some.t_is in
+      let last : lane_taps q (map told nows) ≡ taps_after s some.lanes = take-map told c nows ∙ ap (map told) parts.1 ∙ some.u_is in
+      let both : BehindLanes s q (lane_taps q (map told olds)) (lane_taps q (map told nows)) k l b n answer = rw (first, last) run in
+      let others : drop c (map told nows) ≡ drop c (map told olds) = drop-map told c nows ∙ ap (map told) parts.2 ∙ sym (drop-map told c olds) in
       record {
-        all = same.all;
-        chunks = same.chunks;
-        any = same.any;
+        all = both.all;
+        chunks = both.chunks;
+        any = both.any;
         go_on = record {
-          honest = honest_both c (map told olds) (map told (map tap ys)) same.honest rest;
-          past = rest;
-          unasked = λ e f. whole_same c (map told olds) (map told (map tap ys)) (same.unasked e f) rest;
+          honest = honest_both c (map told olds) (map told nows) both.honest others;
+          past = others;
+          unasked = λ e f. whole_same c (map told olds) (map told nows) (both.unasked e f) others;
         };
       }
     where
-      lane_of : (zs : List X) → take (lanes_of q.options) (map told (map tap zs)) ≡ map told (map tap (take (lanes_of q.options) zs))
-      lane_of zs = take-map told (lanes_of q.options) (map tap zs) ∙ ap (map told) (take-map tap (lanes_of q.options) zs)
+      size : length (map client xs) ≡ min (lanes_of q.options) 64
+      size = let a = length-map xs client in omega (arith, a, few)
 
-      rest_of : (zs : List X) → drop (lanes_of q.options) (map told (map tap zs)) ≡ map told (map tap (drop (lanes_of q.options) zs))
-      rest_of zs = drop-map told (lanes_of q.options) (map tap zs) ∙ ap (map told) (drop-map tap (lanes_of q.options) zs)
-
-      size : length (map client (take (lanes_of q.options) xs)) ≡ min (lanes_of q.options) 64
-      size =
-          let a = length-map (take (lanes_of q.options) xs) client in
-          let d = length-take (lanes_of q.options) xs in
-          let e = length-map xs tap in
-          let f : length (map tap xs) ≡ length olds = ap length is in
-          omega (arith, a, d, e, f, count)
-
-      settings : causes.failing_setting (setup_of q) (map client (take (lanes_of q.options) xs)) ≡ failing_setting q
-      settings = same_setting q (map client (take (lanes_of q.options) xs)) (λ e. let z = size in omega (arith, z, e)) (λ e. let z = size in omega (arith, z, e))
+      settings : causes.failing_setting (setup_of q) (map client xs) ≡ failing_setting q
+      settings = same_setting q (map client xs) (λ e. let z = size in omega (arith, z, e)) (λ e. let z = size in omega (arith, z, e))
 
 -- ---- with a cache of the run's own
 

@@ -2,8 +2,8 @@
 use Rattle.std.proofs.Common.{◌≡◌, ℕ, ◌+◌, ◌≤◌, zero, suc, Bool, true, false, List, [], ◌∷◌, ◌++◌, length, map, min, take, drop, refl, ap, sym, ◌∙◌, append_assoc, arith, length-append}
 use Rattle.std.specs.Prelude.{All, nat_lt, reverse}
 use Rattle.std.proofs.lemmas.Bool.{ltb-true, ltb-false}
-use Rattle.std.proofs.lemmas.List.{append-nil, drop_at, reverse-append, reverse-reverse}
-use Rattle.std.proofs.lemmas.List.Elements.{All-cons}
+use Rattle.std.proofs.lemmas.List.{append-nil, drop_at, map-append, reverse-append, reverse-reverse}
+use Rattle.std.proofs.lemmas.List.Elements.{All-append, All-cons, All-nil}
 use Rattle.xet_base.specs.Store.{Store}
 use Rattle.xet_outside.specs.Told.{ClientTold}
 use Rattle.xet_store.specs.Taps.{TapTold}
@@ -16,36 +16,31 @@ reverse-last xs x = reverse-append xs (x ∷ [])
 module _ {X T : Type 0} (tap : X → T) where
   -- one more tap left
   pub one_left : (ts rest : List T) (cs ds : List X) (x : X) (t : T) (all : List T) → ts ≡ rest ++ t ∷ [] → ds ≡ cs ++ x ∷ [] → tap x ≡ t
-      → ts ++ map tap (reverse cs) ≡ all → rest ++ map tap (reverse ds) ≡ all
+      → map tap cs ++ reverse ts ≡ all → map tap ds ++ reverse rest ≡ all
   one_left ts rest cs ds x t all e f g h =
-      ap (λ (l : List X). rest ++ map tap l) (ap reverse f ∙ reverse-last cs x) ∙ ap (λ (u : T). rest ++ (u ∷ map tap (reverse cs))) g
-      ∙ sym (append_assoc rest (t ∷ []) (map tap (reverse cs)))
-      ∙ ap (λ (l : List T). l ++ map tap (reverse cs)) (sym e) ∙ h
+      ap (λ (l : List X). map tap l ++ reverse rest) f ∙ ap (λ (l : List T). l ++ reverse rest) (map-append tap cs (x ∷ []))
+      ∙ append_assoc (map tap cs) (tap x ∷ []) (reverse rest)
+      ∙ ap (λ (u : T). map tap cs ++ (u ∷ reverse rest)) g
+      ∙ sym (ap (λ (l : List T). map tap cs ++ l) (ap reverse e ∙ reverse-last rest t)) ∙ h
 
-  -- all left, and the connections stand in their order
-  pub all_left : (ts : List T) (cs ds : List X) (all : List T) → length ts ≡ 0 → ds ≡ reverse cs → ts ++ map tap (reverse cs) ≡ all → map tap ds ≡ all
-  all_left [] cs ds all e f h = ap (map tap) f ∙ h
-  all_left (t ∷ ts) cs ds all e f h = absurd (omega (arith, e))
-
-  -- none came back yet
-  pub none_back : (ts : List T) (cs ds : List X) → ts ≡ [] → ds ≡ reverse cs → ts ++ map tap (reverse ds) ≡ map tap cs
-  none_back ts cs ds e f = ap (λ (l : List T). l ++ map tap (reverse ds)) e ∙ ap (λ (l : List X). map tap (reverse l)) f ∙ ap (map tap) (reverse-reverse cs)
+  -- none left yet
+  pub none_left : (ts us : List T) (cs : List X) → length cs ≡ 0 → us ≡ reverse ts → map tap cs ++ reverse us ≡ ts
+  none_left ts us [] e f = ap reverse f ∙ reverse-reverse ts
+  none_left ts us (x ∷ cs) e f = absurd (omega (arith, e))
 
   -- one more tap came back
   pub one_back : (ts us : List T) (cs ds : List X) (x : X) (t : T) (all : List T) → cs ≡ ds ++ x ∷ [] → us ≡ ts ++ t ∷ [] → t ≡ tap x
-      → ts ++ map tap (reverse cs) ≡ all → us ++ map tap (reverse ds) ≡ all
-  one_back ts us cs ds x t all e f g h =
-      ap (λ (l : List T). l ++ map tap (reverse ds)) f ∙ append_assoc ts (t ∷ []) (map tap (reverse ds)) ∙ ap (λ (u : T). ts ++ (u ∷ map tap (reverse ds))) g
-      ∙ sym (ap (λ (l : List X). ts ++ map tap l) (ap reverse e ∙ reverse-last ds x)) ∙ h
+      → map tap cs ++ reverse ts ≡ all → map tap ds ++ reverse us ≡ all
+  one_back ts us cs ds x t all e f g h = sym (one_left us ts ds cs x t (map tap ds ++ reverse us) f e (sym g) refl) ∙ h
 
   -- all came back
-  pub all_back : (ts : List T) (cs : List X) (all : List T) → length cs ≡ 0 → ts ++ map tap (reverse cs) ≡ all → ts ≡ all
-  all_back ts [] all e h = sym (append-nil ts) ∙ h
+  pub all_back : (ts : List T) (cs : List X) (all : List T) → length cs ≡ 0 → map tap cs ++ reverse ts ≡ all → reverse ts ≡ all
+  all_back ts [] all e h = h
   all_back ts (x ∷ cs) all e h = absurd (omega (arith, e))
 
 -- so of each connection
-pub each_left : {X : Type 0} (P : X → Type 0) (cs ds : List X) (x : X) → ds ≡ cs ++ x ∷ [] → P x → All P (reverse cs) → All P (reverse ds)
-each_left P cs ds x e p h = rw (ap reverse e ∙ reverse-last cs x) (All-cons P x (reverse cs) p h)
+pub each_left : {X : Type 0} (P : X → Type 0) (cs ds : List X) (x : X) → ds ≡ cs ++ x ∷ [] → P x → All P cs → All P ds
+each_left P cs ds x e p h = rw e (All-append P cs (x ∷ []) h (All-cons P x [] p (All-nil P)))
 
 -- a connection that was made now
 pub is_new : (s r : Store) (t u : TapTold) (c : ClientTold) → c ≡ behind_own r (record { asked = []; said = []; served = [] }) u u → r ≡ s → u ≡ t → IsNew s t c

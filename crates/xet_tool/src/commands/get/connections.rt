@@ -1,9 +1,8 @@
 //! Runs over connections to a store, whose blocks go through taps.
-ghost use Rattle.std.specs.Prelude.{◌≡◌, ◌≤◌, [], All, IfOk, OnErr, OnOk, drop, false, length, map, take, true, vec_capacity};
+ghost use Rattle.std.specs.Prelude.{◌≡◌, ◌≤◌, ◌+◌, ◌++◌, All, IfOk, OnErr, false, length, map, reverse, true, vec_capacity};
 ghost use Rattle.xet_base.specs.Store.{IsValid};
 ghost use Rattle.xet_reconstruct.specs.Ran.{RanUnder};
 ghost use Rattle.xet_ties.specs.Legal.{Legal};
-ghost use Rattle.xet_tool.specs.GetOptions.{lanes_of};
 ghost use Rattle.xet_tool.specs.Wanted.{setup_of};
 ghost use Rattle.xet_tool.specs.steps.PrintedDigits.{Tapped, told_of};
 ghost use Rattle.xet_tool.specs.steps.TapRuns.{BehindTaps, IsBookOf, IsCacheOf, IsNew, limits_told};
@@ -55,69 +54,48 @@ fn check_store(alloc: Global, store: &MemStore)
     let _client = MemClient::new(alloc, store);
 }
 
-// The taps leave for connections to the store, which stand in their order. Where memory is wanting none leaves.
+// The first taps, as many as there are lanes, leave for connections to the store, which stand in their order; the
+// others stay, and stand in reverse. Where memory is wanting none leaves.
 fn connect<'a, T: Tap>(
     alloc: Global,
     store: &'a MemStore,
+    lanes: usize,
     taps: &mut Vec<T>,
 ) -> std::result::Result<Vec<TappedClient<'a, T>>, OutOfMemory>
-    ensures taps { IfOk result (λ clients. map (λ c. c.tap) clients.items ≡ taps.old.items) }
+    requires lanes { lanes ≤ length taps.old.items }
+    ensures taps { IfOk result (λ clients. map (λ c. c.tap) clients.items ++ reverse taps.new.items
+        ≡ taps.old.items) }
+    ensures count { IfOk result (λ clients. length clients.items ≡ lanes) }
     ensures new { IfOk result (λ clients. All (λ c. IsNew store.now (T.told c.tap)
         (⟦<TappedClient<'a, T> as Client>⟧.told c)) clients.items) }
-    ensures left { OnOk result (taps.new.items ≡ []) }
     ensures room { vec_capacity taps.new ≡ vec_capacity taps.old }
     ensures kept { OnErr result (taps.new.items ≡ taps.old.items) }
 {
-    let mut clients = Vec::with_capacity(alloc, taps.len())?;
-    while let Some(tap) = taps.pop() {
+    let mut clients = Vec::with_capacity(alloc, lanes)?;
+    taps.reverse();
+    'taken: while clients.len() < lanes {
+        let Some(tap) = taps.pop() else {
+            break;
+        };
         clients.push_reserved(TappedClient::new(MemClient::new(alloc, store), tap));
     }
-    clients.reverse();
     Ok(clients)
 }
 
-// The connections end, and the taps come back in their order.
+// The connections end, and their taps come back before the others, which stand in reverse until then.
 fn hand_back<T: Tap>(mut clients: Vec<TappedClient<T>>, taps: &mut Vec<T>)
-    requires empty { taps.old.items ≡ [] }
-    requires room { length clients.items ≤ vec_capacity taps.old }
-    ensures { taps.new.items ≡ map (λ c. c.tap) clients.entry.items }
+    requires room { length clients.items + length taps.old.items ≤ vec_capacity taps.old }
+    ensures { taps.new.items ≡ map (λ c. c.tap) clients.entry.items ++ reverse taps.old.items }
 {
-    clients.reverse();
     while let Some(client) = clients.pop() {
         taps.push_reserved(client.into_tap());
     }
     clients.destroy_empty();
+    taps.reverse();
 }
 
-// The run over as many of the connections as are wanted, the first ones.
-fn run_over_first<R: Threads + Wait + Sync, C: Client + Send, K: ChunkCache, O: Sink>(
-    rt: &R,
-    alloc: Global,
-    wanted: Wanted,
-    view: BookView,
-    clients: &mut [C],
-    cache: &mut K,
-    out: &mut O,
-) -> Result<u64>
-    requires count { length clients.old ≡ 64 }
-    requires book { IsBookOf wanted view }
-    ensures legal { Legal (setup_of wanted)
-        (told_of (map C.told (take (lanes_of wanted.options) clients.old)) (K.told cache.old) (O.told out.old))
-        (told_of (map C.told (take (lanes_of wanted.options) clients.new)) (K.told cache.new) (O.told out.new))
-        result }
-    ensures ran { RanUnder (limits_told wanted) (setup_of wanted)
-        (told_of (map C.told (take (lanes_of wanted.options) clients.old)) (K.told cache.old) (O.told out.old))
-        (told_of (map C.told (take (lanes_of wanted.options) clients.new)) (K.told cache.new) (O.told out.new))
-        result }
-    ensures past { drop (lanes_of wanted.options) clients.new ≡ drop (lanes_of wanted.options) clients.old }
-{
-    let lanes = wanted.options.lane_count().min(64) as usize;
-    let (used, _) = clients.split_at_mut(lanes);
-    run_over(rt, alloc, wanted, view, used, cache, out)
-}
-
-// The run over as many connections as are wanted, each behind one of the taps, in order. The taps leave for it and come
-// back. With `cache` the cache is a new one.
+// The run over as many connections as are wanted, each behind one of the first taps, in order. These leave for it and
+// come back. With `cache` the cache is a new one.
 fn run_behind<R: Threads + Wait + Sync, T: Tap + Send, K: ChunkCache, O: Sink>(
     rt: &R,
     alloc: Global,
@@ -136,11 +114,12 @@ fn run_behind<R: Threads + Wait + Sync, T: Tap + Send, K: ChunkCache, O: Sink>(
 {
     check_store(alloc, store);
     honest_answers();
-    let mut clients = match connect(alloc, store, taps) {
+    let lanes = wanted.options.lane_count().min(64) as usize;
+    let mut clients = match connect(alloc, store, lanes, taps) {
         Ok(clients) => clients,
         Err(_) => return Err(FileReconstructionError::OutOfMemory),
     };
-    let answer = run_over_first(rt, alloc, wanted, view, clients.as_mut_slice(), cache, out);
+    let answer = run_over(rt, alloc, wanted, view, clients.as_mut_slice(), cache, out);
     hand_back(clients, taps);
     answer
 }

@@ -5,7 +5,8 @@ use Rattle.xet_tool.proofs.commands.get.connections.hand_back.Given as goal
 abbrev pub invariant-loop-client : goal.invariant-loop-client
 invariant-loop-client g l = record {
   room : vec_len l.clients + vec_len l.taps ≤ vec_capacity l.taps;
-  joined : l.taps.items ++ map (λ c. c.tap) (reverse l.clients.items) ≡ map (λ c. c.tap) l.fn.clients.items;
+  joined : map (λ c. c.tap) l.clients.items ++ reverse l.taps.items
+      ≡ map (λ c. c.tap) l.fn.clients.items ++ reverse l.fn.taps.items;
 }
 
 abbrev pub decreases-loop-client : goal.decreases-loop-client

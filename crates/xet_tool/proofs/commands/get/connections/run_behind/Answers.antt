@@ -1,5 +1,5 @@
-use Rattle.std.proofs.Common.{◌≡◌, ◌∙◌, ap, arith, length, map, rules}
-use Rattle.std.specs.Prelude.{All}
+use Rattle.std.proofs.Common.{◌≡◌, ◌++◌, ◌∙◌, ap, arith, length, map, min, rules}
+use Rattle.std.specs.Prelude.{All, reverse}
 use denote.Param.{param}
 use denote.Ref.{NamedLft}
 use denote.Exit.{no, unseen}
@@ -12,14 +12,15 @@ use Rattle.xet_store.proofs.CallerLemmas.{client_log_send, mem_client_send}
 use Rattle.xet_tool.specs.contracts.commands.get.tapped_client.TappedClient as tapped_client
 use Rattle.xet_outside.specs.Told.{ClientTold}
 use Rattle.xet_tool.specs.declared.commands.get.tapped_client.TappedClient.{TappedClient}
+use Rattle.xet_tool.specs.GetOptions.{lanes_of}
 use Rattle.xet_tool.specs.steps.OwnTaps.{behind_own}
 use Rattle.xet_tool.specs.steps.TapRuns.{IsNew}
 use Rattle.xet_tool.proofs.TapLanes.{behind_taps, unbehind}
 use Rattle.xet_tool.proofs.TapMoves.{take_front}
 use Rattle.xet_tool.proofs.commands.get.connections.run_behind.Goals as goal
 
-pub run_over_first-answer-requires-send-C : goal.run_over_first-answer-requires-send-C
-run_over_first-answer-requires-send-C g c = λ κs h.
+pub run_over-answer-requires-send-C : goal.run_over-answer-requires-send-C
+run_over-answer-requires-send-C g c = λ κs h.
     let at : NamedLft = record { mir = named 5; lft = κs.1.1.1.1.1.1.1.1.0 } in
     let fields : Shape = shape (tapped_client.the_type at (param 1 g.row.T) g.T.Tap) in
     let s : IsSend (Struct fields) = struct_send fields
@@ -40,14 +41,16 @@ returns g c =
     let tap : TappedClient g.row.T.Denot g.T.Tap → g.row.T.Denot = λ x. x.tap in
     let client : TappedClient g.row.T.Denot g.T.Tap → ClientTold = λ x. behind_own x.inner.store.now x.log (told x.start.value) (told x.tap) in
     let xs = c.as_mut_slice.result.now in
-    let ys = c.run_over_first-answer.new.clients in
+    let ys = c.run_over-answer.new.clients in
+    let others = reverse c.connect.new.taps.items in
     let same : xs ≡ c.in-Ok.clients.items = search rules in
-    let taps : map tap c.in-Ok.clients.items ≡ c.args.taps.now.items = rw c.in-Ok.is at c.connect.ensures.taps in
+    let taps : map tap c.in-Ok.clients.items ++ others ≡ c.args.taps.now.items = rw c.in-Ok.is at c.connect.ensures.taps in
     let fresh : All (λ x. IsNew c.args.store.now (told (tap x)) (client x)) c.in-Ok.clients.items = rw c.in-Ok.is at c.connect.ensures.new in
+    let lanes : length c.in-Ok.clients.items ≡ min (lanes_of c.args.wanted.options) 64 = (rw c.in-Ok.is at c.connect.ensures.count) ∙ search rules in
     let few : length ys ≡ length xs = search rules in
     let all : length xs ≡ length c.in-Ok.clients.items = ap length same in
     let size : length ys ≡ c.in-Ok.clients.len = omega (arith, few, all, c.in-Ok.clients.ok.0) in
-    let back : c.hand_back.new.taps.items ≡ map tap ys = c.hand_back.ensures ∙ ap (map tap) (take_front ys _ c.in-Ok.clients.len size) in
+    let back : c.hand_back.new.taps.items ≡ map tap ys ++ others = c.hand_back.ensures ∙ ap (λ zs. map tap zs ++ others) (take_front ys _ c.in-Ok.clients.len size) in
     rw back (behind_taps told tap (λ x. x.inner.store.now) (λ x. x.log) (λ x. told x.start.value) (λ x. x.given) (λ x. x.plans) (λ x. x.unexpired)
-    c.honest_answers.ensures.pass c.args.store.now c.check_store.ensures c.args.wanted c.args.taps.now.items xs ys _ _ _ _ c.run_over_first-answer.result
-    (rw same taps) c.requires.count (rw same fresh) c.run_over_first-answer.ensures.legal c.run_over_first-answer.ensures.past)
+    c.honest_answers.ensures.pass c.args.store.now c.check_store.ensures c.args.wanted c.args.taps.now.items others xs ys _ _ _ _ c.run_over-answer.result
+    (rw same taps) c.requires.count (rw same lanes) few (rw same fresh) c.run_over-answer.ensures.legal)
