@@ -26,6 +26,8 @@ pub(crate) struct Row<'a> {
     pub(crate) file: MerkleHash,
     pub(crate) range: FileRange,
     pub(crate) config: ReconstructionConfig,
+    /// How many bytes the policy plans ahead.
+    pub(crate) ahead: u64,
     /// What each connection does at its calls: `.` is honest, `f` fails, `x` says that the URL has expired, `n` that
     /// there is no such file, `e` that the range is past the end, `s` serves `bytes`, `p` says the plan of `terms`.
     pub(crate) lanes: &'a [&'a str],
@@ -59,6 +61,7 @@ pub(crate) fn whole(file: MerkleHash) -> Row<'static> {
         file,
         range: FileRange::full(),
         config: ReconstructionConfig::new(),
+        ahead: 0,
         lanes: &["."],
         offsets: &[],
         bytes: "",
@@ -216,7 +219,7 @@ pub(crate) struct Ended {
 
 /// A reconstruction of this row.
 pub(crate) fn wanted(row: &Row<'_>) -> FileReconstructor<Steady> {
-    FileReconstructor::new(row.file, Steady { size: 0 })
+    FileReconstructor::new(row.file, Steady { size: row.ahead })
         .with_byte_range(row.range)
         .with_config(&row.config)
 }

@@ -1,6 +1,6 @@
 //! What runs answer and write.
 use crate::beside::{Crowd, Meeting, Waiting};
-use crate::row::{ALL, REPEATS, Row, by_four, check, run_gated, wanted, whole};
+use crate::row::{ALL, REPEATS, Row, by_four, check, run_gated, run_row, wanted, whole};
 use std::alloc::Global;
 use std::sync::{Arc, Wait};
 use std::test::Fail;
@@ -95,6 +95,29 @@ fn rows_that_write(rt: HostRuntime) -> std::result::Result<(), Fail> {
         (reversed, Ok(0), ""),
     ];
     check(&rt, rt.alloc(), &cases)
+}
+
+/// A run by queries of 4 to 8 bytes asks for 4 and for 8, and then for 8 where the setting or the policy plans far ahead,
+/// else for 4: so many plans are asked for up to the end of 23 bytes.
+#[test]
+fn plans_ahead_by_setting_and_policy(rt: HostRuntime) -> std::result::Result<(), Fail> {
+    let repeats = whole(FILE_OF_REPEATS);
+    for (min_prefetch_buffer, ahead, plans) in [(0, 0, 5), (1000, 0, 4), (0, 1000, 4)] {
+        let row = Row {
+            config: ReconstructionConfig {
+                min_reconstruction_fetch_size: 4,
+                max_reconstruction_fetch_size: 8,
+                min_prefetch_buffer,
+                ..repeats.config
+            },
+            ahead,
+            ..repeats
+        };
+        let ended = run_row(&rt, rt.alloc(), &row)?;
+        assert_eq!(rt; ended.answer, Ok(23), "{min_prefetch_buffer}, {ahead}");
+        assert_eq!(rt; ended.plans, plans, "{min_prefetch_buffer}, {ahead}");
+    }
+    Ok(())
 }
 
 #[test]
