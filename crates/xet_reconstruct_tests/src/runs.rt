@@ -97,8 +97,8 @@ fn rows_that_write(rt: HostRuntime) -> std::result::Result<(), Fail> {
     check(&rt, rt.alloc(), &cases)
 }
 
-/// A run by queries of 4 to 8 bytes asks for 4 and for 8, and then for 8 where the setting or the policy plans far ahead,
-/// else for 4: so many plans are asked for up to the end of 23 bytes.
+/// A run by queries of 4 to 8 bytes asks for 4 and for 8, and then for 8 where the setting or the policy plans far
+/// ahead, else for 4: so many plans are asked for up to the end of 23 bytes.
 #[test]
 fn plans_ahead_by_setting_and_policy(rt: HostRuntime) -> std::result::Result<(), Fail> {
     let repeats = whole(FILE_OF_REPEATS);

@@ -10,7 +10,8 @@ use xet_store::Source;
 /// How many bytes the input may have.
 pub const LIMIT: usize = 67_108_864;
 
-// How many bytes are read at once. Each page of the buffer costs time once, so it is no larger than a small input needs.
+// How many bytes are read at once. Each page of the buffer costs time once, so it is no larger than a small input
+// needs.
 const PIECE: usize = 16_384;
 
 // A text that grows past this size is a large one.
