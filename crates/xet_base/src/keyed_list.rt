@@ -1,5 +1,6 @@
 //! A list whose values are found by their keys.
-ghost use Rattle.std.specs.Prelude.{◌≡◌, [], ◌∷◌, ◌++◌, None, IfOk, OnOk, OnErr, Some, cond, find, is_none, length, position, slice_get, slice_set};
+ghost use Rattle.std.specs.Prelude.{◌≡◌, [], ◌∷◌, ◌++◌, None, IfOk, OnOk, OnErr, Some, cond, find, is_none, length};
+ghost use Rattle.std.specs.Prelude.{position, slice_get, slice_set};
 ghost use Rattle.std.specs.Option.{option_copied};
 ghost use Rattle.std.specs.Ordering.{is_eq};
 ghost use Rattle.xet_base.specs.Hashes.{hash_eq};

@@ -1,5 +1,6 @@
 -- The tests of a block's bytes, and the data that is made of them.
-use Rattle.std.specs.Prelude.{ℕ, suc, ◌-◌, ◌^◌, ◌||◌, Bool, not, cond, List, [], ◌∷◌, length, map, min, sum, zip, nat_eq, nat_le, Option, Some, None, option_map}
+use Rattle.std.specs.Prelude.{ℕ, suc, ◌-◌, ◌^◌, ◌||◌, Bool, not, cond, List, [], ◌∷◌, length, map, min, sum, zip}
+use Rattle.std.specs.Prelude.{nat_eq, nat_le, Option, Some, None, option_map}
 use Rattle.std.specs.List.{flat_map, range_with_len}
 use Rattle.xet_base.specs.declared.cas_types.ChunkRange.{ChunkRange}
 use Rattle.xet_base.specs.Lists.{first_some}

@@ -1,5 +1,6 @@
 -- The blocks of a plan, and which of them a term lies in.
-use Rattle.std.specs.Prelude.{ℕ, ◌-◌, Bool, cond, ◌&&◌, List, [], ◌∷◌, map, min, find, sum, unwrap_or, option_and_then, nat_lt, nat_le, nat_eq, Option}
+use Rattle.std.specs.Prelude.{ℕ, ◌-◌, Bool, cond, ◌&&◌, List, [], ◌∷◌, map, min, find, sum, unwrap_or, option_and_then}
+use Rattle.std.specs.Prelude.{nat_lt, nat_le, nat_eq, Option}
 use Rattle.std.specs.List.{flat_map, list_any}
 use lib.Pointwise.{pointwise}
 use Rattle.xet_base.specs.declared.merklehash.MerkleHash.{MerkleHash}

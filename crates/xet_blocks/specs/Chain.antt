@@ -1,5 +1,6 @@
 -- Chains of terms over ranges, and the size that they sum to.
-use Rattle.std.specs.Prelude.{ℕ, zero, suc, ◌+◌, ◌≡◌, Bool, true, false, ◌&&◌, ◌||◌, IsTrue, All, Contains, List, [], ◌∷◌, map, nat_eq, nat_lt, option_map, Option, Some, None}
+use Rattle.std.specs.Prelude.{ℕ, zero, suc, ◌+◌, ◌≡◌, Bool, true, false, ◌&&◌, ◌||◌, IsTrue, All, Contains, List, []}
+use Rattle.std.specs.Prelude.{◌∷◌, map, nat_eq, nat_lt, option_map, Option, Some, None}
 use Rattle.xet_base.specs.declared.cas_types.ChunkRange.{ChunkRange}
 use Rattle.xet_base.specs.Lists.{first_some}
 use Rattle.xet_blocks.specs.declared.reconstruction_terms.xorb_block.XorbReference.{XorbReference}

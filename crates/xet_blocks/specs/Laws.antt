@@ -1,5 +1,6 @@
 -- Laws of plans and their terms.
-use Rattle.std.specs.Prelude.{◌≡◌, ℕ, ◌-◌, ◌^◌, ◌<◌, Bool, List, [], ◌∷◌, Option, Some, option_and_then, option_map, All, Contains, IsSome, MatchOption, slice_get, find, min, sum, length, slice_range}
+use Rattle.std.specs.Prelude.{◌≡◌, ℕ, ◌-◌, ◌^◌, ◌<◌, Bool, List, [], ◌∷◌, Option, Some, option_and_then, option_map}
+use Rattle.std.specs.Prelude.{All, Contains, IsSome, MatchOption, slice_get, find, min, sum, length, slice_range}
 use Rattle.std.specs.List.{flat_map, list_any}
 use Rattle.xet_base.specs.declared.merklehash.MerkleHash.{MerkleHash}
 use Rattle.xet_base.specs.declared.cas_types.FileRange.{FileRange}

@@ -1,5 +1,6 @@
 -- The tests of a plan, and the first that fails.
-use Rattle.std.specs.Prelude.{ℕ, ◌+◌, ◌-◌, ◌^◌, ◌≡◌, Bool, false, cond, ◌||◌, List, [], ◌∷◌, ◌++◌, map, find, position, sum, take, is_none, option_map, option_and_then, nat_lt, nat_le, Option, Some, None}
+use Rattle.std.specs.Prelude.{ℕ, ◌+◌, ◌-◌, ◌^◌, ◌≡◌, Bool, false, cond, ◌||◌, List, [], ◌∷◌, ◌++◌, map, find, position}
+use Rattle.std.specs.Prelude.{sum, take, is_none, option_map, option_and_then, nat_lt, nat_le, Option, Some, None}
 use Rattle.std.specs.List.{last_or}
 use Rattle.xet_base.specs.declared.cas_types.FileRange.{FileRange}
 use Rattle.xet_base.specs.Lists.{first_some}

@@ -1,5 +1,6 @@
 -- What a query's answer is made into: the block list with its references, sizes and URLs.
-use Rattle.std.specs.Prelude.{◌≡◌, ℕ, ◌+◌, ◌-◌, ◌^◌, Bool, cond, List, [], ◌∷◌, map, filter, sum, min, nat_le, nat_lt, Option, Some, None, find, option_map, unwrap_or}
+use Rattle.std.specs.Prelude.{◌≡◌, ℕ, ◌+◌, ◌-◌, ◌^◌, Bool, cond, List, [], ◌∷◌, map, filter, sum, min, nat_le, nat_lt}
+use Rattle.std.specs.Prelude.{Option, Some, None, find, option_map, unwrap_or}
 use Rattle.std.specs.List.{enumerate_from, flat_map}
 use Rattle.xet_base.specs.declared.cas_types.FileRange.{FileRange}
 use Rattle.xet_base.specs.declared.cas_types.ChunkRange.{ChunkRange}
@@ -10,7 +11,8 @@ use Rattle.xet_blocks.specs.declared.reconstruction_terms.xorb_block.XorbReferen
 use Rattle.xet_blocks.specs.declared.reconstruction_terms.xorb_block.XorbBlock.{XorbBlock}
 use Rattle.xet_blocks.specs.declared.reconstruction_terms.retrieval_urls.RetrievalUrl.{RetrievalUrl}
 use Rattle.xet_blocks.specs.declared.reconstruction_terms.file_term.TermBlock.{TermBlock}
-use Rattle.xet_blocks.specs.Blocks.{PlanBlock, block_ranges, same_block, entry_blocks, term_block, blocks_of, transfer_sum}
+use Rattle.xet_blocks.specs.Blocks.{PlanBlock, block_ranges, same_block, entry_blocks, term_block, blocks_of}
+use Rattle.xet_blocks.specs.Blocks.{transfer_sum}
 use Rattle.xet_blocks.specs.Chain.{chain_sum}
 use Rattle.xet_blocks.specs.PlanChecks.{sizes}
 use Rattle.xet_blocks.specs.PlanQuery.{PlanQuery}

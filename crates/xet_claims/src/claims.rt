@@ -31,7 +31,8 @@ pub struct ClaimPass {
 impl Claims {
     ghost use Rattle.std.specs.Prelude.{All};
     ghost use Rattle.xet_claims.specs.ClaimViews.{newcomer, gained, missed, halted, saw, times, once_below};
-    ghost use Rattle.xet_claims.specs.ClaimPasses.{IsPassOf, IsFresh, pass_view, weight_of, misses_of, drawn_of, raised_count, stopped_count};
+    ghost use Rattle.xet_claims.specs.ClaimPasses.{IsPassOf, IsFresh, pass_view, weight_of, misses_of, drawn_of};
+    ghost use Rattle.xet_claims.specs.ClaimPasses.{raised_count, stopped_count};
     ghost use Rattle.xet_claims.specs.steps.PoolRule.{lighter, apart, gathered};
 
     /// One pass with all the weight.

@@ -1,5 +1,6 @@
 -- What chunks of a file become in a session: places in known xorbs, or chunks that wait.
-use Rattle.std.specs.Prelude.{ℕ, ◌≡◌, ◌+◌, ◌<◌, ◌⊎◌, true, List, ◌++◌, length, All, Contains, Option, IfSome, Result, IfOk, slice_index_or}
+use Rattle.std.specs.Prelude.{ℕ, ◌≡◌, ◌+◌, ◌<◌, ◌⊎◌, true, List, ◌++◌, length, All, Contains, Option, IfSome, Result}
+use Rattle.std.specs.Prelude.{IfOk, slice_index_or}
 use Rattle.std.specs.List.{concat, flat_map}
 use Rattle.xet_base.specs.declared.invalid.Invalid.{Invalid}
 use Rattle.xet_base.specs.declared.merklehash.MerkleHash.{MerkleHash}

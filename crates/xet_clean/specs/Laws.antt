@@ -1,5 +1,6 @@
 -- Laws of what sessions and cleaners stand for.
-use Rattle.std.specs.Prelude.{ℕ, ◌≡◌, Bool, false, List, [], ◌∷◌, ◌++◌, All, find, take, IsSome, Option, None, Some, Result, Ok, slice_range}
+use Rattle.std.specs.Prelude.{ℕ, ◌≡◌, Bool, false, List, [], ◌∷◌, ◌++◌, All, find, take, IsSome, Option, None, Some}
+use Rattle.std.specs.Prelude.{Result, Ok, slice_range}
 use Rattle.std.specs.List.{flat_map}
 use Rattle.xet_base.specs.declared.cas_types.FileRange.{FileRange}
 use Rattle.xet_base.specs.declared.mdb_shard.FileDataSequenceEntry.{FileDataSequenceEntry}

@@ -1,5 +1,6 @@
 -- Files that are uploaded from their sources.
-use Rattle.std.specs.Prelude.{ℕ, ◌≡◌, ◌+◌, ◌-◌, ◌^◌, ◌⊎◌, ◌<◌, ◌≤◌, true, List, [], ◌∷◌, ◌++◌, length, map, All, IfSome, option_map, Result, Ok, Err, IfOk, IfErr, OnOk, Option, Some}
+use Rattle.std.specs.Prelude.{ℕ, ◌≡◌, ◌+◌, ◌-◌, ◌^◌, ◌⊎◌, ◌<◌, ◌≤◌, true, List, [], ◌∷◌, ◌++◌, length, map, All, IfSome}
+use Rattle.std.specs.Prelude.{option_map, Result, Ok, Err, IfOk, IfErr, OnOk, Option, Some}
 use Rattle.std.specs.List.{concat, flat_map}
 use Rattle.xet_base.specs.declared.merklehash.MerkleHash.{MerkleHash}
 use Rattle.xet_base.specs.declared.mdb_shard.Xorb.{Xorb}
@@ -18,7 +19,8 @@ use Rattle.xet_session.specs.Calls.{Backs, Keeps, finalized_error}
 use Rattle.xet_session.specs.Completions.{with_file_counts}
 use Rattle.xet_session.specs.Sessions.{SessionTold, log_of}
 use Rattle.xet_session.specs.Trackings.{ids_used_up}
-use Rattle.xet_clean.specs.Cleaners.{Cleaner, CountsChunks, Feeds, IsNewCleaner, pointer_to, recorded_sha256, unknown_xorb}
+use Rattle.xet_clean.specs.Cleaners.{Cleaner, CountsChunks, Feeds, IsNewCleaner, pointer_to, recorded_sha256}
+use Rattle.xet_clean.specs.Cleaners.{unknown_xorb}
 use Rattle.xet_clean.specs.Cleanings.{ChunkFails, NoFault}
 use Rattle.xet_clean.specs.FileCalls.{IsLate}
 use Rattle.xet_clean.specs.Made.{IsMadeOf, IsPickedFrom}

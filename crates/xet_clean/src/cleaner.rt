@@ -1,10 +1,13 @@
 //! A file on its way into a session.
-ghost use Rattle.std.specs.Prelude.{◌≡◌, ◌+◌, ◌++◌, ◌∷◌, ◌<◌, ◌≤◌, ◌^◌, ◌⊎◌, ℕ, List, [], IfErr, IfOk, IfSome, None, OnErr, OnOk, false, length, true};
+ghost use Rattle.std.specs.Prelude.{◌≡◌, ◌+◌, ◌++◌, ◌∷◌, ◌<◌, ◌≤◌, ◌^◌, ◌⊎◌, ℕ, List, [], IfErr, IfOk, IfSome, None};
+ghost use Rattle.std.specs.Prelude.{OnErr, OnOk, false, length, true};
 ghost use Rattle.sha2.specs.Hashers.{Holds256};
 ghost use Rattle.xet_upload.specs.declared.sha256_policy.Sha256Policy.TheVariants.{Compute};
 ghost use Rattle.xet_session.specs.Telling.{KeepsGroup, told_by};
 ghost use Rattle.xet_session.specs.Trackings.{StartsFile};
-ghost use Rattle.xet_clean.specs.Cleaners.{AddsData, Completes, CountsChunks, CutsChunks, FeedsSo, Finishes, IsEndError, IsNewCleaner, IsOwnError, NextChunk, PassesTotal, TakesIn, chunk_counts, past_total, started};
+ghost use Rattle.xet_clean.specs.Cleaners.{AddsData, Completes, CountsChunks, CutsChunks, FeedsSo, Finishes};
+ghost use Rattle.xet_clean.specs.Cleaners.{IsEndError, IsNewCleaner, IsOwnError, NextChunk, PassesTotal, TakesIn};
+ghost use Rattle.xet_clean.specs.Cleaners.{chunk_counts, past_total, started};
 ghost use Rattle.xet_clean.specs.Cleanings.{AreNamed, ChunkFails, Cleans, Leaves, TrackFails};
 ghost use Rattle.xet_clean.specs.FileCalls.{GrowsFirst, IsFor, IsLate, IsPartOf, RefusedOf, TellsOf, growth};
 ghost use Rattle.xet_clean.specs.Pending.{bytes_left};

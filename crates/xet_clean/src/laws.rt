@@ -1,5 +1,9 @@
 //! Laws of what sessions and cleaners stand for, as functions whose contracts state them.
-ghost use Rattle.xet_clean.specs.Laws.{AcceptedReads, AcceptedResolves, CallsKeepSteady, CountsKeepRecords, CutKeepsRecords, FileKeepsRecords, FinalizeAccepts, FinalizeWithFilesAccepts, FinalizeWithReportAccepts, KeepsCleaners, LearningKeepsCleaners, LearningKeepsRecords, LearningKeepsSteady, LeavesRecords, RegisterKeepsRecords, SearchKeepsRecords, StoredResolves};
+ghost use Rattle.xet_clean.specs.Laws.{AcceptedReads, AcceptedResolves, CallsKeepSteady, CountsKeepRecords};
+ghost use Rattle.xet_clean.specs.Laws.{CutKeepsRecords, FileKeepsRecords, FinalizeAccepts, FinalizeWithFilesAccepts};
+ghost use Rattle.xet_clean.specs.Laws.{FinalizeWithReportAccepts, KeepsCleaners, LearningKeepsCleaners};
+ghost use Rattle.xet_clean.specs.Laws.{LearningKeepsRecords, LearningKeepsSteady, LeavesRecords, RegisterKeepsRecords};
+ghost use Rattle.xet_clean.specs.Laws.{SearchKeepsRecords, StoredResolves};
 
 /// Each call of a session keeps what its records and its cleaners stand for, at each exit at which the session keeps
 /// no failed put: a given xorb, a search, a cut, the data of another file, counts that are added, and queries of the

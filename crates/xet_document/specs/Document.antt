@@ -1,5 +1,6 @@
 -- The store that a JSON value lists.
-use Rattle.std.specs.Prelude.{ℕ, ◌≡◌, ◌^◌, false, cond, nat_lt, List, [], ◌∷◌, Option, Some, None, option_and_then, option_map, codes}
+use Rattle.std.specs.Prelude.{ℕ, ◌≡◌, ◌^◌, false, cond, nat_lt, List, [], ◌∷◌, Option, Some, None, option_and_then}
+use Rattle.std.specs.Prelude.{option_map, codes}
 use Rattle.std.specs.Result.{result_ok}
 use Rattle.std.specs.Str.{IsUtf8}
 use Rattle.hex.specs.Hex.{decode_of}

@@ -1,5 +1,6 @@
 //! The files of a document, read in one pass.
-ghost use Rattle.std.specs.Prelude.{◌≡◌, ◌∷◌, ◌<◌, Some, IfErr, IfOk, IfSome, List as Items, OnOk, ℕ, length, map, option_and_then};
+ghost use Rattle.std.specs.Prelude.{◌≡◌, ◌∷◌, ◌<◌, Some, IfErr, IfOk, IfSome, List as Items, OnOk, ℕ, length, map};
+ghost use Rattle.std.specs.Prelude.{option_and_then};
 ghost use Rattle.json.specs.Token.{number};
 ghost use Rattle.serde_json.specs.Data.{Data, Items as DataItems, Members, unsigned};
 ghost use Rattle.serde_json.specs.Find.{as_array};

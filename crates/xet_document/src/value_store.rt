@@ -1,5 +1,6 @@
 //! Reads a store from a JSON document.
-ghost use Rattle.std.specs.Prelude.{◌≡◌, ◌≢◌, [], IfErr, IfOk, MatchOption, cond, length, map, option_and_then, option_map};
+ghost use Rattle.std.specs.Prelude.{◌≡◌, ◌≢◌, [], IfErr, IfOk, MatchOption, cond, length, map, option_and_then};
+ghost use Rattle.std.specs.Prelude.{option_map};
 ghost use Rattle.serde_json.specs.Find.{as_array};
 ghost use Rattle.serde_json.specs.View.{items_view, members_view, view};
 ghost use Rattle.serde_json.specs.Written.{has_float};
@@ -7,7 +8,8 @@ ghost use Rattle.xet_base.specs.Store.{IsValid};
 ghost use Rattle.xet_store.specs.Refusals.{stored_term};
 ghost use Rattle.xet_document.specs.steps.AddedMembers.{AddsFiles, AddsXorbs};
 ghost use Rattle.xet_document.specs.steps.ChunkEnds.{AddsChunk};
-ghost use Rattle.xet_document.specs.Document.{IsDocumentOf, IsNoDocument, chunk_of, chunk_of_text, chunks_of_items, number_of_data, term_of_items, terms_of_items, xorb_of_member};
+ghost use Rattle.xet_document.specs.Document.{IsDocumentOf, IsNoDocument, chunk_of, chunk_of_text, chunks_of_items};
+ghost use Rattle.xet_document.specs.Document.{number_of_data, term_of_items, terms_of_items, xorb_of_member};
 
 use crate::hex_digits::{LastHash, decode_digits, hash_of};
 use bytes::Bytes;

@@ -1,5 +1,7 @@
 -- Cached entries: their tests, and what a look and an offer may do.
-use Rattle.std.specs.Prelude.{ℕ, ◌≡◌, ◌+◌, ◌-◌, ◌^◌, ◌≤◌, ◌⊎◌, Bool, true, false, ◌&&◌, List, [], ◌∷◌, length, map, min, is_none, nat_le, slice_get, Option, Some, None, MatchOption, Contains, IfSome, Result, IfOk, IfErr, OnOk, OnErr}
+use Rattle.std.specs.Prelude.{ℕ, ◌≡◌, ◌+◌, ◌-◌, ◌^◌, ◌≤◌, ◌⊎◌, Bool, true, false, ◌&&◌, List, [], ◌∷◌, length, map, min}
+use Rattle.std.specs.Prelude.{is_none, nat_le, slice_get, Option, Some, None, MatchOption, Contains, IfSome, Result}
+use Rattle.std.specs.Prelude.{IfOk, IfErr, OnOk, OnErr}
 use Rattle.std.specs.List.{list_all}
 use Rattle.xet_base.specs.declared.cas_types.ChunkRange.{ChunkRange}
 use Rattle.xet_base.specs.declared.error.OutOfMemory.{OutOfMemory}

@@ -1,5 +1,6 @@
 -- Laws of refreshes and cached entries.
-use Rattle.std.specs.Prelude.{ℕ, ◌≡◌, ◌<◌, Bool, true, List, ◌++◌, length, All, None, Some, Option, IfOk, IsSome, slice_get}
+use Rattle.std.specs.Prelude.{ℕ, ◌≡◌, ◌<◌, Bool, true, List, ◌++◌, length, All, None, Some, Option, IfOk, IsSome}
+use Rattle.std.specs.Prelude.{slice_get}
 use Rattle.xet_base.specs.declared.cas_types.ChunkRange.{ChunkRange}
 use Rattle.xet_base.specs.declared.cas_types.FileRange.{FileRange}
 use Rattle.xet_base.specs.declared.merklehash.MerkleHash.{MerkleHash}

@@ -1,5 +1,6 @@
 -- Refreshes of a table of URLs: their tests, and what one may do.
-use Rattle.std.specs.Prelude.{ℕ, suc, ◌≡◌, ◌+◌, ◌-◌, ◌^◌, ◌≤◌, Bool, ◌&&◌, cond, List, [], ◌∷◌, length, map, min, nat_eq, Option, Some, None, option_map, Result, Ok, IfOk, IfErr, OnOk, OnErr, IsErrOf}
+use Rattle.std.specs.Prelude.{ℕ, suc, ◌≡◌, ◌+◌, ◌-◌, ◌^◌, ◌≤◌, Bool, ◌&&◌, cond, List, [], ◌∷◌, length, map, min}
+use Rattle.std.specs.Prelude.{nat_eq, Option, Some, None, option_map, Result, Ok, IfOk, IfErr, OnOk, OnErr, IsErrOf}
 use lib.Pointwise.{pointwise}
 use Rattle.xet_base.specs.declared.cas_types.ChunkRange.{ChunkRange}
 use Rattle.xet_base.specs.declared.cas_types.FileRange.{FileRange}

@@ -3,7 +3,8 @@ ghost use Rattle.std.specs.Prelude.{◌≡◌, ◌-◌, ◌^◌, IfOk, OnOk, OnE
 ghost use Rattle.std.specs.List.{list_all};
 ghost use Rattle.xet_blocks.specs.Blocks.{start_index};
 ghost use Rattle.xet_blocks.specs.BlockChecks.{numbers_in};
-ghost use Rattle.xet_fetch.specs.CachedBlocks.{CheckCachedCall, IsOffered, LookCall, OfferCall, ends_within, entry_of, has_reference};
+ghost use Rattle.xet_fetch.specs.CachedBlocks.{CheckCachedCall, IsOffered, LookCall, OfferCall, ends_within, entry_of};
+ghost use Rattle.xet_fetch.specs.CachedBlocks.{has_reference};
 
 use std::alloc::Global;
 use xet_base::{ChunkRange, OutOfMemory};

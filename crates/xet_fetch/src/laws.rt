@@ -1,5 +1,6 @@
 //! Laws of refreshes and cached entries, over the definitions alone.
-ghost use Rattle.xet_fetch.specs.Laws.{CachedTermsPass, EntriesReturn, FetchableBlocks, HonestEntriesPass, HonestTables, RefreshesAnswered};
+ghost use Rattle.xet_fetch.specs.Laws.{CachedTermsPass, EntriesReturn, FetchableBlocks, HonestEntriesPass};
+ghost use Rattle.xet_fetch.specs.Laws.{HonestTables, RefreshesAnswered};
 
 /// A term of an accepted plan passes its test in any entry that passes the tests of its block.
 pub fn cached_terms_pass()

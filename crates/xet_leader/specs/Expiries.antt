@@ -1,5 +1,6 @@
 -- What counting the expired answers of a round does to a leader.
-use Rattle.std.specs.Prelude.{ℕ, ◌≡◌, ◌⊎◌, ◌+◌, ◌==◌, ◌&&◌, ◌||◌, Bool, true, false, cond, nat_le, nat_lt, slice_get, slice_index, List, [], ◌∷◌, ◌++◌, length, Option, None, Some, Result, OnOk, IfErr}
+use Rattle.std.specs.Prelude.{ℕ, ◌≡◌, ◌⊎◌, ◌+◌, ◌==◌, ◌&&◌, ◌||◌, Bool, true, false, cond, nat_le, nat_lt, slice_get}
+use Rattle.std.specs.Prelude.{slice_index, List, [], ◌∷◌, ◌++◌, length, Option, None, Some, Result, OnOk, IfErr}
 use Rattle.std.specs.List.{list_any}
 use Rattle.std.specs.Vec.{with_item}
 use Rattle.xet_error.specs.declared.error.FileReconstructionError.{FileReconstructionError}

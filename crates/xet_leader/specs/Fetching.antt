@@ -1,5 +1,6 @@
 -- The fetches of a leader's missing blocks.
-use Rattle.std.specs.Prelude.{ℕ, ◌≡◌, ◌+◌, ◌-◌, ◌^◌, ◌≤◌, min, List, [], ◌∷◌, ◌++◌, map, count_by, All, Some, Result, IfOk, IfErr, slice_get}
+use Rattle.std.specs.Prelude.{ℕ, ◌≡◌, ◌+◌, ◌-◌, ◌^◌, ◌≤◌, min, List, [], ◌∷◌, ◌++◌, map, count_by, All, Some, Result}
+use Rattle.std.specs.Prelude.{IfOk, IfErr, slice_get}
 use Rattle.xet_base.specs.declared.cas_types.ChunkRange.{ChunkRange}
 use Rattle.xet_base.specs.declared.merklehash.MerkleHash.{MerkleHash}
 use Rattle.xet_error.specs.declared.error.FileReconstructionError.{FileReconstructionError}

@@ -1,5 +1,6 @@
 -- What contracts see of a leader, and how it stands to a run's history and to what its arguments tell.
-use Rattle.std.specs.Prelude.{ℕ, ◌≡◌, ◌⊎◌, ◌+◌, ◌^◌, ◌<◌, ◌≤◌, ◌==◌, true, false, List, [], ◌∷◌, length, map, take, drop, count_by, All, Contains, Some, None, IfSome}
+use Rattle.std.specs.Prelude.{ℕ, ◌≡◌, ◌⊎◌, ◌+◌, ◌^◌, ◌<◌, ◌≤◌, ◌==◌, true, false, List, [], ◌∷◌, length, map, take}
+use Rattle.std.specs.Prelude.{drop, count_by, All, Contains, Some, None, IfSome}
 use Rattle.std.specs.Option.{is_some}
 use Rattle.std.specs.List.{sum_by}
 use Rattle.xet_base.specs.declared.cas_types.FileRange.{FileRange}
@@ -14,7 +15,8 @@ use Rattle.xet_blocks.specs.TermBlocks.{covered, xorb_blocks}
 use Rattle.xet_blocks.specs.Terms.{terms_of}
 use Rattle.xet_run.specs.declared.event.Event.{Event}
 use Rattle.xet_run.specs.Allowed.{IsRunning}
-use Rattle.xet_run.specs.Events.{expires, is_admit, is_kept, is_stale, plan_count, planned, planned_end, size, tasks_of, written}
+use Rattle.xet_run.specs.Events.{expires, is_admit, is_kept, is_stale, plan_count, planned, planned_end, size, tasks_of}
+use Rattle.xet_run.specs.Events.{written}
 use Rattle.xet_history.specs.TrueHistory.{SomeEndsEarly, planned_term, queries}
 use Rattle.xet_terms.specs.Managers.{IsManager, Manager, scheduled_end}
 use Rattle.xet_terms.specs.Queries.{end_from}

@@ -1,5 +1,6 @@
 -- What looking for missing blocks does to a cache, a history and the plans of a leader.
-use Rattle.std.specs.Prelude.{ℕ, ◌≡◌, ◌⊎◌, ◌<◌, Bool, length, cond, List, [], ◌∷◌, take, Some, Result, IfOk, IfErr, OnErr, slice_get, slice_set}
+use Rattle.std.specs.Prelude.{ℕ, ◌≡◌, ◌⊎◌, ◌<◌, Bool, length, cond, List, [], ◌∷◌, take, Some, Result, IfOk, IfErr}
+use Rattle.std.specs.Prelude.{OnErr, slice_get, slice_set}
 use Rattle.std.specs.List.{flat_map}
 use Rattle.std.specs.Option.{is_some}
 use Rattle.xet_outside.specs.Told.{CacheTold}

@@ -1,5 +1,6 @@
 -- How a window of the next terms stands to the run.
-use Rattle.std.specs.Prelude.{ℕ, ◌≡◌, ◌+◌, ◌<◌, ◌≤◌, ◌++◌, true, false, List, length, map, filter, drop, slice_get, Some, None, Result, IfOk, IfErr}
+use Rattle.std.specs.Prelude.{ℕ, ◌≡◌, ◌+◌, ◌<◌, ◌≤◌, ◌++◌, true, false, List, length, map, filter, drop, slice_get}
+use Rattle.std.specs.Prelude.{Some, None, Result, IfOk, IfErr}
 use Rattle.std.specs.List.{AllZip}
 use Rattle.xet_base.specs.Store.{Store}
 use Rattle.xet_error.specs.declared.error.FileReconstructionError.{FileReconstructionError}

@@ -1,5 +1,6 @@
 -- The next terms of a leader, and the window of them that a writer is given.
-use Rattle.std.specs.Prelude.{ℕ, ◌≡◌, ◌⊎◌, ◌+◌, ◌-◌, ◌≤◌, ◌++◌, nat_lt, Bool, true, List, [], ◌∷◌, length, map, filter, take, drop, slice_get, Option, Some, None, Result, Ok, Err, OnOk, IfOk, IfErr}
+use Rattle.std.specs.Prelude.{ℕ, ◌≡◌, ◌⊎◌, ◌+◌, ◌-◌, ◌≤◌, ◌++◌, nat_lt, Bool, true, List, [], ◌∷◌, length, map, filter}
+use Rattle.std.specs.Prelude.{take, drop, slice_get, Option, Some, None, Result, Ok, Err, OnOk, IfOk, IfErr}
 use Rattle.std.specs.List.{AllZip, flat_map}
 use Rattle.xet_error.specs.declared.error.Corruption.{Corruption}
 use Rattle.xet_error.specs.declared.error.FileReconstructionError.{FileReconstructionError}

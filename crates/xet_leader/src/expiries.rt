@@ -1,7 +1,8 @@
 //! Counts the expired answers of a round.
 ghost use Rattle.std.specs.Prelude.{◌≡◌, false, map, true, IfErr, IfOk, OnErr, OnOk};
 ghost use Rattle.xet_error.specs.declared.error.FileReconstructionError.TheVariants as error;
-ghost use Rattle.xet_leader.specs.Expiries.{CountAll, CountFails, CountOne, CountedLate, one_more, spends_in, with_stale};
+ghost use Rattle.xet_leader.specs.Expiries.{CountAll, CountFails, CountOne, CountedLate, one_more, spends_in};
+ghost use Rattle.xet_leader.specs.Expiries.{with_stale};
 ghost use Rattle.xet_leader.specs.Places.{place_at};
 
 use crate::by_number::plan_index;

@@ -4,7 +4,8 @@ ghost use Rattle.xet_error.specs.declared.error.FileReconstructionError.TheVaria
 ghost use Rattle.xet_blocks.specs.declared.reconstruction_terms.xorb_block.XorbBlock.{XorbBlock};
 ghost use Rattle.xet_run.specs.Allowed.{IsAllowed, IsRunning};
 ghost use Rattle.xet_leader.specs.FetchLists.{Each};
-ghost use Rattle.xet_leader.specs.Looks.{CanLook, CanLookAll, CanRequest, EndsShort, IsLedBy, LookLeads, LookTurn, LookedBlock, LookedIn, LookedPlace, LooksCall};
+ghost use Rattle.xet_leader.specs.Looks.{CanLook, CanLookAll, CanRequest, EndsShort, IsLedBy, LookLeads, LookTurn};
+ghost use Rattle.xet_leader.specs.Looks.{LookedBlock, LookedIn, LookedPlace, LooksCall};
 
 use crate::by_number::plan_index;
 use crate::leader::{Leader, LedPlan};

@@ -1,6 +1,7 @@
 //! The blocks that are to be fetched, or found in the cache.
 ghost use Rattle.std.specs.Prelude.{◌≡◌, ◌-◌, ◌++◌, [], IfOk, None, OnOk, slice_get, take, drop, unwrap_or};
-ghost use Rattle.xet_leader.specs.Lacking.{first_of, has_some, is_bare, lacked, lacked_by, lacked_in, lacks, missing_of, with_places};
+ghost use Rattle.xet_leader.specs.Lacking.{first_of, has_some, is_bare, lacked, lacked_by, lacked_in, lacks};
+ghost use Rattle.xet_leader.specs.Lacking.{missing_of, with_places};
 ghost use Rattle.xet_leader.specs.Listings.{first_number, lower, lowest_from, lowest_with, none_listed};
 
 use crate::leader::{Leader, LedPlan};

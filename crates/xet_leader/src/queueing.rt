@@ -2,7 +2,8 @@
 ghost use Rattle.std.specs.Prelude.{◌≡◌, ◌-◌, ◌<◌, drop, get_or, length, take};
 ghost use Rattle.xet_leader.specs.declared.leader.LedPlan.{LedPlan as Led};
 ghost use Rattle.xet_leader.specs.RunWindows.{WindowLeads};
-ghost use Rattle.xet_leader.specs.Windows.{BytesOf, PieceQueued, TermTurn, WindowTurn, first_number, led_terms, of_plan, open_led};
+ghost use Rattle.xet_leader.specs.Windows.{BytesOf, PieceQueued, TermTurn, WindowTurn, first_number, led_terms};
+ghost use Rattle.xet_leader.specs.Windows.{of_plan, open_led};
 
 use crate::leader::{Leader, LedPlan};
 use bytes::Bytes;

@@ -2,7 +2,8 @@
 ghost use Rattle.std.specs.Prelude.{◌≤◌, ◌++◌, length};
 ghost use Rattle.xet_run.specs.Allowed.{AllowedAfter};
 ghost use Rattle.xet_ties.specs.steps.Records.{Recorded};
-ghost use Rattle.xet_leader.specs.RoundRecords.{RoundMayBe, expired_events, fetched_events, lanes_events, lanes_of, window_events};
+ghost use Rattle.xet_leader.specs.RoundRecords.{RoundMayBe, expired_events, fetched_events, lanes_events, lanes_of};
+ghost use Rattle.xet_leader.specs.RoundRecords.{window_events};
 
 use xet_error::Result;
 use xet_lanes::{Joined, LaneEnd};

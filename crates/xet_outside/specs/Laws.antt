@@ -2,7 +2,8 @@
 use Rattle.std.specs.Prelude.{List, [], ◌∷◌, ◌++◌, Result, Ok}
 use Rattle.xet_base.specs.declared.cas_types.FileRange.{FileRange}
 use Rattle.xet_base.specs.declared.merklehash.MerkleHash.{MerkleHash}
-use Rattle.xet_outside.specs.Answers.{AnswerTo, AnswerToQuery, IsAnswered, IsPaired, block_said, block_served, plan_said}
+use Rattle.xet_outside.specs.Answers.{AnswerTo, AnswerToQuery, IsAnswered, IsPaired, block_said, block_served}
+use Rattle.xet_outside.specs.Answers.{plan_said}
 use Rattle.xet_outside.specs.Told.{BlockCall, ClientTold, PlanCall, Query}
 use Rattle.xet_outside.specs.declared.block.BlockAnswer.{BlockAnswer}
 use Rattle.xet_outside.specs.declared.block.BlockBytes.{BlockBytes}

@@ -1,5 +1,6 @@
 -- Sinks with a content and a place.
-use Rattle.std.specs.Prelude.{ℕ, ◌≡◌, ◌+◌, ◌-◌, ◌≤◌, List, [], ◌∷◌, ◌++◌, length, take, drop, replicate, Option, Some, None, IfSome, option_map, option_and_then, Result, OnOk, OnErr, IsErrOf}
+use Rattle.std.specs.Prelude.{ℕ, ◌≡◌, ◌+◌, ◌-◌, ◌≤◌, List, [], ◌∷◌, ◌++◌, length, take, drop, replicate, Option, Some}
+use Rattle.std.specs.Prelude.{None, IfSome, option_map, option_and_then, Result, OnOk, OnErr, IsErrOf}
 use Rattle.std.proofs.Common.{inl, inr}
 use Rattle.xet_outside.specs.declared.sink.SinkError.{SinkError}
 use Rattle.xet_outside.specs.declared.sink.SinkError.TheVariants as sink_error

@@ -1,5 +1,6 @@
 -- What an honest store answers: the plan of a query, and the bytes of a block.
-use Rattle.std.specs.Prelude.{ℕ, suc, ◌+◌, ◌-◌, Bool, cond, ◌&&◌, List, [], ◌∷◌, map, take, length, min, max, filter, find, sum, count_by, option_map, unwrap_or, slice_range, nat_lt, nat_le, nat_eq}
+use Rattle.std.specs.Prelude.{ℕ, suc, ◌+◌, ◌-◌, Bool, cond, ◌&&◌, List, [], ◌∷◌, map, take, length, min, max, filter}
+use Rattle.std.specs.Prelude.{find, sum, count_by, option_map, unwrap_or, slice_range, nat_lt, nat_le, nat_eq}
 use Rattle.std.specs.List.{concat, flat_map, list_any, range_with_len}
 use Rattle.xet_base.specs.declared.merklehash.MerkleHash.{MerkleHash}
 use Rattle.xet_base.specs.declared.cas_types.FileRange.{FileRange}

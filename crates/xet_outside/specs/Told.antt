@@ -1,5 +1,7 @@
 -- What the objects of the outside tell, and what one call of each may do to it.
-use Rattle.std.specs.Prelude.{ℕ, ◌≡◌, ◌⊎◌, ◌+◌, ◌^◌, ◌<◌, ◌≤◌, ◌-◌, min, List, [], ◌∷◌, ◌++◌, length, take, Option, Some, None, IsSome, IsNone, IfSome, option_map, Result, Ok, IfOk, OnOk, OnErr, IsErrOf, Bool, false, IsTrue, Contains}
+use Rattle.std.specs.Prelude.{ℕ, ◌≡◌, ◌⊎◌, ◌+◌, ◌^◌, ◌<◌, ◌≤◌, ◌-◌, min, List, [], ◌∷◌, ◌++◌, length, take, Option}
+use Rattle.std.specs.Prelude.{Some, None, IsSome, IsNone, IfSome, option_map, Result, Ok, IfOk, OnOk, OnErr, IsErrOf}
+use Rattle.std.specs.Prelude.{Bool, false, IsTrue, Contains}
 use Rattle.std.proofs.Common.{inl, inr}
 use Rattle.xet_base.specs.declared.cas_types.ChunkRange.{ChunkRange}
 use Rattle.xet_base.specs.declared.cas_types.FileRange.{FileRange}

@@ -1,7 +1,8 @@
 //! The definitions at work on the worked store.
 ghost use Rattle.std.specs.Prelude.{◌≡◌, [], ◌∷◌};
 ghost use Rattle.xet_base.specs.Worked.{cut, file_of_all, file_of_repeats, worked, x1};
-ghost use Rattle.xet_outside.specs.Laws.{AnswersCome, AnswersJoin, AnswersStay, BlocksAnswerNoQuery, BlocksPair, PairsJoin, PlansPair, QueriesAnswered, QueryAnswersCome, QueryAnswersStay};
+ghost use Rattle.xet_outside.specs.Laws.{AnswersCome, AnswersJoin, AnswersStay, BlocksAnswerNoQuery, BlocksPair};
+ghost use Rattle.xet_outside.specs.Laws.{PairsJoin, PlansPair, QueriesAnswered, QueryAnswersCome, QueryAnswersStay};
 ghost use Rattle.xet_outside.specs.Plan.{block_of, plan_of};
 ghost use Rattle.xet_outside.specs.Worked.{block_of_hello_world, chunk_range, plan_of_nine_bytes};
 

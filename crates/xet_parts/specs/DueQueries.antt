@@ -1,5 +1,6 @@
 -- What taking the query that is due does to a manager and to the signal.
-use Rattle.std.specs.Prelude.{ℕ, ◌≡◌, ◌⊎◌, ◌+◌, false, true, [], Option, Some, None, MatchOption, Result, IfOk, IfErr, slice_get}
+use Rattle.std.specs.Prelude.{ℕ, ◌≡◌, ◌⊎◌, ◌+◌, false, true, [], Option, Some, None, MatchOption, Result, IfOk, IfErr}
+use Rattle.std.specs.Prelude.{slice_get}
 use Rattle.xet_outside.specs.Told.{AskCall, SignalTold}
 use Rattle.xet_error.specs.declared.error.FileReconstructionError.{FileReconstructionError}
 use Rattle.xet_error.specs.declared.error.FileReconstructionError.TheVariants as error

@@ -1,16 +1,23 @@
 -- The tests of a call over a list of accepted calls, and what it answers.
-use Rattle.std.specs.Prelude.{ℕ, ◌+◌, ◌^◌, ◌≡◌, cond, nat_eq, nat_le, nat_lt, List, [], ◌∷◌, ◌++◌, map, length, slice_get, Option, Some, None, unwrap_or, Result, IfOk, IfErr}
+use Rattle.std.specs.Prelude.{ℕ, ◌+◌, ◌^◌, ◌≡◌, cond, nat_eq, nat_le, nat_lt, List, [], ◌∷◌, ◌++◌, map, length}
+use Rattle.std.specs.Prelude.{slice_get, Option, Some, None, unwrap_or, Result, IfOk, IfErr}
 use Rattle.std.specs.List.{sum_by}
 use Rattle.xet_base.specs.declared.merklehash.MerkleHash.{MerkleHash}
 use Rattle.xet_base.specs.Lists.{first_some}
 use Rattle.xet_base.specs.declared.invalid.Invalid.{Invalid}
-use Rattle.xet_base.specs.declared.invalid.Invalid.TheVariants.{UnknownFile, UnknownXorb, OtherSize, PastTotal, XorbCompleted, SumTooGreat}
+use Rattle.xet_base.specs.declared.invalid.Invalid.TheVariants.{UnknownFile, UnknownXorb, OtherSize, PastTotal}
+use Rattle.xet_base.specs.declared.invalid.Invalid.TheVariants.{XorbCompleted, SumTooGreat}
 use Rattle.xet_progress.specs.declared.error.ProgressError.{ProgressError}
 use Rattle.xet_progress.specs.declared.error.ProgressError.TheVariants.{OutOfMemory, InvalidOperation}
 use Rattle.xet_progress.specs.declared.step.FileXorbDependency.{FileXorbDependency}
 use Rattle.xet_progress.specs.declared.step.TrackerStep.{TrackerStep}
-use Rattle.xet_progress.specs.declared.step.TrackerStep.TheVariants.{RegisterNewFile, IncrementFileSize, RegisterNewXorb, RegisterDependencies, RegisterXorbUploadCompletion, RegisterXorbUploadProgress, RegisterXorbUploadProgressBackground}
-use Rattle.xet_progress.specs.Counts.{sizes, total_of, size_of, registered, of_file, is_completed, progress, all_total, all_sizes}
+use Rattle.xet_progress.specs.declared.step.TrackerStep.TheVariants.{RegisterNewFile, IncrementFileSize}
+use Rattle.xet_progress.specs.declared.step.TrackerStep.TheVariants.{RegisterNewXorb, RegisterDependencies}
+use Rattle.xet_progress.specs.declared.step.TrackerStep.TheVariants.{RegisterXorbUploadCompletion}
+use Rattle.xet_progress.specs.declared.step.TrackerStep.TheVariants.{RegisterXorbUploadProgress}
+use Rattle.xet_progress.specs.declared.step.TrackerStep.TheVariants.{RegisterXorbUploadProgressBackground}
+use Rattle.xet_progress.specs.Counts.{sizes, total_of, size_of, registered, of_file, is_completed, progress, all_total}
+use Rattle.xet_progress.specs.Counts.{all_sizes}
 
 -- a sum that passes the greatest number of 64 bits
 abbrev pub too_great : ℕ → ℕ → Option Invalid

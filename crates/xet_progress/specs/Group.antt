@@ -1,5 +1,6 @@
 -- What a group counts.
-use Rattle.std.specs.Prelude.{ℕ, ◌≡◌, ◌+◌, ◌-◌, ◌≤◌, ◌<◌, ◌^◌, max, cond, nat_eq, Bool, List, map, Option, Some, None, IsSome, option_map, Result, IfOk, IfErr, All}
+use Rattle.std.specs.Prelude.{ℕ, ◌≡◌, ◌+◌, ◌-◌, ◌≤◌, ◌<◌, ◌^◌, max, cond, nat_eq, Bool, List, map, Option, Some, None}
+use Rattle.std.specs.Prelude.{IsSome, option_map, Result, IfOk, IfErr, All}
 use Rattle.std.specs.List.{sum_by}
 use Rattle.std.specs.List.Sorted.{IsStrictlySortedBy}
 use Rattle.std.specs.Map.{keys_of, lookup, set_value, values_of}

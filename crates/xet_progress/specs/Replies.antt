@@ -1,5 +1,6 @@
 -- What a tracker answers to a list of calls, one after another.
-use Rattle.std.specs.Prelude.{ℕ, ◌≡◌, IfOk, IfErr, ◌+◌, ◌-◌, ◌^◌, min, Bool, true, false, cond, not, nat_eq, List, [], ◌∷◌, ◌++◌, map, filter, length, Option, Some, None, is_some, Result, Ok, Err}
+use Rattle.std.specs.Prelude.{ℕ, ◌≡◌, IfOk, IfErr, ◌+◌, ◌-◌, ◌^◌, min, Bool, true, false, cond, not, nat_eq, List, []}
+use Rattle.std.specs.Prelude.{◌∷◌, ◌++◌, map, filter, length, Option, Some, None, is_some, Result, Ok, Err}
 use Rattle.std.specs.List.{flat_map}
 use Rattle.std.specs.Ordering.{nat_cmp, is_lt}
 use Rattle.std.specs.Cmp.Lexicographic.{slice_cmp}
@@ -12,11 +13,13 @@ use Rattle.xet_progress.specs.declared.error.ProgressError.TheVariants.{OutOfMem
 use Rattle.xet_progress.specs.declared.error.Incomplete.{Incomplete}
 use Rattle.xet_progress.specs.declared.error.Incomplete.TheVariants.{File, Xorb}
 use Rattle.xet_progress.specs.declared.step.TrackerStep.{TrackerStep}
-use Rattle.xet_progress.specs.declared.step.TrackerStep.TheVariants.{RegisterNewFile, RegisterNewXorb, Status, IsComplete, AssertComplete}
+use Rattle.xet_progress.specs.declared.step.TrackerStep.TheVariants.{RegisterNewFile, RegisterNewXorb, Status}
+use Rattle.xet_progress.specs.declared.step.TrackerStep.TheVariants.{IsComplete, AssertComplete}
 use Rattle.xet_progress.specs.declared.step.TrackerReply.{TrackerReply}
 use Rattle.xet_progress.specs.declared.step.TrackerReply.TheVariants.{Done, FileId, Flag, Sums, Unfinished, Refused}
 use Rattle.xet_progress.specs.declared.step.TrackerCall.{TrackerCall}
-use Rattle.xet_progress.specs.Counts.{sizes, named, files, total_of, completed_of, size_of, is_completed, all_completed, all_total}
+use Rattle.xet_progress.specs.Counts.{sizes, named, files, total_of, completed_of, size_of, is_completed, all_completed}
+use Rattle.xet_progress.specs.Counts.{all_total}
 use Rattle.xet_progress.specs.Accepted.{refusal_of, or_else}
 
 -- the first file that is not complete

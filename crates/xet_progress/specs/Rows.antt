@@ -2,7 +2,8 @@
 use Rattle.std.specs.Prelude.{ℕ, List, [], ◌∷◌, ◌++◌, Some, true, false, replicate}
 use Rattle.xet_base.specs.declared.merklehash.MerkleHash.{MerkleHash}
 use Rattle.xet_progress.specs.declared.step.TrackerStep.{TrackerStep}
-use Rattle.xet_progress.specs.declared.step.TrackerStep.TheVariants.{RegisterNewFile, RegisterNewXorb, RegisterDependencies, RegisterXorbUploadProgress}
+use Rattle.xet_progress.specs.declared.step.TrackerStep.TheVariants.{RegisterNewFile, RegisterNewXorb}
+use Rattle.xet_progress.specs.declared.step.TrackerStep.TheVariants.{RegisterDependencies, RegisterXorbUploadProgress}
 
 abbrev pub hash : ℕ → MerkleHash
 hash n = record { 0 = replicate 31 0 ++ n ∷ [] }

@@ -1,7 +1,8 @@
 //! The answers that replies stand for.
 ghost use Rattle.std.specs.Prelude.{◌≡◌, true, IfOk, Ok, Err};
 ghost use Rattle.xet_progress.specs.declared.step.TrackerReply.TheVariants.{Done, FileId, Flag, Sums};
-ghost use Rattle.xet_progress.specs.Replies.{gives_done, gives_flag, gives_id, gives_plain, gives_sums, gives_whole, said, said_complete};
+ghost use Rattle.xet_progress.specs.Replies.{gives_done, gives_flag, gives_id, gives_plain, gives_sums, gives_whole};
+ghost use Rattle.xet_progress.specs.Replies.{said, said_complete};
 
 use crate::error::{Incomplete, ProgressError};
 use crate::step::TrackerReply;

@@ -1,11 +1,13 @@
 //! Dependencies of files on xorbs.
-ghost use Rattle.std.specs.Prelude.{◌≡◌, ◌+◌, ◌^◌, ◌<◌, ◌≤◌, ℕ, [], All, Some, None, true, false, map, take, length, slice_index_or, MatchOption};
+ghost use Rattle.std.specs.Prelude.{◌≡◌, ◌+◌, ◌^◌, ◌<◌, ◌≤◌, ℕ, [], All, Some, None, true, false, map, take, length};
+ghost use Rattle.std.specs.Prelude.{slice_index_or, MatchOption};
 ghost use Rattle.std.specs.List.{sum_by};
 ghost use Rattle.xet_base.specs.Lists.{first_some};
 ghost use Rattle.xet_progress.specs.declared.file.TrackedFile.{TrackedFile};
 ghost use Rattle.xet_progress.specs.declared.step.FileXorbDependency.{FileXorbDependency};
 ghost use Rattle.xet_progress.specs.Counts.{of_file};
-ghost use Rattle.xet_progress.specs.steps.Depends.{CanDepend, CountedIn, Depended, has_room, pasts_in, unknown_in, with_dependency};
+ghost use Rattle.xet_progress.specs.steps.Depends.{CanDepend, CountedIn, Depended, has_room, pasts_in, unknown_in};
+ghost use Rattle.xet_progress.specs.steps.Depends.{with_dependency};
 
 use crate::file::TrackedFile;
 use crate::step::FileXorbDependency;

@@ -1,7 +1,9 @@
 //! The plain state of a progress group.
 ghost use Rattle.std.specs.Prelude.{◌≡◌, ◌≢◌, ◌+◌, ◌<◌, ◌≤◌, ◌^◌, [], max, IfSome, IfOk, MatchOption, option_map};
 ghost use Rattle.std.specs.Map.{lookup, set_value};
-ghost use Rattle.xet_progress.specs.Group.{Group, IsSound, IsWithin, ItemAnswer, ItemCall, NewItemCall, TransferCall, group_completeness, group_sums, is_id, item_of, more_completed, more_transferred, reports_of, sized, sums_completeness, transfer_sized};
+ghost use Rattle.xet_progress.specs.Group.{Group, IsSound, IsWithin, ItemAnswer, ItemCall, NewItemCall, TransferCall};
+ghost use Rattle.xet_progress.specs.Group.{group_completeness, group_sums, is_id, item_of, more_completed};
+ghost use Rattle.xet_progress.specs.Group.{more_transferred, reports_of, sized, sums_completeness, transfer_sized};
 ghost use Rattle.xet_progress.specs.Items.{item_completeness, report_of};
 
 use crate::error::{Incomplete, ProgressError};

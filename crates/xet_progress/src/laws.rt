@@ -1,7 +1,9 @@
 //! The counts of small lists of calls, worked out by hand. Nothing calls these.
 ghost use Rattle.std.specs.Prelude.{◌≡◌, ◌++◌, ◌∷◌, [], Some, None};
 ghost use Rattle.xet_base.specs.declared.invalid.Invalid.TheVariants.{PastTotal, UnknownXorb, UnknownFile};
-ghost use Rattle.xet_progress.specs.declared.step.TrackerStep.TheVariants.{RegisterXorbUploadCompletion, RegisterXorbUploadProgress, RegisterDependencies};
+ghost use Rattle.xet_progress.specs.declared.step.TrackerStep.TheVariants.{RegisterXorbUploadCompletion};
+ghost use Rattle.xet_progress.specs.declared.step.TrackerStep.TheVariants.{RegisterXorbUploadProgress};
+ghost use Rattle.xet_progress.specs.declared.step.TrackerStep.TheVariants.{RegisterDependencies};
 ghost use Rattle.xet_progress.specs.Counts.{tracker_counts};
 ghost use Rattle.xet_progress.specs.Accepted.{refusal_of};
 ghost use Rattle.xet_progress.specs.Rows.{hash, external_and_waiting, thirds, shared, late_part, waiting, outside};

@@ -1,5 +1,6 @@
 //! Which files may be open.
-ghost use Rattle.std.specs.Prelude.{◌≡◌, ◌≤◌, ◌<◌, [], All, None, List, length, map, slice_index_or, OnOk, IfErr, IfNone, IfSome};
+ghost use Rattle.std.specs.Prelude.{◌≡◌, ◌≤◌, ◌<◌, [], All, None, List, length, map, slice_index_or, OnOk, IfErr};
+ghost use Rattle.std.specs.Prelude.{IfNone, IfSome};
 ghost use Rattle.std.specs.List.{enumerate_from};
 ghost use Rattle.xet_base.specs.Lists.{first_some};
 ghost use Rattle.xet_progress.specs.declared.file.TrackedFile.{TrackedFile};

@@ -1,5 +1,6 @@
 //! The parts of files that wait for a xorb.
-ghost use Rattle.std.specs.Prelude.{◌≡◌, ◌+◌, ◌^◌, ◌<◌, [], map, length, position, nat_eq, slice_index_or, slice_set, MatchOption, OnOk, IfErr};
+ghost use Rattle.std.specs.Prelude.{◌≡◌, ◌+◌, ◌^◌, ◌<◌, [], map, length, position, nat_eq, slice_index_or, slice_set};
+ghost use Rattle.std.specs.Prelude.{MatchOption, OnOk, IfErr};
 ghost use Rattle.xet_progress.specs.steps.Credits.{CanCredit, Credited, completed_in, with_share};
 ghost use Rattle.xet_progress.specs.steps.Depends.{PartFits, PartsAlike, WithPart, with_waiting};
 

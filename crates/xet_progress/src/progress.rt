@@ -1,7 +1,8 @@
 //! A progress group that several users share.
 ghost use Rattle.std.specs.Prelude.{◌≡◌, ◌≤◌, ◌^◌, IfOk, IfErr, option_map};
 ghost use Rattle.xet_base.specs.declared.invalid.Invalid.{Invalid};
-ghost use Rattle.xet_progress.specs.Group.{NewItemCall, TransferCall, group_completeness, group_sums, item_of, reports_of};
+ghost use Rattle.xet_progress.specs.Group.{NewItemCall, TransferCall, group_completeness, group_sums, item_of};
+ghost use Rattle.xet_progress.specs.Group.{reports_of};
 ghost use Rattle.xet_progress.specs.Held.{Held};
 ghost use Rattle.xet_progress.specs.Items.{report_of};
 

@@ -1,6 +1,10 @@
 //! The plain state of the completion tracker.
 ghost use Rattle.std.specs.Prelude.{◌≡◌, ℕ, List, [], ◌∷◌, length, unwrap_or, is_some, Some, None, nat_eq, not};
-ghost use Rattle.xet_progress.specs.declared.step.TrackerStep.TheVariants.{RegisterNewFile, IncrementFileSize, RegisterNewXorb, RegisterDependencies, RegisterXorbUploadCompletion, RegisterXorbUploadProgress, RegisterXorbUploadProgressBackground};
+ghost use Rattle.xet_progress.specs.declared.step.TrackerStep.TheVariants.{RegisterNewFile, IncrementFileSize};
+ghost use Rattle.xet_progress.specs.declared.step.TrackerStep.TheVariants.{RegisterNewXorb, RegisterDependencies};
+ghost use Rattle.xet_progress.specs.declared.step.TrackerStep.TheVariants.{RegisterXorbUploadCompletion};
+ghost use Rattle.xet_progress.specs.declared.step.TrackerStep.TheVariants.{RegisterXorbUploadProgress};
+ghost use Rattle.xet_progress.specs.declared.step.TrackerStep.TheVariants.{RegisterXorbUploadProgressBackground};
 ghost use Rattle.xet_progress.specs.Accepted.{CallOf};
 ghost use Rattle.xet_progress.specs.Replies.{complete_or, incomplete_of};
 ghost use Rattle.xet_progress.specs.Counts.{sizes, size_of, tracker_counts, all_completed, all_total};

@@ -1,8 +1,14 @@
 //! The completion tracker that several users share.
 ghost use Rattle.std.specs.Prelude.{◌≡◌, ◌+◌, ◌-◌, ◌^◌, ◌<◌, ◌≤◌, true, [], map, length, min, vec_len, IfOk};
 ghost use Rattle.xet_progress.specs.declared.step.TrackerReply.TheVariants.{Done, FileId, Flag, Sums};
-ghost use Rattle.xet_progress.specs.declared.step.TrackerStep.TheVariants.{RegisterNewFile, IncrementFileSize, RegisterNewXorb, RegisterDependencies, RegisterXorbUploadCompletion, RegisterXorbUploadProgress, RegisterXorbUploadProgressBackground, Status, IsComplete, AssertComplete};
-ghost use Rattle.xet_progress.specs.Replies.{Answered, Counted, KeptCall, after_all, gives, gives_id, map_ok, replies_of, said, said_complete, steps_of};
+ghost use Rattle.xet_progress.specs.declared.step.TrackerStep.TheVariants.{RegisterNewFile, IncrementFileSize};
+ghost use Rattle.xet_progress.specs.declared.step.TrackerStep.TheVariants.{RegisterNewXorb, RegisterDependencies};
+ghost use Rattle.xet_progress.specs.declared.step.TrackerStep.TheVariants.{RegisterXorbUploadCompletion};
+ghost use Rattle.xet_progress.specs.declared.step.TrackerStep.TheVariants.{RegisterXorbUploadProgress};
+ghost use Rattle.xet_progress.specs.declared.step.TrackerStep.TheVariants.{RegisterXorbUploadProgressBackground};
+ghost use Rattle.xet_progress.specs.declared.step.TrackerStep.TheVariants.{Status, IsComplete, AssertComplete};
+ghost use Rattle.xet_progress.specs.Replies.{Answered, Counted, KeptCall, after_all, gives, gives_id, map_ok};
+ghost use Rattle.xet_progress.specs.Replies.{replies_of, said, said_complete, steps_of};
 
 use crate::answer::{done_answer, flag_answer, id_answer, plain_answer, sums_answer, whole_answer};
 use crate::error::{Incomplete, ProgressError};

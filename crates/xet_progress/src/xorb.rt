@@ -1,5 +1,6 @@
 //! The xorbs that calls named.
-ghost use Rattle.std.specs.Prelude.{◌≡◌, ◌<◌, [], All, true, false, length, slice_index_or, slice_set, position, find, option_and_then, Some, None, IfSome, IfNone, IfOk, IfErr, OnOk};
+ghost use Rattle.std.specs.Prelude.{◌≡◌, ◌<◌, [], All, true, false, length, slice_index_or, slice_set, position, find};
+ghost use Rattle.std.specs.Prelude.{option_and_then, Some, None, IfSome, IfNone, IfOk, IfErr, OnOk};
 ghost use Rattle.xet_base.specs.Hashes.{hash_eq};
 ghost use Rattle.xet_progress.specs.declared.step.FileXorbDependency.{FileXorbDependency};
 ghost use Rattle.xet_progress.specs.declared.xorb.TrackedXorb.{TrackedXorb};

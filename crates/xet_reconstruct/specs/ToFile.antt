@@ -1,5 +1,6 @@
 -- What a reconstruction into a file does to it.
-use Rattle.std.specs.Prelude.{ℕ, ◌≡◌, ◌≤◌, ◌⊎◌, Bool, true, cond, List, Option, option_map, unwrap_or, Some, OnOk, Result}
+use Rattle.std.specs.Prelude.{ℕ, ◌≡◌, ◌≤◌, ◌⊎◌, Bool, true, cond, List, Option, option_map, unwrap_or, Some, OnOk}
+use Rattle.std.specs.Prelude.{Result}
 use Rattle.std.specs.Prelude.{Err, IfErr}
 use Rattle.xet_base.specs.declared.cas_types.FileRange.{FileRange}
 use Rattle.xet_base.specs.Store.{Store, window}

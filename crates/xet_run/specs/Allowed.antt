@@ -1,10 +1,13 @@
 -- Which event may follow which.
-use Rattle.std.specs.Prelude.{ℕ, ◌≡◌, ◌+◌, ◌<◌, ◌≤◌, ◌⊎◌, true, false, List, [], ◌∷◌, ◌++◌, length, None, MatchOption, count_by, slice_get}
+use Rattle.std.specs.Prelude.{ℕ, ◌≡◌, ◌+◌, ◌<◌, ◌≤◌, ◌⊎◌, true, false, List, [], ◌∷◌, ◌++◌, length, None, MatchOption}
+use Rattle.std.specs.Prelude.{count_by, slice_get}
 use Rattle.std.specs.List.{list_any}
 use Rattle.xet_run.specs.declared.event.PlannedTerm.{PlannedTerm}
 use Rattle.xet_run.specs.declared.event.Event.{Event}
-use Rattle.xet_run.specs.declared.event.Event.TheVariants.{Planned, Admit, Fetched, Cached, Expired, Refreshed, Wrote, Fail, Cancel}
-use Rattle.xet_run.specs.Events.{size, needs, planned, plan_count, planned_end, is_admit, written, unwritten, unfinished, is_kept, is_stale, first_error, is_cancel}
+use Rattle.xet_run.specs.declared.event.Event.TheVariants.{Planned, Admit, Fetched, Cached, Expired, Refreshed, Wrote}
+use Rattle.xet_run.specs.declared.event.Event.TheVariants.{Fail, Cancel}
+use Rattle.xet_run.specs.Events.{size, needs, planned, plan_count, planned_end, is_admit, written, unwritten}
+use Rattle.xet_run.specs.Events.{unfinished, is_kept, is_stale, first_error, is_cancel}
 
 -- no Fail or Cancel came
 abbrev pub IsRunning : List Event → Type 0

@@ -1,5 +1,6 @@
 -- What a core's table says of blocks.
-use Rattle.std.specs.Prelude.{ℕ, ◌≡◌, ◌&&◌, ◌==◌, Bool, true, false, cond, Option, Some, None, List, [], Vec, map, slice_index_or}
+use Rattle.std.specs.Prelude.{ℕ, ◌≡◌, ◌&&◌, ◌==◌, Bool, true, false, cond, Option, Some, None, List, [], Vec, map}
+use Rattle.std.specs.Prelude.{slice_index_or}
 use Rattle.std.specs.declared.alloc.Global.{Global}
 use Rattle.xet_run.specs.declared.block_table.BlockId.{BlockId}
 use Rattle.xet_run.specs.declared.block_table.BlockMark.{BlockMark}

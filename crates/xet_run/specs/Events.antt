@@ -1,5 +1,6 @@
 -- What a history says. It is a list of events, oldest first.
-use Rattle.std.specs.Prelude.{ℕ, ◌+◌, ◌-◌, ◌==◌, ◌&&◌, Bool, true, false, List, [], ◌∷◌, take, map, filter, Option, Some, None, count_by, nat_lt}
+use Rattle.std.specs.Prelude.{ℕ, ◌+◌, ◌-◌, ◌==◌, ◌&&◌, Bool, true, false, List, [], ◌∷◌, take, map, filter, Option}
+use Rattle.std.specs.Prelude.{Some, None, count_by, nat_lt}
 use Rattle.std.specs.List.{flat_map, list_any, sum_by}
 use Rattle.xet_base.specs.Lists.{first_some}
 use Rattle.xet_error.specs.declared.error.FileReconstructionError.{FileReconstructionError}
@@ -7,7 +8,8 @@ use Rattle.xet_error.specs.declared.error.FileReconstructionError.TheVariants.{C
 use Rattle.xet_run.specs.declared.event.PlannedTerm.{PlannedTerm}
 use Rattle.xet_run.specs.declared.event.PlannedBlock.{PlannedBlock}
 use Rattle.xet_run.specs.declared.event.Event.{Event}
-use Rattle.xet_run.specs.declared.event.Event.TheVariants.{Planned, Admit, Fetched, Cached, Expired, Refreshed, Wrote, Fail, Cancel}
+use Rattle.xet_run.specs.declared.event.Event.TheVariants.{Planned, Admit, Fetched, Cached, Expired, Refreshed, Wrote}
+use Rattle.xet_run.specs.declared.event.Event.TheVariants.{Fail, Cancel}
 
 -- the last element, or the given one where there is none
 abbrev pub last_of : {A : Type 0} → A → List A → A

@@ -1,5 +1,6 @@
 //! What a core knows of its history without a look through it.
-ghost use Rattle.std.specs.Prelude.{◌≡◌, ◌+◌, ◌-◌, ◌<◌, ◌≤◌, ◌^◌, ◌&&◌, ℕ, not, [], true, false, OnOk, OnErr, ◌++◌, length, map, slice_get, unwrap_or};
+ghost use Rattle.std.specs.Prelude.{◌≡◌, ◌+◌, ◌-◌, ◌<◌, ◌≤◌, ◌^◌, ◌&&◌, ℕ, not, [], true, false, OnOk, OnErr, ◌++◌};
+ghost use Rattle.std.specs.Prelude.{length, map, slice_get, unwrap_or};
 ghost use Rattle.std.specs.BTreeSet as sorted;
 ghost use Rattle.std.specs.VecDeque.{deque_len, deque_capacity};
 ghost use Rattle.std.specs.Ordering.{nat_cmp};

@@ -1,5 +1,6 @@
 //! The book of a run under a lock, with the history of its calls, which a ledger counts.
-ghost use Rattle.std.specs.Prelude.{◌≡◌, ℕ, ◌⊎◌, ◌+◌, ◌-◌, ◌^◌, min, ◌<◌, ◌≤◌, ◌++◌, ◌∷◌, [], Err, None, Some, vec_len, vec_capacity, length, IfOk, IsOk, OnOk, OnErr};
+ghost use Rattle.std.specs.Prelude.{◌≡◌, ℕ, ◌⊎◌, ◌+◌, ◌-◌, ◌^◌, min, ◌<◌, ◌≤◌, ◌++◌, ◌∷◌, [], Err, None, Some, vec_len};
+ghost use Rattle.std.specs.Prelude.{vec_capacity, length, IfOk, IsOk, OnOk, OnErr};
 ghost use Rattle.std.specs.Result.{result_err};
 ghost use Rattle.xet_error.specs.declared.error.FileReconstructionError.TheVariants as error;
 ghost use Rattle.xet_run.specs.declared.run_book.RunError.TheVariants as run_error;

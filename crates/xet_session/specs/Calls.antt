@@ -1,5 +1,7 @@
 -- What the calls of an upload session may change, and what they answer.
-use Rattle.std.specs.Prelude.{ℕ, ◌≡◌, ◌+◌, ◌-◌, ◌^◌, ◌⊎◌, ◌<◌, ◌≤◌, min, Bool, true, false, List, [], ◌∷◌, ◌++◌, length, map, take, Contains, Option, None, Some, IfSome, is_some, option_map, Result, Ok, Err, IfOk, IfErr, OnOk, OnErr}
+use Rattle.std.specs.Prelude.{ℕ, ◌≡◌, ◌+◌, ◌-◌, ◌^◌, ◌⊎◌, ◌<◌, ◌≤◌, min, Bool, true, false, List, [], ◌∷◌, ◌++◌, length}
+use Rattle.std.specs.Prelude.{map, take, Contains, Option, None, Some, IfSome, is_some, option_map, Result, Ok, Err}
+use Rattle.std.specs.Prelude.{IfOk, IfErr, OnOk, OnErr}
 use Rattle.std.specs.List.{concat, sum_by}
 use Rattle.xet_base.specs.declared.invalid.Invalid.{Invalid}
 use Rattle.xet_base.specs.declared.invalid.Invalid.TheVariants as invalid
@@ -19,7 +21,9 @@ use Rattle.xet_uploader.specs.declared.uploader.Put.TheVariants as put
 use Rattle.xet_uploader.specs.Uploads.{UploaderTold}
 use Rattle.xet_shards.specs.Runs.{IsRun}
 use Rattle.xet_shards.specs.Shards.{ShardsTold, with_records}
-use Rattle.xet_shard_interface.specs.Interfaces.{AddsRecords, FailsInOrder, InterfaceTold, LaterFaults, SearchFails, SearchTells, Searches, StagesXorb, StoreFails, found_in, known_told, records_of, resumed_faults, resumed_records}
+use Rattle.xet_shard_interface.specs.Interfaces.{AddsRecords, FailsInOrder, InterfaceTold, LaterFaults, SearchFails}
+use Rattle.xet_shard_interface.specs.Interfaces.{SearchTells, Searches, StagesXorb, StoreFails, found_in, known_told}
+use Rattle.xet_shard_interface.specs.Interfaces.{records_of, resumed_faults, resumed_records}
 use Rattle.xet_shard_interface.specs.Puts.{Forgot, StopsAtFailure, all_with_shards, forgotten, shards_of, sizes}
 use Rattle.xet_upload.specs.DataErrors.{of_client_error}
 use Rattle.xet_upload.specs.Metrics.{no_counts}
@@ -31,7 +35,8 @@ use Rattle.xet_upload.specs.declared.data_error.DataError.TheVariants as data_er
 use Rattle.xet_upload.specs.declared.metrics.DeduplicationMetrics.{DeduplicationMetrics}
 use Rattle.xet_session.specs.declared.cut_thresholds.CutThresholds.{CutThresholds}
 use Rattle.xet_session.specs.Sounds.{IsSound, XorbsAgree}
-use Rattle.xet_session.specs.Sessions.{HasListed, IsBackedSession, IsListed, SessionTold, Stands, Tells, known_of, log_of}
+use Rattle.xet_session.specs.Sessions.{HasListed, IsBackedSession, IsListed, SessionTold, Stands, Tells, known_of}
+use Rattle.xet_session.specs.Sessions.{log_of}
 
 -- a session in which nothing waits and nothing was put
 abbrev pub new_session : UploaderTold → InterfaceTold → Bool → CutThresholds → SessionTold

@@ -1,5 +1,6 @@
 -- Queries of the uploader, by which a session knows more.
-use Rattle.std.specs.Prelude.{ℕ, ◌≡◌, ◌⊎◌, ◌≤◌, Bool, true, false, List, [], ◌∷◌, take, Option, is_some, Result, Ok, Err, IfOk, IfErr, OnOk, MatchResult}
+use Rattle.std.specs.Prelude.{ℕ, ◌≡◌, ◌⊎◌, ◌≤◌, Bool, true, false, List, [], ◌∷◌, take, Option, is_some, Result, Ok}
+use Rattle.std.specs.Prelude.{Err, IfOk, IfErr, OnOk, MatchResult}
 use Rattle.std.specs.List.{flat_map, list_any}
 use Rattle.std.specs.Option.{option_to_list}
 use Rattle.xet_base.specs.declared.merklehash.MerkleHash.{MerkleHash}

@@ -1,5 +1,7 @@
 -- What the tracker of a session is told, and when it refuses it.
-use Rattle.std.specs.Prelude.{ℕ, ◌≡◌, ◌+◌, ◌-◌, ◌^◌, ◌⊎◌, ◌<◌, ◌≤◌, min, Bool, true, false, cond, ltb, List, [], ◌∷◌, ◌++◌, length, map, take, Contains, Option, Some, None, is_some, Result, Err, IfOk, IfErr, OnOk, OnErr}
+use Rattle.std.specs.Prelude.{ℕ, ◌≡◌, ◌+◌, ◌-◌, ◌^◌, ◌⊎◌, ◌<◌, ◌≤◌, min, Bool, true, false, cond, ltb, List, [], ◌∷◌}
+use Rattle.std.specs.Prelude.{◌++◌, length, map, take, Contains, Option, Some, None, is_some, Result, Err, IfOk, IfErr}
+use Rattle.std.specs.Prelude.{OnOk, OnErr}
 use Rattle.std.specs.List.{filter, sum_by}
 use Rattle.xet_base.specs.declared.invalid.Invalid.{Invalid}
 use Rattle.xet_base.specs.declared.invalid.Invalid.TheVariants as invalid
@@ -10,7 +12,8 @@ use Rattle.xet_progress.specs.Accepted.{or_else, refusal_of}
 use Rattle.xet_progress.specs.Counts.{sizes}
 use Rattle.xet_progress.specs.declared.step.FileXorbDependency.{FileXorbDependency}
 use Rattle.xet_progress.specs.declared.step.TrackerStep.{TrackerStep}
-use Rattle.xet_progress.specs.declared.step.TrackerStep.TheVariants.{RegisterDependencies, RegisterNewFile, RegisterNewXorb, RegisterXorbUploadCompletion}
+use Rattle.xet_progress.specs.declared.step.TrackerStep.TheVariants.{RegisterDependencies, RegisterNewFile}
+use Rattle.xet_progress.specs.declared.step.TrackerStep.TheVariants.{RegisterNewXorb, RegisterXorbUploadCompletion}
 use Rattle.xet_upload.specs.Waitings.{Waiting, own_bytes}
 use Rattle.xet_upload.specs.declared.data_error.DataError.{DataError}
 use Rattle.xet_upload.specs.declared.data_error.DataError.TheVariants as data_error

@@ -1,5 +1,6 @@
 //! Hashes in the order in which they came.
-ghost use Rattle.std.specs.Prelude.{◌≡◌, ◌+◌, ◌++◌, ◌∷◌, ◌<◌, ◌≤◌, [], Contains, OnOk, drop, false, length, take, true, vec_capacity, vec_len};
+ghost use Rattle.std.specs.Prelude.{◌≡◌, ◌+◌, ◌++◌, ◌∷◌, ◌<◌, ◌≤◌, [], Contains, OnOk, drop, false, length, take, true};
+ghost use Rattle.std.specs.Prelude.{vec_capacity, vec_len};
 ghost use Rattle.xet_session.specs.steps.HashLists.{AreFound};
 
 use std::alloc::Global;

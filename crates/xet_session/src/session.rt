@@ -1,21 +1,27 @@
 //! An upload session.
-ghost use Rattle.std.specs.Prelude.{◌≡◌, ◌+◌, ◌++◌, ◌<◌, ◌≤◌, ◌⊎◌, ◌∷◌, [], All, Contains, IfErr, IfOk, IfSome, None, OnErr, OnOk, Some, false, length, map, option_map, true, vec_capacity, vec_len};
+ghost use Rattle.std.specs.Prelude.{◌≡◌, ◌+◌, ◌++◌, ◌<◌, ◌≤◌, ◌⊎◌, ◌∷◌, [], All, Contains, IfErr, IfOk, IfSome, None};
+ghost use Rattle.std.specs.Prelude.{OnErr, OnOk, Some, false, length, map, option_map, true, vec_capacity, vec_len};
 ghost use Rattle.xet_base.specs.Records.{Describes};
 ghost use Rattle.xet_progress.specs.Group.{group_sums, item_of, reports_of};
 ghost use Rattle.xet_progress.specs.Held.{Held};
 ghost use Rattle.xet_progress.specs.Items.{report_of};
-ghost use Rattle.xet_progress.specs.declared.step.TrackerStep.TheVariants.{IncrementFileSize, RegisterDependencies, RegisterNewFile};
+ghost use Rattle.xet_progress.specs.declared.step.TrackerStep.TheVariants.{IncrementFileSize, RegisterDependencies};
+ghost use Rattle.xet_progress.specs.declared.step.TrackerStep.TheVariants.{RegisterNewFile};
 ghost use Rattle.xet_progress.specs.Counts.{sizes};
-ghost use Rattle.xet_shard_interface.specs.Interfaces.{ListsFiles, Searches, new_interface, records_of, rules_of, shards_told};
+ghost use Rattle.xet_shard_interface.specs.Interfaces.{ListsFiles, Searches, new_interface, records_of, rules_of};
+ghost use Rattle.xet_shard_interface.specs.Interfaces.{shards_told};
 ghost use Rattle.xet_upload.specs.Orders.{names_of};
 ghost use Rattle.xet_upload.specs.Waitings.{IsWithin, merged};
 ghost use Rattle.xet_shards.specs.Shards.{no_records};
-ghost use Rattle.xet_session.specs.Calls.{Backs, Counted, Cut, Finalizes, HasFiles, Keeps, PutsFail, Queries, Registers, SearchesInOrder, end_counts, new_session};
+ghost use Rattle.xet_session.specs.Calls.{Backs, Counted, Cut, Finalizes, HasFiles, Keeps, PutsFail, Queries};
+ghost use Rattle.xet_session.specs.Calls.{Registers, SearchesInOrder, end_counts, new_session};
 ghost use Rattle.xet_session.specs.Completions.{thresholds_of, with_file_counts};
 ghost use Rattle.xet_session.specs.Sessions.{HasListed, IsBackedSession, waiting_names};
 ghost use Rattle.xet_session.specs.Trackings.{StartsFile, Tracks, TracksCut, TracksXorb, xorb_calls};
 ghost use Rattle.xet_session.specs.steps.Listings.{AreListed};
-ghost use Rattle.xet_session.specs.steps.SessionSteps.{AddedFinished, AddedRecord, AsksFor, GivenCounted, OnList, PutCounted, PutFinished, PutGiven, PutRaw, PutRecords, TookWaiting};
+ghost use Rattle.xet_session.specs.steps.SessionSteps.{AddedFinished, AddedRecord, AsksFor, GivenCounted, OnList};
+ghost use Rattle.xet_session.specs.steps.SessionSteps.{PutCounted, PutFinished, PutGiven, PutRaw, PutRecords};
+ghost use Rattle.xet_session.specs.steps.SessionSteps.{TookWaiting};
 
 use crate::cut_thresholds::CutThresholds;
 use crate::file_tracker::FileTracker;

@@ -1,5 +1,7 @@
 -- Records that are put as shards, and the cache, which learns what was put or answered.
-use Rattle.std.specs.Prelude.{ℕ, ◌≡◌, ◌+◌, ◌-◌, ◌^◌, ◌<◌, ◌≤◌, ◌⊎◌, min, Bool, true, false, List, [], ◌∷◌, ◌++◌, length, map, take, All, Option, Some, None, IsSome, option_map, unwrap_or, Result, IfOk, OnOk, OnErr, IfErr}
+use Rattle.std.specs.Prelude.{ℕ, ◌≡◌, ◌+◌, ◌-◌, ◌^◌, ◌<◌, ◌≤◌, ◌⊎◌, min, Bool, true, false, List, [], ◌∷◌, ◌++◌, length}
+use Rattle.std.specs.Prelude.{map, take, All, Option, Some, None, IsSome, option_map, unwrap_or, Result, IfOk, OnOk}
+use Rattle.std.specs.Prelude.{OnErr, IfErr}
 use Rattle.std.specs.List.{sum_by}
 use Rattle.xet_base.specs.declared.merklehash.MerkleHash.{MerkleHash}
 use Rattle.xet_base.specs.declared.mdb_shard.ShardRecord.{ShardRecord}
@@ -15,7 +17,8 @@ use Rattle.xet_upload.specs.Orders.{IsOrdered, IsThere, names_of}
 use Rattle.xet_upload.specs.DataErrors.{of_client_error}
 use Rattle.xet_upload.specs.declared.data_error.DataError.{DataError}
 use Rattle.xet_shard_interface.specs.Fillings.{shards_in}
-use Rattle.xet_shard_interface.specs.Interfaces.{InterfaceTold, LaterFaults, StoreFails, known_told, records_of, resumed_faults, resumed_records}
+use Rattle.xet_shard_interface.specs.Interfaces.{InterfaceTold, LaterFaults, StoreFails, known_told, records_of}
+use Rattle.xet_shard_interface.specs.Interfaces.{resumed_faults, resumed_records}
 
 abbrev pub puts_of : UploaderTold → List Put
 puts_of u = unwrap_or u.puts []

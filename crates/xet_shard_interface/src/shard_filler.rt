@@ -1,6 +1,7 @@
 //! Records that are filled into shards.
 ghost use Rattle.std.specs.Prelude.{◌≡◌, [], IfOk, OnOk, drop};
-ghost use Rattle.xet_shard_interface.specs.Fillings.{all_filled, closed, file_filled, files_filled, is_full, no_shards, room, shards_in, xorb_filled, xorbs_filled};
+ghost use Rattle.xet_shard_interface.specs.Fillings.{all_filled, closed, file_filled, files_filled, is_full, no_shards};
+ghost use Rattle.xet_shard_interface.specs.Fillings.{room, shards_in, xorb_filled, xorbs_filled};
 
 use std::alloc::Global;
 use std::mem;

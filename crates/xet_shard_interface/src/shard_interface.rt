@@ -1,7 +1,9 @@
 //! The stores of records of a session.
 ghost use Rattle.std.specs.Prelude.{◌≡◌, [], ◌∷◌, ◌++◌, OnErr, OnOk, option_map};
-ghost use Rattle.xet_shard_interface.specs.Interfaces.{AddsRecords, Flushes, ListsFiles, LooksResumed, Searches, StagesXorb, is_due, new_interface, rules_of, shards_told};
-ghost use Rattle.xet_shard_interface.specs.Puts.{Asks, Forgets, Forgot, MakesShards, PutsInOrder, PutsShard, PutsShards, Uploads, UploadsAll, sizes};
+ghost use Rattle.xet_shard_interface.specs.Interfaces.{AddsRecords, Flushes, ListsFiles, LooksResumed, Searches};
+ghost use Rattle.xet_shard_interface.specs.Interfaces.{StagesXorb, is_due, new_interface, rules_of, shards_told};
+ghost use Rattle.xet_shard_interface.specs.Puts.{Asks, Forgets, Forgot, MakesShards, PutsInOrder, PutsShard};
+ghost use Rattle.xet_shard_interface.specs.Puts.{PutsShards, Uploads, UploadsAll, sizes};
 
 use crate::shard_filler::split;
 use std::alloc::Global;

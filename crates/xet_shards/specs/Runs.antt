@@ -1,5 +1,6 @@
 -- Which run of chunks a search finds in records of xorbs.
-use Rattle.std.specs.Prelude.{ℕ, suc, ◌≡◌, ◌+◌, ◌<◌, ◌≤◌, ◌-◌, ◌^◌, ◌==◌, min, List, [], ◌∷◌, length, take, drop, if◌then◌else◌, Option, Some, None, option_and_then, slice_get, slice_range}
+use Rattle.std.specs.Prelude.{ℕ, suc, ◌≡◌, ◌+◌, ◌<◌, ◌≤◌, ◌-◌, ◌^◌, ◌==◌, min, List, [], ◌∷◌, length, take, drop}
+use Rattle.std.specs.Prelude.{if◌then◌else◌, Option, Some, None, option_and_then, slice_get, slice_range}
 use Rattle.std.specs.List.{sum_by}
 use Rattle.xet_base.specs.declared.merklehash.MerkleHash.{MerkleHash}
 use Rattle.xet_base.specs.declared.mdb_shard.ChunkInfo.{ChunkInfo}

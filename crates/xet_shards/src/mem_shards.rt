@@ -1,5 +1,6 @@
 //! Records in memory.
-ghost use Rattle.std.specs.Prelude.{◌≡◌, ◌+◌, ◌≤◌, ◌++◌, [], ◌<◌, IfOk, OnOk, Some, drop, length, option_and_then, vec_capacity, vec_len};
+ghost use Rattle.std.specs.Prelude.{◌≡◌, ◌+◌, ◌≤◌, ◌++◌, [], ◌<◌, IfOk, OnOk, Some, drop, length, option_and_then};
+ghost use Rattle.std.specs.Prelude.{vec_capacity, vec_len};
 ghost use Rattle.std.specs.Option.{option_copied};
 ghost use Rattle.xet_shards.specs.Runs.{counted, find_in, find_run, run_at, run_of, term_at};
 ghost use Rattle.xet_shards.specs.Shards.{no_records};

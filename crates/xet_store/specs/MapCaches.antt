@@ -1,5 +1,6 @@
 -- What a cache in memory answers.
-use Rattle.std.specs.Prelude.{◌≡◌, ◌++◌, Bool, ◌&&◌, List, [], ◌∷◌, find, nat_eq, option_map, Option, None, IsSome, Result, Ok, OnOk, OnErr, IfOk, IfErr}
+use Rattle.std.specs.Prelude.{◌≡◌, ◌++◌, Bool, ◌&&◌, List, [], ◌∷◌, find, nat_eq, option_map, Option, None, IsSome}
+use Rattle.std.specs.Prelude.{Result, Ok, OnOk, OnErr, IfOk, IfErr}
 use Rattle.xet_base.specs.declared.cas_types.ChunkRange.{ChunkRange}
 use Rattle.xet_base.specs.declared.merklehash.MerkleHash.{MerkleHash}
 use Rattle.xet_base.specs.Hashes.{hash_eq}

@@ -12,7 +12,8 @@ use Rattle.xet_outside.specs.declared.client.ClientError.TheVariants as client_e
 use Rattle.xet_outside.specs.declared.plan.PlanAnswer.{PlanAnswer}
 use Rattle.xet_store.specs.MemBlocks.{mem_block}
 use Rattle.xet_store.specs.declared.script_client.ClientStep.{ClientStep}
-use Rattle.xet_store.specs.declared.script_client.ClientStep.TheVariants.{Honest, Fail, Expire, NoMemory, SayPlan, SayBlock}
+use Rattle.xet_store.specs.declared.script_client.ClientStep.TheVariants.{Honest, Fail, Expire, NoMemory, SayPlan}
+use Rattle.xet_store.specs.declared.script_client.ClientStep.TheVariants.{SayBlock}
 
 -- the step says something of its own
 abbrev pub says : ClientStep → Bool

@@ -1,5 +1,6 @@
 -- What a tap tells, and what one passing block may do to it.
-use Rattle.std.specs.Prelude.{ℕ, ◌≡◌, ◌++◌, Bool, true, cond, List, [], length, Option, Some, None, map, option_map, unwrap_or, Result, IfOk, OnOk, OnErr}
+use Rattle.std.specs.Prelude.{ℕ, ◌≡◌, ◌++◌, Bool, true, cond, List, [], length, Option, Some, None, map, option_map}
+use Rattle.std.specs.Prelude.{unwrap_or, Result, IfOk, OnOk, OnErr}
 use Rattle.xet_base.specs.declared.error.OutOfMemory.{OutOfMemory}
 use Rattle.xet_base.specs.Store.{Store}
 use Rattle.xet_outside.specs.declared.block.BlockBytes.{BlockBytes}

@@ -1,8 +1,12 @@
 //! Cuts a range of a file into queries, and hands their plans out in order.
-ghost use Rattle.std.specs.Prelude.{◌≡◌, ◌+◌, ◌-◌, ◌<◌, ◌≤◌, ◌||◌, ◌&&◌, nat_le, ℕ, [], ◌∷◌, Bool, false, true, OnOk, OnErr, IfOk, IfErr, Err, Some, None, Ok, nat_lt, slice_get, length, MatchOption, IfSome, IfNone, min, ◌⊎◌};
+ghost use Rattle.std.specs.Prelude.{◌≡◌, ◌+◌, ◌-◌, ◌<◌, ◌≤◌, ◌||◌, ◌&&◌, nat_le, ℕ, [], ◌∷◌, Bool, false, true, OnOk};
+ghost use Rattle.std.specs.Prelude.{OnErr, IfOk, IfErr, Err, Some, None, Ok, nat_lt, slice_get, length, MatchOption};
+ghost use Rattle.std.specs.Prelude.{IfSome, IfNone, min, ◌⊎◌};
 ghost use Rattle.std.specs.List.Sorted.{IsNonDecreasingBy, IsPartitionPoint};
 ghost use Rattle.xet_outside.specs.Told.{ClientTold};
-ghost use Rattle.xet_terms.specs.Managers.{IsCovered, IsManager, Manager, PassesKnownEnd, ReachesEnd, accepted, begun, cut_at, ends_early, looked_ahead, scheduled, scheduled_end, settled, with_answer};
+ghost use Rattle.xet_terms.specs.Managers.{IsCovered, IsManager, Manager, PassesKnownEnd, ReachesEnd, accepted, begun};
+ghost use Rattle.xet_terms.specs.Managers.{cut_at, ends_early, looked_ahead, scheduled, scheduled_end, settled};
+ghost use Rattle.xet_terms.specs.Managers.{with_answer};
 ghost use Rattle.xet_terms.specs.NextTerms.{AskCall, DueCall, NextCall, reopened};
 ghost use Rattle.xet_terms.specs.Queries.{CutFrom, end_from};
 ghost use Rattle.xet_terms.specs.Settings.{failing_size};

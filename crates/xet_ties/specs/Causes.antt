@@ -1,5 +1,6 @@
 -- What each error of a run shows of what its arguments tell.
-use Rattle.std.specs.Prelude.{ℕ, ◌≡◌, ◌⊎◌, ◌+◌, ◌-◌, ◌^◌, ◌<◌, ◌≤◌, List, [], ◌∷◌, cond, drop, nat_eq, nat_lt, Option, Some, None, IsNone, IfSome, slice_get, length, count_by}
+use Rattle.std.specs.Prelude.{ℕ, ◌≡◌, ◌⊎◌, ◌+◌, ◌-◌, ◌^◌, ◌<◌, ◌≤◌, List, [], ◌∷◌, cond, drop, nat_eq, nat_lt, Option}
+use Rattle.std.specs.Prelude.{Some, None, IsNone, IfSome, slice_get, length, count_by}
 use Rattle.xet_base.specs.declared.cas_types.FileRange.{FileRange}
 use Rattle.xet_base.specs.Store.{Store, file_of}
 use Rattle.xet_outside.specs.Answers.{late_in, plans_in}
@@ -23,7 +24,8 @@ use Rattle.xet_blocks.specs.TermBlocks.{covered}
 use Rattle.xet_fetch.specs.Refreshes.{plan_extents, refusal_of}
 use Rattle.xet_ties.specs.Cuts.{StartsAt}
 use Rattle.xet_ties.specs.InCall.{AllBelow, Exchange, SomeOne, answers_of, expired_said, new_in}
-use Rattle.xet_ties.specs.Saids.{AllPassed, BlockOfPlan, IsBlockAnswer, IsPlanAccepted, IsPlanSaid, IsQueryAnswer, ServedPassed, TermOfPlan}
+use Rattle.xet_ties.specs.Saids.{AllPassed, BlockOfPlan, IsBlockAnswer, IsPlanAccepted, IsPlanSaid, IsQueryAnswer}
+use Rattle.xet_ties.specs.Saids.{ServedPassed, TermOfPlan}
 use Rattle.xet_ties.specs.Setup.{AllTell, IsOver, RunTold, Setup}
 use Rattle.xet_ties.specs.Ties.{EachUnfailed, FirstUnfailed, is_pair}
 

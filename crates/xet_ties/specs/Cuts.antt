@@ -1,5 +1,6 @@
 -- The queries that cut a range among those that were asked, the answers to them, and the terms of these.
-use Rattle.std.specs.Prelude.{ℕ, ◌≡◌, ◌⊎◌, ◌+◌, ◌-◌, ◌<◌, ◌≤◌, Bool, List, [], ◌∷◌, ◌++◌, length, map, filter, nat_lt, Contains, Some, None, slice_get}
+use Rattle.std.specs.Prelude.{ℕ, ◌≡◌, ◌⊎◌, ◌+◌, ◌-◌, ◌<◌, ◌≤◌, Bool, List, [], ◌∷◌, ◌++◌, length, map, filter, nat_lt}
+use Rattle.std.specs.Prelude.{Contains, Some, None, slice_get}
 use Rattle.xet_base.specs.declared.cas_types.FileRange.{FileRange}
 use Rattle.xet_outside.specs.Plan.{shape}
 use Rattle.xet_outside.specs.Told.{Query}

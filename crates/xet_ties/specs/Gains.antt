@@ -1,5 +1,6 @@
 -- What a run may add to a cache: entries of blocks that were served in this call.
-use Rattle.std.specs.Prelude.{ℕ, ◌≡◌, ◌≤◌, ◌+◌, ◌-◌, ◌^◌, min, Bool, List, [], ◌∷◌, All, IfSome, Option, None, Some, count_by, length, nat_eq}
+use Rattle.std.specs.Prelude.{ℕ, ◌≡◌, ◌≤◌, ◌+◌, ◌-◌, ◌^◌, min, Bool, List, [], ◌∷◌, All, IfSome, Option, None, Some}
+use Rattle.std.specs.Prelude.{count_by, length, nat_eq}
 use Rattle.xet_base.specs.declared.cas_types.ChunkRange.{ChunkRange}
 use Rattle.xet_outside.specs.declared.served.Served.{Served}
 use Rattle.xet_outside.specs.Told.{Added, CacheEntry, CacheTold}

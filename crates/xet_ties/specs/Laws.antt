@@ -1,5 +1,6 @@
 -- Laws of ties and of runs.
-use Rattle.std.specs.Prelude.{ℕ, ◌≡◌, IsNone, ◌+◌, ◌<◌, ◌≤◌, false, true, List, [], ◌∷◌, ◌++◌, length, map, take, count_by, All, Some, None, Option, Result, Ok, Err, slice_get, drop, filter}
+use Rattle.std.specs.Prelude.{ℕ, ◌≡◌, IsNone, ◌+◌, ◌<◌, ◌≤◌, false, true, List, [], ◌∷◌, ◌++◌, length, map, take}
+use Rattle.std.specs.Prelude.{count_by, All, Some, None, Option, Result, Ok, Err, slice_get, drop, filter}
 use Rattle.std.specs.List.{AllZip, concat, list_any, sum_by}
 use Rattle.xet_base.specs.declared.cas_types.ChunkRange.{ChunkRange}
 use Rattle.xet_base.specs.declared.cas_types.FileRange.{FileRange}
@@ -40,15 +41,19 @@ use Rattle.xet_ties.specs.InCall.{EachGrew, Exchange, Look, served_of_all}
 use Rattle.xet_ties.specs.Lanes.{AnswerStep, Ask, BytesFail, DrewApart, IsFor, IsOf, LaneDid, StepDid}
 use Rattle.xet_ties.specs.Legal.{AllPlanned, FirstAsks, IsExact, Legal, ServedOnce, TookTested}
 use Rattle.xet_ties.specs.RunCalls.{IsFinished, RunCall, TookAll}
-use Rattle.xet_ties.specs.Saids.{BlockOfPlan, InStep, IsCutAnswer, IsPlanAccepted, IsQueryAnswer, IsServedData, IsTested, planned_of, IsTaskPiece, has_bytes}
+use Rattle.xet_ties.specs.Saids.{BlockOfPlan, InStep, IsCutAnswer, IsPlanAccepted, IsQueryAnswer, IsServedData}
+use Rattle.xet_ties.specs.Saids.{IsTested, planned_of, IsTaskPiece, has_bytes}
 use Rattle.xet_ties.specs.Setup.{AllTell, CacheTells, IsOver, RunTold, Setup}
 use Rattle.xet_ties.specs.declared.lane_step.LaneStep.{LaneStep}
 use Rattle.xet_ties.specs.declared.lane_step.LaneStep.TheVariants as step
 use Rattle.xet_ties.specs.steps.Measures.{left}
 use Rattle.xet_ties.specs.steps.Moves.{no_hidden, no_late, no_slack}
-use Rattle.xet_ties.specs.steps.Parts.{AdmitsCall, LookedShort, LookedUp, OfferOneCall, looks_after, pending_after, plan_event, plan_query, plan_refresh, stop_event, total, AskedSaid, AskedShort}
+use Rattle.xet_ties.specs.steps.Parts.{AdmitsCall, LookedShort, LookedUp, OfferOneCall, looks_after, pending_after}
+use Rattle.xet_ties.specs.steps.Parts.{plan_event, plan_query, plan_refresh, stop_event, total, AskedSaid, AskedShort}
 use Rattle.xet_ties.specs.steps.Rounds.{AfterRound, IsMissingAsk, IsPlanAsk}
-use Rattle.xet_ties.specs.steps.Records.{Apart, AreMissing, AreUnkept, EachMayExpire, HasTry, IsFreshAsk, HaveTries, Place, Spot, asks_for, blocks_all, expired_at, expired_on, fetched_at, fetched_on, key_of, lane_events, lane_spots, places_of, wrote_of}
+use Rattle.xet_ties.specs.steps.Records.{Apart, AreMissing, AreUnkept, EachMayExpire, HasTry, IsFreshAsk, HaveTries}
+use Rattle.xet_ties.specs.steps.Records.{Place, Spot, asks_for, blocks_all, expired_at, expired_on, fetched_at}
+use Rattle.xet_ties.specs.steps.Records.{fetched_on, key_of, lane_events, lane_spots, places_of, wrote_of}
 use Rattle.xet_ties.specs.steps.Windows.{AreKept, IsAt, is_wanted, open_terms}
 use Rattle.xet_ties.specs.Ties.{IsNextQuery, IsQuiet, Slack, Stop, Ties, is_one, is_pair}
 

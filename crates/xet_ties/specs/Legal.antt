@@ -1,5 +1,6 @@
 -- Which answers of a run are legal, by what its arguments tell before and after.
-use Rattle.std.specs.Prelude.{ℕ, ◌≡◌, ◌⊎◌, ◌+◌, ◌-◌, ◌<◌, ◌≤◌, ◌&&◌, ◌≢◌, Bool, List, [], ◌∷◌, drop, length, take, All, Some, IsSome, IfSome, OnOk, option_map, count_by, Result, Err, IfOk, IfErr}
+use Rattle.std.specs.Prelude.{ℕ, ◌≡◌, ◌⊎◌, ◌+◌, ◌-◌, ◌<◌, ◌≤◌, ◌&&◌, ◌≢◌, Bool, List, [], ◌∷◌, drop, length, take, All}
+use Rattle.std.specs.Prelude.{Some, IsSome, IfSome, OnOk, option_map, count_by, Result, Err, IfOk, IfErr}
 use Rattle.std.specs.List.{AllZip, concat}
 use Rattle.xet_base.specs.declared.cas_types.ChunkRange.{ChunkRange}
 use Rattle.xet_base.specs.declared.cas_types.FileRange.{FileRange}
@@ -21,7 +22,8 @@ use Rattle.xet_ties.specs.InCall.{EachExchange, Exchange, Look, answers_of, new_
 use Rattle.xet_ties.specs.RunCalls.{DidNothing, Unfailed, stop_of}
 use Rattle.xet_ties.specs.Saids.{AllPassed, AllRenewed, BlockOfPlan, own_query, planned_of, same_start}
 use Rattle.xet_ties.specs.Setup.{AllTell, CacheTells, EachGoesOn, IsEmptyRange, IsOver, RunTold, Setup, most_lanes}
-use Rattle.xet_ties.specs.Ties.{CutsRange, EachUnasked, EachUnfailed, FirstInOrder, IsEntryOf, IsFaultless, Reaches, is_look, is_pair, is_range}
+use Rattle.xet_ties.specs.Ties.{CutsRange, EachUnasked, EachUnfailed, FirstInOrder, IsEntryOf, IsFaultless, Reaches}
+use Rattle.xet_ties.specs.Ties.{is_look, is_pair, is_range}
 
 -- ---- what was heard
 

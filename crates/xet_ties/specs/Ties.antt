@@ -1,5 +1,7 @@
 -- How a run's history is tied to what the run's arguments tell before and after.
-use Rattle.std.specs.Prelude.{ℕ, zero, suc, ◌≡◌, ◌⊎◌, ◌+◌, ◌-◌, ◌^◌, ◌<◌, ◌≤◌, ◌==◌, ◌&&◌, ◌≢◌, min, Bool, true, false, not, List, [], ◌∷◌, ◌++◌, drop, filter, length, count_by, nat_eq, Option, Some, None, IfSome, IsSome, All, Contains}
+use Rattle.std.specs.Prelude.{ℕ, zero, suc, ◌≡◌, ◌⊎◌, ◌+◌, ◌-◌, ◌^◌, ◌<◌, ◌≤◌, ◌==◌, ◌&&◌, ◌≢◌, min, Bool, true, false}
+use Rattle.std.specs.Prelude.{not, List, [], ◌∷◌, ◌++◌, drop, filter, length, count_by, nat_eq, Option, Some, None}
+use Rattle.std.specs.Prelude.{IfSome, IsSome, All, Contains}
 use Rattle.std.specs.List.{flat_map}
 use lib.Pointwise.{pointwise}
 use Rattle.xet_base.specs.declared.cas_types.ChunkRange.{ChunkRange}
@@ -25,7 +27,9 @@ use Rattle.xet_history.specs.Laws.{IsPrefix}
 use Rattle.xet_history.specs.Queries.{CutFrom}
 use Rattle.xet_history.specs.TrueHistory.{EndsEarly, IsTrueHistory, SomeEndsEarly, pieces, queries}
 use Rattle.xet_ties.specs.Gains.{GainedServed, GrewBy}
-use Rattle.xet_ties.specs.History.{EachAfter, IsNumberedNext, IsOnLane, IsOneCached, IsRenewed, IsWithin, asked_by, block_at, cached_in, entry_of, expired_by, fetched_in, fetches, is_expired, kept_in, late_by, limits_of, range_at, served_by, telling, round_count}
+use Rattle.xet_ties.specs.History.{EachAfter, IsNumberedNext, IsOnLane, IsOneCached, IsRenewed, IsWithin, asked_by}
+use Rattle.xet_ties.specs.History.{block_at, cached_in, entry_of, expired_by, fetched_in, fetches, is_expired, kept_in}
+use Rattle.xet_ties.specs.History.{late_by, limits_of, range_at, served_by, telling, round_count}
 use Rattle.xet_ties.specs.InCall.{EachExchange, Exchange, Look, Place, late_places}
 use Rattle.xet_ties.specs.Saids.{EventPassed, FirstRenewed, FirstSaid, IsTested, asks_for_plan}
 use Rattle.xet_ties.specs.Setup.{AllTell, CacheTells, ClientGoesOn, IsOver, RunTold, Setup, download_of, most_lanes}

@@ -1,5 +1,14 @@
 //! Laws of ties and of runs, as functions whose contracts state them.
-ghost use Rattle.xet_ties.specs.Laws.{AdmitsTied, AnswersStep, AsksTied, CachedFall, CancelsTied, ExpiriesCounted, ExpiriesFall, FailuresAreCauses, FetchesFall, FilesAreMissing, FilesMissing, FinishedIsExact, FinishedIsWhole, FinishedServesChunks, LanesGoOn, LooksTied, MissingExpired, MissingFetched, NoneRises, OffersTied, PairsAreNew, PlansFail, PollsTied, RefreshesTied, RoundsAllowed, RoundsMayExpire, RoundsTied, RunsAreLegal, ShortLooksTied, ShortRoundsTied, ShortWritesTied, StartsTied, StepsFail, StepsServe, StopsTied, TakesTied, TiesAskCut, TiesServeOnce, TiesServePlanned, TiesTakeTested, TriesLeft, WritesTied, AsksLeft, AsksSaid, RefreshesLeft, RefreshesSaid, WantedAre, WindowsAllowed, WindowsTested, RefreshesFew};
+ghost use Rattle.xet_ties.specs.Laws.{AdmitsTied, AnswersStep, AsksTied, CachedFall, CancelsTied, ExpiriesCounted};
+ghost use Rattle.xet_ties.specs.Laws.{ExpiriesFall, FailuresAreCauses, FetchesFall, FilesAreMissing, FilesMissing};
+ghost use Rattle.xet_ties.specs.Laws.{FinishedIsExact, FinishedIsWhole, FinishedServesChunks, LanesGoOn, LooksTied};
+ghost use Rattle.xet_ties.specs.Laws.{MissingExpired, MissingFetched, NoneRises, OffersTied, PairsAreNew, PlansFail};
+ghost use Rattle.xet_ties.specs.Laws.{PollsTied, RefreshesTied, RoundsAllowed, RoundsMayExpire, RoundsTied};
+ghost use Rattle.xet_ties.specs.Laws.{RunsAreLegal, ShortLooksTied, ShortRoundsTied, ShortWritesTied, StartsTied};
+ghost use Rattle.xet_ties.specs.Laws.{StepsFail, StepsServe, StopsTied, TakesTied, TiesAskCut, TiesServeOnce};
+ghost use Rattle.xet_ties.specs.Laws.{TiesServePlanned, TiesTakeTested, TriesLeft, WritesTied, AsksLeft, AsksSaid};
+ghost use Rattle.xet_ties.specs.Laws.{RefreshesLeft, RefreshesSaid, WantedAre, WindowsAllowed, WindowsTested};
+ghost use Rattle.xet_ties.specs.Laws.{RefreshesFew};
 
 /// Before a run all is tied; after an error that is recorded, or want of memory, it stays so.
 pub fn starts_and_stops()

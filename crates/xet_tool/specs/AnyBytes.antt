@@ -2,7 +2,8 @@
 use Rattle.std.specs.Prelude.{ℕ, List, length}
 use Rattle.xet_outside.specs.Told.{Rose, SinkTold, Took, TookPrefix}
 use Rattle.xet_tool.specs.declared.status.Status.{Status}
-use Rattle.xet_tool.specs.declared.status.Status.TheVariants.{Done, NotFound, WriteFault, NoMemory, BadBlock, BadSettings}
+use Rattle.xet_tool.specs.declared.status.Status.TheVariants.{Done, NotFound, WriteFault, NoMemory, BadBlock}
+use Rattle.xet_tool.specs.declared.status.Status.TheVariants.{BadSettings}
 use Rattle.xet_tool.specs.Texts.{block_line, get_text, line, ok_line}
 
 -- the last line after these bytes

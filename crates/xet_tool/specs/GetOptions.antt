@@ -1,5 +1,6 @@
 -- The options of `get`, and the words that spell them.
-use Rattle.std.specs.Prelude.{ℕ, ◌-◌, ◌^◌, ◌==◌, true, false, cond, nat_lt, nat_le, List, [], ◌∷◌, length, Option, Some, None, option_and_then, unwrap_or, codes}
+use Rattle.std.specs.Prelude.{ℕ, ◌-◌, ◌^◌, ◌==◌, true, false, cond, nat_lt, nat_le, List, [], ◌∷◌, length, Option, Some}
+use Rattle.std.specs.Prelude.{None, option_and_then, unwrap_or, codes}
 use Rattle.std.specs.List.{after_first, before_first, position_or_len}
 use Rattle.std.specs.Str.{bytes_eq}
 use Rattle.xet_run.specs.declared.budget_book.BudgetSettings.{BudgetSettings}

@@ -1,5 +1,6 @@
 -- What passed the taps of `get`, and which bytes a run makes of the blocks that they handed on.
-use Rattle.std.specs.Prelude.{ℕ, ◌≡◌, ◌⊎◌, false, List, [], ◌∷◌, count_by, drop, take, length, map, true, Bool, All, Option, Some, None, IfSome}
+use Rattle.std.specs.Prelude.{ℕ, ◌≡◌, ◌⊎◌, false, List, [], ◌∷◌, count_by, drop, take, length, map, true, Bool, All}
+use Rattle.std.specs.Prelude.{Option, Some, None, IfSome}
 use Rattle.std.specs.List.{AllZip, concat}
 use Rattle.xet_base.specs.Store.{Store}
 use Rattle.xet_outside.specs.Answers.{bytes_in, plans_in}

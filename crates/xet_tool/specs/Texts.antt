@@ -4,7 +4,8 @@ use Rattle.std.specs.Fmt.{decimal}
 use Rattle.hex.specs.Hex.{encode_lower}
 use Rattle.xet_error.specs.declared.error.Setting.TheVariants as setting
 use Rattle.xet_tool.specs.declared.status.Status.{Status}
-use Rattle.xet_tool.specs.declared.status.Status.TheVariants.{Done, BadWords, BadStore, BadScript, NotFound, ReadFault, WriteFault, NoMemory, TooLong, BadBlock, BadSettings}
+use Rattle.xet_tool.specs.declared.status.Status.TheVariants.{Done, BadWords, BadStore, BadScript, NotFound, ReadFault}
+use Rattle.xet_tool.specs.declared.status.Status.TheVariants.{WriteFault, NoMemory, TooLong, BadBlock, BadSettings}
 use Rattle.xet_tool.specs.declared.texts.TheConstants.{HELP, VERSION}
 
 -- the exit status

@@ -1,5 +1,6 @@
 -- The numbers and names that words spell.
-use Rattle.std.specs.Prelude.{ℕ, ◌+◌, ◌-◌, ◌*◌, ◌/◌, ◌%◌, ◌^◌, ◌&&◌, cond, List, [], ◌∷◌, ◌++◌, length, replicate, Option, Some, None, option_and_then, nat_lt, nat_le}
+use Rattle.std.specs.Prelude.{ℕ, ◌+◌, ◌-◌, ◌*◌, ◌/◌, ◌%◌, ◌^◌, ◌&&◌, cond, List, [], ◌∷◌, ◌++◌, length, replicate}
+use Rattle.std.specs.Prelude.{Option, Some, None, option_and_then, nat_lt, nat_le}
 use Rattle.xet_base.specs.declared.merklehash.MerkleHash.{MerkleHash}
 
 -- the number of the digits, after a number that was read before them, where it is at most u64::MAX

@@ -3,7 +3,9 @@ use Rattle.std.specs.Prelude.{ℕ, ◌≡◌, Bool, true, false, cond, List, [],
 use Rattle.std.specs.List.{list_all}
 use Rattle.std.specs.Fmt.{decimal}
 use Rattle.xet_base.specs.declared.invalid.Invalid.{Invalid}
-use Rattle.xet_base.specs.declared.invalid.Invalid.TheVariants.{Finalized, ReversedRange, IdsUsedUp, DuplicateId, UnknownItem, UnknownFile, UnknownXorb, OtherSize, PastTotal, XorbCompleted, SumTooGreat}
+use Rattle.xet_base.specs.declared.invalid.Invalid.TheVariants.{Finalized, ReversedRange, IdsUsedUp, DuplicateId}
+use Rattle.xet_base.specs.declared.invalid.Invalid.TheVariants.{UnknownItem, UnknownFile, UnknownXorb, OtherSize}
+use Rattle.xet_base.specs.declared.invalid.Invalid.TheVariants.{PastTotal, XorbCompleted, SumTooGreat}
 use Rattle.xet_progress.specs.declared.step.TrackerStep.{TrackerStep}
 use Rattle.xet_progress.specs.declared.step.TrackerReply.{TrackerReply}
 use Rattle.xet_progress.specs.declared.step.TrackerReply.TheVariants.{Done, FileId, Flag, Sums, Unfinished, Refused}

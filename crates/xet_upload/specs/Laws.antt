@@ -1,5 +1,6 @@
 -- Laws of what terms, parts and records stand for, and of ordered logs.
-use Rattle.std.specs.Prelude.{ℕ, ◌≡◌, ◌<◌, ◌^◌, List, [], ◌∷◌, ◌++◌, length, map, take, find, All, Some, None, slice_index_or}
+use Rattle.std.specs.Prelude.{ℕ, ◌≡◌, ◌<◌, ◌^◌, List, [], ◌∷◌, ◌++◌, length, map, take, find, All, Some, None}
+use Rattle.std.specs.Prelude.{slice_index_or}
 use Rattle.std.specs.List.{concat}
 use Rattle.xet_base.specs.declared.merklehash.MerkleHash.{MerkleHash}
 use Rattle.xet_base.specs.declared.mdb_shard.ChunkInfo.{ChunkInfo}
@@ -16,7 +17,8 @@ use Rattle.xet_uploader.specs.StoresAfter.{files_in, store_after}
 use Rattle.xet_upload.specs.declared.waiting.WaitingTerm.{WaitingTerm}
 use Rattle.xet_upload.specs.FileDatas.{FoundAdded, OwnAdded, Parts, PartsStand, cut_parts, no_parts}
 use Rattle.xet_upload.specs.Orders.{IsBacked, IsOrdered, IsThere, names_of}
-use Rattle.xet_upload.specs.Standing.{Added, AgreeOn, AgreesWith, ChunksAgree, IsRecordIn, Stand, StandsFor, named, shifted, term_of, world}
+use Rattle.xet_upload.specs.Standing.{Added, AgreeOn, AgreesWith, ChunksAgree, IsRecordIn, Stand, StandsFor, named}
+use Rattle.xet_upload.specs.Standing.{shifted, term_of, world}
 use Rattle.xet_upload.specs.Waitings.{xorb_of_chunks}
 
 -- ---- terms

@@ -1,10 +1,12 @@
 //! Data that waits to become a xorb.
-ghost use Rattle.std.specs.Prelude.{◌≡◌, ◌+◌, ◌++◌, ◌∷◌, ◌<◌, ◌≤◌, ◌↔◌, [], All, IfOk, IsTrue, OnErr, OnOk, length, map, vec_capacity, vec_len};
+ghost use Rattle.std.specs.Prelude.{◌≡◌, ◌+◌, ◌++◌, ◌∷◌, ◌<◌, ◌≤◌, ◌↔◌, [], All, IfOk, IsTrue, OnErr, OnOk, length};
+ghost use Rattle.std.specs.Prelude.{map, vec_capacity, vec_len};
 ghost use Rattle.std.specs.List.{AllZip, concat};
 ghost use Rattle.xet_base.specs.Digests.{info_of, infos_of, xorb_hash_of};
 ghost use Rattle.xet_base.specs.Records.{Describes};
 ghost use Rattle.xet_upload.specs.Standing.{named, shifted};
-ghost use Rattle.xet_upload.specs.Waitings.{AreCounted, HaveBytes, IsCounted, IsPending, IsWithin, file_shifted, merged, no_waiting, own_bytes, xorb_of_chunks};
+ghost use Rattle.xet_upload.specs.Waitings.{AreCounted, HaveBytes, IsCounted, IsPending, IsWithin, file_shifted};
+ghost use Rattle.xet_upload.specs.Waitings.{merged, no_waiting, own_bytes, xorb_of_chunks};
 
 use crate::limits::{XORB_BYTES, XORB_CHUNKS};
 use crate::raw_xorb::{PendingFile, RawXorbData};

@@ -1,6 +1,7 @@
 //! Why a call of a session gave no answer.
 ghost use Rattle.std.specs.Prelude.{◌≡◌};
-ghost use Rattle.xet_upload.specs.DataErrors.{data_error_number, of_client_error, of_progress_error, of_reconstruction_error, of_shard_error};
+ghost use Rattle.xet_upload.specs.DataErrors.{data_error_number, of_client_error, of_progress_error};
+ghost use Rattle.xet_upload.specs.DataErrors.{of_reconstruction_error, of_shard_error};
 ghost use Rattle.xet_upload.specs.declared.data_error.DataError.TheVariants as data_error;
 
 use thiserror::Error;

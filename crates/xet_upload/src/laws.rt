@@ -1,5 +1,8 @@
 //! Laws of what terms, parts and records stand for, and of ordered logs, as functions whose contracts state them.
-ghost use Rattle.xet_upload.specs.Laws.{BackedWithKnown, BackedWithMore, ChunksAsXorb, ChunksBefore, ChunksBehind, LaterResolves, MoreXorbs, NoParts, OneFoundMore, OneOwnMore, OneTermMore, OrderedWithKnown, OrderedWithShard, OrderedWithXorb, PartsAsXorb, PrefixIsOrdered, PutIsThere, RecordResolves, SameHashSameBytes, ThereWithMore};
+ghost use Rattle.xet_upload.specs.Laws.{BackedWithKnown, BackedWithMore, ChunksAsXorb, ChunksBefore, ChunksBehind};
+ghost use Rattle.xet_upload.specs.Laws.{LaterResolves, MoreXorbs, NoParts, OneFoundMore, OneOwnMore, OneTermMore};
+ghost use Rattle.xet_upload.specs.Laws.{OrderedWithKnown, OrderedWithShard, OrderedWithXorb, PartsAsXorb};
+ghost use Rattle.xet_upload.specs.Laws.{PrefixIsOrdered, PutIsThere, RecordResolves, SameHashSameBytes, ThereWithMore};
 
 /// Terms stand for what they stood for while xorbs are put, while chunks come behind or before those that wait, and
 /// where these become a xorb; a term more adds what it stands for.

@@ -8,7 +8,8 @@ use Rattle.xet_base.specs.declared.stored.StoredFile.{StoredFile}
 use Rattle.xet_base.specs.Hashes.{hash_eq}
 use Rattle.xet_base.specs.Store.{Store, file_of, xorb_of}
 use Rattle.xet_store.specs.declared.mem_store.StoreRefused.{StoreRefused}
-use Rattle.xet_store.specs.declared.mem_store.StoreRefused.TheVariants.{OutOfMemory, Taken, EmptyChunk, TooManyChunks, TooLong, BadTerm}
+use Rattle.xet_store.specs.declared.mem_store.StoreRefused.TheVariants.{OutOfMemory, Taken, EmptyChunk, TooManyChunks}
+use Rattle.xet_store.specs.declared.mem_store.StoreRefused.TheVariants.{TooLong, BadTerm}
 use Rattle.xet_uploader.specs.declared.uploader.Put.{Put}
 use Rattle.xet_uploader.specs.declared.uploader.Put.TheVariants as put
 use Rattle.xet_store.specs.Refusals.{xorb_refusal, file_refusal, stored_term}

@@ -1,5 +1,6 @@
 -- What an uploader tells, what one call of it may change, and what an uploader in memory answers.
-use Rattle.std.specs.Prelude.{ℕ, ◌≡◌, ◌⊎◌, ◌≤◌, ◌+◌, ◌-◌, ◌^◌, min, List, [], ◌∷◌, length, map, find, Bool, option_map, Option, IsSome, Result, Ok, Err, IfOk, OnOk, OnErr, IsErrOf}
+use Rattle.std.specs.Prelude.{ℕ, ◌≡◌, ◌⊎◌, ◌≤◌, ◌+◌, ◌-◌, ◌^◌, min, List, [], ◌∷◌, length, map, find, Bool, option_map}
+use Rattle.std.specs.Prelude.{Option, IsSome, Result, Ok, Err, IfOk, OnOk, OnErr, IsErrOf}
 use Rattle.std.specs.List.{concat, list_any}
 use Rattle.xet_base.specs.declared.mdb_shard.Xorb.{Xorb}
 use Rattle.xet_base.specs.declared.mdb_shard.ShardRecord.{ShardRecord}

@@ -1,10 +1,12 @@
 //! An uploader to a store in memory.
-ghost use Rattle.std.specs.Prelude.{◌≡◌, ◌↔◌, ◌+◌, ◌-◌, ◌^◌, ◌≤◌, [], Contains, IfErr, IfOk, IsErrOf, None, OnOk, Some, if◌then◌else◌, map, min, option_map, slice_get, vec_capacity, vec_len};
+ghost use Rattle.std.specs.Prelude.{◌≡◌, ◌↔◌, ◌+◌, ◌-◌, ◌^◌, ◌≤◌, [], Contains, IfErr, IfOk, IsErrOf, None, OnOk, Some};
+ghost use Rattle.std.specs.Prelude.{if◌then◌else◌, map, min, option_map, slice_get, vec_capacity, vec_len};
 ghost use Rattle.std.specs.List.Sorted.{IsPermutation};
 ghost use Rattle.xet_base.specs.Records.{shard_size};
 ghost use Rattle.xet_outside.specs.declared.client.ClientError.TheVariants as client_error;
 ghost use Rattle.xet_uploader.specs.StoresAfter.{store_after, with_file, with_files, with_put, with_xorb};
-ghost use Rattle.xet_uploader.specs.Uploads.{CountsFailed, PutShardCall, PutXorbCall, QueryShardCall, alone, mem_query, record_of, xorbs_in};
+ghost use Rattle.xet_uploader.specs.Uploads.{CountsFailed, PutShardCall, PutXorbCall, QueryShardCall, alone, mem_query};
+ghost use Rattle.xet_uploader.specs.Uploads.{record_of, xorbs_in};
 
 use crate::fault_script::FaultScript;
 use crate::uploader::{Put, Uploader};

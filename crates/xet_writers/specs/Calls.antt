@@ -1,5 +1,7 @@
 -- The calls of a writer: their tests in order, and what they leave.
-use Rattle.std.specs.Prelude.{ℕ, ◌≡◌, ◌⊎◌, ◌+◌, ◌-◌, ◌^◌, ◌≤◌, ◌==◌, ◌++◌, min, nat_lt, cond, if◌then◌else◌, length, List, [], ◌∷◌, Bool, true, Option, Some, None, option_map, Result, Ok, Err, OnOk, IfOk, IfErr}
+use Rattle.std.specs.Prelude.{ℕ, ◌≡◌, ◌⊎◌, ◌+◌, ◌-◌, ◌^◌, ◌≤◌, ◌==◌, ◌++◌, min, nat_lt, cond, if◌then◌else◌, length}
+use Rattle.std.specs.Prelude.{List, [], ◌∷◌, Bool, true, Option, Some, None, option_map, Result, Ok, Err, OnOk, IfOk}
+use Rattle.std.specs.Prelude.{IfErr}
 use Rattle.std.specs.Option.{option_or}
 use Rattle.xet_base.specs.declared.cas_types.FileRange.{FileRange}
 use Rattle.xet_blocks.specs.declared.reconstruction_terms.file_term.DataSource.{DataSource}

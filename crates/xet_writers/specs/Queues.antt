@@ -1,5 +1,6 @@
 -- Queues of terms.
-use Rattle.std.specs.Prelude.{ℕ, ◌-◌, ◌==◌, ◌&&◌, nat_le, length, List, [], ◌∷◌, map, filter, cond, Bool, Option, Some, None, is_none, option_to_list}
+use Rattle.std.specs.Prelude.{ℕ, ◌-◌, ◌==◌, ◌&&◌, nat_le, length, List, [], ◌∷◌, map, filter, cond, Bool, Option, Some}
+use Rattle.std.specs.Prelude.{None, is_none, option_to_list}
 use Rattle.std.specs.List.{concat, flat_map}
 use Rattle.xet_base.specs.declared.cas_types.FileRange.{FileRange}
 use Rattle.xet_run.specs.declared.budget.Admission.{Admission}

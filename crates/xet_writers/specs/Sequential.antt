@@ -1,5 +1,6 @@
 -- The writer that writes in order.
-use Rattle.std.specs.Prelude.{ℕ, ◌≡◌, ◌⊎◌, ◌+◌, ◌≤◌, ◌++◌, cond, length, List, [], ◌∷◌, take, drop, Bool, true, Option, Some, None, option_map, Result, Err, IfOk, IfErr, OnErr, OnOk}
+use Rattle.std.specs.Prelude.{ℕ, ◌≡◌, ◌⊎◌, ◌+◌, ◌≤◌, ◌++◌, cond, length, List, [], ◌∷◌, take, drop, Bool, true, Option}
+use Rattle.std.specs.Prelude.{Some, None, option_map, Result, Err, IfOk, IfErr, OnErr, OnOk}
 use Rattle.std.specs.List.{concat}
 use Rattle.xet_base.specs.declared.cas_types.FileRange.{FileRange}
 use Rattle.xet_run.specs.declared.budget.Admission.{Admission}
@@ -9,7 +10,8 @@ use Rattle.xet_blocks.specs.declared.reconstruction_terms.file_term.DataSource.T
 use Rattle.xet_error.specs.declared.error.FileReconstructionError.{FileReconstructionError}
 use Rattle.xet_error.specs.declared.error.FileReconstructionError.TheVariants as error
 use Rattle.xet_writers.specs.declared.queued_term.QueuedTerm.{QueuedTerm}
-use Rattle.xet_writers.specs.Calls.{WriterTold, WriterSums, Refused, Accepted, SinkCause, closed_by, set_fault, supply_fault, finish_fault}
+use Rattle.xet_writers.specs.Calls.{WriterTold, WriterSums, Refused, Accepted, SinkCause, closed_by, set_fault}
+use Rattle.xet_writers.specs.Calls.{supply_fault, finish_fault}
 use Rattle.xet_writers.specs.Pieces.{StoppedAt, TookAtLeast}
 use Rattle.xet_writers.specs.Queues.{admissions, ready, ready_bytes, supplied, wanted}
 

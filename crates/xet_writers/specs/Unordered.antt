@@ -1,5 +1,6 @@
 -- The writer that gives terms out in the order of completion.
-use Rattle.std.specs.Prelude.{ℕ, ◌≡◌, ◌+◌, ◌-◌, ◌^◌, ◌++◌, min, length, List, [], ◌∷◌, map, Bool, true, Option, Some, None, Result, Ok}
+use Rattle.std.specs.Prelude.{ℕ, ◌≡◌, ◌+◌, ◌-◌, ◌^◌, ◌++◌, min, length, List, [], ◌∷◌, map, Bool, true, Option, Some}
+use Rattle.std.specs.Prelude.{None, Result, Ok}
 use Rattle.xet_base.specs.declared.cas_types.FileRange.{FileRange}
 use Rattle.xet_run.specs.declared.budget.Admission.{Admission}
 use Rattle.xet_blocks.specs.declared.reconstruction_terms.file_term.DataSource.{DataSource}
@@ -7,7 +8,8 @@ use Rattle.xet_blocks.specs.declared.reconstruction_terms.file_term.DataSource.T
 use Rattle.xet_error.specs.declared.error.FileReconstructionError.{FileReconstructionError}
 use Rattle.xet_writers.specs.declared.completed_term.CompletedTerm.{CompletedTerm}
 use Rattle.xet_writers.specs.declared.completed_term.WantedTerm.{WantedTerm}
-use Rattle.xet_writers.specs.Calls.{WriterTold, WriterSums, Refused, Accepted, closed_by, set_fault, supply_fault, finish_fault}
+use Rattle.xet_writers.specs.Calls.{WriterTold, WriterSums, Refused, Accepted, closed_by, set_fault, supply_fault}
+use Rattle.xet_writers.specs.Calls.{finish_fault}
 use Rattle.xet_writers.specs.Waits.{first_with, without_first}
 
 -- what contracts see of it: the terms that wait for bytes, in the order in which they came; the completed terms that

@@ -1,5 +1,6 @@
 -- Blocks that entries offer, and the terms that are placed in them.
-use Rattle.std.specs.Prelude.{ℕ, ◌≡◌, ◌+◌, ◌-◌, ◌^◌, ◌<◌, ◌≤◌, Bool, false, Option, Some, None, List, [], ◌∷◌, ◌++◌, All, MatchOption, filter, length, map, min, nat_eq, position}
+use Rattle.std.specs.Prelude.{ℕ, ◌≡◌, ◌+◌, ◌-◌, ◌^◌, ◌<◌, ◌≤◌, Bool, false, Option, Some, None, List, [], ◌∷◌, ◌++◌}
+use Rattle.std.specs.Prelude.{All, MatchOption, filter, length, map, min, nat_eq, position}
 use Rattle.std.specs.List.{enumerate_from, position_or_len}
 use Rattle.xet_base.specs.declared.cas_types.FileRange.{FileRange}
 use Rattle.xet_base.specs.Ranges.{Ascend}
@@ -15,7 +16,8 @@ use Rattle.xet_blocks.specs.declared.reconstruction_terms.retrieval_urls.Retriev
 use Rattle.xet_blocks.specs.declared.reconstruction_terms.retrieval_urls.TermBlockRetrievalURLs.{TermBlockRetrievalURLs}
 use Rattle.xet_blocks.specs.declared.reconstruction_terms.xorb_block.XorbBlock.{XorbBlock}
 use Rattle.xet_blocks.specs.declared.reconstruction_terms.xorb_block.XorbReference.{XorbReference}
-use Rattle.xet_blocks.specs.Blocks.{PlanBlock, block_ranges, blocks_of, same_block, start_index, term_block, transfer_sum}
+use Rattle.xet_blocks.specs.Blocks.{PlanBlock, block_ranges, blocks_of, same_block, start_index, term_block}
+use Rattle.xet_blocks.specs.Blocks.{transfer_sum}
 use Rattle.xet_blocks.specs.Chain.{last_end}
 use Rattle.xet_blocks.specs.steps.BlockKeys.{IsBlockOf, key_of, same_key}
 use Rattle.xet_blocks.specs.steps.Offers.{Offered, offer_of_term, ranges_block, xorb_place}

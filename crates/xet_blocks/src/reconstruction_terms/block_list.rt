@@ -1,7 +1,9 @@
 //! The blocks that a plan's terms use, each found by its key.
-ghost use Rattle.std.specs.Prelude.{◌≡◌, ◌++◌, ◌∷◌, ◌<◌, ℕ, [], IfOk, None, OnErr, OnOk, Some, cond, length, nat_eq, slice_index_or};
+ghost use Rattle.std.specs.Prelude.{◌≡◌, ◌++◌, ◌∷◌, ◌<◌, ℕ, [], IfOk, None, OnErr, OnOk, Some, cond, length, nat_eq};
+ghost use Rattle.std.specs.Prelude.{slice_index_or};
 ghost use Rattle.xet_blocks.specs.declared.reconstruction_terms.block_list.BlockKey.{BlockKey};
-ghost use Rattle.xet_blocks.specs.steps.BlockKeys.{IsBlockOf, key_of, number_at, place_of_key, row_at, rows_of, same_key};
+ghost use Rattle.xet_blocks.specs.steps.BlockKeys.{IsBlockOf, key_of, number_at, place_of_key, row_at, rows_of};
+ghost use Rattle.xet_blocks.specs.steps.BlockKeys.{same_key};
 ghost use Rattle.xet_blocks.specs.steps.Offers.{offered};
 
 use crate::reconstruction_terms::listed_offers::Offer;

@@ -1,5 +1,6 @@
 //! What one entry offers where each of its ranges is a block, and they ascend. It stands in the plan and is not listed.
-ghost use Rattle.std.specs.Prelude.{◌≡◌, cond, false, find, nat_le, option_and_then, option_map, slice_get, true, IfSome, None, Some};
+ghost use Rattle.std.specs.Prelude.{◌≡◌, cond, false, find, nat_le, option_and_then, option_map, slice_get, true};
+ghost use Rattle.std.specs.Prelude.{IfSome, None, Some};
 ghost use Rattle.std.specs.List.Sorted.{IsPartitionPoint};
 ghost use Rattle.xet_blocks.specs.Blocks.{lies_in};
 ghost use Rattle.xet_blocks.specs.PlanChecks.{unordered};

@@ -1,5 +1,6 @@
 //! What the entries of a xorb offer, listed range by range.
-ghost use Rattle.std.specs.Prelude.{◌≡◌, ◌++◌, ◌∷◌, [], false, find, length, map, nat_le, not, true, IfOk, IfSome, OnOk, Some};
+ghost use Rattle.std.specs.Prelude.{◌≡◌, ◌++◌, ◌∷◌, [], false, find, length, map, nat_le, not, true, IfOk, IfSome};
+ghost use Rattle.std.specs.Prelude.{OnOk, Some};
 ghost use Rattle.std.specs.List.Sorted.{IsPartitionPoint};
 ghost use Rattle.xet_blocks.specs.Blocks.{lies_in};
 ghost use Rattle.xet_blocks.specs.steps.Offers.{offered, xorb_offers};

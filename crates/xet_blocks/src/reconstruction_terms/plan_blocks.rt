@@ -1,11 +1,14 @@
 //! The blocks of a plan: one for all ranges of an entry or for each of them, where some term lies in it.
-ghost use Rattle.std.specs.Prelude.{◌≡◌, ◌+◌, ◌-◌, ◌^◌, ◌<◌, ◌≤◌, [], ◌∷◌, All, IfErr, IfOk, None, OnOk, length, map, min};
+ghost use Rattle.std.specs.Prelude.{◌≡◌, ◌+◌, ◌-◌, ◌^◌, ◌<◌, ◌≤◌, [], ◌∷◌, All, IfErr, IfOk, None, OnOk, length, map};
+ghost use Rattle.std.specs.Prelude.{min};
 ghost use Rattle.std.specs.List.{enumerate_from};
 ghost use Rattle.xet_outside.specs.Plan.{shape};
 ghost use Rattle.xet_blocks.specs.Blocks.{range_bytes, transfer_sum};
 ghost use Rattle.xet_blocks.specs.Refusals.{IsRefusal};
 ghost use Rattle.xet_blocks.specs.steps.Offers.{offered, xorb_place};
-ghost use Rattle.xet_blocks.specs.steps.Planning.{Fit, HasChunks, HasRanges, IsNumbered, IsPlaced, IsPlanned, IsToldApart, IsUnfinished, finished, numbered_block, plan_block, retrieval_url, terms_at, unsorted_blocks, with_starts};
+ghost use Rattle.xet_blocks.specs.steps.Planning.{Fit, HasChunks, HasRanges, IsNumbered, IsPlaced, IsPlanned};
+ghost use Rattle.xet_blocks.specs.steps.Planning.{IsToldApart, IsUnfinished, finished, numbered_block, plan_block};
+ghost use Rattle.xet_blocks.specs.steps.Planning.{retrieval_url, terms_at, unsorted_blocks, with_starts};
 ghost use Rattle.xet_blocks.specs.TermBlocks.{by_start};
 ghost use Rattle.xet_blocks.specs.PlanChecks.{no_range_test, ranges_test};
 

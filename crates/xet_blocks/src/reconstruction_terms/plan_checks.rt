@@ -4,7 +4,8 @@ ghost use Rattle.std.specs.Prelude.{◌≡◌, ◌+◌, ◌<◌, [], ◌∷◌, 
 ghost use Rattle.std.specs.Result.{result_err};
 ghost use Rattle.xet_base.specs.Lists.{first_some};
 ghost use Rattle.xet_outside.specs.Plan.{shape};
-ghost use Rattle.xet_blocks.specs.PlanChecks.{no_xorb_test, offset_test, place_tests, position_test, ranges_test, sizes, trim_test, unordered};
+ghost use Rattle.xet_blocks.specs.PlanChecks.{no_xorb_test, offset_test, place_tests, position_test, ranges_test};
+ghost use Rattle.xet_blocks.specs.PlanChecks.{sizes, trim_test, unordered};
 ghost use Rattle.xet_blocks.specs.Refusals.{IsRefusal};
 ghost use Rattle.xet_blocks.specs.TermBlocks.{covered};
 ghost use Rattle.xet_blocks.specs.steps.Offers.{xorb_place};

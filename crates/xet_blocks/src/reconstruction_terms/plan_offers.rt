@@ -1,5 +1,6 @@
 //! Where the chunks of a plan's terms are fetched: the ranges that the entries of its xorbs offer.
-ghost use Rattle.std.specs.Prelude.{◌≡◌, find, map, option_map, true, IfOk, IfSome, IsSome, MatchOption, None, Some, position};
+ghost use Rattle.std.specs.Prelude.{◌≡◌, find, map, option_map, true, IfOk, IfSome, IsSome, MatchOption, None, Some};
+ghost use Rattle.std.specs.Prelude.{position};
 ghost use Rattle.xet_base.specs.Hashes.{hash_eq};
 ghost use Rattle.xet_outside.specs.Plan.{shape};
 ghost use Rattle.xet_blocks.specs.Blocks.{lies_in, plan_xorb_of};

@@ -1,5 +1,6 @@
 -- What a source is fed to, and what one upload leaves.
-use Rattle.std.specs.Prelude.{ℕ, ◌≡◌, ◌⊎◌, ◌≤◌, List, [], ◌++◌, length, map, take, drop, All, None, Result, Ok, IfOk, IfErr, OnOk}
+use Rattle.std.specs.Prelude.{ℕ, ◌≡◌, ◌⊎◌, ◌≤◌, List, [], ◌++◌, length, map, take, drop, All, None, Result, Ok, IfOk}
+use Rattle.std.specs.Prelude.{IfErr, OnOk}
 use Rattle.std.specs.List.{concat}
 use Rattle.xet_base.specs.declared.merklehash.MerkleHash.{MerkleHash}
 use Rattle.xet_base.specs.declared.mdb_shard.Xorb.{Xorb}
@@ -18,7 +19,8 @@ use Rattle.xet_clean.specs.Cleanings.{ChunkFails, Leaves}
 use Rattle.xet_clean.specs.Made.{IsMadeOf, IsPickedFrom}
 use Rattle.xet_clean.specs.Premises.{IsOpen, IsSteady, NoClash}
 use Rattle.xet_clean.specs.Records.{CleanedFile, HasRecord}
-use Rattle.xet_clean.specs.Uploads.{EndsUpload, FileTold, SessionFails, SourceFails, StopsUpload, TakesOff, Upload, file_after, recorded_file, upload_pointer}
+use Rattle.xet_clean.specs.Uploads.{EndsUpload, FileTold, SessionFails, SourceFails, StopsUpload, TakesOff, Upload}
+use Rattle.xet_clean.specs.Uploads.{file_after, recorded_file, upload_pointer}
 
 -- bytes came off a source and were fed to a cleaner
 pub record Poured (b n : SessionTold) (s t : SourceTold) (c d : Cleaner) (bytes : List ℕ) : Type 0 where

@@ -1,5 +1,6 @@
 -- What the lanes of a round hold before and after.
-use Rattle.std.specs.Prelude.{ℕ, ◌≡◌, ◌⊎◌, ◌<◌, Bool, true, false, cond, IfSome, IsSome, List, [], ◌∷◌, length, map, None, Option, Some}
+use Rattle.std.specs.Prelude.{ℕ, ◌≡◌, ◌⊎◌, ◌<◌, Bool, true, false, cond, IfSome, IsSome, List, [], ◌∷◌, length, map}
+use Rattle.std.specs.Prelude.{None, Option, Some}
 use Rattle.xet_outside.specs.Told.{ClientTold}
 use Rattle.xet_claims.specs.declared.claim_rule.View.{View}
 use Rattle.xet_claims.specs.declared.claims.ClaimPass.{ClaimPass}

@@ -1,5 +1,6 @@
 -- The tests of dependencies over the files that the tracker keeps, and the room that they need.
-use Rattle.std.specs.Prelude.{ℕ, ◌≡◌, ◌<◌, ◌+◌, ◌^◌, Bool, true, false, cond, ◌||◌, ◌⊎◌, nat_eq, nat_lt, List, [], ◌∷◌, ◌++◌, find, length, Option, Some, None, All, position, slice_index_or, slice_set}
+use Rattle.std.specs.Prelude.{ℕ, ◌≡◌, ◌<◌, ◌+◌, ◌^◌, Bool, true, false, cond, ◌||◌, ◌⊎◌, nat_eq, nat_lt, List, [], ◌∷◌}
+use Rattle.std.specs.Prelude.{◌++◌, find, length, Option, Some, None, All, position, slice_index_or, slice_set}
 use Rattle.std.specs.List.{sum_by, list_any}
 use Rattle.xet_base.specs.Hashes.{hash_eq}
 use Rattle.xet_base.specs.declared.invalid.Invalid.{Invalid}

@@ -1,5 +1,6 @@
 -- What the tracker keeps of a list of accepted calls.
-use Rattle.std.specs.Prelude.{ℕ, ◌≡◌, ◌<◌, ◌≤◌, false, cond, nat_eq, List, map, find, length, Option, Some, None, is_some, All, AllPairs}
+use Rattle.std.specs.Prelude.{ℕ, ◌≡◌, ◌<◌, ◌≤◌, false, cond, nat_eq, List, map, find, length, Option, Some, None}
+use Rattle.std.specs.Prelude.{is_some, All, AllPairs}
 use Rattle.std.specs.List.{sum_by, list_any}
 use Rattle.xet_base.specs.declared.merklehash.MerkleHash.{MerkleHash}
 use Rattle.xet_base.specs.Hashes.{hash_eq}
@@ -9,7 +10,9 @@ use Rattle.xet_progress.specs.declared.xorb.TrackedXorb.{TrackedXorb}
 use Rattle.xet_progress.specs.declared.part.Part.{Part}
 use Rattle.xet_progress.specs.declared.marks.Marks.{Marks}
 use Rattle.xet_progress.specs.steps.Open.{Marked, NamesStand}
-use Rattle.xet_progress.specs.Counts.{sizes, files, grown, total_of, size_of, size_or_zero, registered, part, counted, completed_of, is_completed, progress, progresses, all_total, all_completed, all_sizes}
+use Rattle.xet_progress.specs.Counts.{sizes, files, grown, total_of, size_of, size_or_zero, registered, part, counted}
+use Rattle.xet_progress.specs.Counts.{completed_of, is_completed, progress, progresses, all_total, all_completed}
+use Rattle.xet_progress.specs.Counts.{all_sizes}
 
 -- a file as the tracker keeps it
 abbrev pub tracked : List TrackerStep → ℕ × Option ℕ → TrackedFile

@@ -1,5 +1,6 @@
 -- What a core's index says of its history.
-use Rattle.std.specs.Prelude.{ℕ, ◌≡◌, ◌+◌, ◌-◌, ◌<◌, ◌==◌, ◌^◌, ◌++◌, cond, filter, Bool, true, false, ◌&&◌, List, [], ◌∷◌, map, drop, Option, Some, None, unwrap_or, count_by, nat_lt}
+use Rattle.std.specs.Prelude.{ℕ, ◌≡◌, ◌+◌, ◌-◌, ◌<◌, ◌==◌, ◌^◌, ◌++◌, cond, filter, Bool, true, false, ◌&&◌, List, []}
+use Rattle.std.specs.Prelude.{◌∷◌, map, drop, Option, Some, None, unwrap_or, count_by, nat_lt}
 use Rattle.std.specs.List.{list_any}
 use Rattle.std.specs.Ordering.{nat_cmp}
 use Rattle.std.specs.BTreeSet as sorted
@@ -8,7 +9,8 @@ use Rattle.xet_run.specs.declared.event.Event.{Event}
 use Rattle.xet_run.specs.declared.index.WaitingTerm.{WaitingTerm}
 use Rattle.xet_run.specs.declared.index.UnfinishedTerm.{UnfinishedTerm}
 use Rattle.xet_run.specs.declared.index.Index.{Index}
-use Rattle.xet_run.specs.Events.{Task, size, needs, planned, plan_count, planned_end, is_admit, admitted, written, unwritten, ended, unfinished, is_kept, is_stale, first_error, is_cancel}
+use Rattle.xet_run.specs.Events.{Task, size, needs, planned, plan_count, planned_end, is_admit, admitted, written}
+use Rattle.xet_run.specs.Events.{unwritten, ended, unfinished, is_kept, is_stale, first_error, is_cancel}
 use Rattle.xet_run.specs.Allowed.{IsAllowedHistory}
 use Rattle.xet_run.specs.BlockTables.{Ends, SameMarks, block_id, end_in, kept_in}
 

@@ -1,5 +1,6 @@
 -- What the steps of a session change.
-use Rattle.std.specs.Prelude.{ℕ, ◌≡◌, ◌+◌, ◌-◌, ◌^◌, ◌⊎◌, ◌<◌, ◌≤◌, min, Bool, true, cond, List, [], ◌∷◌, ◌++◌, length, map, Contains, None, is_some, option_map, Result, Ok, OnOk, OnErr, IfOk, IfErr}
+use Rattle.std.specs.Prelude.{ℕ, ◌≡◌, ◌+◌, ◌-◌, ◌^◌, ◌⊎◌, ◌<◌, ◌≤◌, min, Bool, true, cond, List, [], ◌∷◌, ◌++◌, length}
+use Rattle.std.specs.Prelude.{map, Contains, None, is_some, option_map, Result, Ok, OnOk, OnErr, IfOk, IfErr}
 use Rattle.xet_base.specs.declared.merklehash.MerkleHash.{MerkleHash}
 use Rattle.xet_base.specs.declared.mdb_shard.Xorb.{Xorb}
 use Rattle.xet_base.specs.declared.mdb_shard.MDBXorbInfo.{MDBXorbInfo}
@@ -17,7 +18,8 @@ use Rattle.xet_upload.specs.declared.data_error.DataError.{DataError}
 use Rattle.xet_upload.specs.declared.metrics.DeduplicationMetrics.{DeduplicationMetrics}
 use Rattle.xet_upload.specs.declared.raw_xorb.PendingFile.{PendingFile}
 use Rattle.xet_upload.specs.declared.raw_xorb.RawXorbData.{RawXorbData}
-use Rattle.xet_session.specs.Calls.{CountsSent, Keeps, NoQueries, PutsFail, Recorded, RegisterStopped, Says, StoresFail, WasPut, WasRefused, finished_records, one_xorb, waiting_hash, xorb_bytes}
+use Rattle.xet_session.specs.Calls.{CountsSent, Keeps, NoQueries, PutsFail, Recorded, RegisterStopped, Says, StoresFail}
+use Rattle.xet_session.specs.Calls.{WasPut, WasRefused, finished_records, one_xorb, waiting_hash, xorb_bytes}
 use Rattle.xet_session.specs.Sessions.{IsListed, SessionTold, Tells, log_of}
 use Rattle.xet_session.specs.Trackings.{CountsPut, own_part, with_call}
 use Rattle.xet_session.specs.steps.CutNotes.{part_of}

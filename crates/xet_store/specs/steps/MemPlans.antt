@@ -1,5 +1,6 @@
 -- The plan of a store in memory, as its parts are computed.
-use Rattle.std.specs.Prelude.{ℕ, ◌≡◌, ◌-◌, ◌<◌, ◌≤◌, Bool, false, ◌&&◌, List, map, filter, find, option_map, unwrap_or, nat_lt, nat_le, length, slice_index_or, take, AllPairs}
+use Rattle.std.specs.Prelude.{ℕ, ◌≡◌, ◌-◌, ◌<◌, ◌≤◌, Bool, false, ◌&&◌, List, map, filter, find, option_map, unwrap_or}
+use Rattle.std.specs.Prelude.{nat_lt, nat_le, length, slice_index_or, take, AllPairs}
 use Rattle.std.specs.List.{concat, list_any, sum_by}
 use Rattle.xet_base.specs.declared.cas_types.FileRange.{FileRange}
 use Rattle.xet_base.specs.declared.merklehash.MerkleHash.{MerkleHash}

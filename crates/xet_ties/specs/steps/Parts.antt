@@ -1,5 +1,6 @@
 -- What the parts of a turn that touch one object do, over any moment of a run.
-use Rattle.std.specs.Prelude.{ℕ, ◌≡◌, ◌+◌, false, true, cond, List, [], ◌∷◌, ◌++◌, map, Option, Some, None, Result, OnOk, OnErr, IfErr}
+use Rattle.std.specs.Prelude.{ℕ, ◌≡◌, ◌+◌, false, true, cond, List, [], ◌∷◌, ◌++◌, map, Option, Some, None, Result}
+use Rattle.std.specs.Prelude.{OnOk, OnErr, IfErr}
 use Rattle.xet_base.specs.declared.cas_types.ChunkRange.{ChunkRange}
 use Rattle.xet_base.specs.declared.cas_types.FileRange.{FileRange}
 use Rattle.xet_base.specs.declared.unique_id.UniqueId.{UniqueId}

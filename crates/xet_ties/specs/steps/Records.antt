@@ -1,5 +1,6 @@
 -- What the parts of a turn record.
-use Rattle.std.specs.Prelude.{ℕ, ◌≡◌, ◌+◌, ◌<◌, ◌≤◌, Bool, false, ◌==◌, ◌&&◌, cond, nat_lt, count_by, List, [], ◌∷◌, ◌++◌, take, map, Result, OnOk, OnErr, IfErr}
+use Rattle.std.specs.Prelude.{ℕ, ◌≡◌, ◌+◌, ◌<◌, ◌≤◌, Bool, false, ◌==◌, ◌&&◌, cond, nat_lt, count_by, List, [], ◌∷◌}
+use Rattle.std.specs.Prelude.{◌++◌, take, map, Result, OnOk, OnErr, IfErr}
 use Rattle.std.specs.List.{flat_map}
 use Rattle.xet_error.specs.declared.error.FileReconstructionError.{FileReconstructionError}
 use Rattle.xet_error.specs.declared.error.FileReconstructionError.TheVariants as error

@@ -5,7 +5,8 @@ use Rattle.xet_outside.specs.Told.{Rose, SinkTold, Took, TookPrefix}
 use Rattle.xet_error.specs.declared.error.Setting.{Setting}
 use Rattle.xet_blocks.specs.ServedChunks.{AllServed}
 use Rattle.xet_tool.specs.declared.status.Status.{Status}
-use Rattle.xet_tool.specs.declared.status.Status.TheVariants.{Done, BadStore, NotFound, ReadFault, WriteFault, NoMemory, TooLong, BadBlock, BadSettings}
+use Rattle.xet_tool.specs.declared.status.Status.TheVariants.{Done, BadStore, NotFound, ReadFault, WriteFault, NoMemory}
+use Rattle.xet_tool.specs.declared.status.Status.TheVariants.{TooLong, BadBlock, BadSettings}
 use Rattle.xet_tool.specs.declared.commands.get.wanted.Wanted.{Wanted}
 use Rattle.xet_tool.specs.AnyBytes.{AnyCut, AnyGet}
 use Rattle.xet_tool.specs.Document.{IsOfStore, OfNoDocument}

@@ -1,5 +1,6 @@
 -- What the functions that print the digits of a range say.
-use Rattle.std.specs.Prelude.{ℕ, ◌≡◌, ◌⊎◌, ◌≤◌, List, [], length, take, Option, None, Some, IfSome, IfOk, IfErr, OnOk, Result, Ok, Err}
+use Rattle.std.specs.Prelude.{ℕ, ◌≡◌, ◌⊎◌, ◌≤◌, List, [], length, take, Option, None, Some, IfSome, IfOk, IfErr, OnOk}
+use Rattle.std.specs.Prelude.{Result, Ok, Err}
 use Rattle.std.specs.Result.{result_ok}
 use Rattle.hex.specs.Hex.{encode_lower}
 use Rattle.xet_base.specs.Store.{Store}
@@ -17,7 +18,8 @@ use Rattle.xet_ties.specs.Legal.{IsExact}
 use Rattle.xet_ties.specs.RunCalls.{Unfailed}
 use Rattle.xet_ties.specs.Setup.{RunTold}
 use Rattle.xet_tool.specs.declared.commands.get.digits.Printed.{Printed}
-use Rattle.xet_tool.specs.declared.commands.get.digits.Printed.TheVariants.{All as Whole, NoFile, Part, Stopped, BadBlock, BadSettings}
+use Rattle.xet_tool.specs.declared.commands.get.digits.Printed.TheVariants.{All as Whole, NoFile, Part, Stopped}
+use Rattle.xet_tool.specs.declared.commands.get.digits.Printed.TheVariants.{BadBlock, BadSettings}
 use Rattle.xet_tool.specs.declared.commands.get.wanted.Wanted.{Wanted}
 use Rattle.xet_tool.specs.declared.status.Status.{Status}
 use Rattle.xet_tool.specs.declared.status.Status.TheVariants as status

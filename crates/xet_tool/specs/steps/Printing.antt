@@ -6,7 +6,8 @@ use Rattle.xet_outside.specs.declared.sink.SinkError.TheVariants as sink_error
 use Rattle.xet_outside.specs.Told.{Rose, SinkTold, Took}
 use Rattle.xet_store.specs.Taps.{TapTold}
 use Rattle.xet_tool.specs.declared.status.Status.{Status}
-use Rattle.xet_tool.specs.declared.status.Status.TheVariants.{Done, NotFound, WriteFault, NoMemory, BadBlock, BadSettings}
+use Rattle.xet_tool.specs.declared.status.Status.TheVariants.{Done, NotFound, WriteFault, NoMemory, BadBlock}
+use Rattle.xet_tool.specs.declared.status.Status.TheVariants.{BadSettings}
 use Rattle.xet_tool.specs.declared.commands.get.wanted.Wanted.{Wanted}
 use Rattle.xet_tool.specs.AnyBytes.{AnyGet}
 use Rattle.xet_tool.specs.commands.Get.{IsCutGet, IsPrinted, IsRefused, settings_text}

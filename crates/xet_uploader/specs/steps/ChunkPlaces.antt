@@ -1,5 +1,6 @@
 -- What an index of chunks keeps, and what one more record changes in it.
-use Rattle.std.specs.Prelude.{ℕ, ◌≡◌, List, length, drop, Bool, false, if◌then◌else◌, Option, Some, None, option_map, option_and_then, slice_get}
+use Rattle.std.specs.Prelude.{ℕ, ◌≡◌, List, length, drop, Bool, false, if◌then◌else◌, Option, Some, None, option_map}
+use Rattle.std.specs.Prelude.{option_and_then, slice_get}
 use Rattle.std.specs.Option.{option_or}
 use Rattle.std.specs.List.{position_from}
 use Rattle.std.specs.declared.cmp.Ordering.{Ordering}

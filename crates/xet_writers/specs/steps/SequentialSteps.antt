@@ -1,5 +1,6 @@
 -- The steps of the writer in order.
-use Rattle.std.specs.Prelude.{ℕ, zero, suc, ◌≡◌, ◌+◌, ◌<◌, ◌≤◌, ◌++◌, length, get_or, List, [], ◌∷◌, true, Option, Some, None, option_map, option_to_list, Result, IfOk, IfErr, OnErr, OnOk}
+use Rattle.std.specs.Prelude.{ℕ, zero, suc, ◌≡◌, ◌+◌, ◌<◌, ◌≤◌, ◌++◌, length, get_or, List, [], ◌∷◌, true, Option, Some}
+use Rattle.std.specs.Prelude.{None, option_map, option_to_list, Result, IfOk, IfErr, OnErr, OnOk}
 use Rattle.xet_outside.specs.Told.{SinkTold}
 use Rattle.xet_error.specs.declared.error.FileReconstructionError.{FileReconstructionError}
 use Rattle.xet_error.specs.declared.error.WriterFault.{WriterFault}

@@ -1,13 +1,16 @@
 //! The writer that writes terms in order.
 ghost use Rattle.std.specs.List.{position_from};
-ghost use Rattle.std.specs.Prelude.{◌≡◌, ◌+◌, ◌<◌, ◌≤◌, ◌^◌, ◌++◌, [], ◌∷◌, IfErr, IfOk, None, OnErr, OnOk, Some, false, length, true};
+ghost use Rattle.std.specs.Prelude.{◌≡◌, ◌+◌, ◌<◌, ◌≤◌, ◌^◌, ◌++◌, [], ◌∷◌, IfErr, IfOk, None, OnErr, OnOk, Some};
+ghost use Rattle.std.specs.Prelude.{false, length, true};
 ghost use Rattle.std.specs.Vec.{vec_capacity};
 ghost use Rattle.std.specs.VecDeque.{deque_capacity, deque_len};
 ghost use Rattle.xet_error.specs.declared.error.FileReconstructionError.TheVariants as error;
 ghost use Rattle.xet_error.specs.Errors.{of_sink_error};
-ghost use Rattle.xet_writers.specs.Calls.{FinishCall, SetCall, SetSums, SupplyCall, closed_by, finish_fault, kept_fault};
+ghost use Rattle.xet_writers.specs.Calls.{FinishCall, SetCall, SetSums, SupplyCall, closed_by, finish_fault};
+ghost use Rattle.xet_writers.specs.Calls.{kept_fault};
 ghost use Rattle.xet_writers.specs.Queues.{fits, is_wanted_at, ready_bytes, wanted};
-ghost use Rattle.xet_writers.specs.Sequential.{FinishSequential, ReadyCall, SetSequential, SupplySequential, TookReleased, WindowCall, Wrote, most_pieces, sums_of, told_of};
+ghost use Rattle.xet_writers.specs.Sequential.{FinishSequential, ReadyCall, SetSequential, SupplySequential};
+ghost use Rattle.xet_writers.specs.Sequential.{TookReleased, WindowCall, Wrote, most_pieces, sums_of, told_of};
 ghost use Rattle.xet_writers.specs.steps.Batches.{BatchCall, SentReady};
 ghost use Rattle.xet_writers.specs.steps.SequentialSteps.{Flushed, GiveCall, Last, PassedAll, PassedFront, with_bytes};
 ghost use Rattle.xet_writers.specs.steps.WantedPlaces.{places_of};

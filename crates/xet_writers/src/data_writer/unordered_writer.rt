@@ -1,7 +1,8 @@
 //! The writer that gives terms out in the order of completion.
 ghost use Rattle.std.specs.Prelude.{◌≡◌, ◌^◌, ◌-◌, ◌++◌, [], ◌∷◌, IfErr, None, OnOk, false, length, map, min};
 ghost use Rattle.xet_error.specs.declared.error.FileReconstructionError.TheVariants as error;
-ghost use Rattle.xet_writers.specs.Calls.{FinishCall, SetCall, SetSums, SupplyCall, closed_by, finish_fault, kept_fault, supply_fault};
+ghost use Rattle.xet_writers.specs.Calls.{FinishCall, SetCall, SetSums, SupplyCall, closed_by, finish_fault};
+ghost use Rattle.xet_writers.specs.Calls.{kept_fault, supply_fault};
 ghost use Rattle.xet_writers.specs.Unordered.{
   FinishUnordered,
   SetUnordered,

@@ -1,5 +1,6 @@
 //! Runs over connections to a store, whose blocks go through taps.
-ghost use Rattle.std.specs.Prelude.{◌≡◌, ◌≤◌, ◌+◌, ◌++◌, All, IfOk, OnErr, false, length, map, reverse, true, vec_capacity};
+ghost use Rattle.std.specs.Prelude.{◌≡◌, ◌≤◌, ◌+◌, ◌++◌, All, IfOk, OnErr, false, length, map, reverse, true};
+ghost use Rattle.std.specs.Prelude.{vec_capacity};
 ghost use Rattle.xet_base.specs.Store.{IsValid};
 ghost use Rattle.xet_reconstruct.specs.Ran.{RanUnder};
 ghost use Rattle.xet_ties.specs.Legal.{Legal};
