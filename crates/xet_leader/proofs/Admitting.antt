@@ -25,6 +25,7 @@ use Rattle.xet_leader.specs.Steady.{IsFailing, IsGoing, Loose, Moment}
 use Rattle.xet_leader.proofs.PlainEvents.{IsPlain, plain_manager, plain_plans, plain_running, plain_stale}
 use Rattle.xet_leader.proofs.QuietEvents.{quiet_under}
 use Rattle.xet_leader.proofs.WriterFaults.{any_unfailed}
+use Rattle.xet_leader.proofs.Halts.{memory_halted, memory_spent}
 
 is_plain : (limit : ℕ) → IsPlain (Admit limit)
 is_plain limit = record {
@@ -151,6 +152,8 @@ failing g b m o l k before after fs e at a s =
       cause = subst (Cause g s.slack.heard b (record m.told { limits = after })) (sym memory) tt;
       unfailed = any_unfailed b.sink.faults m.told.sink.faults e s.unfailed;
       spent = λ h. absurd (let z : error.OutOfMemory ≡ error.UrlExpired = sym memory ∙ h in cc);
+      halted = λ yes. memory_halted e memory;
+      under = λ u. memory_spent e memory u;
       cache_tells = s.cache_tells;
     }
 

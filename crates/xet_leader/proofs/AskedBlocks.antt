@@ -43,6 +43,7 @@ use Rattle.xet_leader.proofs.FetchFacts.{same_is}
 use Rattle.xet_leader.proofs.LookSteps.{same_found}
 use Rattle.xet_leader.proofs.PlanFacts.{each_weaker}
 use Rattle.xet_leader.proofs.WriterFaults.{any_unfailed}
+use Rattle.xet_leader.proofs.Halts.{memory_halted, memory_spent}
 
 -- ---- one fetch
 
@@ -336,6 +337,8 @@ memory_fails g b m o l e memory s = record {
   cause = subst (Cause g s.slack.heard b m.told) (sym memory) tt;
   unfailed = any_unfailed b.sink.faults m.told.sink.faults e s.unfailed;
   spent = λ h. absurd (let z : error.OutOfMemory ≡ error.UrlExpired = sym memory ∙ h in cc);
+  halted = λ yes. memory_halted e memory;
+  under = λ u. memory_spent e memory u;
   cache_tells = s.cache_tells;
 }
 

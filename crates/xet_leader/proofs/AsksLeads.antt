@@ -1,6 +1,6 @@
 -- A run after its leader asked for the plan that was due.
-use Rattle.std.proofs.Common.{◌≡◌, ◌+◌, ◌≤◌, Bool, true, false, cond, List, [], ◌∷◌, length, take, refl, sym, subst, ◌∙◌, ap, arith, inl, inr, ⊎_elim, Option, Some, None, Ok, Err}
-use Rattle.std.specs.Prelude.{IfOk, Result}
+use Rattle.std.proofs.Common.{◌≡◌, ◌+◌, ◌≤◌, Bool, true, false, cond, List, [], ◌∷◌, length, take, refl, sym, subst, ◌∙◌, ap, arith, inl, inr, ⊎_elim, Option, Some, None, Ok, Err, ◌<◌}
+use Rattle.std.specs.Prelude.{IfOk, Result, count_by}
 use Rattle.std.proofs.lemmas.List.{length-append, length-take-le}
 use Rattle.xet_base.specs.declared.unique_id.UniqueId.{UniqueId}
 use Rattle.xet_outside.specs.declared.said.Said.TheVariants as said
@@ -15,7 +15,7 @@ use Rattle.xet_blocks.specs.TermBlockCalls.{TermBlockCause}
 use Rattle.xet_run.specs.declared.event.Event.{Event}
 use Rattle.xet_run.specs.declared.event.Event.TheVariants.{Planned, Admit, Fetched, Cached, Expired, Refreshed, Wrote, Fail, Cancel}
 use Rattle.xet_run.specs.Allowed.{IsAllowedHistory}
-use Rattle.xet_run.specs.Events.{is_plan, plan_count}
+use Rattle.xet_run.specs.Events.{is_plan, plan_count, expires}
 use Rattle.xet_history.specs.TrueHistory.{queries, queries_in}
 use Rattle.xet_terms.specs.Managers.{IsCovered, Manager, PassesKnownEnd}
 use Rattle.xet_terms.specs.declared.manager.PlanDue.{PlanDue}
@@ -37,6 +37,7 @@ use Rattle.xet_leader.proofs.LedPlanned.{led_planned}
 use Rattle.xet_leader.proofs.NewPlans.{none_later}
 use Rattle.xet_leader.proofs.NextQueries.{IsDue, due_first, led_due, led_looked, due_next}
 use Rattle.xet_leader.proofs.WriterFaults.{any_unfailed}
+use Rattle.xet_leader.proofs.Halts.{calm_halted}
 
 -- ---- none was due
 
@@ -255,6 +256,8 @@ module _ (g : Setup) (b : RunTold) (m : Moment) (l : Led) (s : IsGoing g b m no_
         cause = tt;
         unfailed = tt;
         spent = λ h. absurd (let z : error.OutOfMemory ≡ error.UrlExpired = h in cc);
+        halted = λ yes. tt;
+        under = λ u. absurd u;
         cache_tells = s.cache_tells;
       }
 
@@ -289,9 +292,17 @@ module _ (g : Setup) (b : RunTold) (m : Moment) (l : Led) (s : IsGoing g b m no_
         cause = asked.cause;
         unfailed = any_unfailed b.sink.faults m.told.sink.faults e s.unfailed;
         spent = λ h. absurd (other h);
+        halted = calm_halted b.signal.yes y.yes e (calm y one.signal);
+        under = λ u p k. subst (λ (l : List Event). count_by (expires p k) l < g.tries) (sym same) (s.led.under p k);
         cache_tells = s.cache_tells;
       }
         where
+          same : fs ≡ m.events
+          same = ⊎_elim
+              (λ (f : QueryFails middle now c n m.events fs (plan_query g d.query d.id) e). f.unrecorded)
+              (λ (f : PlanFails middle now c n m.events fs (plan_query g d.query d.id) e). f.left.unrecorded)
+              call.err
+
           other : e ≡ error.UrlExpired → ⊥
           other h =
               ⊎_elim
@@ -375,6 +386,8 @@ failing_due g b m l cs ns x y fs e at seen u s =
       cause = tt;
       unfailed = tt;
       spent = λ h. absurd (let z : error.OutOfMemory ≡ error.UrlExpired = h in cc);
+      halted = λ yes. tt;
+      under = λ u. absurd u;
       cache_tells = s.cache_tells;
     }
 
@@ -389,6 +402,8 @@ failing_due g b m l cs ns x y fs e at seen u s =
           cause = t.1;
           unfailed = s.unfailed;
           spent = λ h. absurd (let z : error.Cancelled ≡ error.UrlExpired = h in cc);
+          halted = λ yes. tt;
+          under = λ u. s.led.under;
           cache_tells = s.cache_tells;
         }
 

@@ -1,6 +1,6 @@
 -- A run after its writer was ended, and after its error was recorded.
-use Rattle.std.proofs.Common.{◌≡◌, ℕ, ◌≤◌, ◌++◌, inl, inr, Option, Some, None, Ok, Err, List, [], length, take, refl, sym, subst, ◌∙◌, ap, arith, false}
-use Rattle.std.specs.Prelude.{option_map}
+use Rattle.std.proofs.Common.{◌≡◌, ℕ, ◌<◌, ◌≤◌, ◌++◌, inl, inr, Option, Some, None, Ok, Err, List, [], length, take, refl, sym, subst, ◌∙◌, ap, arith, false}
+use Rattle.std.specs.Prelude.{option_map, count_by}
 use Rattle.std.proofs.Math.Seq.{take-nil}
 use Rattle.std.proofs.lemmas.List.{append-nil}
 use Rattle.xet_base.specs.Store.{Store}
@@ -8,7 +8,7 @@ use Rattle.xet_outside.specs.Told.{Rose, SinkTold, Took}
 use Rattle.xet_error.specs.declared.error.FileReconstructionError.{FileReconstructionError}
 use Rattle.xet_error.specs.declared.error.FileReconstructionError.TheVariants as error
 use Rattle.xet_run.specs.declared.event.Event.{Event}
-use Rattle.xet_run.specs.Events.{written}
+use Rattle.xet_run.specs.Events.{written, expires}
 use Rattle.xet_writers.specs.Calls.{SinkCause, finish_fault}
 use Rattle.xet_writers.specs.declared.queued_term.QueuedTerm.{QueuedTerm}
 use Rattle.xet_writers.specs.Queues.{ready_bytes, wanted}
@@ -26,6 +26,8 @@ use Rattle.xet_leader.specs.Ending.{EndFails, EndLeads, LastCall, EndTurn, Recor
 use Rattle.xet_leader.specs.Led.{Led}
 use Rattle.xet_leader.specs.Plans.{Answer}
 use Rattle.xet_leader.specs.Steady.{IsFailing, IsGoing, IsSteady, Moment, no_loose}
+use Rattle.xet_leader.proofs.Halts.{calm_halted, stopped_halted, stopped_under}
+use Rattle.xet_leader.proofs.Starting.{tries_some}
 use Rattle.xet_leader.proofs.WriterFaults.{sink_unfailed, stopped_unfailed}
 
 none_more : (a b : Option (List ℕ)) → b ≡ option_map (λ xs. xs ++ []) a → b ≡ a
@@ -95,6 +97,7 @@ pub record IsWhole (g : Setup) (b : RunTold) (m : Moment) : Type 0 where
   pub late : NoneLate slack.late
   pub told_calm : slack.calm ≡ length b.clients
   pub calm : m.told.signal.yes ≡ b.signal.yes
+  pub under : (p k : ℕ) → count_by (expires p k) m.events < g.tries
   pub unfailed : m.told.sink.faults ≡ b.sink.faults
   pub cache_tells : (s : Store) → IsOver s b.clients → CacheTells s b.cache → CacheTells s m.told.cache
 
@@ -114,6 +117,7 @@ going_whole g b m l s =
       late = subst NoneLate (sym e.late) (none_late b.clients);
       told_calm = e.calm;
       calm = s.calm;
+      under = s.led.under;
       unfailed = s.unfailed;
       cache_tells = s.cache_tells;
     }
@@ -128,6 +132,7 @@ start_whole g b h = record {
   late = none_late b.clients;
   told_calm = refl;
   calm = refl;
+  under = λ p k. tries_some g b.clients h;
   unfailed = refl;
   cache_tells = λ s o c. c;
 }
@@ -149,6 +154,7 @@ whole_ends g b m to k j s f c =
         ties = tie_flush g b m.told m.events s.slack to c.took c.faults c.link s.ties;
         left = steady_ends b.clients s.slack s.leaves s.late s.told_calm;
         cause = tt;
+        under = λ u. s.under;
       };
       finished = subst (IsFinished g m.events) (sym c.count_is) f;
       flushed = c.flushed;
@@ -183,6 +189,8 @@ whole_fails g b m to k e s c = record {
   cause = sink_cause g s.slack.heard b (record m.told { sink = to }) m.told.sink.faults e s.ties.taken.faults c.cause;
   unfailed = sink_unfailed b.sink.faults to.faults m.told.sink.faults to.faults e c.cause;
   spent = λ h. sink_unspent m.told.sink.faults to.faults e c.cause h;
+  halted = calm_halted b.signal.yes m.told.signal.yes e s.calm;
+  under = λ u. s.under;
   cache_tells = s.cache_tells;
 }
 
@@ -200,10 +208,11 @@ failing_ends g b n es fs e answer s f =
         ties = stopped_ties g b n es fs s.slack e x f.stopped s.spent s.ties;
         left = stopped_leaves b.clients s.slack es fs e x f.stopped s.left;
         cause = stopped_cause g s.slack.heard b n es fs e x f.stopped s.cause;
+        under = stopped_under g es fs e x f.stopped s.under;
       };
       finished = tt;
       flushed = tt;
-      cancelled = λ h. tt;
+      cancelled = λ yes. stopped_halted es fs e x f.stopped (s.halted yes);
       unfailed = stopped_unfailed b.sink.faults n.sink.faults es fs e x f.stopped s.unfailed;
       cache_later = s.cache_tells;
     })

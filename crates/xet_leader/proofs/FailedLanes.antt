@@ -1,6 +1,7 @@
 -- The causes of the error of a lane.
-use Rattle.std.proofs.Common.{◌≡◌, ℕ, zero, suc, ◌+◌, ◌≤◌, List, [], ◌∷◌, ◌++◌, refl, sym, subst, ◌∙◌, ap, arith, None, Some, Option, inl, inr, ⊎_elim}
-use Rattle.std.specs.Prelude.{All, IfSome, ◌⊎◌, drop, false, option_map, slice_get}
+use Rattle.std.proofs.Common.{◌≡◌, ℕ, zero, suc, ◌+◌, List, [], ◌∷◌, ◌++◌, refl, sym, subst, ◌∙◌, ap, arith, None, Some, Option, inl, inr}
+use Rattle.std.specs.Prelude.{All, IfSome, ◌⊎◌, ◌-◌, ◌==◌, false, true, length, option_map, slice_get}
+use Rattle.std.proofs.lemmas.Bool.{and_from, eq-eqb}
 use Rattle.std.specs.Option.{is_some}
 use Rattle.std.proofs.lemmas.Option.{slice_get-map}
 use Rattle.xet_base.specs.declared.cas_types.FileRange.{FileRange}
@@ -10,7 +11,7 @@ use Rattle.xet_outside.specs.Answers.{AnswerTo}
 use Rattle.xet_outside.specs.declared.said.Said.{Said}
 use Rattle.xet_outside.specs.declared.served.Served.{Served}
 use Rattle.xet_outside.specs.Plan.{shape}
-use Rattle.xet_outside.specs.Told.{ClientTold, Query, Rose}
+use Rattle.xet_outside.specs.Told.{ClientTold, Query, served_of}
 use Rattle.xet_error.specs.declared.error.Corruption.{Corruption}
 use Rattle.xet_error.specs.declared.error.FileReconstructionError.{FileReconstructionError}
 use Rattle.xet_error.specs.declared.error.FileReconstructionError.TheVariants as error
@@ -19,23 +20,23 @@ use Rattle.xet_blocks.specs.declared.reconstruction_terms.xorb_block.XorbBlockDa
 use Rattle.xet_blocks.specs.BlockCalls.{failed_check}
 use Rattle.xet_blocks.specs.TermBlocks.{covered, xorb_blocks}
 use Rattle.xet_run.specs.declared.event.Event.{Event}
-use Rattle.xet_ties.specs.Causes.{BlockFailsIn, Cause, FirstFailed, FirstIs, IsBlockTest, LaneFails, LowestRose, QueryFailed, SomeFailed}
+use Rattle.xet_ties.specs.Causes.{BlockFailsIn, Cause, FirstFailed, IsBlockOrPassed, IsBlockTest, LaneFails, LowestRose, QueryFailed, SomeFailed}
 use Rattle.xet_ties.specs.Cuts.{AskedCut, FirstCut, StartsAt}
 use Rattle.xet_ties.specs.History.{range_at}
-use Rattle.xet_ties.specs.InCall.{AllBelow, answers_of, EachExchange, EachGrew, Exchange, SomeOne, EachAskedAs, Place}
+use Rattle.xet_ties.specs.InCall.{AllBelow, answers_of, EachExchange, EachGrew, Exchange, SomeOne, EachAskedAs}
 use Rattle.xet_ties.specs.Lanes.{Ask, EachDrew, HoldsAsk, IsFor, bytes_of_ask, entries_of, error_faults}
-use Rattle.xet_ties.specs.Saids.{BlockOfPlan, ServedPassed}
+use Rattle.xet_ties.specs.Saids.{BlockOfPlan, EventPassed, ServedPassed}
 use Rattle.xet_ties.specs.Setup.{AllTell, IsOver, RunTold, Setup}
-use Rattle.xet_ties.specs.steps.Rounds.{AreLaneSteps, FailsAsk, IsLaneStep, IsMissingAsk, LaneFailure}
-use Rattle.xet_ties.specs.Ties.{EachLane, FirstAsked, FirstUnfailed, IsFaultless, Slack, Ties}
-use Rattle.xet_ties.proofs.CallerLemmas.{accepted_more, block_fails, fetch_entry, is_check, starts_at, tells_now}
-use Rattle.xet_lanes.specs.Fetches.{last_error}
+use Rattle.xet_ties.specs.steps.Rounds.{AreLaneEnds, FailsAsk, IsLaneEnd, IsMissingAsk, LaneFailure, NoneBelow}
+use Rattle.xet_ties.specs.Ties.{EachServed, FirstAsked, FirstUnfailed, IsFaultless, Slack, Ties, is_pair}
+use Rattle.xet_ties.proofs.CallerLemmas.{accepted_more, below_passed, block_fails, fetch_entry, is_check, others_passed, rose_since, starts_at, tells_now}
+use Rattle.xet_lanes.specs.Fetches.{error_at, last_error}
 use Rattle.xet_lanes.specs.Rounds.{End, steps_of}
 use Rattle.xet_lanes.proofs.CallerLemmas.{FailedLane}
 use Rattle.xet_leader.specs.Led.{IsLed, IsLedPlan, Led, bare}
 use Rattle.xet_leader.specs.Rounds.{IsLedAsk}
 use Rattle.xet_leader.proofs.HonestBlocks.{IsHonestOf, led_honest}
-use Rattle.xet_leader.proofs.LastSteps.{LastFails, all_made, last_fails, last_more}
+use Rattle.xet_leader.proofs.LastSteps.{LastFails, all_made, last_fails}
 use Rattle.xet_leader.proofs.ServedLed.{led_keeps, plan_at}
 use Rattle.xet_ties.specs.declared.lane_step.LaneStep.{LaneStep}
 use Rattle.xet_ties.specs.declared.lane_step.LaneStep.TheVariants as step
@@ -74,73 +75,58 @@ lane_fails P fs (b ∷ bs) (n ∷ ns) (q ∷ qs) (x ∷ es) (suc i) end e h d at
 
 lane_rose : (Q : Exchange → Type 0) (fs : List Ask) (bs ns : List ClientTold) (drawn : List (List ℕ)) (es : List End)
     (i : ℕ) (end : End) (xs : List Exchange) → EachDrew fs bs ns drawn (steps_of es) → slice_get es i ≡ Some end
-    → last_error end.steps ≡ Some error.ClientError → AllBelow Q i xs → LowestRose Q bs ns xs
-lane_rose Q fs bs ns drawn [] i end xs d at last below = absurd (cc)
-lane_rose Q fs bs ns [] (x ∷ es) i end xs d at last below = absurd d
-lane_rose Q fs [] ns (q ∷ qs) (x ∷ es) i end xs d at last below = absurd d
-lane_rose Q fs (b ∷ bs) [] (q ∷ qs) (x ∷ es) i end xs d at last below = absurd d
-lane_rose Q fs (b ∷ bs) (n ∷ ns) (q ∷ qs) (x ∷ es) zero end xs d at last below =
+    → last_error end.steps ≡ Some error.ClientError → AllBelow Q (suc i) xs → LowestRose Q bs ns xs
+lane_rose Q fs bs ns drawn [] i end xs d at last upto = absurd (cc)
+lane_rose Q fs bs ns [] (x ∷ es) i end xs d at last upto = absurd d
+lane_rose Q fs [] ns (q ∷ qs) (x ∷ es) i end xs d at last upto = absurd d
+lane_rose Q fs (b ∷ bs) [] (q ∷ qs) (x ∷ es) i end xs d at last upto = absurd d
+lane_rose Q fs (b ∷ bs) (n ∷ ns) (q ∷ qs) (x ∷ es) i end [] d at last upto = absurd upto
+lane_rose Q fs (b ∷ bs) (n ∷ ns) (q ∷ qs) (x ∷ es) zero end (y ∷ ys) d at last upto =
     let same : x ≡ end = cc in
     let did = d.0.did in
     let f = last_fails (λ a. Unit {0}) b n (entries_of d.0.made x.steps ++ did.hidden) did.said d.0.made x.steps
     error.ClientError did.are (λ k y w. tt) (ap (λ (y : End). last_error y.steps) same ∙ last) in
-    inl f.cause
-lane_rose Q fs (b ∷ bs) (n ∷ ns) (q ∷ qs) (x ∷ es) (suc i) end [] d at last below = absurd below
-lane_rose Q fs (b ∷ bs) (n ∷ ns) (q ∷ qs) (x ∷ es) (suc i) end (y ∷ ys) d at last below =
-    inr (below.0, lane_rose Q fs bs ns qs es i end ys d.1 at last below.1)
-
--- since the start
-since : (Q : Exchange → Type 0) (es : List Event) (l : ℕ) (bs ms ns : List ClientTold) (hs : List (List Served))
-    (ks : List (List Place)) (xs : List Exchange) → EachLane es l bs ms hs ks → LowestRose Q ms ns xs
-    → LowestRose Q bs ns xs
-since Q es l bs [] ns hs ks xs t r = absurd r
-since Q es l [] (m ∷ ms) ns hs ks xs t r = absurd t
-since Q es l (b ∷ bs) (m ∷ ms) [] hs ks xs t r = absurd r
-since Q es l (b ∷ bs) (m ∷ ms) (n ∷ ns) [] ks xs t r = absurd t
-since Q es l (b ∷ bs) (m ∷ ms) (n ∷ ns) (h ∷ hs) [] xs t r = absurd t
-since Q es l (b ∷ bs) (m ∷ ms) (n ∷ ns) (h ∷ hs) (k ∷ ks) xs t r =
-    ⊎_elim (λ (x : Rose m.faults n.faults). inl (rose b.faults m.faults n.faults t.0.goes_on.faults x))
-    (λ (x : FirstIs Q xs × LowestRose Q ms ns (drop 1 xs)).
-    inr (x.0, since Q es (l + 1) bs ms ns hs ks (drop 1 xs) t.1 x.1)) r
-  where
-    rose : (x y z : ℕ) → x ≤ y → Rose y z → Rose x z
-    rose x y z a h = omega arith
+    (upto.0, inl f.cause)
+lane_rose Q fs (b ∷ bs) (n ∷ ns) (q ∷ qs) (x ∷ es) (suc i) end (y ∷ ys) d at last upto =
+    (upto.0, inr (lane_rose Q fs bs ns qs es i end ys d.1 at last upto.1))
 
 -- ---- what was heard in the join
 
--- what holds of each step of a lane holds of the last one, which failed so
-last_holds : (P : LaneStep → Type 0) (ss : List LaneStep) (e : FileReconstructionError) → All P ss
-    → last_error ss ≡ Some e → P (step.Failed e)
-last_holds P [] e h last = absurd (cc)
-last_holds P (step.Served p k d ∷ []) e h last = absurd (cc)
-last_holds P (step.Expired p k ∷ []) e h last = absurd (cc)
-last_holds P (step.Failed x ∷ []) e h last =
-    let same : x ≡ e = cc in
-    subst (λ (y : FileReconstructionError). P (step.Failed y)) same (All-head P (step.Failed x) [] h)
-last_holds P (s ∷ t ∷ ss) e h last =
-    last_holds P (t ∷ ss) e (All-tail P s (t ∷ ss) h) (sym (last_more s t ss) ∙ last)
+-- what holds of the last step of a lane, which failed so
+last_holds : (P : LaneStep → Type 0) (o : Option LaneStep) (e : FileReconstructionError) → IfSome o P
+    → error_at o ≡ Some e → P (step.Failed e)
+last_holds P None e h last = absurd (cc)
+last_holds P (Some (step.Served p k d)) e h last = absurd (cc)
+last_holds P (Some (step.Expired p k)) e h last = absurd (cc)
+last_holds P (Some (step.Failed x)) e h last =
+    let same : x ≡ e = cc in subst (λ (y : FileReconstructionError). P (step.Failed y)) same h
 
--- the bytes that failed a test, of the lowest lane that has an error; no connection tells a store whose block passes
-record LowestFailure (fs : List Ask) (bs : List ClientTold) (xs : List Exchange) (lane : ℕ) (k : Corruption)
-    : Type 0 where
+-- the bytes that failed a test, of the lowest lane that has an error, which hides no other entry; no connection tells a
+-- store whose block passes
+record LowestFailure (fs : List Ask) (bs : List ClientTold) (xs : List Exchange) (hs : List (List Served)) (lane : ℕ)
+    (k : Corruption) : Type 0 where
   number : ℕ
   ask : Ask
   at : slice_get fs number ≡ Some ask
   exchange : Exchange
   there : slice_get xs lane ≡ Some exchange
   own : FailsAsk ask k exchange
+  hidden : List Served
+  hidden_at : slice_get hs lane ≡ Some hidden
+  hides : (hidden ≡ []) ⊎ (hidden ≡ served_of ask.request ∷ [])
   dishonest : (s : Store) → AllTell s bs → HoldsAsk s ask → failed_check ask.block (bytes_of_ask s ask) ≡ None → ⊥
 
-lowest_failure : (fs : List Ask) (bs : List ClientTold) (xs : List Exchange) (es : List End)
-    (i : ℕ) (end : End) (k : Corruption) → AreLaneSteps fs bs xs (steps_of es) → slice_get es i ≡ Some end
-    → last_error end.steps ≡ Some (error.CorruptedReconstruction k) → LowestFailure fs bs xs i k
-lowest_failure fs bs xs [] i end k h at last = absurd (cc)
-lowest_failure fs [] xs (e ∷ es) i end k h at last = absurd h
-lowest_failure fs (b ∷ bs) [] (e ∷ es) i end k h at last = absurd h
-lowest_failure fs (b ∷ bs) (x ∷ xs) (e ∷ es) zero end k h at last =
+lowest_failure : (fs : List Ask) (bs : List ClientTold) (xs : List Exchange) (hs : List (List Served)) (es : List End)
+    (i : ℕ) (end : End) (k : Corruption) → AreLaneEnds fs bs xs hs (steps_of es) → slice_get es i ≡ Some end
+    → last_error end.steps ≡ Some (error.CorruptedReconstruction k) → LowestFailure fs bs xs hs i k
+lowest_failure fs bs xs hs [] i end k h at last = absurd (cc)
+lowest_failure fs [] xs hs (e ∷ es) i end k h at last = absurd h
+lowest_failure fs (b ∷ bs) [] hs (e ∷ es) i end k h at last = absurd h
+lowest_failure fs (b ∷ bs) (x ∷ xs) [] (e ∷ es) i end k h at last = absurd h
+lowest_failure fs (b ∷ bs) (x ∷ xs) (j ∷ hs) (e ∷ es) zero end k h at last =
     let same : e ≡ end = cc in
-    let f : LaneFailure fs b x k = last_holds (IsLaneStep fs b x) e.steps (error.CorruptedReconstruction k) h.0
-    (ap (λ (y : End). last_error y.steps) same ∙ last) in
+    let f : LaneFailure fs b x j k = last_holds (IsLaneEnd fs b x j) (slice_get e.steps (length e.steps - 1))
+    (error.CorruptedReconstruction k) h.0 (ap (λ (y : End). last_error y.steps) same ∙ last) in
     record {
       number = f.number;
       ask = f.ask;
@@ -148,10 +134,13 @@ lowest_failure fs (b ∷ bs) (x ∷ xs) (e ∷ es) zero end k h at last =
       exchange = x;
       there = refl;
       own = f.bytes;
+      hidden = j;
+      hidden_at = refl;
+      hides = f.hides;
       dishonest = λ s tell. f.dishonest s tell.0;
     }
-lowest_failure fs (b ∷ bs) (x ∷ xs) (e ∷ es) (suc i) end k h at last =
-    let r = lowest_failure fs bs xs es i end k h.1 at last in
+lowest_failure fs (b ∷ bs) (x ∷ xs) (j ∷ hs) (e ∷ es) (suc i) end k h at last =
+    let r = lowest_failure fs bs xs hs es i end k h.1 at last in
     record {
       number = r.number;
       ask = r.ask;
@@ -159,6 +148,9 @@ lowest_failure fs (b ∷ bs) (x ∷ xs) (e ∷ es) (suc i) end k h at last =
       exchange = r.exchange;
       there = r.there;
       own = r.own;
+      hidden = r.hidden;
+      hidden_at = r.hidden_at;
+      hides = r.hides;
       dishonest = λ s tell. r.dishonest s tell.1;
     }
 
@@ -218,11 +210,12 @@ starts_more g xs ys p start s h =
 
 lane_failed : (g : Setup) (b : RunTold) (es : List Event) (sl : Slack) (l : Led) (a : Ask) (k : Corruption)
     (ys : List Exchange) (ns : List ClientTold) (i : ℕ) (x : Exchange) → slice_get ys i ≡ Some x → FailsAsk a k x
+    → All (IsBlockOrPassed g ys a.request.acquisition.plan a.request.index) x.served
     → AllBelow (ServedPassed g ys) i ys → FirstUnfailed (suc i) b.clients ns → IsLed g b es sl [] l → IsOwnAsk es l a
     → EachGrew sl.heard ys → EachAskedAs sl.heard ys
     → ((p : ℕ) (r : FileRange) → range_at es p ≡ r ∷ [] → StartsAt g sl.heard p r.start)
     → SomeFailed g ys k × LaneFails g ys b.clients ns k
-lane_failed g b es sl l a k ys ns i x listed own below unfailed led h grew asked starts =
+lane_failed g b es sl l a k ys ns i x listed own others below unfailed led h grew asked starts =
     let m = h.led in
     let kk = a.request.index in
     let q = plan_at (IsLedPlan g b es sl []) l.plans m.index m.plan m.at led.plans.each in
@@ -265,6 +258,7 @@ lane_failed g b es sl l a k ys ns i x listed own below unfailed led h grew asked
         number = p;
         own = sym m.number ∙ q.said_as;
         bytes = fails x own;
+        others = others;
         passed = below;
         unfailed = subst (λ (n : ℕ). FirstUnfailed n b.clients ns) next unfailed;
       },
@@ -290,32 +284,52 @@ first_failed g f es lost (b ∷ bs) ms (n ∷ ns) ys k a t test = always (answer
 
 -- ---- the causes
 
+-- what was heard after a join, all of which is recorded but what lanes hide: none below the lane that failed, nor in
+-- that lane itself where its call failed
+pub record IsHeardJoin (g : Setup) (all : List Event) (hs : List (List Served)) (i : ℕ) (e : FileReconstructionError)
+    (ys : List Exchange) : Type 0 where
+  pub served : EachServed all 0 ys hs
+  pub passed : All (EventPassed g ys) all
+  pub below : NoneBelow i hs
+  pub upto : e ≡ error.ClientError → NoneBelow (suc i) hs
+
+-- the entry of a fetch is of its block
+own_pair : (a : Ask) → is_pair a.request.acquisition.plan a.request.index (served_of a.request) ≡ true
+own_pair a =
+    let p = a.request.acquisition.plan in
+    let k = a.request.index in
+    and_from (p == p) (k == k) (eq-eqb p p refl) (eq-eqb k k refl)
+
 -- the error of a lane's last step has its cause, by what was heard after the join
 pub lane_cause : (g : Setup) (b at : RunTold) (es : List Event) (sl : Slack) (ns : List ClientTold) (fs : List Ask)
     (drawn : List (List ℕ)) (ends : List End) (l : Led) (e : FileReconstructionError) (ys : List Exchange)
-    → All (IsOwnAsk es l) fs → EachDrew fs at.clients ns drawn (steps_of ends) → (f : FailedLane ends e)
+    (all : List Event) (hs : List (List Served)) → All (IsOwnAsk es l) fs → EachDrew fs at.clients ns drawn (steps_of ends) → (f : FailedLane ends e)
     → EachGrew sl.heard ys → EachAskedAs sl.heard ys → EachExchange b.clients ns ys
-    → AreLaneSteps fs at.clients ys (steps_of ends) → AllBelow (ServedPassed g ys) f.at ys
+    → AreLaneEnds fs at.clients ys hs (steps_of ends) → IsHeardJoin g all hs f.at e ys
     → (error_faults e ≡ false → FirstUnfailed (suc f.at) b.clients ns)
     → Ties g b at es None sl → IsLed g b es sl [] l → Cause g ys b (record at { clients = ns }) e
-lane_cause g b at es sl ns fs drawn ends l error.OutOfMemory ys own d f grew asked each failed below calm t led = tt
-lane_cause g b at es sl ns fs drawn ends l error.ClientError ys own d f grew asked each failed below calm t led =
+lane_cause g b at es sl ns fs drawn ends l error.OutOfMemory ys all hs own d f grew asked each failed join calm t led = tt
+lane_cause g b at es sl ns fs drawn ends l error.ClientError ys all hs own d f grew asked each failed join calm t led =
     let Q = ServedPassed g ys in
-    since Q es 0 b.clients at.clients ns sl.hidden sl.late ys t.served.lanes
-    (lane_rose Q fs at.clients ns drawn ends f.at f.end ys d f.there f.error below)
-lane_cause g b at es sl ns fs drawn ends l error.FileNotFound ys own d f grew asked each failed below calm t led =
+    rose_since Q es 0 b.clients at.clients ns sl.hidden sl.late ys t.served.lanes
+    (lane_rose Q fs at.clients ns drawn ends f.at f.end ys d f.there f.error
+    (below_passed g all ys (suc f.at) 0 ys hs (join.upto refl) join.served join.passed))
+lane_cause g b at es sl ns fs drawn ends l error.FileNotFound ys all hs own d f grew asked each failed join calm t led =
     absurd (lane_fails (IsOwnAsk es l) fs at.clients ns drawn ends f.at f.end error.FileNotFound own d f.there
     f.error).last.cause
-lane_cause g b at es sl ns fs drawn ends l error.UrlExpired ys own d f grew asked each failed below calm t led =
+lane_cause g b at es sl ns fs drawn ends l error.UrlExpired ys all hs own d f grew asked each failed join calm t led =
     absurd (lane_fails (IsOwnAsk es l) fs at.clients ns drawn ends f.at f.end error.UrlExpired own d f.there
     f.error).last.cause
-lane_cause g b at es sl ns fs drawn ends l error.IoError ys own d f grew asked each failed below calm t led =
+lane_cause g b at es sl ns fs drawn ends l error.IoError ys all hs own d f grew asked each failed join calm t led =
     absurd (lane_fails (IsOwnAsk es l) fs at.clients ns drawn ends f.at f.end error.IoError own d f.there
     f.error).last.cause
-lane_cause g b at es sl ns fs drawn ends l (error.CorruptedReconstruction k) ys own d f grew asked each failed below calm t led =
-    let r = lowest_failure fs at.clients ys ends f.at f.end k failed f.there f.error in
+lane_cause g b at es sl ns fs drawn ends l (error.CorruptedReconstruction k) ys all hs own d f grew asked each failed join calm t led =
+    let r = lowest_failure fs at.clients ys hs ends f.at f.end k failed f.there f.error in
     let holds = ask_at (IsOwnAsk es l) fs r.number r.ask own r.at in
-    let fails = lane_failed g b es sl l r.ask k ys ns f.at r.exchange r.there r.own below (calm refl) led
+    let others = others_passed g all ys r.ask.request.acquisition.plan r.ask.request.index (served_of r.ask.request)
+    f.at 0 ys hs r.exchange r.hidden r.there r.hidden_at r.hides (own_pair r.ask) join.served join.passed in
+    let below = below_passed g all ys f.at 0 ys hs join.below join.served join.passed in
+    let fails = lane_failed g b es sl l r.ask k ys ns f.at r.exchange r.there r.own others below (calm refl) led
     holds grew asked (λ p q h. starts_at g b at es None sl p q t h) in
     record {
       untrue = λ s over.
@@ -327,13 +341,13 @@ lane_cause g b at es sl ns fs drawn ends l (error.CorruptedReconstruction k) ys 
           (is_check k r.ask.block r.own.given r.own.fails);
       order = inr fails.1;
     }
-lane_cause g b at es sl ns fs drawn ends l (error.ConfigurationError e) ys own d f grew asked each failed below calm t led =
+lane_cause g b at es sl ns fs drawn ends l (error.ConfigurationError e) ys all hs own d f grew asked each failed join calm t led =
     absurd (lane_fails (IsOwnAsk es l) fs at.clients ns drawn ends f.at f.end
     (error.ConfigurationError e) own d f.there f.error).last.cause
-lane_cause g b at es sl ns fs drawn ends l error.Cancelled ys own d f grew asked each failed below calm t led =
+lane_cause g b at es sl ns fs drawn ends l error.Cancelled ys all hs own d f grew asked each failed join calm t led =
     absurd (lane_fails (IsOwnAsk es l) fs at.clients ns drawn ends f.at f.end error.Cancelled own d f.there
     f.error).last.cause
-lane_cause g b at es sl ns fs drawn ends l (error.InternalWriterError w) ys own d f grew asked each failed below calm t led =
+lane_cause g b at es sl ns fs drawn ends l (error.InternalWriterError w) ys all hs own d f grew asked each failed join calm t led =
     absurd (lane_fails (IsOwnAsk es l) fs at.clients ns drawn ends f.at f.end
     (error.InternalWriterError w) own d f.there f.error).last.cause
 

@@ -79,6 +79,8 @@ stop_fails g b m o l y e is c s =
       cause = r.1;
       unfailed = s.unfailed;
       spent = λ h. absurd (cc);
+      halted = λ yes. tt;
+      under = λ u. s.led.under;
       cache_tells = s.cache_tells;
     } in
     subst (λ (x : FileReconstructionError). IsFailing g b (with_signal m y) x) (sym is) f

@@ -12,7 +12,7 @@ use Rattle.xet_error.specs.declared.error.FileReconstructionError.{FileReconstru
 use Rattle.xet_error.specs.declared.error.FileReconstructionError.TheVariants as error
 use Rattle.xet_ties.specs.declared.lane_step.LaneStep.{LaneStep}
 use Rattle.xet_ties.specs.declared.lane_step.LaneStep.TheVariants as step
-use Rattle.xet_ties.specs.Lanes.{AreAt, AreOf, Ask, EachDrew, HidesNone, IsOf, StepCause, any_faults, entries_of, error_faults, faults_in, may_hide}
+use Rattle.xet_ties.specs.Lanes.{AreAt, AreOf, Ask, EachDrew, HidesNone, IsOf, StepCause, any_faults, entries_of, error_faults, error_hides, faults_in, may_hide}
 use Rattle.xet_ties.specs.Setup.{AllTell}
 use Rattle.xet_ties.specs.Ties.{EachUnfailed, FirstUnfailed}
 use Rattle.xet_lanes.specs.Fetches.{NoneFailedBefore, error_at, error_in, last_error}
@@ -146,6 +146,34 @@ none_below (x ∷ es) [] (suc i) before w h = absurd h
 none_below (x ∷ es) (s ∷ hs) (suc i) before w h =
     let B : End → Type 0 = λ (e : End). NoneFailedBefore e.steps in
     (h.0 (lane_well x.steps (All-head B x es before) w.0), none_below es hs i (All-tail B x es before) w.1 h.1)
+
+-- nor in one that ends with a failed call
+faulted_step : (s : LaneStep) → error_in s ≡ Some error.ClientError → may_hide s ≡ false
+faulted_step (step.Served p k d) h = refl
+faulted_step (step.Expired p k) h = refl
+faulted_step (step.Failed e) h = let same : e ≡ error.ClientError = cc in ap error_hides same
+
+faulted_well : (ss : List LaneStep) → NoneFailedBefore ss → last_error ss ≡ Some error.ClientError → HidesNone ss
+faulted_well [] before w = tt
+faulted_well (x ∷ []) before w = (faulted_step x w, tt)
+faulted_well (x ∷ y ∷ ss) before w =
+    (whole_step x before.0, faulted_well (y ∷ ss) before.1 (sym (last_more x y ss) ∙ w))
+
+-- so neither that lane nor one below it hides any
+pub none_upto : (es : List End) (hs : List (List Served)) (i : ℕ) (end : End)
+    → All (λ (e : End). NoneFailedBefore e.steps) es → NoErrorBelow i es → slice_get es i ≡ Some end
+    → last_error end.steps ≡ Some error.ClientError → EachHides (steps_of es) hs → NoneBelow (suc i) hs
+none_upto [] hs i end before w at last h = absurd (cc)
+none_upto (x ∷ es) [] i end before w at last h = absurd h
+none_upto (x ∷ es) (s ∷ hs) zero end before w at last h =
+    let B : End → Type 0 = λ (e : End). NoneFailedBefore e.steps in
+    let same : x ≡ end = cc in
+    (h.0 (faulted_well x.steps (All-head B x es before) (ap (λ (y : End). last_error y.steps) same ∙ last)), tt)
+none_upto (x ∷ es) (s ∷ hs) (suc i) end before w at last h =
+    let B : End → Type 0 = λ (e : End). NoneFailedBefore e.steps in (
+      h.0 (lane_well x.steps (All-head B x es before) w.0),
+      none_upto es hs i end (All-tail B x es before) w.1 at last h.1,
+    )
 
 -- ---- steps without a failed call
 

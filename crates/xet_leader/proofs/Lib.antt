@@ -14,6 +14,7 @@ mod FetchFacts
 mod Finishing
 mod FirstSettles
 mod FoundBlocks
+mod Halts
 mod HonestBlocks
 mod JoinRuns
 mod JoinTurns

@@ -21,6 +21,7 @@ use Rattle.xet_leader.specs.Steady.{IsFailing, IsGoing, Loose, Moment, no_loose}
 use Rattle.xet_leader.proofs.FetchFacts.{missing_lists}
 use Rattle.xet_leader.proofs.LookTies.{Looking, look_each}
 use Rattle.xet_leader.proofs.WriterFaults.{any_unfailed}
+use Rattle.xet_leader.proofs.Halts.{memory_halted, memory_spent}
 
 -- the leader of a run that goes on
 pub led_by : (g : Setup) (b : RunTold) (m : Moment) (o : Loose) (l : Led) (es : List Event) → m.events ≡ es
@@ -51,6 +52,8 @@ failing g b m o l t u es fs e memory short s =
       cause = cause t;
       unfailed = any_unfailed b.sink.faults m.told.sink.faults e s.unfailed;
       spent = spent es;
+      halted = λ yes. memory_halted e memory;
+      under = λ u. memory_spent e memory u;
       cache_tells = s.cache_tells;
     } in
     subst (λ (c : CacheTold). IsFailing g b (record { told = record m.told { cache = c }; events = fs }) e) (sym h.0)
@@ -66,6 +69,8 @@ failing g b m o l t u es fs e memory short s =
       cause = cause u;
       unfailed = any_unfailed b.sink.faults m.told.sink.faults e s.unfailed;
       spent = spent fs;
+      halted = λ yes. memory_halted e memory;
+      under = λ u. memory_spent e memory u;
       cache_tells = λ v o k. look_tells v t u h.entries (s.cache_tells v o k);
     } in z)
     short

@@ -39,6 +39,7 @@ use Rattle.xet_leader.proofs.MoreTold.{led_more, tells_more_heard}
 use Rattle.xet_leader.proofs.PlanPlaces.{place_number}
 use Rattle.xet_leader.proofs.RefreshedEvents.{at_place}
 use Rattle.xet_leader.proofs.WriterFaults.{any_unfailed}
+use Rattle.xet_leader.proofs.Halts.{memory_halted, memory_spent}
 
 -- the moment after an offer
 abbrev cached_at : Moment → CacheTold → Moment
@@ -252,6 +253,8 @@ short_failing g b m o l x d e call s =
       cause = subst (Cause g s.slack.heard b (record m.told { cache = d })) (sym memory) tt;
       unfailed = any_unfailed b.sink.faults m.told.sink.faults e s.unfailed;
       spent = λ h. absurd (let z : error.OutOfMemory ≡ error.UrlExpired = sym memory ∙ h in cc);
+      halted = λ yes. memory_halted e memory;
+      under = λ u. memory_spent e memory u;
       cache_tells = λ z over tells. subst (CacheTells z) (sym same) (s.cache_tells z over tells);
     }
 

@@ -1,6 +1,6 @@
 -- A run after its stale plans were asked for again.
-use Rattle.std.proofs.Common.{◌≡◌, ℕ, ◌+◌, Bool, List, [], ◌∷◌, ◌++◌, take, drop, Option, None, Some, Ok, Err, refl, sym, subst, ◌∙◌, ap}
-use Rattle.std.specs.Prelude.{slice_get}
+use Rattle.std.proofs.Common.{◌≡◌, ℕ, ◌+◌, Bool, List, [], ◌∷◌, ◌++◌, take, drop, Option, None, Some, Ok, Err, refl, sym, subst, ◌∙◌, ap, ◌<◌}
+use Rattle.std.specs.Prelude.{slice_get, count_by}
 use Rattle.std.specs.List.{slice_set}
 use Rattle.std.proofs.lemmas.List.{append-nil, take-append-drop}
 use Rattle.std.proofs.lemmas.Option.{get_or_from_slice_get, slice_get_within}
@@ -32,6 +32,8 @@ use Rattle.xet_leader.proofs.PlanPlaces.{place_absent, place_number}
 use Rattle.xet_leader.proofs.RefreshTables.{asks_again, refresh_passes}
 use Rattle.xet_leader.proofs.RefreshedEvents.{at_place, led_absent, led_refreshed}
 use Rattle.xet_leader.proofs.WriterFaults.{any_unfailed}
+use Rattle.xet_leader.proofs.Halts.{calm_halted}
+use Rattle.xet_run.specs.Events.{expires}
 
 -- what a refresh touches at a moment
 abbrev touched : ClientTold → Moment → Led → Touched
@@ -188,6 +190,9 @@ refused g b m o cs c multi p place rest l a e same is found r s =
       unfailed = any_unfailed b.sink.faults m.told.sink.faults e s.unfailed;
       spent = λ h. absurd (subst (λ (y : FileReconstructionError). RefreshCause (again x.block multi) c a.client y) h
           r.call.cause);
+      halted = calm_halted b.signal.yes m.told.signal.yes e s.calm;
+      under = λ u q k. subst (λ (l : List Event). count_by (expires q k) l < g.tries) (sym r.call.unrecorded)
+          (s.led.under q k);
       cache_tells = s.cache_tells;
     }
 

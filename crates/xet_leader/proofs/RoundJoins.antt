@@ -286,7 +286,7 @@ stopped told g b m l cs lengths a z j tries fs e few same p f h =
     (λ (x : join_error j ≡ Some e). round_stops g b at m.events sl z.clients
     (map ask_of f.asked) ends l lengths j.wrote e t.asks t.drew t.left t.ties t.led
     p.going.settled.calm x t.whole t.cause
-    t.unfailed p.going.cache_tells)
+    t.unfailed p.going.calm p.going.cache_tells)
     (λ (x : (join_error j ≡ None) × KeepFails tries j.ends.items (fetched_led cs l) e).
     let n = no_error j.wrote ends x.0 in
     ⊎_elim
@@ -298,7 +298,7 @@ stopped told g b m l cs lengths a z j tries fs e few same p f h =
     let spent = round_spent g b at m.events sl z.clients (map ask_of f.asked) ls l lengths t.left
     (lanes_well ends t.drew.last n.1) some (t.whole n.0.0 n.0.1)
     (calm_whole sl.calm ls (lanes_calm ends t.drew.last n.1) ∙ p.going.settled.calm) (t.unfailed n.0.0 n.0.1)
-    p.going.cache_tells in
+    p.going.calm p.going.cache_tells in
     subst (λ (i : FileReconstructionError). IsFailing g b
     (after_round told m z (m.events ++ join_events j lengths)) i) (sym y.0)
     (subst (λ (o : Result ℕ FileReconstructionError). IsFailing g b

@@ -33,6 +33,7 @@ use Rattle.xet_leader.specs.Steady.{IsFailing, IsGoing, Loose}
 use Rattle.xet_leader.proofs.LateLed.{spent_more}
 use Rattle.xet_leader.proofs.MoreTold.{led_more, tells_more_heard}
 use Rattle.xet_leader.proofs.WroteEvents.{led_wrote}
+use Rattle.xet_leader.proofs.Halts.{calm_halted}
 
 -- ---- the events of lanes plan nothing
 
@@ -144,6 +145,8 @@ memory_fails g b at es sl t tells = record {
   cause = tt;
   unfailed = tt;
   spent = λ h. absurd (cc);
+  halted = λ yes. tt;
+  under = λ u. absurd u;
   cache_tells = tells;
 }
 
@@ -151,9 +154,10 @@ memory_fails g b at es sl t tells = record {
 pub spent_fails : (g : Setup) (b at : RunTold) (es : List Event) (sl : Slack) → IsSpent g.tries es
     → sl.hidden ≡ no_hidden b.clients → sl.late ≡ no_late b.clients → sl.ahead ≡ 0
     → sl.calm ≡ length b.clients → Ties g b at es None sl
-    → at.sink.faults ≡ b.sink.faults → ((s : Store) → IsOver s b.clients → CacheTells s b.cache → CacheTells s at.cache)
+    → at.sink.faults ≡ b.sink.faults → at.signal.yes ≡ b.signal.yes
+    → ((s : Store) → IsOver s b.clients → CacheTells s b.cache → CacheTells s at.cache)
     → IsFailing g b (record { told = at; events = es }) error.UrlExpired
-spent_fails g b at es sl h hidden late ahead calm t unfailed tells =
+spent_fails g b at es sl h hidden late ahead calm t unfailed quiet tells =
     let most = t.tried.at_most h.plan h.block in
     let many = h.many in
     let same : count_by (expires h.plan h.block) es ≡ g.tries = omega (arith, most, many) in
@@ -165,6 +169,8 @@ spent_fails g b at es sl h hidden late ahead calm t unfailed tells =
       cause = have_expired g b at es None sl h.plan h.block same t;
       unfailed = unfailed;
       spent = λ e. (h.plan, h.block, same);
+      halted = calm_halted b.signal.yes at.signal.yes error.UrlExpired quiet;
+      under = λ u. absurd u;
       cache_tells = tells;
     }
 
@@ -173,12 +179,13 @@ pub round_spent : (g : Setup) (b at : RunTold) (es : List Event) (sl : Slack) (n
     (ls : List (List LaneStep)) (l : Led) (lengths : List ℕ) → RoundLeft g b at es sl ns fs ls l → All HidesNone ls
     → spends g.tries (flat_map places_of ls) (plans_kept ls l.plans) ≡ true → sl.ahead ≡ total lengths
     → calm_after sl.calm ls ≡ length b.clients
-    → at.sink.faults ≡ b.sink.faults → ((s : Store) → IsOver s b.clients → CacheTells s b.cache → CacheTells s at.cache)
+    → at.sink.faults ≡ b.sink.faults → at.signal.yes ≡ b.signal.yes
+    → ((s : Store) → IsOver s b.clients → CacheTells s b.cache → CacheTells s at.cache)
     → IsFailing g b (record {
       told = record at { clients = ns };
       events = es ++ (lanes_events ls ++ wrote_of lengths);
     }) error.UrlExpired
-round_spent g b at es sl ns fs ls l lengths r none some ahead calm unfailed tells =
+round_spent g b at es sl ns fs ls l lengths r none some ahead calm unfailed quiet tells =
     let n : RunTold = record at { clients = ns } in
     let mid = es ++ lanes_events ls in
     let a = r.after in
@@ -188,7 +195,7 @@ round_spent g b at es sl ns fs ls l lengths r none some ahead calm unfailed tell
     subst (λ (x : List Event). IsFailing g b (record { told = n; events = x }) error.UrlExpired)
     (append_assoc es (lanes_events ls) (wrote_of lengths))
     (spent_fails g b n (mid ++ wrote_of lengths) (record r.slack { ahead = 0 }) spent
-    (a.none none) a.late refl (a.calm ∙ calm) tied unfailed tells)
+    (a.none none) a.late refl (a.calm ∙ calm) tied unfailed quiet tells)
 
 -- memory was wanting while all was recorded, bytes of the window too
 pub round_memory : (g : Setup) (b at : RunTold) (es new : List Event) (sl : Slack) (ns : List ClientTold)

@@ -20,7 +20,7 @@ use Rattle.xet_ties.specs.Setup.{CacheTells, IsOver, RunTold, Setup}
 use Rattle.xet_ties.specs.steps.Parts.{total}
 use Rattle.xet_ties.specs.steps.Records.{wrote_of}
 use Rattle.xet_ties.specs.Ties.{FirstUnfailed, IsFaultless, MayLeave, NoneLate, Slack, Ties, all_of}
-use Rattle.xet_ties.proofs.CallerLemmas.{below_passed, none_hidden, none_late, tells_now, tie_written}
+use Rattle.xet_ties.proofs.CallerLemmas.{none_hidden, none_late, tells_now, tie_written}
 use Rattle.xet_lanes.specs.JoinErrors.{end_error, first_error, lacks_memory, memory_was_short, wants_memory}
 use Rattle.xet_lanes.specs.Rounds.{End, LanesDrew, steps_of}
 use Rattle.xet_lanes.proofs.CallerLemmas.{FailedLane, error_cause}
@@ -28,11 +28,13 @@ use Rattle.xet_leader.specs.Led.{IsLed, Led}
 use Rattle.xet_leader.specs.RoundRecords.{lanes_events, window_events}
 use Rattle.xet_leader.specs.Rounds.{AreLedAsks, RoundLeft}
 use Rattle.xet_leader.specs.Steady.{IsFailing}
-use Rattle.xet_leader.proofs.FailedLanes.{honest_ask, lane_cause, never_calm, never_spent, own_asks}
+use Rattle.xet_leader.proofs.FailedLanes.{IsHeardJoin, honest_ask, lane_cause, never_calm, never_spent, own_asks}
 use Rattle.xet_leader.proofs.HonestBlocks.{IsHonestOf}
-use Rattle.xet_leader.proofs.LastSteps.{lanes_honest, none_below, upto_unfailed}
+use Rattle.xet_leader.proofs.LastSteps.{none_upto, lanes_honest, none_below, upto_unfailed}
 use Rattle.xet_leader.proofs.RoundLeads.{memory_fails}
 use Rattle.xet_leader.proofs.WriterFaults.{any_unfailed, sink_unfailed}
+use Rattle.xet_leader.proofs.Halts.{calm_halted, unspent_faultless}
+use Rattle.xet_ties.specs.RunCalls.{IsUnspent}
 
 -- what is told is tied to all that the join records; the bytes are those of the window, where it was written
 record JoinTied (g : Setup) (b n : RunTold) (new : List Event) (from : Slack)
@@ -119,9 +121,9 @@ write_stops : (g : Setup) (b at : RunTold) (es : List Event) (sl : Slack) (ns : 
     → (r : RoundLeft g b at es sl ns fs (steps_of ends) l)
     → Ties g b at es None sl → IsLed g b es sl [] l → list_any lacks_memory ends ≡ false
     → JoinTied g b (record at { clients = ns }) new r.slack wrote → SinkCause b.sink.faults at.sink.faults e
-    → ((s : Store) → IsOver s b.clients → CacheTells s b.cache → CacheTells s at.cache)
+    → at.signal.yes ≡ b.signal.yes → ((s : Store) → IsOver s b.clients → CacheTells s b.cache → CacheTells s at.cache)
     → IsFailing g b (record { told = record at { clients = ns }; events = new }) e
-write_stops g b at es sl ns fs ends l e new wrote asks d r t led m j sink tells = ⊎_elim memory taken sink
+write_stops g b at es sl ns fs ends l e new wrote asks d r t led m j sink quiet tells = ⊎_elim memory taken sink
   where
     n : RunTold
     n = record at { clients = ns }
@@ -141,6 +143,8 @@ write_stops g b at es sl ns fs ends l e new wrote asks d r t led m j sink tells 
       cause = subst (Cause g j.slack.heard b n) (sym h.0) h.1;
       unfailed = sink_unfailed b.sink.faults at.sink.faults b.sink.faults at.sink.faults e sink;
       spent = λ u. absurd (let z : error.IoError ≡ error.UrlExpired = sym h.0 ∙ u in cc);
+      halted = calm_halted b.signal.yes at.signal.yes e quiet;
+      under = λ u. absurd (subst (λ (x : FileReconstructionError). IsUnspent (Some x)) h.0 u);
       cache_tells = tells;
     }
 
@@ -151,25 +155,33 @@ lane_stops : (g : Setup) (b at : RunTold) (es : List Event) (sl : Slack) (ns : L
     → (r : RoundLeft g b at es sl ns fs (steps_of ends) l)
     → Ties g b at es None sl → IsLed g b es sl [] l → sl.calm ≡ length b.clients → list_any lacks_memory ends ≡ false
     → JoinTied g b (record at { clients = ns }) new r.slack (Ok k) → FailedLane ends e
-    → at.sink.faults ≡ b.sink.faults → ((s : Store) → IsOver s b.clients → CacheTells s b.cache → CacheTells s at.cache)
+    → at.sink.faults ≡ b.sink.faults → at.signal.yes ≡ b.signal.yes
+    → ((s : Store) → IsOver s b.clients → CacheTells s b.cache → CacheTells s at.cache)
     → IsFailing g b (record { told = record at { clients = ns }; events = new }) e
-lane_stops g b at es sl ns fs ends l e new k asks d r t led calm m j f same tells =
+lane_stops g b at es sl ns fs ends l e new k asks d r t led calm m j f same quiet tells =
     let own = own_asks es l fs asks.own asks.led asks.missing in
-    let below = below_passed g (es ++ lanes_events (steps_of ends)) r.slack.heard f.at 0 r.slack.heard r.slack.hidden
-    (none_below ends r.slack.hidden f.at d.last f.below r.after.hides) r.ties.heard_served r.ties.passed in
+    let join : IsHeardJoin g (es ++ lanes_events (steps_of ends)) r.slack.hidden f.at e r.slack.heard = record {
+      served = r.ties.heard_served;
+      passed = r.ties.passed;
+      below = none_below ends r.slack.hidden f.at d.last f.below r.after.hides;
+      upto = λ h. none_upto ends r.slack.hidden f.at f.end d.last f.below f.there (f.error ∙ ap Some h) r.after.hides;
+    } in
     record {
       slack = j.slack;
       ties = j.ties;
       left = leaves g b at es sl ns fs ends l e j.slack asks d r m t led j.hidden j.late (λ io. j.ahead k refl)
           (never_calm g es l at.clients ns fs d.drew.drawn ends e own d.drew.each f);
       cause = subst (λ (xs : List Exchange). Cause g xs b (record at { clients = ns }) e) (sym j.heard)
-          (lane_cause g b at es sl ns fs d.drew.drawn ends l e r.slack.heard own d.drew.each f r.after.grew
-          r.after.asked r.ties.heard r.after.failed below (λ h. upto_unfailed fs b.clients at.clients ns d.drew.drawn
+          (lane_cause g b at es sl ns fs d.drew.drawn ends l e r.slack.heard (es ++ lanes_events (steps_of ends))
+          r.slack.hidden own d.drew.each f r.after.grew r.after.asked r.ties.heard r.after.failed join (λ h. upto_unfailed fs b.clients at.clients ns d.drew.drawn
           ends f.at f.end e d.drew.each (subst (λ (i : ℕ). FirstUnfailed i b.clients at.clients) calm t.unfailed)
           d.last f.below f.there f.error h) t led);
       unfailed = any_unfailed b.sink.faults at.sink.faults e same;
       spent = λ u. absurd (never_spent g es l at.clients ns fs d.drew.drawn ends own d.drew.each
           (subst (FailedLane ends) u f));
+      halted = calm_halted b.signal.yes at.signal.yes e quiet;
+      under = λ u. absurd (never_calm g es l at.clients ns fs d.drew.drawn ends e own d.drew.each f
+          (unspent_faultless e u));
       cache_tells = tells;
     }
 
@@ -180,13 +192,13 @@ pub round_stops : (g : Setup) (b at : RunTold) (es : List Event) (sl : Slack) (n
     → RoundLeft g b at es sl ns fs (steps_of ends) l → Ties g b at es None sl → IsLed g b es sl [] l
     → sl.calm ≡ length b.clients → first_error wrote ends ≡ Some e → ((k : ℕ) → wrote ≡ Ok k → sl.ahead ≡ total lengths)
     → ((x : FileReconstructionError) → wrote ≡ Err x → SinkCause b.sink.faults at.sink.faults x)
-    → ((k : ℕ) → wrote ≡ Ok k → at.sink.faults ≡ b.sink.faults)
+    → ((k : ℕ) → wrote ≡ Ok k → at.sink.faults ≡ b.sink.faults) → at.signal.yes ≡ b.signal.yes
     → ((s : Store) → IsOver s b.clients → CacheTells s b.cache → CacheTells s at.cache)
     → IsFailing g b (record {
       told = record at { clients = ns };
       events = es ++ (lanes_events (steps_of ends) ++ window_events wrote lengths);
     }) e
-round_stops g b at es sl ns fs ends l lengths (Err x) e asks d r t led calm first whole sink same tells =
+round_stops g b at es sl ns fs ends l lengths (Err x) e asks d r t led calm first whole sink same quiet tells =
     let j = join_tied g b at es sl ns fs (steps_of ends) l lengths (Err x) r whole in
     let n : RunTold = record at { clients = ns } in
     let new = es ++ (lanes_events (steps_of ends) ++ window_events (Err x) lengths) in
@@ -194,9 +206,9 @@ round_stops g b at es sl ns fs ends l lengths (Err x) e asks d r t led calm firs
     (record { told = n; events = new }) x) (sym h) (memory_fails g b n new j.slack j.ties tells))
     (λ (o : (list_any lacks_memory ends ≡ false) × (Some x ≡ Some e)). let is : x ≡ e = (let z = o.1 in cc) in
     write_stops g b at es sl ns fs ends l e new (Err x) asks d r t led o.0 j
-    (subst (SinkCause b.sink.faults at.sink.faults) is (sink x refl)) tells)
+    (subst (SinkCause b.sink.faults at.sink.faults) is (sink x refl)) quiet tells)
     (other_error (Err x) ends e first)
-round_stops g b at es sl ns fs ends l lengths (Ok k) e asks d r t led calm first whole sink same tells =
+round_stops g b at es sl ns fs ends l lengths (Ok k) e asks d r t led calm first whole sink same quiet tells =
     let j = join_tied g b at es sl ns fs (steps_of ends) l lengths (Ok k) r whole in
     let n : RunTold = record at { clients = ns } in
     let new = es ++ (lanes_events (steps_of ends) ++ window_events (Ok k) lengths) in
@@ -208,7 +220,7 @@ round_stops g b at es sl ns fs ends l lengths (Ok k) e asks d r t led calm first
     ⊎_elim memory
     (λ (c : (Ok k ≡ Err e) ⊎ FailedLane ends e). ⊎_elim (λ (w : Ok k ≡ Err e). absurd (cc))
     (λ (f : FailedLane ends e). lane_stops g b at es sl ns fs ends l e new k asks d r t led calm o.0 j f
-    (same k refl) tells) c)
+    (same k refl) quiet tells) c)
     (error_cause (Ok k) ends e first))
     (other_error (Ok k) ends e first)
 

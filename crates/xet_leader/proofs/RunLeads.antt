@@ -32,6 +32,8 @@ short_fails g b m s = record {
   cause = tt;
   unfailed = tt;
   spent = λ h. absurd (let z : error.OutOfMemory ≡ error.UrlExpired = h in cc);
+  halted = λ yes. tt;
+  under = λ u. absurd u;
   cache_tells = s.cache_tells;
 }
 

@@ -15,7 +15,6 @@ use Rattle.xet_leader.specs.EmptyRuns.{EmptyRuns, EmptyTurn}
 use Rattle.xet_leader.specs.Ending.{LastCall, RecordedEnd, RunAnswer, RunEnds}
 use Rattle.xet_leader.specs.Steady.{Moment}
 use Rattle.xet_leader.proofs.EndTies.{recorded_ends, start_whole}
-use Rattle.xet_leader.proofs.Starting.{tries_some}
 
 -- a failing setting is told before all else
 pub refused_call : (g : Setup) (b : RunTold) (e : Setting) → failing_setting g b.clients ≡ Some e
@@ -30,7 +29,7 @@ refused_call g b e h = record {
   tied = λ h2. absurd (let z : Some e ≡ None = sym h ∙ h2 in cc);
   finished = tt;
   flushed = tt;
-  cancelled = λ h2. tt;
+  cancelled = λ yes. absurd (omega (arith, yes));
   unfailed = refl;
   empty = λ r. record {
     untouched = record { clients = refl; cache = refl; signal = refl; limits = refl };
@@ -58,12 +57,11 @@ ends_call g b n answer h some r = record {
 -- ---- an empty range
 
 -- without events all is finished
-none_finished : (g : Setup) → 0 < g.tries → IsEmptyRange g.range → IsFinished g [] 0
-none_finished g tries none = record {
+none_finished : (g : Setup) → IsEmptyRange g.range → IsFinished g [] 0
+none_finished g none = record {
   count = refl;
   admitted = refl;
   unwritten = refl;
-  under = λ p k. tries;
   reaches = λ some. absurd (omega (arith, some, none));
   empty = λ h. refl;
 }
@@ -96,7 +94,7 @@ empty_call : (g : Setup) (b : RunTold) (to : SinkTold) (fs : List Event) (answer
     → RunCall g b (record b { sink = to }) fs answer
 empty_call g b to fs answer h none t =
     let r = recorded_ends g b (record { told = b; events = [] }) to 0 fs t.ended answer (start_whole g b h)
-    (none_finished g (tries_some g b.clients h) none) t.flushed t.records in
+    (none_finished g none) t.flushed t.records in
     record {
       settings = λ e h2. absurd (let z : None ≡ Some e = sym h ∙ h2 in cc);
       tied = λ h2. r.tied;

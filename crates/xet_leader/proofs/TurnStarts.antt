@@ -149,7 +149,6 @@ finished_all g b n k s covered all =
       count = refl;
       admitted = omega (arith, planned_are, admitted_are, finished_within, admitted_within, all);
       unwritten = none_unwritten n.events k c (omega (arith, finished_within, admitted_within, all));
-      under = led.under;
       reaches = λ h. covered_reaches g n.events k.manager some led.manager covered;
       empty = λ h. absurd (omega (arith, h, some));
     }

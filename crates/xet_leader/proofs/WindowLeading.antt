@@ -26,6 +26,7 @@ use Rattle.xet_leader.specs.Windows.{OneFails, PlanTerm, WindowFails, WindowMade
 use Rattle.xet_leader.proofs.WindowPieces.{each_filter, fails_said, of_a_plan, pieces_honest, pieces_kept, pieces_tested, sound_passes, term_at, unkept_there}
 use Rattle.xet_leader.proofs.WindowTasks.{IsLedTerm, led_each, length_tasks, next_tasks, next_terms, sizes_are, some_tasks}
 use Rattle.xet_leader.proofs.WriterFaults.{any_unfailed}
+use Rattle.xet_leader.proofs.Halts.{calm_halted, memory_halted}
 
 -- ---- lists
 
@@ -157,6 +158,8 @@ module _ (g : Setup) (b : RunTold) (m : Moment) (o : Loose) (l : Led) (s : IsGoi
             (fails_said g b m.events s.slack o.stale f.term led x.data_of x.kept k x.fails));
         unfailed = s.unfailed;
         spent = λ h. absurd (let z : error.CorruptedReconstruction k ≡ error.UrlExpired = h in cc);
+        halted = calm_halted b.signal.yes m.told.signal.yes (error.CorruptedReconstruction k) s.calm;
+        under = λ u. s.led.under;
         cache_tells = s.cache_tells;
       }
 
@@ -168,6 +171,8 @@ module _ (g : Setup) (b : RunTold) (m : Moment) (o : Loose) (l : Led) (s : IsGoi
     cause = subst (Cause g s.slack.heard b m.told) (sym memory) tt;
     unfailed = any_unfailed b.sink.faults m.told.sink.faults e s.unfailed;
     spent = λ h. absurd (let z : error.OutOfMemory ≡ error.UrlExpired = sym memory ∙ h in cc);
+    halted = λ yes. memory_halted e memory;
+    under = λ u. s.led.under;
     cache_tells = s.cache_tells;
   }
   failing e (inr x) = subst (λ (y : FileReconstructionError). IsFailing g b m y) (sym x.1) (corrupted x.0 x.2)

@@ -8,7 +8,7 @@ use Rattle.xet_run.specs.Events.{written}
 use Rattle.xet_writers.specs.Calls.{SinkCause}
 use Rattle.xet_writers.specs.Sequential.{FinishSequential, Sequential}
 use Rattle.xet_parts.specs.Stops.{IsStopped}
-use Rattle.xet_ties.specs.RunCalls.{IsFinished, RunTies, Unfailed, stop_of}
+use Rattle.xet_ties.specs.RunCalls.{IsCancelled, IsFinished, RunTies, Unfailed, stop_of}
 use Rattle.xet_ties.specs.Setup.{CacheTells, IsOver, RunTold, Setup}
 use Rattle.xet_leader.specs.Led.{Led}
 use Rattle.xet_leader.specs.Plans.{Answer}
@@ -58,7 +58,7 @@ pub record RunEnds (g : Setup) (b : RunTold) (n : Moment) (answer : RunAnswer) :
   pub tied : RunTies g b n.told n.events (stop_of answer)
   pub finished : IfOk answer (IsFinished g n.events)
   pub flushed : OnOk answer (n.told.sink.flushed ≡ option_map length n.told.sink.took)
-  pub cancelled : b.signal.yes < n.told.signal.yes → OnOk answer ⊥
+  pub cancelled : b.signal.yes < n.told.signal.yes → IsCancelled answer
   pub unfailed : Unfailed b.sink.faults n.told.sink.faults answer
   pub cache_later : (s : Store) → IsOver s b.clients → CacheTells s b.cache → CacheTells s n.told.cache
 

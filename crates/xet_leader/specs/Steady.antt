@@ -1,5 +1,5 @@
 -- Where a run stands between the parts of a turn, and how it fails.
-use Rattle.std.specs.Prelude.{ℕ, ◌≡◌, false, List, [], count_by, length, None, Some, Result, Err, OnOk, IfErr}
+use Rattle.std.specs.Prelude.{ℕ, ◌≡◌, ◌<◌, false, List, [], count_by, length, None, Some, Result, Err, OnOk, IfErr}
 use Rattle.xet_base.specs.Store.{Store}
 use Rattle.xet_outside.specs.Told.{SinkTold}
 use Rattle.xet_error.specs.declared.error.FileReconstructionError.{FileReconstructionError}
@@ -9,7 +9,7 @@ use Rattle.xet_run.specs.declared.event.PlannedBlock.{PlannedBlock}
 use Rattle.xet_run.specs.Events.{expires, written}
 use Rattle.xet_writers.specs.Sequential.{Sequential}
 use Rattle.xet_ties.specs.Causes.{Cause}
-use Rattle.xet_ties.specs.RunCalls.{Unfailed}
+use Rattle.xet_ties.specs.RunCalls.{IsCancelled, IsUnspent, Unfailed}
 use Rattle.xet_ties.specs.Saids.{InStep}
 use Rattle.xet_ties.specs.Setup.{CacheTells, IsOver, RunTold, Setup}
 use Rattle.xet_ties.specs.steps.Moves.{no_hidden, no_late}
@@ -79,10 +79,13 @@ pub record IsFailing (g : Setup) (b : RunTold) (m : Moment) (e : FileReconstruct
   pub cause : Cause g slack.heard b m.told e
   pub unfailed : Unfailed b.sink.faults m.told.sink.faults (Err e)
   pub spent : e ≡ error.UrlExpired → (p : ℕ) × (k : ℕ) × (count_by (expires p k) m.events ≡ g.tries)
+  -- where the signal said yes, that is the error, or want of memory
+  pub halted : b.signal.yes < m.told.signal.yes → IsCancelled (Err e)
+  -- with an error that ends it between its turns no block's tries are used up
+  pub under : IsUnspent (Some e) → (p k : ℕ) → count_by (expires p k) m.events < g.tries
   pub cache_tells : (s : Store) → IsOver s b.clients → CacheTells s b.cache → CacheTells s m.told.cache
 
--- a part of a turn that leaves the writer: over any start, a run that goes on goes on after it, or is to stop with
--- its
+-- a part of a turn that leaves the writer: over any start, a run that goes on goes on after it, or is to stop with its
 -- error
 pub record LeadPart {A : Type 0} (g : Setup) (m n : Moment) (o u : Loose) (l k : Led)
     (answer : Result A FileReconstructionError) : Type 0 where

@@ -1,5 +1,7 @@
 -- The causes of the errors of asking for a plan.
 use Rattle.std.proofs.Common.{◌≡◌, ℕ, ◌+◌, ◌<◌, ◌≤◌, false, List, [], ◌∷◌, ◌++◌, length, Option, Some, None, Err, sym, subst, ◌∙◌, ap, arith, inl, ⊎_elim}
+use Rattle.std.specs.Prelude.{All}
+use Rattle.std.proofs.lemmas.List.Elements.{All-head}
 use Rattle.xet_base.specs.declared.cas_types.FileRange.{FileRange}
 use Rattle.xet_base.specs.declared.unique_id.UniqueId.{UniqueId}
 use Rattle.xet_base.specs.Store.{IsValid, Store}
@@ -24,24 +26,29 @@ use Rattle.xet_history.specs.Queries.{CutFrom}
 use Rattle.xet_history.specs.TrueHistory.{queries}
 use Rattle.xet_terms.specs.Managers.{IsManager, Manager, PassesKnownEnd}
 use Rattle.xet_ties.specs.Causes.{Cause, LowestRose, SomeFailed}
-use Rattle.xet_ties.specs.InCall.{Exchange, Place}
-use Rattle.xet_ties.specs.Saids.{InStep, ServedPassed}
+use Rattle.xet_ties.specs.InCall.{EachExchange, Exchange, Place}
+use Rattle.xet_ties.specs.Saids.{AllPassed, InStep, ServedPassed}
 use Rattle.xet_ties.specs.Setup.{AllTell, IsOver, RunTold, Setup}
 use Rattle.xet_ties.specs.steps.Moves.{heard_first}
 use Rattle.xet_ties.specs.steps.Parts.{AskedSaid, plan_query, AskedShort}
 use Rattle.xet_ties.specs.Ties.{IsQuiet, IsFaultless, CutsRange, EachLane, Slack, Ties, IsNextQuery}
-use Rattle.xet_ties.proofs.CallerLemmas.{ask_said, asked_own, corrupted, file_missing, first_tells, plan_fails, missing_file, ask_short}
+use Rattle.xet_ties.proofs.CallerLemmas.{all_passed, ask_said, asked_own, corrupted, file_missing, first_tells, plan_fails, missing_file, ask_short}
 use Rattle.xet_parts.proofs.AskTies.{ask_fails_ties}
 use Rattle.xet_parts.specs.PlanAsks.{AskPlanCall, PlanFails, QueryFails}
 
 -- ---- counts
 
 -- the faults of the first connection rose since the start, where they rose in a call
-pub first_rose : (Q : Exchange → Type 0) (es : List Event) (bs : List ClientTold) (c n : ClientTold) (cs : List ClientTold) (hs : List (List Served)) (ks : List (List Place)) (xs : List Exchange) → EachLane es 0 bs (c ∷ cs) hs ks → Rose c.faults n.faults → LowestRose Q bs (n ∷ cs) xs
-first_rose Q es [] c n cs hs ks xs t r = absurd t
-first_rose Q es (b ∷ bs) c n cs [] ks xs t r = absurd t
-first_rose Q es (b ∷ bs) c n cs (h ∷ hs) [] xs t r = absurd t
-first_rose Q es (b ∷ bs) c n cs (h ∷ hs) (k ∷ ks) xs t r = inl (rose b.faults c.faults n.faults t.0.goes_on.faults r)
+pub first_rose : (Q : Exchange → Type 0) (es : List Event) (bs : List ClientTold) (c n : ClientTold)
+    (cs : List ClientTold) (hs : List (List Served)) (ks : List (List Place)) (xs : List Exchange)
+    → EachLane es 0 bs (c ∷ cs) hs ks → Rose c.faults n.faults → EachExchange bs (n ∷ cs) xs → All Q xs
+    → LowestRose Q bs (n ∷ cs) xs
+first_rose Q es [] c n cs hs ks xs t r told all = absurd t
+first_rose Q es (b ∷ bs) c n cs [] ks xs t r told all = absurd t
+first_rose Q es (b ∷ bs) c n cs (h ∷ hs) [] xs t r told all = absurd t
+first_rose Q es (b ∷ bs) c n cs (h ∷ hs) (k ∷ ks) [] t r told all = absurd told
+first_rose Q es (b ∷ bs) c n cs (h ∷ hs) (k ∷ ks) (x ∷ xs) t r told all =
+    (All-head Q x xs all, inl (rose b.faults c.faults n.faults t.0.goes_on.faults r))
   where
     rose : (x y z : ℕ) → x ≤ y → Rose y z → Rose x z
     rose x y z a h = omega arith
@@ -91,9 +98,14 @@ pub missing_cause : (g : Setup) (b at : RunTold) (es : List Event) (sl : Slack) 
 missing_cause g b at es sl c n cs q is t some answered heard =
     missing_file g b (record at { clients = n ∷ cs }) es None _ q heard.ties some heard.own (λ s tell. answered.honest s (tells_now s g b at es sl c cs is t tell))
 
--- its faults rose
-pub rose_cause : (g : Setup) (b at : RunTold) (es : List Event) (sl : Slack) (c n : ClientTold) (cs : List ClientTold) → at.clients ≡ c ∷ cs → Ties g b at es None sl → Rose c.faults n.faults → (xs : List Exchange) → Cause g xs b (record at { clients = n ∷ cs }) error.ClientError
-rose_cause g b at es sl c n cs is t r xs = first_rose (ServedPassed g xs) es b.clients c n cs sl.hidden sl.late xs (subst (λ (l : List ClientTold). EachLane es 0 b.clients l sl.hidden sl.late) is t.served.lanes) r
+-- its faults rose, and each served block passed its tests
+pub rose_cause : (g : Setup) (b at : RunTold) (es : List Event) (sl : Slack) (c n : ClientTold) (cs : List ClientTold)
+    → at.clients ≡ c ∷ cs → Ties g b at es None sl → Rose c.faults n.faults → (xs : List Exchange)
+    → EachExchange b.clients (n ∷ cs) xs → AllPassed g xs
+    → Cause g xs b (record at { clients = n ∷ cs }) error.ClientError
+rose_cause g b at es sl c n cs is t r xs told passed =
+    first_rose (ServedPassed g xs) es b.clients c n cs sl.hidden sl.late xs
+    (subst (λ (l : List ClientTold). EachLane es 0 b.clients l sl.hidden sl.late) is t.served.lanes) r told passed
 
 -- its answer fails this test, and over a valid store none does
 pub failed_cause : (g : Setup) (b at : RunTold) (es : List Event) (sl : Slack) (c n : ClientTold) (cs : List ClientTold) (q : FileRange) (a : PlanAnswer) (k : Corruption) → at.clients ≡ c ∷ cs → Ties g b at es None sl → IsQuiet b.clients sl
@@ -116,9 +128,21 @@ pub record AskedCause (g : Setup) (b at : RunTold) (es : List Event) (sl : Slack
   pub cause : Cause g (heard_first queries answers sl.heard) b (record at { clients = after }) e
 
 -- whatever was answered
-pub short_cause : (g : Setup) (b at : RunTold) (es : List Event) (sl : Slack) (after : List ClientTold) (e : FileReconstructionError) → AskedShort g b at es sl after → (IsFaultless (Some e) → ⊥) → ((xs : List Exchange) → Cause g xs b (record at { clients = after }) e)
+pub short_cause : (g : Setup) (b at : RunTold) (es : List Event) (sl : Slack) (after : List ClientTold)
+    (e : FileReconstructionError) → IsQuiet b.clients sl → AskedShort g b at es sl after → (IsFaultless (Some e) → ⊥)
+    → ((xs : List Exchange) → EachExchange b.clients after xs → AllPassed g xs
+    → Cause g xs b (record at { clients = after }) e)
     → AskedCause g b at es sl after e
-short_cause g b at es sl after e s loud c = record { queries = s.queries; answers = s.answers; calm = 0; kept = λ v. absurd (loud v); ties = s.ties; cause = c (heard_first s.queries s.answers sl.heard) }
+short_cause g b at es sl after e quiet s loud c =
+    let heard = heard_first s.queries s.answers sl.heard in
+    record {
+      queries = s.queries;
+      answers = s.answers;
+      calm = 0;
+      kept = λ v. absurd (loud v);
+      ties = s.ties;
+      cause = c heard s.ties.heard (all_passed g es heard sl.hidden quiet.hidden s.ties.heard_served s.ties.passed);
+    }
 
 -- by an answer that is the query's own
 pub said_cause : (g : Setup) (b at : RunTold) (es : List Event) (sl : Slack) (after : List ClientTold) (q : FileRange) (a : PlanAnswer) (e : FileReconstructionError) → AskedSaid g b at es sl after q a → IsQuiet b.clients sl
@@ -128,8 +152,8 @@ said_cause g b at es sl after q a e s quiet c = record { queries = (g.file, q) �
 query_cause : (g : Setup) (b at : RunTold) (es : List Event) (sl : Slack) (c n : ClientTold) (cs : List ClientTold) (q : FileRange) (id : UniqueId) (answer : Answer) (e : FileReconstructionError)
     → at.clients ≡ c ∷ cs → sl.lost ≡ [] → InStep sl.heard → IsQuiet b.clients sl → IsNextQuery g es q → Ties g b at es None sl → TermBlockCall c n (plan_query g q id) answer → TermBlockCause c n (plan_query g q id) e
     → AskedShort g b at es sl (n ∷ cs) → AskedCause g b at es sl (n ∷ cs) e
-query_cause g b at es sl c n cs q id answer error.OutOfMemory is none step quiet next t call h short = short_cause g b at es sl (n ∷ cs) error.OutOfMemory short (λ v. v) (λ xs. tt)
-query_cause g b at es sl c n cs q id answer error.ClientError is none step quiet next t call h short = short_cause g b at es sl (n ∷ cs) error.ClientError short (λ v. v) (rose_cause g b at es sl c n cs is t h)
+query_cause g b at es sl c n cs q id answer error.OutOfMemory is none step quiet next t call h short = short_cause g b at es sl (n ∷ cs) error.OutOfMemory quiet short (λ v. v) (λ xs told passed. tt)
+query_cause g b at es sl c n cs q id answer error.ClientError is none step quiet next t call h short = short_cause g b at es sl (n ∷ cs) error.ClientError quiet short (λ v. v) (rose_cause g b at es sl c n cs is t h)
 query_cause g b at es sl c n cs q id answer error.FileNotFound is none step quiet next t call h short =
     let within = query_within g (queries es) q next.cuts in
     let a = within.0 in
@@ -168,8 +192,9 @@ ask_cause g b at es fs sl c n cs m now q id e is call none step quiet next unpas
     answered h =
         ⊎_elim
         (λ (short : e ≡ error.OutOfMemory).
-        short_cause g b at fs sl (n ∷ cs) e (ask_fails_ties g b at es fs sl c n cs m now q id e is call none next t)
+        short_cause g b at fs sl (n ∷ cs) e quiet
+        (ask_fails_ties g b at es fs sl c n cs m now q id e is call none next t)
         (λ v. subst (λ (x : FileReconstructionError). IsFaultless (Some x)) short v)
-        (λ xs. subst (Cause g xs b (record at { clients = n ∷ cs })) (sym short) tt))
+        (λ xs told passed. subst (Cause g xs b (record at { clients = n ∷ cs })) (sym short) tt))
         (λ p. absurd (unpassed h.answer p.0))
         h.left.fails

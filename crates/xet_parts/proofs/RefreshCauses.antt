@@ -47,8 +47,8 @@ plan_cause : (g : Setup) (b at : RunTold) (es : List Event) (sl : Slack) (number
     → IsPlanAccepted g sl.heard p q
     → ((s : Store) → IsOver s b.clients → (a : PlanAnswer) → IsHonest s g.file (covered (shape p) q) a → refusal_of (covered (shape p) q) g.multirange (plan_extents (shape p) g.multirange) a ≡ None)
     → Ties g b at es None sl → AskedShort g b at es sl (n ∷ cs) → AskedCause g b at es sl (n ∷ cs) e
-plan_cause g b at es sl number p q c n cs error.OutOfMemory is may h none step quiet at_range stale some accepted honest t short = short_cause g b at es sl (n ∷ cs) error.OutOfMemory short (λ v. v) (λ xs. tt)
-plan_cause g b at es sl number p q c n cs error.ClientError is may h none step quiet at_range stale some accepted honest t short = short_cause g b at es sl (n ∷ cs) error.ClientError short (λ v. v) (rose_cause g b at es sl c n cs is t h)
+plan_cause g b at es sl number p q c n cs error.OutOfMemory is may h none step quiet at_range stale some accepted honest t short = short_cause g b at es sl (n ∷ cs) error.OutOfMemory quiet short (λ v. v) (λ xs told passed. tt)
+plan_cause g b at es sl number p q c n cs error.ClientError is may h none step quiet at_range stale some accepted honest t short = short_cause g b at es sl (n ∷ cs) error.ClientError quiet short (λ v. v) (rose_cause g b at es sl c n cs is t h)
 plan_cause g b at es sl number p q c n cs error.FileNotFound is may h none step quiet at_range stale some accepted honest t short =
     let r = plan_refresh g p q in
     let no_file : h.answer ≡ NoFile = refused_missing r.range r.multirange r.blocks h.answer h.refused in

@@ -1,5 +1,5 @@
 -- Calls that end before any connection is asked.
-use Rattle.std.proofs.Common.{◌≡◌, ℕ, ◌≤◌, Some, None, Err, [], ◌∷◌, refl, sym, subst, ◌∙◌, ap, ◌⊎◌, inl, inr}
+use Rattle.std.proofs.Common.{◌≡◌, ℕ, ◌≤◌, Some, None, Err, [], ◌∷◌, refl, sym, subst, ◌∙◌, ap, ◌⊎◌, inl, inr, arith}
 use Rattle.xet_outside.specs.Told.{Rose, SinkTold}
 use Rattle.xet_error.specs.declared.error.FileReconstructionError.{FileReconstructionError}
 use Rattle.xet_error.specs.declared.error.FileReconstructionError.TheVariants as error
@@ -30,7 +30,7 @@ refused_call g b e h = record {
   tied = λ h2. absurd (let z : Some e ≡ None = sym h ∙ h2 in cc);
   finished = tt;
   flushed = tt;
-  cancelled = λ h2. tt;
+  cancelled = λ yes. absurd (omega (arith, yes));
   unfailed = refl;
   empty = λ r. record {
     untouched = record { clients = refl; cache = refl; signal = refl; limits = refl };
@@ -57,6 +57,7 @@ short_ties g b to h took faults link =
       ties = tie_short g b (record b { sink = to }) [] sl (tie_flush g b b [] sl to took faults link (tie_start g b h));
       left = short_leaves b.clients sl;
       cause = tt;
+      under = λ u. absurd u;
     }
 
 failed_ties : (g : Setup) (b : RunTold) (to : SinkTold) → failing_setting g b.clients ≡ None
@@ -70,6 +71,7 @@ failed_ties g b to h took faults link rose =
           (tie_flush g b b [] sl to took faults link (tie_start g b h));
       left = steady_leaves b.clients error.IoError sl (none_hidden b.clients) (none_late b.clients) refl (λ v. refl);
       cause = rose;
+      under = λ u. absurd u;
     }
 
 -- the sink took nothing, and nothing else was asked
@@ -111,7 +113,7 @@ failed_call g b to h took faults link rose = record {
   tied = λ h2. failed_ties g b to h took faults link rose;
   finished = tt;
   flushed = tt;
-  cancelled = λ yes. tt;
+  cancelled = λ yes. absurd (omega (arith, yes));
   unfailed = tt;
   empty = λ e. nothing_done b to error.IoError took (inr refl);
   cache_later = λ s o c. c;

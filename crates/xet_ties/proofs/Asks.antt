@@ -30,7 +30,7 @@ use Rattle.xet_ties.proofs.Told.{if_some, told_new}
 abbrev pub AreIn : MerkleHash → List Event → List FileRange → Type 0
 AreIn f es seen = (p : ℕ) (r : FileRange) → range_at es p ≡ r ∷ [] → LiesInSome seen (f, r)
 
-or_none : (o : Option FileRange) → option_or o None ≡ o
+pub or_none : (o : Option FileRange) → option_or o None ≡ o
 or_none None = refl
 or_none (Some r) = refl
 

@@ -1,6 +1,6 @@
 -- What the lanes of a round did to the connections, as a step of the ties, and that no pair is served twice.
 use Rattle.std.proofs.Common.{ℕ, ◌≡◌, ◌+◌, ◌-◌, ◌<◌, ◌≤◌, true, false, Bool, zero, suc, List, [], ◌∷◌, ◌++◌, length, map, refl, sym, ap, ◌∙◌, subst, inl, inr, arith, length-append, Option, Some, None}
-use Rattle.std.specs.Prelude.{cond, nat_eq, nat_lt, slice_get, count_by, All, ◌&&◌}
+use Rattle.std.specs.Prelude.{cond, nat_eq, nat_lt, slice_get, count_by, All, IfSome, ◌&&◌}
 use Rattle.std.specs.List.{concat, flat_map}
 use Rattle.std.proofs.lemmas.Bool.Decides.{nat_tests}
 use Rattle.xet_outside.proofs.CallerLemmas.{count_by-cons, added_none}
@@ -14,7 +14,7 @@ use Rattle.xet_ties.specs.Lanes.{AreAt, AreOf, Ask, DrewApart, EachDrew, HidesNo
 use Rattle.xet_ties.specs.steps.Records.{asks_for, keys_of, places, places_of, Key, Place, entries_all, expired_on, expired_all, fetched_all, fetched_on, lanes_entries, lanes_expired, lanes_fetched, lanes_late, AreFresh, EachFresh, IsFreshAsk, blocks_all, key_of, lane_events}
 use Rattle.xet_claims.specs.ClaimViews.{once_below, times}
 use Rattle.xet_ties.specs.steps.Moves.{EachJoined, JoinStep, heard_join, no_hidden, no_late}
-use Rattle.xet_ties.specs.steps.Rounds.{AreLaneSteps, EachHides, IsHeardStep, IsLaneStep, got_of}
+use Rattle.xet_ties.specs.steps.Rounds.{AreLaneEnds, EachHides, IsHeardStep, IsLaneEnd, got_of}
 use Rattle.xet_ties.specs.InCall.{Exchange, place_of}
 use Rattle.xet_ties.proofs.LowestLanes.{lane_failed}
 use Rattle.xet_ties.proofs.Orders.{FirstCounts}
@@ -566,7 +566,7 @@ fetched_among fs bs ns es d x r =
 
 -- of each lane, by what its own connection said
 pub each_failed : (fs : List Ask) (bs ns : List ClientTold) (drawn : List (List ℕ)) (es : List (List LaneStep)) (xs : List Exchange) → (e : EachDrew fs bs ns drawn es) → ArePaired bs xs
-    → (let j = are_joined fs bs ns drawn es e in AreLaneSteps fs bs (heard_join (lanes_entries j.keys j.hidden) j.said xs) es)
+    → (let j = are_joined fs bs ns drawn es e in AreLaneEnds fs bs (heard_join (lanes_entries j.keys j.hidden) j.said xs) j.hidden es)
 unfolding are_joined
 each_failed fs bs ns [] [] xs e p = tt
 each_failed fs bs ns [] (ss ∷ es) xs e p = absurd e
@@ -577,8 +577,8 @@ each_failed fs (b ∷ bs) (n ∷ ns) (d ∷ ds) (ss ∷ es) [] e p = absurd p
 each_failed fs (b ∷ bs) (n ∷ ns) (d ∷ ds) (ss ∷ es) (x ∷ xs) e p =
     let lane = e.0 in
     let did = lane.did in
-    let mine = lane_failed fs b n x (entries_of lane.made ss ++ did.hidden) did.said d lane.made ss p.0 lane.at did.are in
-    (subst (λ (l : List Served). All (IsLaneStep fs b (record { asked = x.asked; served = x.served ++ (l ++ did.hidden); said = x.said ++ did.said })) ss) (entries_keys lane.made ss) mine, each_failed fs bs ns ds es xs e.1 p.1)
+    let mine = lane_failed fs b n x (entries_of lane.made ss ++ did.hidden) did.hidden did.said d lane.made ss p.0 lane.at did.are did.at_most in
+    (subst (λ (l : List Served). IfSome (slice_get ss (length ss - 1)) (IsLaneEnd fs b (record { asked = x.asked; served = x.served ++ (l ++ did.hidden); said = x.said ++ did.said }) did.hidden)) (entries_keys lane.made ss) mine, each_failed fs bs ns ds es xs e.1 p.1)
 
 -- what each hides
 pub each_hides : (fs : List Ask) (bs ns : List ClientTold) (drawn : List (List ℕ)) (es : List (List LaneStep)) → (e : EachDrew fs bs ns drawn es) → (let j = are_joined fs bs ns drawn es e in EachHides es j.hidden)

@@ -18,7 +18,7 @@ use Rattle.xet_ties.specs.History.{entry_of, fetched_in, telling, IsWithin}
 use Rattle.xet_ties.specs.InCall.{Exchange, Look, served_of_all, Place}
 use Rattle.xet_ties.specs.Cuts.{FirstCut, Planning}
 use Rattle.xet_ties.specs.Legal.{AllLatePlanned, AllLooked, AllPlanned, AnswersFew, CacheGoesOn, FirstAsks, IsPlannedServed, Legal, SignalGoesOn, TookTested, TookWhole, is_served}
-use Rattle.xet_ties.specs.RunCalls.{IsFinished, RunCall, TookAll}
+use Rattle.xet_ties.specs.RunCalls.{IsFinished, IsUnspent, RunCall, TookAll}
 use Rattle.xet_ties.specs.Saids.{AllPassed, EntryPassed, FirstSaid, IsTested}
 use Rattle.xet_ties.specs.Setup.{EachGoesOn, RunTold, Setup}
 use Rattle.xet_ties.specs.Ties.{EachLane, EachUnfailed, FirstUnfailed, HeardAsked, IsEntryOf, IsFaultless, IsOther, IsPlannedEntry, IsQuiet, LeavesNothing, Slack, Stop, Ties, all_of, has_one, is_one, is_pair}
@@ -189,6 +189,9 @@ none_answered (b ∷ bs) = λ p k. let l = none_late bs p k in let s = none_serv
 faultless_other : (stop : Stop) → IsFaultless stop → IsOther stop
 faultless_other stop c e = subst IsFaultless e c
 
+unspent_other : (stop : Stop) → IsUnspent stop → IsOther stop
+unspent_other stop u e = subst IsUnspent e u
+
 none_took : (o : Option (List ℕ)) (whole : List ℕ) → TookPrefix o o whole
 none_took o whole = record { count = 0; within = omega arith; took = same o }
   where
@@ -246,7 +249,7 @@ legal_refused g b x h = record {
   whole = tt;
   total = tt;
   flushed = tt;
-  cancelled = λ i. tt;
+  cancelled = λ i. absurd (omega (arith, i));
   unfailed = refl;
   clients_unfailed = λ c. unfailed_start b.clients;
   cause = h;
@@ -260,7 +263,7 @@ legal_refused g b x h = record {
   in_order = in_order_start b.clients;
   answered = λ c. none_answered b.clients;
   late = late_nothing g b.clients;
-  under = tt;
+  under = λ u. absurd u;
   at_most = λ other p k. none_heard g b.clients p k;
   served = served_once [] b.clients b.clients (no_exchange b.clients) (no_hidden b.clients) (no_late b.clients) (exchange_start b.clients) (heard_served_start 0 b.clients) (served_start b.clients);
   planned = told_nothing g b.clients;
@@ -319,7 +322,7 @@ legal_ran g b n es (Ok k) h a r =
       in_order = t.ties.in_order;
       answered = λ c. answers_few g b n es None t.slack a (t.left.quiet c).hidden (t.left.late (λ e. absurd (cc))) t.ties;
       late = late_heard g b n es None t.slack t.ties;
-      under = none_spent g b n es None t.slack (t.left.late (λ e. absurd (cc))) r.finished.under t.ties;
+      under = λ u. none_spent g b n es None t.slack (t.left.late (λ e. absurd (cc))) (t.under u) t.ties;
       at_most = tt;
       passed = λ c. quiet_passed g b n es None t.slack (t.left.quiet c) t.ties;
       gained = t.ties.gained;
@@ -347,7 +350,7 @@ legal_ran g b n es (Err e) h a r =
       whole = tt;
       total = tt;
       flushed = tt;
-      cancelled = λ i. tt;
+      cancelled = r.cancelled;
       unfailed = r.unfailed;
       clients_unfailed = λ c. quiet_unfailed g b n es (Some e) t.slack (t.left.quiet c) t.ties;
       cause = t.cause;
@@ -363,7 +366,7 @@ legal_ran g b n es (Err e) h a r =
       in_order = t.ties.in_order;
       answered = λ c. answers_few g b n es (Some e) t.slack a (t.left.quiet c).hidden (t.left.late (faultless_other (Some e) c)) t.ties;
       late = late_heard g b n es (Some e) t.slack t.ties;
-      under = tt;
+      under = λ u. none_spent g b n es (Some e) t.slack (t.left.late (unspent_other (Some e) u)) (t.under u) t.ties;
       at_most = λ other. none_past g b n es (Some e) t.slack (t.left.late (λ s. other (let same : e ≡ error.OutOfMemory = cc in same))) t.ties;
       passed = λ c. quiet_passed g b n es (Some e) t.slack (t.left.quiet c) t.ties;
       gained = t.ties.gained;

@@ -257,7 +257,7 @@ still_expired es m a c p k h = after_expired es m a c p k ∙ by (a == p && c ==
     by true = refl
     by false = h
 
-now_expired : (es : List Event) (m a c p k : ℕ) → (a == p && c == k) ≡ true → is_expired (es ++ Expired m a c ∷ []) p k ≡ true
+pub now_expired : (es : List Event) (m a c p k : ℕ) → (a == p && c == k) ≡ true → is_expired (es ++ Expired m a c ∷ []) p k ≡ true
 now_expired es m a c p k h = after_expired es m a c p k ∙ ap (λ (v : Bool). last_of (is_expired es p k) (cond v (true ∷ []) [])) h
 
 pub first_late_expired : (es : List Event) (m a c : ℕ) (j : List Place) (before after : List (List Place)) (xs : List Exchange) → FirstLate es (before ++ ((a, c) ∷ j) ∷ after) xs

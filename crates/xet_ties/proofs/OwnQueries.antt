@@ -1,9 +1,8 @@
 -- The refresh of a plan is an answer to a query for that plan.
-use Rattle.std.proofs.Common.{◌≡◌, ℕ, ◌+◌, ◌-◌, List, [], ◌∷◌, ◌++◌, length, refl, sym, ◌∙◌, ap, arith, Some, None, Option}
-use Rattle.std.specs.Prelude.{All, map, option_to_list, slice_get}
+use Rattle.std.proofs.Common.{◌≡◌, ℕ, ◌+◌, ◌-◌, List, [], ◌∷◌, ◌++◌, length, sym, ◌∙◌, ap, arith, Some, Option}
+use Rattle.std.specs.Prelude.{All, slice_get}
 use Rattle.std.proofs.lemmas.Bool.{eq-eqb}
 use Rattle.xet_base.specs.declared.cas_types.FileRange.{FileRange}
-use Rattle.xet_base.specs.Lists.{first_some}
 use Rattle.xet_outside.specs.Answers.{plans_in}
 use Rattle.xet_outside.specs.Told.{Query}
 use Rattle.xet_outside.specs.declared.plan.PlanAnswer.{PlanAnswer}
@@ -17,7 +16,7 @@ use Rattle.xet_ties.specs.Saids.{AnswerOf, FirstSaid, InStep, IsEventSaid, own_q
 use Rattle.xet_ties.specs.Setup.{Setup}
 use Rattle.xet_ties.specs.steps.Moves.{heard_first}
 use Rattle.xet_ties.proofs.CutPlaces.{next_at}
-use Rattle.xet_ties.proofs.Numbers.{plan_at, reads_range}
+use Rattle.xet_ties.proofs.Numbers.{first_range, plan_at, reads_range}
 use Rattle.xet_ties.proofs.Orders.{FirstAnswered}
 
 -- the query that a plan's answer was said to is the plan's own one
@@ -31,16 +30,11 @@ pub own_starts : (g : Setup) (es : List Event) (p : ℕ) (r : FileRange) (x : Ex
 own_starts g es p r x numbers s h =
     let range_of = λ (q : FileRange) (ts : List PlannedTerm) (bs : List PlannedBlock). actual_range q ts in
     let v = plan_at range_of (IsEventSaid g x) p (range_in p) (reads_range p) es r numbers s
-    (one (first_some (map (range_in p) es)) refl h) in (
+    (first_range es p r h) in (
       v.query,
       own_is x p (g.file, v.query) v.holds.answer v.holds.said,
       ap (λ (y : FileRange). y.start) v.is,
     )
-  where
-    one : (o : Option FileRange) → first_some (map (range_in p) es) ≡ o → option_to_list o ≡ r ∷ []
-        → first_some (map (range_in p) es) ≡ Some r
-    one None e k = absurd (cc)
-    one (Some y) e k = let same : y ≡ r = cc in e ∙ ap (λ (z : FileRange). Some z) same
 
 -- so the query that asks for this range again is for that plan
 pub refresh_answered : (g : Setup) (es : List Event) (p : ℕ) (r : FileRange) (a : PlanAnswer) (xs : List Exchange)

@@ -1,7 +1,7 @@
 -- Each block is answered no more often than there are queries for its plan, by all connections together.
 use Rattle.std.proofs.Common.{◌≡◌, ℕ, zero, suc, ◌+◌, ◌≤◌, ◌==◌, ◌&&◌, ◌||◌, Bool, true, false, cond, List, [], ◌∷◌, ◌++◌, refl, sym, subst, ◌∙◌, ap, arith, append_assoc, Some, None, Option}
 use Rattle.std.specs.Prelude.{All, count_by, filter, map, option_to_list, take}
-use Rattle.std.specs.List.{flat_map, list_any}
+use Rattle.std.specs.List.{list_any}
 use Rattle.std.specs.Option.{option_or}
 use Rattle.std.proofs.lemmas.Bool.{eq-eqb, eqb-true}
 use Rattle.std.proofs.lemmas.List.{append-nil, map-append}
@@ -17,8 +17,8 @@ use Rattle.xet_run.specs.declared.event.Event.TheVariants.{Planned, Admit, Fetch
 use Rattle.xet_run.specs.declared.event.PlannedBlock.{PlannedBlock}
 use Rattle.xet_run.specs.declared.event.PlannedTerm.{PlannedTerm}
 use Rattle.xet_run.specs.Allowed.{AllowedAfter, IsAllowed, IsAllowedHistory, IsMissing}
-use Rattle.xet_run.specs.Events.{Task, ended, expires, has_more, is_admit, is_kept, keeps, last_of, needs, planned, size, tasks_of, written}
-use Rattle.xet_run.proofs.CallerLemmas.{any-push, count_by-push, first_some-push, flat-push, last_of-append, same_numbers}
+use Rattle.xet_run.specs.Events.{Task, ended, expires, has_more, is_admit, is_kept, keeps, needs, planned, size, tasks_of, written}
+use Rattle.xet_run.proofs.CallerLemmas.{any-push, count_by-push, first_some-push, same_numbers}
 use Rattle.xet_ties.specs.Causes.{late_answers}
 use Rattle.xet_ties.specs.History.{EachAfter, IsRenewed, actual_range, asked_by, asked_in, expiry_of, fetches, is_expired, range_at, range_in}
 use Rattle.xet_ties.specs.InCall.{Exchange, served_of_all}
@@ -26,6 +26,8 @@ use Rattle.xet_ties.specs.Legal.{AnswersFew}
 use Rattle.xet_ties.specs.Saids.{FirstSaid, IsEventSaid, own_query, same_start}
 use Rattle.xet_ties.specs.Setup.{RunTold, Setup}
 use Rattle.xet_ties.specs.Ties.{HeardAsked, NoneLate, Slack, Stop, Ties, all_of, is_pair}
+use Rattle.xet_ties.proofs.Asks.{or_none}
+use Rattle.xet_ties.proofs.Orders.{now_expired}
 use Rattle.xet_ties.proofs.Expiries.{block_late, late_bare}
 use Rattle.xet_ties.proofs.OwnQueries.{own_is}
 use Rattle.xet_ties.proofs.Pairs.{heard_count, lanes_most}
@@ -125,10 +127,6 @@ record FewOf (S : Query → Bool) (f : MerkleHash) (p k : ℕ) (es : List Event)
 
 -- ---- one more event
 
-or_none : (o : Option FileRange) → option_or o None ≡ o
-or_none None = refl
-or_none (Some r) = refl
-
 range_more : (es : List Event) (e : Event) (p : ℕ)
     → range_at (es ++ e ∷ []) p ≡ option_to_list (option_or (first_some (map (range_in p) es)) (range_in p e))
 range_more es e p =
@@ -222,10 +220,7 @@ right_true false y h = h
 after_expired : (p k : ℕ) (es : List Event) (l n c : ℕ) → (n == p && c == k) ≡ true
     → is_closed p k (es ++ Expired l n c ∷ []) ≡ true
 after_expired p k es l n c h =
-    ap (λ (v : Bool). v || is_kept (es ++ Expired l n c ∷ []) p k)
-    (ap (λ (s : List Bool). last_of false s) (flat-push (expiry_of p k) es (Expired l n c))
-    ∙ last_of-append false (flat_map (expiry_of p k) es) (expiry_of p k (Expired l n c))
-    ∙ ap (λ (v : Bool). last_of (is_expired es p k) (cond {A = List Bool} v (true ∷ []) [])) h)
+    ap (λ (v : Bool). v || is_kept (es ++ Expired l n c ∷ []) p k) (now_expired es l n c p k h)
 
 after_fetched : (p k : ℕ) (es : List Event) (l n c : ℕ) → (n == p && c == k) ≡ true
     → is_closed p k (es ++ Fetched l n c ∷ []) ≡ true

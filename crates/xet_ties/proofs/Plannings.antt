@@ -1,11 +1,10 @@
 -- What a history planned: the queries that cut the range, the answers that were said to them, and their terms in order.
-use Rattle.std.proofs.Common.{◌≡◌, ◌⊎◌, ℕ, zero, suc, ◌+◌, ◌-◌, ◌<◌, ◌≤◌, Bool, true, false, cond, List, [], ◌∷◌, ◌++◌, length, take, refl, sym, subst, ◌∙◌, ap, arith, inl, inr, ⊎_elim, Some, None, Option}
-use Rattle.std.specs.Prelude.{All, filter, map, nat_lt, option_to_list, slice_get}
+use Rattle.std.proofs.Common.{◌≡◌, ◌⊎◌, ℕ, zero, suc, ◌+◌, ◌-◌, ◌<◌, ◌≤◌, Bool, true, false, cond, List, [], ◌∷◌, ◌++◌, length, take, refl, sym, subst, ◌∙◌, ap, arith, inl, inr, ⊎_elim, Some, None}
+use Rattle.std.specs.Prelude.{All, filter, map, nat_lt, slice_get}
 use Rattle.std.specs.List.{AllZip}
 use Rattle.std.proofs.lemmas.List.{append-nil}
 use Rattle.std.proofs.lemmas.List.Elements.{All-head, All-tail, All-weaker}
 use Rattle.xet_base.specs.declared.cas_types.FileRange.{FileRange}
-use Rattle.xet_base.specs.Lists.{first_some}
 use Rattle.xet_outside.specs.Plan.{shape}
 use Rattle.xet_outside.specs.Told.{ClientTold, Query}
 use Rattle.xet_outside.specs.declared.plan.PlanAnswer.{PlanAnswer}
@@ -30,7 +29,7 @@ use Rattle.xet_ties.specs.Ties.{CutsRange, FirstAsked, FirstStarts, HeardAsked, 
 use Rattle.xet_run.specs.Events.{is_stale}
 use Rattle.xet_ties.proofs.AskTies.{none_terms}
 use Rattle.xet_ties.proofs.Asks.{AreIn, asked_cut, none_in}
-use Rattle.xet_ties.proofs.Numbers.{plan_at, reads_range, slice_first}
+use Rattle.xet_ties.proofs.Numbers.{first_range, plan_at, reads_range, slice_first}
 use Rattle.xet_ties.proofs.Telling.{count-more, count-same}
 use Rattle.xet_ties.proofs.Told.{answers_told, bare, if_some, told_new}
 use Rattle.std.proofs.lemmas.Bool.{cases_lt}
@@ -101,16 +100,12 @@ numbered_at g es lost (x ∷ rest) p place q within cuts l is at number =
 pub starts_at : (g : Setup) (b n : RunTold) (es : List Event) (stop : Stop) (sl : Slack) (p : ℕ) (r : FileRange) → Ties g b n es stop sl → range_at es p ≡ r ∷ [] → StartsAt g sl.heard p r.start
 starts_at g b n es stop sl p r t h =
     let range_of = λ (q : FileRange) (ts : List PlannedTerm) (bs : List PlannedBlock). actual_range q ts in
-    let v = plan_at range_of IsWithin p (range_in p) (reads_range p) es r t.numbers t.within (one (first_some (map (range_in p) es)) refl h) in
+    let v = plan_at range_of IsWithin p (range_in p) (reads_range p) es r t.numbers t.within (first_range es p r h) in
     record {
       query = v.query;
       numbered = numbered_at g es sl.lost sl.heard p v.place v.query t.within t.cuts t.lost t.heard_asked v.at (let k = v.number in omega (arith, k));
       starts = ap (λ (y : FileRange). y.start) v.is;
     }
-  where
-    one : (o : Option FileRange) → first_some (map (range_in p) es) ≡ o → option_to_list o ≡ r ∷ [] → first_some (map (range_in p) es) ≡ Some r
-    one None e k = absurd (cc)
-    one (Some y) e k = let same : y ≡ r = cc in e ∙ ap (λ (z : FileRange). Some z) same
 
 -- ---- the answers to the queries of the events
 

@@ -1,6 +1,6 @@
 -- What each error of a run shows of what its arguments tell.
-use Rattle.std.specs.Prelude.{ℕ, ◌≡◌, ◌⊎◌, ◌+◌, ◌-◌, ◌^◌, ◌<◌, ◌≤◌, List, [], ◌∷◌, cond, drop, nat_eq, nat_lt, Option}
-use Rattle.std.specs.Prelude.{Some, None, IsNone, IfSome, slice_get, length, count_by}
+use Rattle.std.specs.Prelude.{ℕ, ◌≡◌, ◌⊎◌, ◌+◌, ◌-◌, ◌^◌, ◌<◌, ◌≤◌, true, List, [], ◌∷◌, cond, nat_eq, nat_lt, Option}
+use Rattle.std.specs.Prelude.{Some, None, IsNone, IfSome, All, slice_get, length, count_by}
 use Rattle.xet_base.specs.declared.cas_types.FileRange.{FileRange}
 use Rattle.xet_base.specs.Store.{Store, file_of}
 use Rattle.xet_outside.specs.Answers.{late_in, plans_in}
@@ -10,6 +10,7 @@ use Rattle.xet_outside.specs.declared.block.BlockBytes.{BlockBytes}
 use Rattle.xet_outside.specs.declared.plan.Plan.{Plan}
 use Rattle.xet_outside.specs.declared.plan.PlanAnswer.{PlanAnswer}
 use Rattle.xet_outside.specs.declared.plan.PlanAnswer.TheVariants.{NoFile}
+use Rattle.xet_outside.specs.declared.served.Served.{Served}
 use Rattle.xet_error.specs.declared.error.Corruption.{Corruption}
 use Rattle.xet_error.specs.declared.error.Corruption.TheVariants.{BlockLength, OffsetCount, OffsetOrder, TermPastBlock}
 use Rattle.xet_error.specs.declared.error.FileReconstructionError.{FileReconstructionError}
@@ -24,8 +25,8 @@ use Rattle.xet_blocks.specs.TermBlocks.{covered}
 use Rattle.xet_fetch.specs.Refreshes.{plan_extents, refusal_of}
 use Rattle.xet_ties.specs.Cuts.{StartsAt}
 use Rattle.xet_ties.specs.InCall.{AllBelow, Exchange, SomeOne, answers_of, expired_said, new_in}
-use Rattle.xet_ties.specs.Saids.{AllPassed, BlockOfPlan, IsBlockAnswer, IsPlanAccepted, IsPlanSaid, IsQueryAnswer}
-use Rattle.xet_ties.specs.Saids.{ServedPassed, TermOfPlan}
+use Rattle.xet_ties.specs.Saids.{AllPassed, BlockOfPlan, EntryPassed, IsBlockAnswer, IsPlanAccepted, IsPlanSaid}
+use Rattle.xet_ties.specs.Saids.{IsQueryAnswer, ServedPassed, TermOfPlan}
 use Rattle.xet_ties.specs.Setup.{AllTell, IsOver, RunTold, Setup}
 use Rattle.xet_ties.specs.Ties.{EachUnfailed, FirstUnfailed, is_pair}
 
@@ -51,16 +52,12 @@ SomeRose (b ∷ bs) (n ∷ ns) = Rose b.faults n.faults ⊎ SomeRose bs ns
 SomeRose [] ns = ⊥
 SomeRose (b ∷ bs) [] = ⊥
 
--- Q holds of the first of these connections
-abbrev pub FirstIs : (Exchange → Type 0) → List Exchange → Type 0
-FirstIs Q [] = ⊥
-FirstIs Q (x ∷ xs) = Q x
-
--- the faults of some connection rose, and Q holds of each below it
+-- the faults of some connection rose, and Q holds of it and of each below it
 abbrev pub LowestRose : (Exchange → Type 0) → List ClientTold → List ClientTold → List Exchange → Type 0
-LowestRose Q (b ∷ bs) (n ∷ ns) xs = Rose b.faults n.faults ⊎ (FirstIs Q xs × LowestRose Q bs ns (drop 1 xs))
+LowestRose Q (b ∷ bs) (n ∷ ns) (x ∷ xs) = Q x × (Rose b.faults n.faults ⊎ LowestRose Q bs ns xs)
 LowestRose Q [] ns xs = ⊥
 LowestRose Q (b ∷ bs) [] xs = ⊥
+LowestRose Q (b ∷ bs) (n ∷ ns) [] = ⊥
 
 -- the expired answers of all connections
 abbrev pub total_expiries : List ClientTold → ℕ
@@ -181,8 +178,13 @@ pub record IsMissingFile (g : Setup) (xs : List Exchange) (before after : List C
   pub first : FirstSaysNone before after
   pub unstored : (s : Store) → AllTell s before → IsNone (file_of s g.file)
 
--- bytes of a block that the connection of this number said fail this test. It told no fault, nor did a lower one, and
--- the blocks that lower ones served passed their tests: of the errors of several lanes it is the lowest one's
+-- the entry is of the block of this number of this plan, or that block's own bytes pass its tests
+abbrev pub IsBlockOrPassed : Setup → List Exchange → ℕ → ℕ → Served → Type 0
+IsBlockOrPassed g xs p k e = (is_pair p k e ≡ true) ⊎ EntryPassed g xs e
+
+-- bytes of a block that the connection of this number said fail this test. It told no fault, nor did a lower one; each
+-- other block that it served passed its tests, and so did those that lower ones served: of the errors of several lanes
+-- it is the lowest one's, and that lane's only one
 pub record LaneFails (g : Setup) (xs : List Exchange) (before after : List ClientTold) (k : Corruption) : Type 0 where
   pub lane : ℕ
   pub exchange : Exchange
@@ -191,6 +193,7 @@ pub record LaneFails (g : Setup) (xs : List Exchange) (before after : List Clien
   pub number : ℕ
   pub own : number ≡ place.accepted.said.number
   pub bytes : BlockFailsIn g xs place number k exchange
+  pub others : All (IsBlockOrPassed g xs number place.number) exchange.served
   pub passed : AllBelow (ServedPassed g xs) lane xs
   pub unfailed : FirstUnfailed (lane + 1) before after
 

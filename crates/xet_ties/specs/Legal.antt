@@ -19,7 +19,7 @@ use Rattle.xet_ties.specs.Cuts.{AskedCut, IsNumbered, IsSaidPiece, Planning, Pla
 use Rattle.xet_ties.specs.Gains.{GainedServed, OffersFew, one_range}
 use Rattle.xet_ties.specs.History.{entry_of}
 use Rattle.xet_ties.specs.InCall.{EachExchange, Exchange, Look, answers_of, new_in, served_of_all}
-use Rattle.xet_ties.specs.RunCalls.{DidNothing, Unfailed, stop_of}
+use Rattle.xet_ties.specs.RunCalls.{DidNothing, IsCancelled, IsUnspent, Unfailed, stop_of}
 use Rattle.xet_ties.specs.Saids.{AllPassed, AllRenewed, BlockOfPlan, own_query, planned_of, same_start}
 use Rattle.xet_ties.specs.Setup.{AllTell, CacheTells, EachGoesOn, IsEmptyRange, IsOver, RunTold, Setup, most_lanes}
 use Rattle.xet_ties.specs.Ties.{CutsRange, EachUnasked, EachUnfailed, FirstInOrder, IsEntryOf, IsFaultless, Reaches}
@@ -209,8 +209,8 @@ pub record Legal (g : Setup) (before after : RunTold) (answer : Result ℕ FileR
   pub total : IfOk answer (TookCounted before.sink after.sink)
   -- on Ok all that the writer took is flushed
   pub flushed : OnOk answer (after.sink.flushed ≡ option_map length after.sink.took)
-  -- where the signal said yes the answer isn't Ok
-  pub cancelled : before.signal.yes < after.signal.yes → OnOk answer ⊥
+  -- where the signal said yes the answer is that the run was cancelled, or want of memory
+  pub cancelled : before.signal.yes < after.signal.yes → IsCancelled answer
   -- where a call of the writer failed the answer is its error, or want of memory
   pub unfailed : Unfailed before.sink.faults after.sink.faults answer
   -- where a call of a connection failed the answer is its error, one that goes before it, or a failed test: no count of
@@ -243,8 +243,8 @@ pub record Legal (g : Setup) (before after : RunTold) (answer : Result ℕ FileR
   pub answered : IsFaultless (stop_of answer) → AnswersFew heard.list
   -- each request that was answered as expired is for a block of a plan that was said
   pub late : AllLatePlanned g heard.list
-  -- on Ok no block's URL expired as often as it may be asked for
-  pub under : OnOk answer (NoneSpent g heard.list)
+  -- on Ok, and with FileNotFound and Cancelled, no block's URL expired as often as it may be asked for
+  pub under : IsUnspent (stop_of answer) → NoneSpent g heard.list
   -- and with an error, but for want of memory, no more often than it may be
   pub at_most : IfErr answer (NonePast g heard.list)
   -- no block of a plan was served twice

@@ -25,8 +25,6 @@ pub record IsFinished (g : Setup) (es : List Event) (k : ℕ) : Type 0 where
   pub count : k ≡ written es
   pub admitted : count_by is_admit es ≡ length (planned es)
   pub unwritten : unwritten es ≡ 0
-  -- each block expired fewer times than it may be asked for
-  pub under : (p k : ℕ) → count_by (expires p k) es < g.tries
   pub reaches : g.range.start < g.range.end → ReachesEnd g.range es
   pub empty : IsEmptyRange g.range → es ≡ []
 
@@ -65,12 +63,27 @@ Unfailed before after (Err error.OutOfMemory) = Unit {0}
 Unfailed before after (Err error.IoError) = Unit {0}
 Unfailed before after (Err e) = after ≡ before
 
+-- the answers of a run that was told to stop: that it was cancelled, or want of memory
+abbrev pub IsCancelled : Result ℕ FileReconstructionError → Type 0
+IsCancelled (Err error.OutOfMemory) = Unit {0}
+IsCancelled (Err error.Cancelled) = Unit {0}
+IsCancelled answer = ⊥
+
+-- Ok, and the errors that end a run between its turns, where no block's tries are used up
+abbrev pub IsUnspent : Stop → Type 0
+IsUnspent None = Unit {0}
+IsUnspent (Some error.FileNotFound) = Unit {0}
+IsUnspent (Some error.Cancelled) = Unit {0}
+IsUnspent stop = ⊥
+
 -- the ties at the end of a run, with what it left that no event says, and its error's cause by what was heard
 pub record RunTies (g : Setup) (before after : RunTold) (es : List Event) (stop : Stop) : Type 0 where
   pub slack : Slack
   pub ties : Ties g before after es stop slack
   pub left : MayLeave stop before.clients slack
   pub cause : IfSome stop (Cause g slack.heard before after)
+  -- where the run ended so, each block expired fewer times than it may be asked for
+  pub under : IsUnspent stop → (p k : ℕ) → count_by (expires p k) es < g.tries
 
 -- a failing setting is told before all else
 pub record IsRefused (before after : RunTold) (es : List Event) (answer : Result ℕ FileReconstructionError)
@@ -86,7 +99,7 @@ pub record RunCall (g : Setup) (before after : RunTold) (es : List Event)
   pub tied : failing_setting g before.clients ≡ None → RunTies g before after es (stop_of answer)
   pub finished : IfOk answer (IsFinished g es)
   pub flushed : OnOk answer (after.sink.flushed ≡ option_map length after.sink.took)
-  pub cancelled : before.signal.yes < after.signal.yes → OnOk answer ⊥
+  pub cancelled : before.signal.yes < after.signal.yes → IsCancelled answer
   pub unfailed : Unfailed before.sink.faults after.sink.faults answer
   pub empty : IsEmptyRange g.range → DidNothing before after answer
   pub cache_later : (s : Store) → IsOver s before.clients → CacheTells s before.cache → CacheTells s after.cache

@@ -1,6 +1,6 @@
 -- Runs over connections to a valid store behind taps.
-use Rattle.std.proofs.Common.{◌≡◌, ℕ, ◌+◌, ◌<◌, ◌≤◌, zero, suc, true, false, cond, Bool, List, [], ◌∷◌, ◌++◌, length, take, Option, Some, None, IsNone, IsSome, Ok, Err, refl, sym, ap, ◌∙◌, arith, inl, inr, subst}
-use Rattle.std.specs.Prelude.{All, IfErr, IfOk, IfSome, Result, count_by, drop, nat_eq, slice_get}
+use Rattle.std.proofs.Common.{◌≡◌, ℕ, ◌+◌, ◌<◌, ◌≤◌, zero, suc, true, false, cond, Bool, List, [], ◌∷◌, ◌++◌, length, take, Option, Some, None, IsNone, IsSome, Ok, Err, refl, sym, ap, ◌∙◌, arith, inl, inr, subst, ⊎_elim}
+use Rattle.std.specs.Prelude.{All, IfErr, IfOk, IfSome, Result, count_by, nat_eq, slice_get}
 use Rattle.std.specs.List.{AllZip, concat}
 use Rattle.std.specs.Result.{result_ok}
 use Rattle.std.proofs.lemmas.Bool.{eqb-true}
@@ -18,7 +18,7 @@ use Rattle.xet_outside.specs.declared.plan.PlanAnswer.{PlanAnswer}
 use Rattle.xet_outside.specs.declared.plan.PlanAnswer.TheVariants.{Found, NoFile}
 use Rattle.xet_outside.specs.declared.said.Said.{Said}
 use Rattle.xet_outside.specs.declared.said.Said.TheVariants as said
-use Rattle.xet_outside.specs.Told.{CacheTold, ClientTold, IsHonest, Query, SinkTold, Took}
+use Rattle.xet_outside.specs.Told.{CacheTold, ClientTold, IsHonest, Query, Rose, SinkTold, Took}
 use Rattle.xet_store.specs.HonestPlans.{PlansAreHonest}
 use Rattle.xet_store.proofs.CallerLemmas.{honest_answer, with_block, with_plan}
 use Rattle.xet_store.specs.declared.client_log.ClientLog.{ClientLog}
@@ -73,8 +73,10 @@ AreCalm (c ∷ cs) = (c.faults ≡ 0) × (c.expiries ≡ 0) × AreCalm cs
 none_rose : (Q : Exchange → Type 0) (cs ds : List ClientTold) (xs : List Exchange) → AreCalm ds → LowestRose Q cs ds xs → ⊥
 none_rose Q [] ds xs calm h = h
 none_rose Q (c ∷ cs) [] xs calm h = h
-none_rose Q (c ∷ cs) (d ∷ ds) xs calm (inl h) = let z = calm.0 in omega (arith, z, h)
-none_rose Q (c ∷ cs) (d ∷ ds) xs calm (inr h) = none_rose Q cs ds (drop 1 xs) calm.2 h.1
+none_rose Q (c ∷ cs) (d ∷ ds) [] calm h = h
+none_rose Q (c ∷ cs) (d ∷ ds) (x ∷ xs) calm h = ⊎_elim
+    (λ (r : Rose c.faults d.faults). let z = calm.0 in absurd (omega (arith, z, r)))
+    (λ (r : LowestRose Q cs ds xs). none_rose Q cs ds xs calm.2 r) h.1
 
 none_at_end : (ds : List ClientTold) → AreCalm ds → NoneAtEnd ds
 none_at_end [] calm = tt

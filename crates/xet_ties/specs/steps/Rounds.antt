@@ -1,5 +1,6 @@
 -- What a whole round leaves.
-use Rattle.std.specs.Prelude.{ℕ, zero, suc, ◌≡◌, ◌+◌, List, [], ◌∷◌, cond, count_by, All, None, Some, slice_get}
+use Rattle.std.specs.Prelude.{ℕ, zero, suc, ◌≡◌, ◌⊎◌, ◌+◌, ◌-◌, List, [], ◌∷◌, cond, count_by, length, All, None, Some}
+use Rattle.std.specs.Prelude.{IfSome, slice_get}
 use Rattle.std.specs.List.{flat_map}
 use Rattle.xet_base.specs.Store.{Store}
 use Rattle.xet_outside.specs.Answers.{AnswerTo}
@@ -77,30 +78,32 @@ IsHeardStep fs bs xs (step.Expired p k) = Unit {0}
 IsHeardStep fs bs xs (step.Failed e) = Unit {0}
 
 -- a lane's failed test is of one of these fetches, by such bytes of its own connection, which tells no store whose
--- block passes
-pub record LaneFailure (fs : List Ask) (b : ClientTold) (x : Exchange) (k : Corruption) : Type 0 where
+-- block passes; and what no step says of what it served is the entry of that fetch
+pub record LaneFailure (fs : List Ask) (b : ClientTold) (x : Exchange) (hidden : List Served)
+    (k : Corruption) : Type 0 where
   pub number : ℕ
   pub ask : Ask
   pub at : slice_get fs number ≡ Some ask
   pub bytes : FailsAsk ask k x
+  pub hides : (hidden ≡ []) ⊎ (hidden ≡ served_of ask.request ∷ [])
   pub dishonest : (s : Store) → b.store ≡ Some s → HoldsAsk s ask
       → failed_check ask.block (bytes_of_ask s ask) ≡ None → ⊥
 
-abbrev pub IsLaneError : List Ask → ClientTold → Exchange → FileReconstructionError → Type 0
-IsLaneError fs b x (error.CorruptedReconstruction k) = LaneFailure fs b x k
-IsLaneError fs b x e = Unit {0}
+abbrev pub IsLaneError : List Ask → ClientTold → Exchange → List Served → FileReconstructionError → Type 0
+IsLaneError fs b x hidden (error.CorruptedReconstruction k) = LaneFailure fs b x hidden k
+IsLaneError fs b x hidden e = Unit {0}
 
-abbrev pub IsLaneStep : List Ask → ClientTold → Exchange → LaneStep → Type 0
-IsLaneStep fs b x (step.Served p k d) = Unit {0}
-IsLaneStep fs b x (step.Expired p k) = Unit {0}
-IsLaneStep fs b x (step.Failed e) = IsLaneError fs b x e
+abbrev pub IsLaneEnd : List Ask → ClientTold → Exchange → List Served → LaneStep → Type 0
+IsLaneEnd fs b x hidden (step.Served p k d) = Unit {0}
+IsLaneEnd fs b x hidden (step.Expired p k) = Unit {0}
+IsLaneEnd fs b x hidden (step.Failed e) = IsLaneError fs b x hidden e
 
--- so are the failed steps of each lane
-abbrev pub AreLaneSteps : List Ask → List ClientTold → List Exchange → List (List LaneStep) → Type 0
-AreLaneSteps fs bs xs [] = Unit {0}
-AreLaneSteps fs [] xs (ss ∷ ls) = ⊥
-AreLaneSteps fs (b ∷ bs) [] (ss ∷ ls) = ⊥
-AreLaneSteps fs (b ∷ bs) (x ∷ xs) (ss ∷ ls) = All (IsLaneStep fs b x) ss × AreLaneSteps fs bs xs ls
+-- so is that of the last step of each lane
+abbrev pub AreLaneEnds : List Ask → List ClientTold → List Exchange → List (List Served) → List (List LaneStep) → Type 0
+AreLaneEnds fs bs xs hs [] = Unit {0}
+AreLaneEnds fs (b ∷ bs) (x ∷ xs) (h ∷ hs) (ss ∷ ls) =
+    IfSome (slice_get ss (length ss - 1)) (IsLaneEnd fs b x h) × AreLaneEnds fs bs xs hs ls
+AreLaneEnds fs bs xs hs (ss ∷ ls) = ⊥
 
 -- of each lane no entry is hidden where no step of it may hide one
 abbrev pub EachHides : List (List LaneStep) → List (List Served) → Type 0
@@ -129,7 +132,7 @@ pub record AfterRound (bs ms : List ClientTold) (es : List Event) (fs : List Ask
   pub asked : EachAskedAs sl.heard to.heard
   -- where each fetch asks for its own block, the data of Served steps was heard; and of each failed test the bytes
   pub found : All IsFor fs → All (λ ss. All (IsHeardStep fs ms to.heard) ss) ls
-  pub failed : AreLaneSteps fs ms to.heard ls
+  pub failed : AreLaneEnds fs ms to.heard to.hidden ls
   pub looks : to.looks ≡ sl.looks
   -- no entry is hidden where no step may hide one
   pub none : All HidesNone ls → to.hidden ≡ no_hidden bs
