@@ -35,6 +35,7 @@ mod Pairs
 mod PartTies
 mod PastEnds
 mod PlanAnswers
+mod PlanAsks
 mod Plannings
 mod Pushes
 mod Recording

@@ -28,7 +28,7 @@ use Rattle.xet_ties.specs.Setup.{RunTold, Setup}
 use Rattle.xet_ties.specs.Ties.{HeardAsked, NoneLate, Slack, Stop, Ties, all_of, is_pair}
 use Rattle.xet_ties.proofs.Asks.{or_none}
 use Rattle.xet_ties.proofs.Orders.{now_expired}
-use Rattle.xet_ties.proofs.Expiries.{block_late, late_bare}
+use Rattle.xet_ties.proofs.Expiries.{block_late}
 use Rattle.xet_ties.proofs.OwnQueries.{own_is}
 use Rattle.xet_ties.proofs.Pairs.{heard_count, lanes_most}
 use Rattle.xet_ties.proofs.Telling.{count-append, count-same, expired-push, range_at-push, telling-push}
@@ -407,12 +407,11 @@ answers_few g b n es stop sl a hidden late t = by sl.heard refl
         let one = few_all g x p k es a t.renewed said.0 in
         let more = ap (λ (l : List Query). count_by (for_plan x p) l) asked in
         let both = count-append (for_plan x p) (asked_by g.file es) sl.lost in
-        let expired = block_late g b n es stop sl p k t in
-        let heard = late_bare p k 0 es sl.heard sl.late late t.expired in
+        let heard = block_late g b n es stop sl p k late t in
         let mine = ap (λ (l : List Exchange). late_answers p k l) e in
         let served = heard_count p k es 0 b.clients n.clients sl.heard sl.hidden t.heard t.heard_served in
         let here = ap (λ (l : List Exchange). count_by (is_pair p k) (served_of_all l)) e in
         let most = lanes_most p k [] es 0 b.clients in
         let none = ap (λ (l : List Served). count_by (is_pair p k) l) hidden in
-        omega (arith, one, more, both, expired, heard, mine, served, here, most, none)) in
+        omega (arith, one, more, both, heard, mine, served, here, most, none)) in
         subst (λ (l : List Exchange). AnswersFew l) (sym e) few
