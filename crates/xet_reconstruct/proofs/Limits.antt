@@ -68,6 +68,7 @@ unlimited_legal g b n answer l = record {
   all_renewed = l.all_renewed;
   in_order = l.in_order;
   answered = l.answered;
+  counted = l.counted;
   late = l.late;
   under = l.under;
   at_most = l.at_most;

@@ -103,6 +103,7 @@ module _ (g : Setup) (b n : RunTold) (at : SinkTold) (flushed : Option ℕ) (fau
     all_renewed = l.all_renewed;
     in_order = l.in_order;
     answered = l.answered;
+    counted = l.counted;
     late = l.late;
     under = l.under;
     at_most = l.at_most;

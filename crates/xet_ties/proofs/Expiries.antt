@@ -1,6 +1,6 @@
 -- The Expired events of a block are expired answers of the connections together.
 use Rattle.std.proofs.Common.{◌≡◌, ℕ, ◌+◌, ◌<◌, ◌≤◌, ◌==◌, ◌&&◌, Bool, true, false, cond, List, [], ◌∷◌, ◌++◌, length, length-append, refl, sym, subst, ◌∙◌, ap, arith, ◌⊎◌, inl, inr}
-use Rattle.std.specs.Prelude.{All, count_by, map}
+use Rattle.std.specs.Prelude.{All, count_by, map, min, ◌^◌, ◌-◌}
 use Rattle.std.proofs.lemmas.Bool.{eq-eqb, eqb-true, ne_eqb}
 use Rattle.std.proofs.lemmas.List.Elements.{All-head, All-tail}
 use Rattle.xet_outside.specs.Answers.{late_in}
@@ -12,6 +12,8 @@ use Rattle.xet_outside.proofs.CallerLemmas.{count_by-cons}
 use Rattle.xet_run.specs.declared.event.Event.{Event}
 use Rattle.xet_run.specs.declared.event.Event.TheVariants.{Planned, Admit, Fetched, Cached, Expired, Refreshed, Wrote, Fail, Cancel}
 use Rattle.xet_run.specs.Events.{expires}
+use Rattle.xet_ties.specs.steps.Moves.{no_exchange}
+use Rattle.xet_ties.specs.Legal.{EachCounted}
 use Rattle.xet_ties.specs.Causes.{HaveExpired, NoneAtEnd, expired_answers, late_answers, total_expiries}
 use Rattle.xet_ties.specs.History.{IsOnLane, expired_by, expires_on, is_expiry, late_by, late_on}
 use Rattle.xet_ties.specs.Setup.{RunTold, Setup}
@@ -164,6 +166,33 @@ said_total es l (b ∷ bs) (n ∷ ns) (x ∷ xs) (k ∷ ks) h t =
     let a = length-append (late_by l es) k in
     let n = count_by_lane l es in
     omega (arith, r, c, e, a, n)
+
+-- no more of them were heard than the connections count
+pub each_counted : (es : List Event) (l : ℕ) (bs ns : List ClientTold) (hs : List (List Served))
+    (ks : List (List Place)) (xs : List Exchange) → EachLane es l bs ns hs ks → EachExpired es l xs ks
+    → EachCounted bs ns xs
+each_counted es l [] [] [] [] [] t h = tt
+each_counted es l [] [] [] [] (x ∷ xs) t h = absurd h
+each_counted es l [] [] [] (k ∷ ks) xs t h = absurd t
+each_counted es l [] [] (j ∷ hs) ks xs t h = absurd t
+each_counted es l [] (n ∷ ns) hs ks xs t h = absurd t
+each_counted es l (b ∷ bs) [] hs ks xs t h = absurd t
+each_counted es l (b ∷ bs) (n ∷ ns) [] ks xs t h = absurd t
+each_counted es l (b ∷ bs) (n ∷ ns) (j ∷ hs) [] xs t h = absurd t
+each_counted es l (b ∷ bs) (n ∷ ns) (j ∷ hs) (k ∷ ks) [] t h = absurd h
+each_counted es l (b ∷ bs) (n ∷ ns) (j ∷ hs) (k ∷ ks) (x ∷ xs) t h =
+    let c = count_late x.said in
+    let e = ap (λ (s : List Place). length s) h.0 in
+    let a = length-append (late_by l es) k in
+    let m = count_by_lane l es in
+    let same : count_by expired_said x.said ≡ expired_by l es + length k = omega (arith, c, e, a, m) in (
+      subst (λ (i : ℕ). min (b.expiries + i) (2 ^ 64 - 1) ≤ n.expiries) (sym same) t.0.expired,
+      each_counted es (l + 1) bs ns hs ks xs t.1 h.1,
+    )
+
+pub counted_start : (bs : List ClientTold) → EachCounted bs bs (no_exchange bs)
+counted_start [] = tt
+counted_start (b ∷ bs) = (omega arith, counted_start bs)
 
 -- so all Expired events are answers that were heard
 pub all_expired : (g : Setup) (b n : RunTold) (es : List Event) (stop : Stop) (sl : Slack) → Ties g b n es stop sl → count_by is_expiry es ≤ expired_answers sl.heard

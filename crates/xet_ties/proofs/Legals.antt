@@ -23,7 +23,7 @@ use Rattle.xet_ties.specs.Saids.{AllPassed, EntryPassed, FirstSaid, IsTested}
 use Rattle.xet_ties.specs.Setup.{EachGoesOn, RunTold, Setup}
 use Rattle.xet_ties.specs.Ties.{EachLane, EachUnfailed, FirstUnfailed, HeardAsked, IsEntryOf, IsFaultless, IsOther, IsPlannedEntry, IsQuiet, LeavesNothing, Slack, Stop, Ties, all_of, has_one, is_one, is_pair}
 use Rattle.xet_ties.proofs.Asks.{first_asks}
-use Rattle.xet_ties.proofs.Expiries.{none_past, none_spent}
+use Rattle.xet_ties.proofs.Expiries.{counted_start, each_counted, none_past, none_spent}
 use Rattle.xet_ties.proofs.FewAsks.{none_few, run_few}
 use Rattle.xet_ties.proofs.Gains.{gained_none}
 use Rattle.xet_ties.proofs.OfferCounts.{fetched_kept, served_counted}
@@ -88,12 +88,12 @@ offers_all g b n es sl t left =
 
 -- ---- looks
 
-looked_all : (g : Setup) (b n : RunTold) (es : List Event) (sl : Slack) → Ties g b n es None sl → LeavesNothing sl → AllLooked (served_of_all sl.heard) sl.looks
-looked_all g b n es sl t left x r =
+looked_all : (g : Setup) (b n : RunTold) (es : List Event) (stop : Stop) (sl : Slack) → Ties g b n es stop sl → all_of sl.hidden ≡ [] → AllLooked (served_of_all sl.heard) sl.looks
+looked_all g b n es stop sl t none x r =
     let all = served_counted (is_served x r) (is_one x r) (λ a c d. refl) es b.clients n.clients sl.heard sl.hidden t.heard t.heard_served t.served.on_lanes in
     let kept = (t.looked.cover x r).kept in
     let fetched = fetched_kept (is_one x r) [] es in
-    let hidden = ap (λ (l : List Served). count_by (is_served x r) l) left.hidden in
+    let hidden = ap (λ (l : List Served). count_by (is_served x r) l) none in
     omega (arith, all, kept, fetched, hidden)
 
 -- ---- tested bytes
@@ -236,6 +236,10 @@ none_heard : (g : Setup) (bs : List ClientTold) (p k : ℕ) → late_answers p k
 none_heard g [] p k = omega arith
 none_heard g (b ∷ bs) p k = let r = none_heard g bs p k in omega (arith, r)
 
+looked_nothing : (bs : List ClientTold) → AllLooked (served_of_all (no_exchange bs)) []
+looked_nothing [] x r = omega arith
+looked_nothing (b ∷ bs) x r = looked_nothing bs x r
+
 -- a run that its settings refuse
 legal_refused : (g : Setup) (b : RunTold) (x : Setting) → failing_setting g b.clients ≡ Some x → Legal g b b (Err (error.ConfigurationError x))
 legal_refused g b x h = record {
@@ -244,7 +248,7 @@ legal_refused g b x h = record {
   stored = λ s o. tt;
   heard = record { list = no_exchange b.clients; told = exchange_start b.clients };
   looks = record { list = []; told = added_none b.cache.looked b.cache.looked refl; given = All-nil (IsEntryOf b.cache.entries) };
-  looked = tt;
+  looked = λ c. looked_nothing b.clients;
   tested = record { planning = plans_nothing g b.clients; pieces = []; each = tt; took = none_took b.sink.took [] };
   whole = tt;
   total = tt;
@@ -262,6 +266,7 @@ legal_refused g b x h = record {
   all_renewed = tt;
   in_order = in_order_start b.clients;
   answered = λ c. none_answered b.clients;
+  counted = counted_start b.clients;
   late = late_nothing g b.clients;
   under = λ u. absurd u;
   at_most = λ other p k. none_heard g b.clients p k;
@@ -301,7 +306,7 @@ legal_ran g b n es (Ok k) h a r =
       stored = λ s o. headline.is_stored g b n es k t.slack a t.ties none r.finished s o;
       heard = record { list = t.slack.heard; told = t.ties.heard };
       looks = record { list = t.slack.looks; told = t.ties.looked.looked; given = t.ties.looked_entries };
-      looked = looked_all g b n es t.slack t.ties (t.left.none refl);
+      looked = λ c. looked_all g b n es None t.slack t.ties (t.left.quiet c).hidden;
       tested = tested_heard g b n es None t.slack a t.ties;
       whole = whole_heard g b n es k t.slack a t.ties (t.left.none refl).lost none r.finished;
       total = record { bytes = t.ties.taken.taken; took = t.ties.taken.took; total = let c = t.ties.taken.counted in let f = r.finished.count in omega (arith, c, f, none) };
@@ -321,6 +326,7 @@ legal_ran g b n es (Ok k) h a r =
       planned = planned_heard g b n es None t.slack t.ties;
       in_order = t.ties.in_order;
       answered = λ c. answers_few g b n es None t.slack a (t.left.quiet c).hidden (t.left.late (λ e. absurd (cc))) t.ties;
+      counted = each_counted es 0 b.clients n.clients t.slack.hidden t.slack.late t.slack.heard t.ties.served.lanes t.ties.expired;
       late = late_heard g b n es None t.slack t.ties;
       under = λ u. none_spent g b n es None t.slack (t.left.late (λ e. absurd (cc))) (t.under u) t.ties;
       at_most = tt;
@@ -345,7 +351,7 @@ legal_ran g b n es (Err e) h a r =
       stored = λ s o. tt;
       heard = record { list = t.slack.heard; told = t.ties.heard };
       looks = record { list = t.slack.looks; told = t.ties.looked.looked; given = t.ties.looked_entries };
-      looked = tt;
+      looked = λ c. looked_all g b n es (Some e) t.slack t.ties (t.left.quiet c).hidden;
       tested = tested_heard g b n es (Some e) t.slack a t.ties;
       whole = tt;
       total = tt;
@@ -365,6 +371,7 @@ legal_ran g b n es (Err e) h a r =
       planned = planned_heard g b n es (Some e) t.slack t.ties;
       in_order = t.ties.in_order;
       answered = λ c. answers_few g b n es (Some e) t.slack a (t.left.quiet c).hidden (t.left.late (faultless_other (Some e) c)) t.ties;
+      counted = each_counted es 0 b.clients n.clients t.slack.hidden t.slack.late t.slack.heard t.ties.served.lanes t.ties.expired;
       late = late_heard g b n es (Some e) t.slack t.ties;
       under = λ u. none_spent g b n es (Some e) t.slack (t.left.late (unspent_other (Some e) u)) (t.under u) t.ties;
       at_most = λ other. none_past g b n es (Some e) t.slack (t.left.late (λ s. other (let same : e ≡ error.OutOfMemory = cc in same))) t.ties;

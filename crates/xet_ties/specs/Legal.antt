@@ -1,6 +1,7 @@
 -- Which answers of a run are legal, by what its arguments tell before and after.
-use Rattle.std.specs.Prelude.{ℕ, ◌≡◌, ◌⊎◌, ◌+◌, ◌-◌, ◌<◌, ◌≤◌, ◌==◌, ◌&&◌, ◌≢◌, Bool, List, [], ◌∷◌, drop, length, take}
-use Rattle.std.specs.Prelude.{All, Some, IsSome, IfSome, OnOk, slice_get, option_map, count_by, Result, Err, IfOk, IfErr}
+use Rattle.std.specs.Prelude.{ℕ, ◌≡◌, ◌⊎◌, ◌+◌, ◌-◌, ◌^◌, ◌<◌, ◌≤◌, ◌==◌, ◌&&◌, ◌≢◌, Bool, List, [], ◌∷◌, drop, length}
+use Rattle.std.specs.Prelude.{min, take, All, Some, IsSome, IfSome, OnOk, slice_get, option_map, count_by, Result}
+use Rattle.std.specs.Prelude.{Err, IfOk, IfErr}
 use Rattle.std.specs.List.{AllZip, concat}
 use Rattle.xet_base.specs.declared.cas_types.ChunkRange.{ChunkRange}
 use Rattle.xet_base.specs.declared.cas_types.FileRange.{FileRange}
@@ -18,7 +19,7 @@ use Rattle.xet_ties.specs.Causes.{Cause, expired_answers, failing_setting, late_
 use Rattle.xet_ties.specs.Cuts.{AskedCut, IsNumbered, IsSaidPiece, Planning, PlansAll, some_said}
 use Rattle.xet_ties.specs.Gains.{GainedServed, OffersFew, one_range}
 use Rattle.xet_ties.specs.History.{entry_of}
-use Rattle.xet_ties.specs.InCall.{EachExchange, Exchange, Look, answers_of, new_in, served_of_all}
+use Rattle.xet_ties.specs.InCall.{EachExchange, Exchange, Look, answers_of, expired_said, new_in, served_of_all}
 use Rattle.xet_ties.specs.RunCalls.{DidNothing, IsCancelled, IsUnspent, Unfailed, stop_of}
 use Rattle.xet_ties.specs.Saids.{AllPassed, AllRenewed, BlockOfPlan, own_query, planned_of, same_start}
 use Rattle.xet_ties.specs.Setup.{AllTell, CacheTells, EachGoesOn, IsEmptyRange, IsOver, RunTold, Setup, most_lanes}
@@ -151,6 +152,13 @@ AllPlanned g xs = All (λ x. All (IsPlannedServed g xs) x.served) xs
 abbrev pub AllLatePlanned : Setup → List Exchange → Type 0
 AllLatePlanned g xs = All (λ x. All (IsPlannedServed g xs) (late_in x.said)) xs
 
+-- of each connection, the count of expired answers grew by as many at least as were heard, or stands at its last value
+abbrev pub EachCounted : List ClientTold → List ClientTold → List Exchange → Type 0
+EachCounted [] [] [] = Unit {0}
+EachCounted (b ∷ bs) (n ∷ ns) (x ∷ xs) =
+    (min (b.expiries + count_by expired_said x.said) (2 ^ 64 - 1) ≤ n.expiries) × EachCounted bs ns xs
+EachCounted bs ns xs = ⊥
+
 -- the requests for no block were answered as expired as often as it may be asked for
 abbrev pub NoneSpent : Setup → List Exchange → Type 0
 NoneSpent g xs = (p k : ℕ) → late_answers p k xs < g.tries
@@ -207,8 +215,8 @@ pub record Legal (g : Setup) (before after : RunTold) (answer : Result ℕ FileR
   -- what the connections were asked, served and said, and the looks into the cache
   pub heard : HeardOf before.clients after.clients
   pub looks : LooksOf before.cache after.cache
-  -- on Ok each served block of one range was looked for in the cache
-  pub looked : OnOk answer (AllLooked (served_of_all heard.list) looks.list)
+  -- on Ok, and with any error but these, each served block of one range was looked for in the cache
+  pub looked : IsFaultless (stop_of answer) → AllLooked (served_of_all heard.list) looks.list
   -- whatever is told, the writer took tested bytes of these and no others, whatever the answer
   pub tested : TookTested g heard.list looks.list before.sink after.sink
   -- and on Ok those of all terms of plans that cut the range, up to its end or one that an answer told
@@ -250,6 +258,8 @@ pub record Legal (g : Setup) (before after : RunTold) (answer : Result ℕ FileR
   -- and on Ok, and with any error but these, a block has no more answers of all connections than its plan has queries,
   -- the own one and refreshes
   pub answered : IsFaultless (stop_of answer) → AnswersFew heard.list
+  -- no more expired answers were heard than the connections count
+  pub counted : EachCounted before.clients after.clients heard.list
   -- each request that was answered as expired is for a block of a plan that was said
   pub late : AllLatePlanned g heard.list
   -- on Ok, and with FileNotFound and Cancelled, no block's URL expired as often as it may be asked for
