@@ -130,6 +130,7 @@ fn run_with<
     cancel: &mut X,
     writer: &mut SequentialWriter<S>,
 ) -> Result<u64>
+    requires vectored { writer.old.vectored ≡ order.job.config.use_vectored_write }
     requires name { blank.name ≡ L.name }
     requires parts { (blank.parts ≡ L.parts) × (L.parts ≡ 2 ^ 32) }
     requires none { core.old ≡ [] }

@@ -26,6 +26,10 @@ IsFlushed status after = (after.flushed ≡ option_map length after.took) ⊎ (s
 abbrev pub IsUnfailed : Status → SinkTold → SinkTold → Type 0
 IsUnfailed status before after = (after.faults ≡ before.faults) ⊎ (status ≡ WriteFault) ⊎ (status ≡ NoMemory)
 
+-- a call of the output failed only where the status is that a write failed: it is never told as want of memory
+abbrev pub TellsFault : Status → SinkTold → SinkTold → Type 0
+TellsFault status before after = (after.faults ≡ before.faults) ⊎ (status ≡ WriteFault)
+
 -- nor did a read of the input, unless the status says so, or a write failed, or memory ended
 abbrev pub IsReadUnfailed : Status → SourceTold → SourceTold → Type 0
 IsReadUnfailed status before after = (after.faults ≡ before.faults) ⊎ (status ≡ ReadFault) ⊎ (status ≡ WriteFault)

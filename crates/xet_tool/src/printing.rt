@@ -1,7 +1,6 @@
 //! Texts and last lines on the output.
 ghost use Rattle.std.specs.Prelude.{◌≡◌, ◌∷◌};
-ghost use Rattle.xet_tool.specs.Outcome.{IsFlushed, IsUnfailed};
-ghost use Rattle.xet_tool.specs.Outcome.{Finished};
+ghost use Rattle.xet_tool.specs.Outcome.{Finished, IsFlushed, IsUnfailed, TellsFault};
 ghost use Rattle.xet_tool.specs.steps.Printing.{status_of};
 ghost use Rattle.xet_tool.specs.Texts.{line};
 
@@ -23,6 +22,7 @@ pub fn print_text<O: Sink>(out: &mut O, status: Status, text: &[u8]) -> Status
     ensures text { Finished text.now status (O.told out.old) (O.told out.new) result }
     ensures flushed { IsFlushed result (O.told out.new) }
     ensures unfailed { IsUnfailed result (O.told out.old) (O.told out.new) }
+    ensures short { TellsFault result (O.told out.old) (O.told out.new) }
 {
     if let Err(error) = write_plainly(out, text) {
         return stopped(error);
@@ -38,6 +38,7 @@ pub fn say<O: Sink>(out: &mut O, status: Status) -> Status
     ensures text { Finished (line status) status (O.told out.old) (O.told out.new) result }
     ensures flushed { IsFlushed result (O.told out.new) }
     ensures unfailed { IsUnfailed result (O.told out.old) (O.told out.new) }
+    ensures short { TellsFault result (O.told out.old) (O.told out.new) }
 {
     print_text(out, status, status.line())
 }
@@ -47,6 +48,7 @@ pub fn say_after<O: Sink>(out: &mut O, status: Status) -> Status
     ensures text { Finished (10 ∷ line status) status (O.told out.old) (O.told out.new) result }
     ensures flushed { IsFlushed result (O.told out.new) }
     ensures unfailed { IsUnfailed result (O.told out.old) (O.told out.new) }
+    ensures short { TellsFault result (O.told out.old) (O.told out.new) }
 {
     finish(out, status, status.line())
 }
@@ -56,6 +58,7 @@ pub fn finish<O: Sink>(out: &mut O, status: Status, line: &[u8]) -> Status
     ensures text { Finished (10 ∷ line.now) status (O.told out.old) (O.told out.new) result }
     ensures flushed { IsFlushed result (O.told out.new) }
     ensures unfailed { IsUnfailed result (O.told out.old) (O.told out.new) }
+    ensures short { TellsFault result (O.told out.old) (O.told out.new) }
 {
     match write_plainly(out, b"\n") {
         Ok(()) => print_text(out, status, line),

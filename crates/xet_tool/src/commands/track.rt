@@ -2,7 +2,7 @@
 ghost use Rattle.std.specs.Prelude.{List};
 ghost use Rattle.xet_store.specs.Taps.{TapTold};
 ghost use Rattle.xet_tool.specs.Ends.{input_limit};
-ghost use Rattle.xet_tool.specs.Outcome.{IsFlushed, IsReadUnfailed, IsUnfailed};
+ghost use Rattle.xet_tool.specs.Outcome.{IsFlushed, IsReadUnfailed, IsUnfailed, TellsFault};
 ghost use Rattle.xet_tool.specs.commands.Track.{ScriptFrom, TrackOutcome};
 
 use crate::printing::{print_text, say, stopped};
@@ -17,6 +17,7 @@ fn print<O: Sink>(alloc: Global, script: &[u8], out: &mut O) -> Status
     ensures printed { ScriptFrom script.now (O.told out.old) (O.told out.new) result }
     ensures flushed { IsFlushed result (O.told out.new) }
     ensures unfailed { IsUnfailed result (O.told out.old) (O.told out.new) }
+    ensures short { TellsFault result (O.told out.old) (O.told out.new) }
 {
     let mut run = Script::new(alloc, script);
     let mut line = Vec::new(alloc);
@@ -42,6 +43,7 @@ pub fn track<I: Source, O: Sink>(alloc: Global, input: &mut I, out: &mut O) -> S
         (record { source = I.told input.new; sink = O.told out.new; taps = taps }) result }
     ensures flushed { IsFlushed result (O.told out.new) }
     ensures unfailed { IsUnfailed result (O.told out.old) (O.told out.new) }
+    ensures short { TellsFault result (O.told out.old) (O.told out.new) }
     ensures read { IsReadUnfailed result (I.told input.old) (I.told input.new) }
 {
     let script = match read_to_end(alloc, input, LIMIT) {

@@ -1,5 +1,5 @@
 //! Connections to a store that own the taps before them.
-ghost use Rattle.std.specs.Prelude.{◌≡◌, [], count_by};
+ghost use Rattle.std.specs.Prelude.{◌≡◌, [], count_by, false};
 ghost use Rattle.xet_outside.specs.Answers.{plans_in};
 ghost use Rattle.xet_outside.specs.Told.{BlockCall, PlanCall};
 ghost use Rattle.xet_store.specs.HonestPlans.{PlansAreHonest, PlansAreHonest-prop};
@@ -60,8 +60,10 @@ impl<'a, T: Tap> TappedClient<'a, T> {
 impl<'a, T: Tap> Client for TappedClient<'a, T> {
     ghost told = { λ c. behind_own c.inner.store.now c.log (T.told c.start.value) (T.told c.tap) };
 
-    /// As the connection behind the tap does.
-    fn waits(&self) -> bool {
+    /// As the connection behind the tap does: not at all.
+    fn waits(&self) -> bool
+        ensures { result ≡ false }
+    {
         self.inner.waits()
     }
 
