@@ -1,11 +1,15 @@
-// Loaded before the C library: makes allocations, reads of standard input and writes to standard output fail.
+// Loaded before the C library: makes allocations, reads of standard input, writes to standard output and starts of
+// threads fail.
 //
-// FAIL_ALLOC=N: the Nth allocation fails. FAIL_READ=N, FAIL_WRITE=N: the Nth read or write does. FAIL_ON=1: and all later
-// ones of this kind. INTERRUPTIONS=N: N interruptions before each read and write. SHORT=1: one byte a read and write.
-// COUNTS=PATH: at the end the numbers of allocations, reads and writes, and of writes after a failed one, go there.
+// FAIL_ALLOC=N: the Nth allocation fails. FAIL_READ=N, FAIL_WRITE=N, FAIL_THREAD=N: the Nth read, write or start of a
+// thread does. FAIL_ON=1: and all later ones of this kind. INTERRUPTIONS=N: N interruptions before each read and write.
+// SHORT=1: one byte a read and write. COUNTS=PATH: at the end the numbers of allocations, reads, writes and starts of
+// threads, and of writes after a failed one, go there.
 #define _GNU_SOURCE
+#include <dlfcn.h>
 #include <errno.h>
 #include <fcntl.h>
+#include <pthread.h>
 #include <stdio.h>
 #include <stdlib.h>
 #include <sys/syscall.h>
@@ -15,8 +19,8 @@
 extern void *__libc_malloc(size_t), *__libc_calloc(size_t, size_t), *__libc_realloc(void *, size_t);
 extern void *__libc_memalign(size_t, size_t);
 
-enum { ALLOC, READ, WRITE, KINDS };
-static const char *const names[KINDS] = {"FAIL_ALLOC", "FAIL_READ", "FAIL_WRITE"};
+enum { ALLOC, READ, WRITE, THREAD, KINDS };
+static const char *const names[KINDS] = {"FAIL_ALLOC", "FAIL_READ", "FAIL_WRITE", "FAIL_THREAD"};
 static _Atomic long calls[KINDS], interrupted[KINDS], writes_after_a_failed_one;
 
 static long number(const char *name) {
@@ -67,11 +71,18 @@ ssize_t writev(int file, const struct iovec *parts, int count) {
     return count > 0 ? write(file, parts->iov_base, parts->iov_len) : 0;
 }
 
+typedef int starts(pthread_t *, const pthread_attr_t *, void *(*)(void *), void *);
+
+int pthread_create(pthread_t *thread, const pthread_attr_t *how, void *(*body)(void *), void *with) {
+    starts *start = (starts *)dlsym(RTLD_NEXT, "pthread_create");
+    return fails(THREAD) ? EAGAIN : start(thread, how, body, with);
+}
+
 __attribute__((destructor)) static void told(void) {
     const char *path = getenv("COUNTS");
     char text[128];
-    int size = snprintf(text, sizeof text, "%ld %ld %ld %ld\n",
-                        (long)calls[ALLOC], (long)calls[READ], (long)calls[WRITE], (long)writes_after_a_failed_one);
+    int size = snprintf(text, sizeof text, "%ld %ld %ld %ld %ld\n", (long)calls[ALLOC], (long)calls[READ],
+                        (long)calls[WRITE], (long)calls[THREAD], (long)writes_after_a_failed_one);
     int file = path ? open(path, O_WRONLY | O_CREAT | O_TRUNC, 0600) : -1;
     if (file >= 0 && write(file, text, size) == size) close(file);
 }
