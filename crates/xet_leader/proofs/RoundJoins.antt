@@ -481,7 +481,8 @@ round_leads told tries cs lengths a z es fs l k (Ok o) t g m few same at = recor
       let took : TookOutcome tries lengths j m.events fs (fetched_led cs l) k o =
       subst (λ (x : List Event). TookOutcome tries lengths j x fs (fetched_led cs l) k o) (sym at) t.ok.took in
       let r = went told g b m l k cs lengths a z j tries fs o few same p f took in
-      round_less told g b m l k cs lengths a z j tries fs o p f took r.0.going.ties.tried.at_most;
+      round_less told g b m l k cs lengths a z j tries fs o p f took
+      (λ p k. let a = r.0.going.ties.tried.at_most p k in omega (arith, a));
 }
 round_leads told tries cs lengths a z es fs l k (Err e) t g m few same at = record {
   ok = λ b p. tt;

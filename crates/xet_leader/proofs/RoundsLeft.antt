@@ -1,6 +1,6 @@
 -- What a round leaves: its ties, and the leader that keeps and counts what the lanes did.
 use Rattle.std.proofs.Common.{◌≡◌, ℕ, zero, suc, ◌≤◌, List, [], ◌∷◌, ◌++◌, refl, sym, subst, ◌∙◌, ap, arith, append_assoc, inl, inr, ⊎_elim, ◌<◌, length}
-use Rattle.std.specs.Prelude.{All, Contains, None, Option, false, get_or, Some, count_by, map, option_map, option_to_list, slice_get}
+use Rattle.std.specs.Prelude.{All, Contains, None, Option, false, get_or, Some, map, option_map, option_to_list, slice_get}
 use Rattle.std.specs.List.{flat_map}
 use Rattle.std.specs.Option.{is_some}
 use Rattle.std.proofs.lemmas.List.Elements.{All-cons, All-head, All-nil, All-tail}
@@ -23,7 +23,7 @@ use Rattle.xet_ties.specs.steps.Moves.{no_hidden, no_late}
 use Rattle.xet_ties.specs.steps.Records.{AreUnkept, HasTry, IsFreshAsk, key_of, places_of}
 use Rattle.xet_ties.specs.steps.Rounds.{AfterRound, IsHeardData, IsHeardStep, IsMissingAsk, IsPlanAsk}
 use Rattle.xet_ties.specs.Ties.{Slack, Ties}
-use Rattle.xet_ties.proofs.CallerLemmas.{new_pairs, round_allowed, round_may_expire, round_short, round_tied, tells_now}
+use Rattle.xet_ties.proofs.CallerLemmas.{fetched_once, new_pairs, round_allowed, round_may_expire, round_short, round_tied, tells_now}
 use Rattle.xet_leader.specs.Expiries.{stale_after}
 use Rattle.xet_leader.specs.Keeping.{given_of}
 use Rattle.xet_leader.specs.Led.{IsAnswerData, IsLed, IsLedPlan, IsReady, Led, bare}
@@ -194,7 +194,7 @@ pub round_left : (g : Setup) (b at : RunTold) (es : List Event) (sl : Slack) (ns
     → Ties g b at es None sl → IsLed g b es sl [] l → RoundLeft g b at es sl ns fs ls l
 round_left g b at es sl ns fs ls l asks d none_h none_l polled t led =
     let both = all_fresh g b es sl l fs led asks.own asks.led in
-    let before : (p k : ℕ) → count_by (fetches p k) es ≤ 1 = λ p k. let o = t.served.once p k in omega (arith, o) in
+    let before = fetched_once es sl.hidden sl.late b.clients at.clients t.served in
     let new = new_pairs es fs (are_unkept es fs asks.missing) asks.once before in
     let may = round_may_expire g.tries es fs at.clients ns ls d both.1 asks.once in
     let of_plans = plan_asks g b es sl l fs led asks.own asks.led asks.missing in

@@ -1,5 +1,5 @@
 -- The Expired events of a block are expired answers of the connections together.
-use Rattle.std.proofs.Common.{◌≡◌, ℕ, ◌+◌, ◌<◌, ◌≤◌, ◌==◌, ◌&&◌, Bool, true, false, cond, List, [], ◌∷◌, ◌++◌, length, length-append, refl, sym, subst, ◌∙◌, ap, arith, ◌⊎◌, inl, inr}
+use Rattle.std.proofs.Common.{◌≡◌, ℕ, ◌+◌, ◌<◌, ◌≤◌, ◌==◌, ◌&&◌, Bool, true, false, cond, List, [], ◌∷◌, length, length-append, refl, sym, subst, ◌∙◌, ap, arith, ◌⊎◌, inl, inr}
 use Rattle.std.specs.Prelude.{All, count_by, map, min, ◌^◌, ◌-◌}
 use Rattle.std.proofs.lemmas.Bool.{eq-eqb, eqb-true, ne_eqb}
 use Rattle.std.proofs.lemmas.List.Elements.{All-head, All-tail}
@@ -18,7 +18,7 @@ use Rattle.xet_ties.specs.Causes.{HaveExpired, NoneAtEnd, expired_answers, late_
 use Rattle.xet_ties.specs.History.{IsOnLane, expired_by, expires_on, is_expiry, late_by, late_on}
 use Rattle.xet_ties.specs.Setup.{RunTold, Setup}
 use Rattle.xet_ties.specs.InCall.{EachExchange, Exchange, Place, expired_said, late_places, place_of}
-use Rattle.xet_ties.specs.Ties.{at_place, EachExpired, EachLane, NoneLate, Slack, Stop, Ties, is_pair}
+use Rattle.xet_ties.specs.Ties.{all_late, at_place, EachExpired, EachLane, NoneLate, Slack, Stop, Ties, is_pair}
 use Rattle.xet_ties.proofs.Telling.{count-append}
 
 -- the Expired events of the lanes from a number on, as many as connections
@@ -316,27 +316,26 @@ places_at T (e ∷ es) =
     omega (arith, r, a, b)
 
 -- what was heard are the Expired events, and those that no event says
-late_heard : (T : Place → Bool) (l : ℕ) (es : List Event) (xs : List Exchange) (ls : List (List Place))
-    → EachExpired es l xs ls → lates_on T l es xs ≤ lates_at T xs
-late_heard T l es [] ls t = omega arith
-late_heard T l es (x ∷ xs) [] t = absurd t
-late_heard T l es (x ∷ xs) (k' ∷ ls) t =
-    let r = late_heard T (l + 1) es xs ls t.1 in
+late_both : (T : Place → Bool) (l : ℕ) (es : List Event) (xs : List Exchange) (ls : List (List Place))
+    → EachExpired es l xs ls → lates_at T xs ≡ lates_on T l es xs + count_by T (all_late ls)
+late_both T l es [] [] t = refl
+late_both T l es [] (c ∷ ls) t = absurd t
+late_both T l es (x ∷ xs) [] t = absurd t
+late_both T l es (x ∷ xs) (k' ∷ ls) t =
+    let r = late_both T (l + 1) es xs ls t.1 in
     let e = ap (λ (s : List Place). count_by T s) t.0 in
     let a = count-append T (late_by l es) k' in
+    let b = count-append T k' (all_late ls) in
     let c = places_at T (late_in x.said) in
-    omega (arith, r, e, a, c)
+    omega (arith, r, e, a, b, c)
 
-late_none : (T : Place → Bool) (l : ℕ) (es : List Event) (xs : List Exchange) (ls : List (List Place)) → NoneLate ls
-    → EachExpired es l xs ls → lates_at T xs ≡ lates_on T l es xs
-late_none T l es [] ls none t = refl
-late_none T l es (x ∷ xs) [] none t = absurd t
-late_none T l es (x ∷ xs) (k' ∷ ls) none t =
-    let r = late_none T (l + 1) es xs ls none.1 t.1 in
-    let e = ap (λ (s : List Place). count_by T s) (t.0 ∙ ap (λ (s : List Place). late_by l es ++ s) none.0) in
-    let a = count-append T (late_by l es) [] in
-    let c = places_at T (late_in x.said) in
-    omega (arith, r, e, a, c)
+none_left : (T : Place → Bool) (ls : List (List Place)) → NoneLate ls → count_by T (all_late ls) ≡ 0
+none_left T [] none = refl
+none_left T (l ∷ ls) none =
+    let r = none_left T ls none.1 in
+    let e = ap (λ (s : List Place). count_by T s) none.0 in
+    let a = count-append T l (all_late ls) in
+    omega (arith, r, e, a)
 
 heard_length : (bs ns : List ClientTold) (xs : List Exchange) → EachExchange bs ns xs → length xs ≡ length bs
 heard_length [] [] [] h = refl
@@ -358,7 +357,7 @@ pub places_heard : (g : Setup) (b n : RunTold) (es : List Event) (stop : Stop) (
     → Ties g b n es stop sl → count_by (expired_at T) es ≤ lates_at T sl.heard
 places_heard g b n es stop sl T t =
     let a = places_late g b n es stop sl T t in
-    let c = late_heard T 0 es sl.heard sl.late t.expired in
+    let c = late_both T 0 es sl.heard sl.late t.expired in
     omega (arith, a, c)
 
 -- ---- of one block
@@ -399,29 +398,34 @@ block_heard g b n es stop sl p k t =
     let e = block_events p k es in
     omega (arith, a, d, e)
 
--- and just as many where no event is missing
-pub block_late : (g : Setup) (b n : RunTold) (es : List Event) (stop : Stop) (sl : Slack) (p k : ℕ) → NoneLate sl.late
-    → Ties g b n es stop sl → late_answers p k sl.heard ≡ count_by (expires p k) es
-block_late g b n es stop sl p k none t =
+-- and just as many with those that no event says
+pub block_late : (g : Setup) (b n : RunTold) (es : List Event) (stop : Stop) (sl : Slack) (p k : ℕ)
+    → Ties g b n es stop sl
+    → late_answers p k sl.heard ≡ count_by (expires p k) es + count_by (at_place p k) (all_late sl.late)
+block_late g b n es stop sl p k t =
     let a = places_late g b n es stop sl (at_place p k) t in
-    let c = late_none (at_place p k) 0 es sl.heard sl.late none t.expired in
+    let c = late_both (at_place p k) 0 es sl.heard sl.late t.expired in
     let d = block_answers p k sl.heard in
     let e = block_events p k es in
     omega (arith, a, c, d, e)
 
 -- where no request is left that no event says, each block's requests were answered as expired as often as it has such
 -- events
-pub none_spent : (g : Setup) (b n : RunTold) (es : List Event) (stop : Stop) (sl : Slack) → NoneLate sl.late → ((p k : ℕ) → count_by (expires p k) es < g.tries) → Ties g b n es stop sl → (p k : ℕ) → late_answers p k sl.heard < g.tries
+pub none_spent : (g : Setup) (b n : RunTold) (es : List Event) (stop : Stop) (sl : Slack) → NoneLate sl.late
+    → ((p k : ℕ) → count_by (expires p k) es < g.tries) → Ties g b n es stop sl → (p k : ℕ)
+    → late_answers p k sl.heard < g.tries
 none_spent g b n es stop sl none under t p k =
     let u = under p k in
-    let a = block_late g b n es stop sl p k none t in
-    omega (arith, u, a)
+    let a = block_late g b n es stop sl p k t in
+    let z = none_left (at_place p k) sl.late none in
+    omega (arith, u, a, z)
 
 -- and never more often than there are tries
-pub none_past : (g : Setup) (b n : RunTold) (es : List Event) (stop : Stop) (sl : Slack) → NoneLate sl.late → Ties g b n es stop sl → (p k : ℕ) → late_answers p k sl.heard ≤ g.tries
-none_past g b n es stop sl none t p k =
+pub none_past : (g : Setup) (b n : RunTold) (es : List Event) (stop : Stop) (sl : Slack) → Ties g b n es stop sl
+    → (p k : ℕ) → late_answers p k sl.heard ≤ g.tries
+none_past g b n es stop sl t p k =
     let u = t.tried.at_most p k in
-    let a = block_late g b n es stop sl p k none t in
+    let a = block_late g b n es stop sl p k t in
     omega (arith, u, a)
 
 -- where one block has as many as tries, the connections answered so many requests for it as expired together

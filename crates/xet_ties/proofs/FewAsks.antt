@@ -23,7 +23,8 @@ use Rattle.xet_ties.specs.steps.Moves.{no_exchange}
 use Rattle.xet_run.specs.declared.event.PlannedBlock.{PlannedBlock}
 use Rattle.xet_run.specs.declared.event.PlannedTerm.{PlannedTerm}
 use Rattle.xet_ties.proofs.PlanAsks.{OnlyPlan, asks_again, asks_cut, asks_none, cut_same, of_plan, starts}
-use Rattle.xet_ties.proofs.Numbers.{first_range, plan_at, reads_range, slice_first}
+use Rattle.xet_ties.proofs.CutPlaces.{first_at}
+use Rattle.xet_ties.proofs.Numbers.{first_range, plan_at, reads_range}
 use Rattle.xet_ties.proofs.Asks.{AreIn, asked_cut, none_in}
 use Rattle.xet_ties.proofs.Expiries.{all_expired, expired_at, lates_at, places_heard}
 use Rattle.xet_ties.proofs.Renewals.{refreshes_few, stale_few}
@@ -90,7 +91,7 @@ only_one : (g : Setup) (es : List Event) (cut : List FileRange) (i : ℕ) (c : F
 only_one g es cut i c within numbers cuts at p r h start =
     let range_of = λ (q : FileRange) (ts : List PlannedTerm) (bs : List PlannedBlock). actual_range q ts in
     let v = plan_at range_of IsWithin p (range_in p) (reads_range p) es r numbers within (first_range es p r h) in
-    let there = slice_first (queries es) cut v.place v.query v.at in
+    let there = first_at (queries es) cut v.place v.query v.at in
     let same : v.query.start ≡ c.start = ap (λ (y : FileRange). y.start) v.is ∙ start in
     let place = cut_same g.range.start g.range.end (g.greatest + g.least) (queries es ++ cut) v.place i v.query c
     cuts.from there at same in

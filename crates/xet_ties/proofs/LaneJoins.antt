@@ -20,7 +20,6 @@ use Rattle.xet_ties.proofs.LowestLanes.{lane_failed}
 use Rattle.xet_ties.proofs.Orders.{FirstCounts}
 use Rattle.xet_ties.proofs.RoundData.{ArePaired, lanes_more}
 use Rattle.xet_ties.specs.Ties.{all_of, is_pair, is_range}
-use Rattle.xet_ties.specs.History.{fetches}
 use Rattle.xet_ties.specs.declared.lane_step.LaneStep.TheVariants as step
 use Rattle.std.proofs.lemmas.List.Elements.{All-append, All-cons, All-head, All-nil, All-tail}
 use Rattle.std.proofs.lemmas.List.{append-nil}
@@ -501,23 +500,6 @@ counted : (p k : ℕ) (xs : List Served) → weigh (λ e. cond (is_pair p k e) 1
 counted p k [] = refl
 counted p k (x ∷ xs) = let r = counted p k xs in let c = count_by-cons (is_pair p k) x xs in omega (arith, r, c)
 
--- the pairs that the lanes served are among those of the round's fetches
-pub served_among : (fs : List Ask) (bs ns : List ClientTold) (es : List (List LaneStep)) → (d : DrewApart fs bs ns es) → (p k : ℕ)
-    → (let j = are_joined fs bs ns d.drawn es d.each in count_by (is_pair p k) (all_of (lanes_entries j.keys j.hidden)) ≤ count_by (is_pair p k) (map asks_for fs))
-served_among fs bs ns es d p k =
-    let j = are_joined fs bs ns d.drawn es d.each in
-    let h : Served → ℕ = λ e. cond (is_pair p k e) 1 0 in
-    let most = numbers_weigh h fs (concat d.drawn) (λ x. let a = d.apart x in let o = once_most x d.count in omega (arith, a, o)) (λ x l. let w = d.within in d.apart x ∙ once_past x d.count (omega (arith, w, l))) in
-    let w = j.weighs h in
-    let a = counted p k (all_of (lanes_entries j.keys j.hidden)) in
-    let c = counted p k (map asks_for fs) in
-    omega (arith, most, w, a, c)
-
--- so where each fetch is of a block that wasn't fetched, and no two are of one, no pair is served twice
-pub served_apart : (history : List Event) (fs : List Ask) (bs ns : List ClientTold) (es : List (List LaneStep)) → (d : DrewApart fs bs ns es) → ((p k : ℕ) → count_by (fetches p k) history + count_by (is_pair p k) (map asks_for fs) ≤ 1) → (p k : ℕ)
-    → (let j = are_joined fs bs ns d.drawn es d.each in count_by (fetches p k) history + count_by (is_pair p k) (all_of (lanes_entries j.keys j.hidden)) ≤ 1)
-served_apart history fs bs ns es d new p k = let a = served_among fs bs ns es d p k in let b = new p k in omega (arith, a, b)
-
 -- ---- blocks of one range
 
 abbrev one_of : MerkleHash → ChunkRange → Served → Bool
@@ -623,3 +605,59 @@ pub first_counts : (fs : List Ask) (bs ns : List ClientTold) (es : List (List La
 first_counts fs bs ns es d =
     first_weighs fs bs ns d.drawn es d.each
     (λ h. numbers_weigh h fs (concat d.drawn) (λ x. let a = d.apart x in let o = once_most x d.count in omega (arith, a, o)) (λ x l. let w = d.within in d.apart x ∙ once_past x d.count (omega (arith, w, l))))
+
+-- ---- all that the lanes were answered
+
+abbrev pub lates_weigh : (Served → ℕ) → List (List Said) → ℕ
+lates_weigh h [] = 0
+lates_weigh h (a ∷ alls) = weigh h (late_in a) + lates_weigh h alls
+
+no_lates : (h : Served → ℕ) (bs : List ClientTold) → lates_weigh h (map (λ _. []) bs) ≡ 0
+no_lates h [] = refl
+no_lates h (b ∷ bs) = let r = no_lates h bs in omega (arith, r)
+
+-- with bytes or as expired, it is for no more than was drawn
+all_weighs : (h : Served → ℕ) (fs : List Ask) (bs ns : List ClientTold) (drawn : List (List ℕ)) (es : List (List LaneStep)) → (e : EachDrew fs bs ns drawn es)
+    → (let j = are_joined fs bs ns drawn es e in weigh h (all_of (lanes_entries j.keys j.hidden)) + lates_weigh h j.said ≤ weigh_at h fs (concat drawn))
+unfolding are_joined
+all_weighs h fs bs ns [] [] e = let z = none_weigh h bs in let y = no_lates h bs in omega (arith, z, y)
+all_weighs h fs bs ns [] (ss ∷ es) e = absurd e
+all_weighs h fs bs ns (d ∷ ds) [] e = absurd e
+all_weighs h fs [] ns (d ∷ ds) (ss ∷ es) e = absurd e
+all_weighs h fs (b ∷ bs) [] (d ∷ ds) (ss ∷ es) e = absurd e
+all_weighs h fs (b ∷ bs) (n ∷ ns) (d ∷ ds) (ss ∷ es) e =
+    let lane = e.0 in
+    let did = lane.did in
+    let j = are_joined fs bs ns ds es e.1 in
+    let mine = entries_all (keys_of lane.made ss) ++ did.hidden in
+    let l = lane_all h b n (entries_of lane.made ss ++ did.hidden) did.said lane.made ss did.hidden did.are did.at_most in
+    let m = made_weighs h fs d lane.made lane.at in
+    let s = at_append h fs d (concat ds) in
+    let w = weigh_all h mine (lanes_entries j.keys j.hidden) in
+    let x = weigh_append h (entries_all (keys_of lane.made ss)) did.hidden in
+    let y = ap (weigh h) (entries_keys lane.made ss) in
+    let v = ap (weigh h) did.late in
+    let r = all_weighs h fs bs ns ds es e.1 in
+    omega (arith, l, m, s, w, x, y, v, r)
+
+-- the requests for a block that these answered as expired
+abbrev pub lates_of_all : ℕ → ℕ → List (List Said) → ℕ
+lates_of_all p k [] = 0
+lates_of_all p k (a ∷ alls) = count_by (is_pair p k) (late_in a) + lates_of_all p k alls
+
+lates_counted : (p k : ℕ) (alls : List (List Said)) → lates_weigh (λ e. cond (is_pair p k e) 1 0) alls ≡ lates_of_all p k alls
+lates_counted p k [] = refl
+lates_counted p k (a ∷ alls) = let r = lates_counted p k alls in let c = counted p k (late_in a) in omega (arith, r, c)
+
+-- a block has no more answers than the round's fetches ask for
+pub answered_among : (fs : List Ask) (bs ns : List ClientTold) (es : List (List LaneStep)) → (d : DrewApart fs bs ns es) → (p k : ℕ)
+    → (let j = are_joined fs bs ns d.drawn es d.each in count_by (is_pair p k) (all_of (lanes_entries j.keys j.hidden)) + lates_of_all p k j.said ≤ count_by (is_pair p k) (map asks_for fs))
+answered_among fs bs ns es d p k =
+    let j = are_joined fs bs ns d.drawn es d.each in
+    let h : Served → ℕ = λ e. cond (is_pair p k e) 1 0 in
+    let most = numbers_weigh h fs (concat d.drawn) (λ x. let a = d.apart x in let o = once_most x d.count in omega (arith, a, o)) (λ x l. let w = d.within in d.apart x ∙ once_past x d.count (omega (arith, w, l))) in
+    let w = all_weighs h fs bs ns d.drawn es d.each in
+    let a = counted p k (all_of (lanes_entries j.keys j.hidden)) in
+    let c = counted p k (map asks_for fs) in
+    let l = lates_counted p k j.said in
+    omega (arith, most, w, a, c, l)

@@ -105,7 +105,7 @@ tie_lane_expired g b n es sl m [] j before after a is late may t =
 tie_lane_expired g b n es sl m (c ∷ cs) j before after a is late may t =
     let e : Event = Expired m c.0 c.1 in
     let take = takes es e sl.spare refl (may (omega arith)) in
-    let one = tie_expired g b n es sl m c.0 c.1 (cs ++ j) before after a.0 a.1 is late take.left take.fits t in
+    let one = tie_expired g b n es sl m c.0 c.1 (cs ++ j) before after a.0 is late take.left take.fits t in
     round_more g b n es e (expired_all m cs) sl.spare take.left (λ i. record sl { late = before ++ j ∷ after; spare = i }) take.goes
     (tie_lane_expired g b n (es ++ e ∷ []) (record sl { late = before ++ (cs ++ j) ∷ after; spare = take.left }) m cs j before after a.2 is refl (λ _. take.goes) one)
 

@@ -21,7 +21,7 @@ use Rattle.xet_ties.specs.Legal.{AllLatePlanned, AllLooked, AllPlanned, AnswersF
 use Rattle.xet_ties.specs.RunCalls.{IsFinished, IsUnspent, RunCall, TookAll}
 use Rattle.xet_ties.specs.Saids.{AllPassed, EntryPassed, FirstSaid, IsTested}
 use Rattle.xet_ties.specs.Setup.{EachGoesOn, RunTold, Setup}
-use Rattle.xet_ties.specs.Ties.{EachLane, EachUnfailed, FirstUnfailed, HeardAsked, IsEntryOf, IsFaultless, IsOther, IsPlannedEntry, IsQuiet, LeavesNothing, Slack, Stop, Ties, all_of, has_one, is_one, is_pair}
+use Rattle.xet_ties.specs.Ties.{EachLane, EachUnfailed, FirstUnfailed, HeardAsked, IsEntryOf, IsOther, IsPlannedEntry, IsQuiet, LeavesNothing, Slack, Stop, Ties, all_of, has_one, is_one, is_pair}
 use Rattle.xet_ties.proofs.Asks.{first_asks}
 use Rattle.xet_ties.proofs.Expiries.{counted_start, each_counted, none_past, none_spent}
 use Rattle.xet_ties.proofs.FewAsks.{none_few, run_few}
@@ -186,9 +186,6 @@ none_answered (b ∷ bs) = λ p k. let l = none_late bs p k in let s = none_serv
     none_served [] p k = refl
     none_served (c ∷ l) p k = none_served l p k
 
-faultless_other : (stop : Stop) → IsFaultless stop → IsOther stop
-faultless_other stop c e = subst IsFaultless e c
-
 unspent_other : (stop : Stop) → IsUnspent stop → IsOther stop
 unspent_other stop u e = subst IsUnspent e u
 
@@ -265,11 +262,11 @@ legal_refused g b x h = record {
   renewed = renews_none g b.clients;
   all_renewed = tt;
   in_order = in_order_start b.clients;
-  answered = λ c. none_answered b.clients;
+  answered = none_answered b.clients;
   counted = counted_start b.clients;
   late = late_nothing g b.clients;
   under = λ u. absurd u;
-  at_most = λ other p k. none_heard g b.clients p k;
+  at_most = λ p k. none_heard g b.clients p k;
   served = served_once [] b.clients b.clients (no_exchange b.clients) (no_hidden b.clients) (no_late b.clients) (exchange_start b.clients) (heard_served_start 0 b.clients) (served_start b.clients);
   planned = told_nothing g b.clients;
   passed = λ c. passed_nothing g b.clients;
@@ -325,11 +322,11 @@ legal_ran g b n es (Ok k) h a r =
       served = served_once es b.clients n.clients t.slack.heard t.slack.hidden t.slack.late t.ties.heard t.ties.heard_served t.ties.served;
       planned = planned_heard g b n es None t.slack t.ties;
       in_order = t.ties.in_order;
-      answered = λ c. answers_few g b n es None t.slack a (t.left.quiet c).hidden (t.left.late (λ e. absurd (cc))) t.ties;
+      answered = answers_few g b n es None t.slack a t.ties;
       counted = each_counted es 0 b.clients n.clients t.slack.hidden t.slack.late t.slack.heard t.ties.served.lanes t.ties.expired;
       late = late_heard g b n es None t.slack t.ties;
       under = λ u. none_spent g b n es None t.slack (t.left.late (λ e. absurd (cc))) (t.under u) t.ties;
-      at_most = tt;
+      at_most = none_past g b n es None t.slack t.ties;
       passed = λ c. quiet_passed g b n es None t.slack (t.left.quiet c) t.ties;
       gained = t.ties.gained;
       offers = offers_few g b n es None t.slack t.ties;
@@ -370,11 +367,11 @@ legal_ran g b n es (Err e) h a r =
       served = served_once es b.clients n.clients t.slack.heard t.slack.hidden t.slack.late t.ties.heard t.ties.heard_served t.ties.served;
       planned = planned_heard g b n es (Some e) t.slack t.ties;
       in_order = t.ties.in_order;
-      answered = λ c. answers_few g b n es (Some e) t.slack a (t.left.quiet c).hidden (t.left.late (faultless_other (Some e) c)) t.ties;
+      answered = answers_few g b n es (Some e) t.slack a t.ties;
       counted = each_counted es 0 b.clients n.clients t.slack.hidden t.slack.late t.slack.heard t.ties.served.lanes t.ties.expired;
       late = late_heard g b n es (Some e) t.slack t.ties;
       under = λ u. none_spent g b n es (Some e) t.slack (t.left.late (unspent_other (Some e) u)) (t.under u) t.ties;
-      at_most = λ other. none_past g b n es (Some e) t.slack (t.left.late (λ s. other (let same : e ≡ error.OutOfMemory = cc in same))) t.ties;
+      at_most = none_past g b n es (Some e) t.slack t.ties;
       passed = λ c. quiet_passed g b n es (Some e) t.slack (t.left.quiet c) t.ties;
       gained = t.ties.gained;
       offers = offers_few g b n es (Some e) t.slack t.ties;

@@ -46,6 +46,7 @@ mod RoundAllowed
 mod RoundAsks
 mod RoundCounts
 mod RoundData
+mod RoundOnce
 mod RoundShorts
 mod RoundTies
 mod RoundTries

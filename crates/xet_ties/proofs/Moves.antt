@@ -21,7 +21,7 @@ use Rattle.xet_ties.proofs.Heard.{said_push}
 use Rattle.xet_ties.specs.steps.Moves.{Fits}
 use Rattle.xet_ties.specs.Setup.{CacheTells, IsOver, RunTold, Setup, download_of}
 use Rattle.xet_ties.specs.Ties.{FirstInOrder, FirstLate, FirstUnfailed, AllAre, EachExpired, HeardAsked, IsAmong, IsEntryOf, IsLooked, IsTaken, LatePlanned, Slack, Ties, AllWithin, EachServed}
-use Rattle.xet_ties.proofs.Lanes.{served_same}
+use Rattle.xet_ties.proofs.Lanes.{open_same, served_same}
 use Rattle.xet_ties.proofs.Lates.{expired_same, late_push}
 use Rattle.xet_ties.proofs.Pushes.{cuts_same, first_push, lost_push, limited_same, looked_push, offered_push, polled_push, reaches_more, recorded_same, starts_same, stored_same, taken_push, tried_push, true_same}
 use Rattle.xet_ties.proofs.Numbers.{heard_push, next_same}
@@ -54,7 +54,7 @@ tie_event g b n es e sl to f t = record {
   heard_asked = subst (λ (l : List Exchange). HeardAsked g.file (es ++ e ∷ []) to.lost l) (sym f.heard) (heard_push g.file es e sl.lost to.lost sl.heard f.asked t.heard_asked);
   lost = lost_push g es e sl.lost (asked_in g.file es e) to.lost f.query refl f.asked t.lost;
   said = subst (λ (l : List Exchange). FirstSaid g (es ++ e ∷ []) l) (sym f.heard) (said_push g es e sl.heard f.said t.said);
-  tried = tried_push g.tries es e f.tried;
+  tried = tried_push g.tries es e to.late f.tried;
   renewed = each-push IsRenewed es e t.renewed f.renewed;
   refreshes = subst (λ (l : List Exchange). FirstRenewed g to.lost l) (sym f.heard) (f.refreshes t.refreshes);
   passed = subst (λ (l : List Exchange). All (EventPassed g l) (es ++ e ∷ [])) (sym f.heard) (All-push (EventPassed g sl.heard) es e t.passed f.passed);
@@ -203,7 +203,7 @@ tie_admit g b n es sl to l c t =
       ends = ends_same es e refl t.ends;
       numbers = each-push IsNumberedNext es e t.numbers tt;
       stored = stored_same g.file es e b.clients refl t.stored;
-      served = served_same es e sl.hidden sl.late b.clients n.clients (λ l. refl) (λ l. refl) (λ p k. refl) (λ m. tt) t.served;
+      served = served_same es e sl.hidden sl.late b.clients n.clients (λ l. refl) (λ l. refl) (λ p k. refl) (λ m. tt) (open_same es e (λ p k. refl)) t.served;
       expired = expired_same es e 0 sl.heard sl.late (λ l w. refl) t.expired;
       late_planned = late_push es e sl.heard t.late_planned;
       in_order = t.in_order;
@@ -214,7 +214,7 @@ tie_admit g b n es sl to l c t =
       heard_asked = heard_push g.file es e sl.lost sl.lost sl.heard refl t.heard_asked;
       lost = lost_push g es e sl.lost [] sl.lost refl refl refl t.lost;
       said = said_push g es e sl.heard (λ x. tt) t.said;
-      tried = tried_push g.tries es e (λ p k. let a = t.tried.at_most p k in omega (arith, a));
+      tried = tried_push g.tries es e sl.late (λ p k. let a = t.tried.at_most p k in omega (arith, a));
       renewed = each-push IsRenewed es e t.renewed tt;
       refreshes = t.refreshes;
       passed = All-push (EventPassed g sl.heard) es e t.passed tt;
@@ -316,7 +316,7 @@ tie_fail g b n es sl x spent t =
       ends = ends_same es e refl t.ends;
       numbers = each-push IsNumberedNext es e t.numbers tt;
       stored = stored_same g.file es e b.clients refl t.stored;
-      served = served_same es e sl.hidden sl.late b.clients n.clients (λ l. refl) (λ l. refl) (λ p k. refl) (λ m. tt) t.served;
+      served = served_same es e sl.hidden sl.late b.clients n.clients (λ l. refl) (λ l. refl) (λ p k. refl) (λ m. tt) (open_same es e (λ p k. refl)) t.served;
       expired = expired_same es e 0 sl.heard sl.late (λ l w. refl) t.expired;
       late_planned = late_push es e sl.heard t.late_planned;
       in_order = t.in_order;

@@ -189,9 +189,3 @@ cut_within place end bound (r ∷ qs) (suc i) q c h =
     let s = c.0 in
     let f = c.1 in
     (omega (arith, a, s, f), rest.1)
-
--- the first ones of a longer list
-pub slice_first : {A : Type 0} (xs ys : List A) (i : ℕ) (x : A) → slice_get xs i ≡ Some x → slice_get (xs ++ ys) i ≡ Some x
-slice_first [] ys i x h = absurd (cc)
-slice_first (y ∷ xs) ys zero x h = h
-slice_first (y ∷ xs) ys (suc i) x h = slice_first xs ys i x h

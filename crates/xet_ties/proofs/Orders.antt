@@ -373,7 +373,7 @@ first_late_join es (h ∷ hs) (a ∷ alls) (l ∷ ks) (b ∷ bs) ns (x ∷ xs) t
     (cases_lt 0 (count_by (is_pair p k) old))
 
 -- fetches of different fresh blocks go on so
-asked_fresh : (es : List Event) (fs : List Ask) (p k : ℕ) → All (IsFreshAsk es) fs → 0 < count_by (is_pair p k) (map asks_for fs) → is_expired es p k ≡ false
+pub asked_fresh : (es : List Event) (fs : List Ask) (p k : ℕ) → All (IsFreshAsk es) fs → 0 < count_by (is_pair p k) (map asks_for fs) → is_expired es p k ≡ false
 asked_fresh es [] p k h i = absurd (omega (arith, i))
 asked_fresh es (a ∷ fs) p k h i = by (is_pair p k (asks_for a)) refl (λ j. asked_fresh es fs p k (All-tail (IsFreshAsk es) a fs h) j)
   where

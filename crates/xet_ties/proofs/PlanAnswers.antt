@@ -1,7 +1,7 @@
 -- Each block is answered no more often than there are queries for its plan, by all connections together.
 use Rattle.std.proofs.Common.{◌≡◌, ℕ, zero, suc, ◌+◌, ◌≤◌, ◌==◌, ◌&&◌, ◌||◌, Bool, true, false, cond, List, [], ◌∷◌, ◌++◌, refl, sym, subst, ◌∙◌, ap, arith, append_assoc, Some, None, Option}
-use Rattle.std.specs.Prelude.{All, count_by, filter, map, option_to_list, take}
-use Rattle.std.specs.List.{list_any}
+use Rattle.std.specs.Prelude.{All, count_by, filter, map, option_to_list, slice_get, take}
+use Rattle.std.specs.List.{flat_map, list_any}
 use Rattle.std.specs.Option.{option_or}
 use Rattle.std.proofs.lemmas.Bool.{eq-eqb, eqb-true}
 use Rattle.std.proofs.lemmas.List.{append-nil, map-append}
@@ -9,6 +9,7 @@ use Rattle.std.proofs.lemmas.List.Elements.{All-head, All-tail}
 use Rattle.xet_base.specs.declared.cas_types.FileRange.{FileRange}
 use Rattle.xet_base.specs.declared.merklehash.MerkleHash.{MerkleHash}
 use Rattle.xet_base.specs.Lists.{first_some}
+use Rattle.xet_outside.specs.Answers.{late_in}
 use Rattle.xet_outside.specs.Told.{Query}
 use Rattle.xet_outside.specs.declared.served.Served.{Served}
 use Rattle.xet_outside.proofs.CallerLemmas.{count_by-cons}
@@ -17,21 +18,22 @@ use Rattle.xet_run.specs.declared.event.Event.TheVariants.{Planned, Admit, Fetch
 use Rattle.xet_run.specs.declared.event.PlannedBlock.{PlannedBlock}
 use Rattle.xet_run.specs.declared.event.PlannedTerm.{PlannedTerm}
 use Rattle.xet_run.specs.Allowed.{AllowedAfter, IsAllowed, IsAllowedHistory, IsMissing}
-use Rattle.xet_run.specs.Events.{Task, ended, expires, has_more, is_admit, is_kept, keeps, needs, planned, size, tasks_of, written}
-use Rattle.xet_run.proofs.CallerLemmas.{any-push, count_by-push, first_some-push, same_numbers}
+use Rattle.xet_run.specs.Events.{Task, ended, expires, has_more, is_admit, needs, planned, size, tasks_of, written}
+use Rattle.xet_run.proofs.CallerLemmas.{count_by-push, first_some-push, same_numbers}
 use Rattle.xet_ties.specs.Causes.{late_answers}
-use Rattle.xet_ties.specs.History.{EachAfter, IsRenewed, actual_range, asked_by, asked_in, expiry_of, fetches, is_expired, range_at, range_in}
+use Rattle.xet_ties.specs.History.{EachAfter, IsRenewed, actual_range, asked_by, asked_in, block_at, blocks_in, expiry_of, is_expired, range_at, range_in, served_by}
 use Rattle.xet_ties.specs.InCall.{Exchange, served_of_all}
-use Rattle.xet_ties.specs.Legal.{AnswersFew}
+use Rattle.xet_ties.specs.Legal.{AnswersFew, plan_queries}
 use Rattle.xet_ties.specs.Saids.{FirstSaid, IsEventSaid, own_query, same_start}
 use Rattle.xet_ties.specs.Setup.{RunTold, Setup}
-use Rattle.xet_ties.specs.Ties.{HeardAsked, NoneLate, Slack, Stop, Ties, all_of, is_pair}
+use Rattle.xet_ties.specs.Ties.{EachServed, HeardAsked, IsPlannedEntry, LatePlanned, Slack, Stop, Ties, all_of, is_pair}
 use Rattle.xet_ties.proofs.Asks.{or_none}
 use Rattle.xet_ties.proofs.Orders.{now_expired}
 use Rattle.xet_ties.proofs.Expiries.{block_late}
 use Rattle.xet_ties.proofs.OwnQueries.{own_is}
-use Rattle.xet_ties.proofs.Pairs.{heard_count, lanes_most}
-use Rattle.xet_ties.proofs.Telling.{count-append, count-same, expired-push, range_at-push, telling-push}
+use Rattle.xet_ties.proofs.Lanes.{one_most}
+use Rattle.xet_ties.proofs.Pairs.{heard_count, lanes_most, served_planned}
+use Rattle.xet_ties.proofs.Telling.{all_left, all_right, count-append, count-same, expired-push, range_at-push, telling-push}
 
 -- ---- the plan of an admitted term is planned
 
@@ -107,23 +109,89 @@ is_planned es p k m none = by (first_some (map (range_in p) es)) refl none
         let z : true ≡ false = sym some ∙ none_planned p es e in
         cc
 
+-- ---- a plan that wasn't planned has no blocks
+
+none_kept : (p : ℕ) (es : List Event) → first_some (map (range_in p) es) ≡ None
+    → first_some (map (blocks_in p) es) ≡ None
+none_kept p [] h = refl
+none_kept p (Planned n q ts bs ∷ es) h = by (n == p) refl (λ k. none_kept p es k)
+  where
+    ranges : Bool → Option FileRange
+    ranges v = first_some (cond v (Some (actual_range q ts)) None ∷ map (range_in p) es)
+
+    blocks : Bool → Option (List PlannedBlock)
+    blocks v = first_some (cond v (Some bs) None ∷ map (blocks_in p) es)
+
+    by : (v : Bool) → (n == p) ≡ v
+        → (first_some (map (range_in p) es) ≡ None → first_some (map (blocks_in p) es) ≡ None)
+        → blocks (n == p) ≡ None
+    by true e more = absurd (let some : Some (actual_range q ts) ≡ None = sym (ap ranges e) ∙ h in cc)
+    by false e more = ap blocks e ∙ more (sym (ap ranges e) ∙ h)
+none_kept p (Admit limit ∷ es) h = none_kept p es h
+none_kept p (Fetched lane plan block ∷ es) h = none_kept p es h
+none_kept p (Cached plan block ∷ es) h = none_kept p es h
+none_kept p (Expired lane plan block ∷ es) h = none_kept p es h
+none_kept p (Refreshed plan ∷ es) h = none_kept p es h
+none_kept p (Wrote taken ∷ es) h = none_kept p es h
+none_kept p (Fail error ∷ es) h = none_kept p es h
+none_kept p (Cancel ∷ es) h = none_kept p es h
+
+-- so no entry of planned blocks is of it
+unplanned : (p k : ℕ) (es : List Event) (xs : List Served) → first_some (map (range_in p) es) ≡ None
+    → All (IsPlannedEntry es) xs → count_by (is_pair p k) xs ≡ 0
+unplanned p k es [] none a = refl
+unplanned p k es (x ∷ xs) none a =
+    let r = unplanned p k es xs none (All-tail (IsPlannedEntry es) x xs a) in
+    let c = count_by-cons (is_pair p k) x xs in
+    let z = here (is_pair p k x) refl (All-head (IsPlannedEntry es) x xs a) in
+    omega (arith, r, c, z)
+  where
+    of : Option (List PlannedBlock) → List PlannedBlock
+    of o = flat_map (λ (l : List PlannedBlock). option_to_list (slice_get l x.index)) (option_to_list o)
+
+    here : (v : Bool) → is_pair p k x ≡ v → IsPlannedEntry es x → cond {A = ℕ} (is_pair p k x) 1 0 ≡ 0
+    here false e h = ap (λ (v : Bool). cond {A = ℕ} v 1 0) e
+    here true e h =
+        let number : x.plan ≡ p = (same_numbers x.plan x.index p k e).0 in
+        let at : block_at es x.plan x.index ≡ [] =
+        ap (λ (q : ℕ). block_at es q x.index) number ∙ ap of (none_kept p es none) in
+        absurd (let z : h.0 ∷ [] ≡ [] = sym h.1 ∙ at in cc)
+
+lates_none : (p k : ℕ) (es : List Event) (xs : List Exchange) → first_some (map (range_in p) es) ≡ None
+    → LatePlanned es xs → late_answers p k xs ≡ 0
+lates_none p k es [] none a = refl
+lates_none p k es (x ∷ xs) none a =
+    let P : Exchange → Type 0 = λ y. All (IsPlannedEntry es) (late_in y.said) in
+    let r = lates_none p k es xs none (All-tail P x xs a) in
+    let c = unplanned p k es (late_in x.said) none (All-head P x xs a) in
+    omega (arith, r, c)
+
+served_none : (p k lane : ℕ) (es : List Event) (xs : List Exchange) (hs : List (List Served))
+    → first_some (map (range_in p) es) ≡ None → EachServed es lane xs hs → All (IsPlannedEntry es) (all_of hs)
+    → count_by (is_pair p k) (served_of_all xs) ≡ 0
+served_none p k lane es [] [] none t a = refl
+served_none p k lane es [] (h ∷ hs) none t a = absurd t
+served_none p k lane es (x ∷ xs) [] none t a = absurd t
+served_none p k lane es (x ∷ xs) (h ∷ hs) none t a =
+    let r = served_none p k (lane + 1) es xs hs none t.1 (all_right (IsPlannedEntry es) h (all_of hs) a) in
+    let u = unplanned p k es (served_by lane es) none (served_planned lane es) in
+    let v = unplanned p k es h none (all_left (IsPlannedEntry es) h (all_of hs) a) in
+    let c = count-append (is_pair p k) x.served (served_of_all xs) in
+    let d = count-append (is_pair p k) (served_by lane es) h in
+    let e = ap (λ (l : List Served). count_by (is_pair p k) l) t.0 in
+    omega (arith, r, u, v, c, d, e)
+
 -- ---- one block
 
--- its answers that the events say, and whether it may be answered without another query
-abbrev answers : ℕ → ℕ → List Event → ℕ
-answers p k es = count_by (expires p k) es + count_by (fetches p k) es
-
-abbrev is_closed : ℕ → ℕ → List Event → Bool
-is_closed p k es = is_expired es p k || is_kept es p k
-
+-- whether it may be answered without another query
 abbrev open_one : ℕ → ℕ → List Event → ℕ
-open_one p k es = cond {A = ℕ} (is_closed p k es) 0 1
+open_one p k es = cond {A = ℕ} (is_expired es p k) 0 1
 
--- it has no more answers, with one that may come, than there are queries of this kind
+-- it expired no more often, with one answer that may come, than there are queries of this kind
 record FewOf (S : Query → Bool) (f : MerkleHash) (p k : ℕ) (es : List Event) : Type 0 where
-  none : range_at es p ≡ [] → answers p k es ≡ 0
+  none : range_at es p ≡ [] → count_by (expires p k) es ≡ 0
   some : (r : FileRange) → range_at es p ≡ r ∷ []
-      → (S (f, r) ≡ true) × (answers p k es + open_one p k es ≤ count_by S (asked_by f es))
+      → (S (f, r) ≡ true) × (count_by (expires p k) es + open_one p k es ≤ count_by S (asked_by f es))
 
 -- ---- one more event
 
@@ -147,95 +215,52 @@ asked_more S f es e =
     ap (λ (l : List Query). count_by S l) (telling-push (asked_in f) es e)
     ∙ count-append S (asked_by f es) (asked_in f es e)
 
-less : (x y z : Bool) → cond {A = ℕ} (x || (y || z)) 0 1 ≤ cond {A = ℕ} (x || y) 0 1
-less true y z = omega arith
-less false true z = omega arith
-less false false true = omega arith
-less false false false = omega arith
-
-one_most : (v : Bool) → cond {A = ℕ} v 0 1 ≤ 1
-one_most true = omega arith
-one_most false = omega arith
-
--- what isn't an answer, and no refresh
-open_less : (p k : ℕ) (es : List Event) (e : Event) → expiry_of p k e ≡ []
-    → open_one p k (es ++ e ∷ []) ≤ open_one p k es
-open_less p k es e h =
-    let x = ap (λ (v : Bool). cond {A = ℕ} (v || is_kept (es ++ e ∷ []) p k) 0 1) (expired-push es e p k h) in
-    let y = ap (λ (v : Bool). cond {A = ℕ} (is_expired es p k || v) 0 1) (any-push (keeps p k) es e) in
-    let l = less (is_expired es p k) (is_kept es p k) (keeps p k e) in
-    omega (arith, x, y, l)
-
-answers_same : (p k : ℕ) (es : List Event) (e : Event) → expires p k e ≡ false → fetches p k e ≡ false
-    → answers p k (es ++ e ∷ []) ≡ answers p k es
-answers_same p k es e x y =
-    let a = count-same (expires p k) es e x in
-    let b = count-same (fetches p k) es e y in
-    omega (arith, a, b)
+-- what is neither an expired answer nor a refresh
+open_same : (p k : ℕ) (es : List Event) (e : Event) → expiry_of p k e ≡ []
+    → open_one p k (es ++ e ∷ []) ≡ open_one p k es
+open_same p k es e h = ap (λ (v : Bool). cond {A = ℕ} v 0 1) (expired-push es e p k h)
 
 quiet : (S : Query → Bool) (f : MerkleHash) (p k : ℕ) (es : List Event) (e : Event) → range_in p e ≡ None
-    → expires p k e ≡ false → fetches p k e ≡ false → expiry_of p k e ≡ [] → FewOf S f p k es
-    → FewOf S f p k (es ++ e ∷ [])
-quiet S f p k es e plans x y h few =
+    → expires p k e ≡ false → expiry_of p k e ≡ [] → FewOf S f p k es → FewOf S f p k (es ++ e ∷ [])
+quiet S f p k es e plans x h few =
     let same = range_same es e p plans in
-    let a = answers_same p k es e x y in
+    let a = count-same (expires p k) es e x in
     record {
       none = λ n. a ∙ few.none (sym same ∙ n);
       some = λ r n.
           let was = few.some r (sym same ∙ n) in
-          let l = open_less p k es e h in
+          let l = open_same p k es e h in
           let m = asked_more S f es e in
           let w = was.1 in
           (was.0, omega (arith, a, l, m, w));
     }
 
--- an answer
-answered : (S : Query → Bool) (f : MerkleHash) (p k : ℕ) (es : List Event) (e : Event) → range_in p e ≡ None
-    → cond {A = ℕ} (expires p k e) 1 0 + cond {A = ℕ} (fetches p k e) 1 0 ≡ 1 → is_closed p k es ≡ false
-    → is_closed p k (es ++ e ∷ []) ≡ true → (range_at es p ≡ [] → ⊥) → FewOf S f p k es
-    → FewOf S f p k (es ++ e ∷ [])
-answered S f p k es e plans one was now some few =
-    let same = range_same es e p plans in
+-- an expired answer
+expired_few : (S : Query → Bool) (f : MerkleHash) (p k : ℕ) (es : List Event) (l n c : ℕ)
+    → (n == p && c == k) ≡ true → is_expired es p k ≡ false → (range_at es p ≡ [] → ⊥) → FewOf S f p k es
+    → FewOf S f p k (es ++ Expired l n c ∷ [])
+expired_few S f p k es l n c h was some few =
+    let e : Event = Expired l n c in
+    let same = range_same es e p refl in
     record {
       none = λ n. absurd (some (sym same ∙ n));
-      some = λ r n.
-          let t = few.some r (sym same ∙ n) in
+      some = λ r n'.
+          let t = few.some r (sym same ∙ n') in
           let a = count_by-push (expires p k) es e in
-          let b = count_by-push (fetches p k) es e in
+          let one = ap (λ (v : Bool). cond {A = ℕ} v 1 0) h in
           let x = ap (λ (v : Bool). cond {A = ℕ} v 0 1) was in
-          let y = ap (λ (v : Bool). cond {A = ℕ} v 0 1) now in
+          let y = ap (λ (v : Bool). cond {A = ℕ} v 0 1) (now_expired es l n c p k h) in
           let m = asked_more S f es e in
           let w = t.1 in
-          (t.0, omega (arith, a, b, one, x, y, m, w));
+          (t.0, omega (arith, a, one, x, y, m, w));
     }
 
-both_false : (x y : Bool) → x ≡ false → y ≡ false → (x || y) ≡ false
-both_false true y h i = absurd (cc)
-both_false false y h i = i
-
-right_true : (x y : Bool) → y ≡ true → (x || y) ≡ true
-right_true true y h = refl
-right_true false y h = h
-
-after_expired : (p k : ℕ) (es : List Event) (l n c : ℕ) → (n == p && c == k) ≡ true
-    → is_closed p k (es ++ Expired l n c ∷ []) ≡ true
-after_expired p k es l n c h =
-    ap (λ (v : Bool). v || is_kept (es ++ Expired l n c ∷ []) p k) (now_expired es l n c p k h)
-
-after_fetched : (p k : ℕ) (es : List Event) (l n c : ℕ) → (n == p && c == k) ≡ true
-    → is_closed p k (es ++ Fetched l n c ∷ []) ≡ true
-after_fetched p k es l n c h =
-    right_true (is_expired (es ++ Fetched l n c ∷ []) p k) (is_kept (es ++ Fetched l n c ∷ []) p k)
-    (any-push (keeps p k) es (Fetched l n c) ∙ right_true (is_kept es p k) (n == p && c == k) h)
-
--- a block that is missing and not expired, under the numbers of a test that is met
-open_at : (p k : ℕ) (es : List Event) (n c : ℕ) → (n == p && c == k) ≡ true → IsMissing es n c
-    → is_expired es n c ≡ false → is_closed p k es ≡ false
-open_at p k es n c h m fresh =
+-- a block that isn't expired, under the numbers of a test that is met
+open_at : (p k : ℕ) (es : List Event) (n c : ℕ) → (n == p && c == k) ≡ true → is_expired es n c ≡ false
+    → is_expired es p k ≡ false
+open_at p k es n c h fresh =
     let s = same_numbers n c p k h in
-    let x = subst (λ (j : ℕ). is_expired es p j ≡ false) s.1 (subst (λ (q : ℕ). is_expired es q c ≡ false) s.0 fresh) in
-    let y = subst (λ (j : ℕ). is_kept es p j ≡ false) s.1 (subst (λ (q : ℕ). is_kept es q c ≡ false) s.0 m.absent) in
-    both_false (is_expired es p k) (is_kept es p k) x y
+    subst (λ (j : ℕ). is_expired es p j ≡ false) s.1 (subst (λ (q : ℕ). is_expired es q c ≡ false) s.0 fresh)
 
 has_range : (p k : ℕ) (es : List Event) (n c : ℕ) → (n == p && c == k) ≡ true → IsMissing es n c
     → range_at es p ≡ [] → ⊥
@@ -257,8 +282,8 @@ planned_few S f p k es n q ts bs h own few = by (first_some (map (range_in p) es
         ≡ option_to_list (option_or (first_some (map (range_in p) es)) (Some (actual_range q ts)))
     now = range_more es e p ∙ ap (λ (v : Bool). option_to_list (option_or (first_some (map (range_in p) es)) (cond v (Some (actual_range q ts)) None))) h
 
-    a : answers p k (es ++ e ∷ []) ≡ answers p k es
-    a = answers_same p k es e refl refl
+    a : count_by (expires p k) (es ++ e ∷ []) ≡ count_by (expires p k) es
+    a = count-same (expires p k) es e refl
 
     by : (o : Option FileRange) → first_some (map (range_in p) es) ≡ o → FewOf S f p k (es ++ e ∷ [])
     by (Some x) is = record {
@@ -267,7 +292,7 @@ planned_few S f p k es n q ts bs h own few = by (first_some (map (range_in p) es
           let was : range_at es p ≡ x ∷ [] = ap (λ (o : Option FileRange). option_to_list o) is in
           let same : x ∷ [] ≡ r ∷ [] = sym (range_at-push es e p x was) ∙ at in
           let t = few.some r (was ∙ same) in
-          let l = open_less p k es e refl in
+          let l = open_same p k es e refl in
           let m = asked_more S f es e in
           let w = t.1 in
           (t.0, omega (arith, a, l, m, w));
@@ -284,7 +309,7 @@ planned_few S f p k es n q ts bs h own few = by (first_some (map (range_in p) es
               let m = asked_more S f es e in
               let c = count_by-cons S (f, q) [] in
               let s = ap (λ (v : Bool). cond {A = ℕ} v 1 0) (own q refl) in
-              let l = one_most (is_closed p k (es ++ e ∷ [])) in
+              let l = one_most (is_expired (es ++ e ∷ []) p k) in
               (own r start, omega (arith, a, z, m, c, s, l));
         }
 
@@ -293,7 +318,7 @@ refreshed_few : (S : Query → Bool) (f : MerkleHash) (p k : ℕ) (es : List Eve
     → FewOf S f p k es → FewOf S f p k (es ++ Refreshed n ∷ [])
 refreshed_few S f p k es n h few =
     let same = range_same es (Refreshed n) p refl in
-    let a = answers_same p k es (Refreshed n) refl refl in
+    let a = count-same (expires p k) es (Refreshed n) refl in
     record {
       none = λ none. a ∙ few.none (sym same ∙ none);
       some = λ r at.
@@ -306,7 +331,7 @@ refreshed_few S f p k es n h few =
           let d = ap (λ (l : List Query). count_by S l) asks in
           let c = count_by-cons S (f, r) [] in
           let s = ap (λ (v : Bool). cond {A = ℕ} v 1 0) t.0 in
-          let l = one_most (is_closed p k (es ++ Refreshed n ∷ [])) in
+          let l = one_most (is_expired (es ++ Refreshed n ∷ []) p k) in
           let w = t.1 in
           (t.0, omega (arith, a, m, d, c, s, l, w));
     }
@@ -333,40 +358,34 @@ few_after g x p k es (Planned n q ts bs) a renewed said few = by (n == p) refl
         planned_few (for_plan x p) g.file p k es n q ts bs h (λ r start. own_for x g.file p q r mine start) few
     by false h =
         quiet (for_plan x p) g.file p k es (Planned n q ts bs)
-        (ap (λ (v : Bool). cond {A = Option FileRange} v (Some (actual_range q ts)) None) h) refl refl refl few
+        (ap (λ (v : Bool). cond {A = Option FileRange} v (Some (actual_range q ts)) None) h) refl refl few
 few_after g x p k es (Expired l n c) a renewed said few = by (n == p && c == k) refl
   where
     by : (v : Bool) → (n == p && c == k) ≡ v → FewOf (for_plan x p) g.file p k (es ++ Expired l n c ∷ [])
     by true h =
-        answered (for_plan x p) g.file p k es (Expired l n c) refl (ap (λ (v : Bool). cond {A = ℕ} v 1 0 + 0) h)
-        (open_at p k es n c h a.1 renewed) (after_expired p k es l n c h) (has_range p k es n c h a.1) few
+        expired_few (for_plan x p) g.file p k es l n c h (open_at p k es n c h renewed) (has_range p k es n c h a.1) few
     by false h =
-        quiet (for_plan x p) g.file p k es (Expired l n c) refl h refl
+        quiet (for_plan x p) g.file p k es (Expired l n c) refl h
         (ap (λ (v : Bool). cond {A = List Bool} v (true ∷ []) []) h) few
-few_after g x p k es (Fetched l n c) a renewed said few = by (n == p && c == k) refl
-  where
-    by : (v : Bool) → (n == p && c == k) ≡ v → FewOf (for_plan x p) g.file p k (es ++ Fetched l n c ∷ [])
-    by true h =
-        answered (for_plan x p) g.file p k es (Fetched l n c) refl (ap (λ (v : Bool). 0 + cond {A = ℕ} v 1 0) h)
-        (open_at p k es n c h a.1 renewed) (after_fetched p k es l n c h) (has_range p k es n c h a.1) few
-    by false h = quiet (for_plan x p) g.file p k es (Fetched l n c) refl refl h refl few
+few_after g x p k es (Fetched l n c) a renewed said few =
+    quiet (for_plan x p) g.file p k es (Fetched l n c) refl refl refl few
 few_after g x p k es (Refreshed n) a renewed said few = by (n == p) refl
   where
     by : (v : Bool) → (n == p) ≡ v → FewOf (for_plan x p) g.file p k (es ++ Refreshed n ∷ [])
     by true h = refreshed_few (for_plan x p) g.file p k es n h few
     by false h =
-        quiet (for_plan x p) g.file p k es (Refreshed n) refl refl refl
+        quiet (for_plan x p) g.file p k es (Refreshed n) refl refl
         (ap (λ (v : Bool). cond {A = List Bool} v (false ∷ []) []) h) few
 few_after g x p k es (Admit limit) a renewed said few =
-    quiet (for_plan x p) g.file p k es (Admit limit) refl refl refl refl few
+    quiet (for_plan x p) g.file p k es (Admit limit) refl refl refl few
 few_after g x p k es (Cached plan block) a renewed said few =
-    quiet (for_plan x p) g.file p k es (Cached plan block) refl refl refl refl few
+    quiet (for_plan x p) g.file p k es (Cached plan block) refl refl refl few
 few_after g x p k es (Wrote taken) a renewed said few =
-    quiet (for_plan x p) g.file p k es (Wrote taken) refl refl refl refl few
+    quiet (for_plan x p) g.file p k es (Wrote taken) refl refl refl few
 few_after g x p k es (Fail error) a renewed said few =
-    quiet (for_plan x p) g.file p k es (Fail error) refl refl refl refl few
+    quiet (for_plan x p) g.file p k es (Fail error) refl refl refl few
 few_after g x p k es Cancel a renewed said few =
-    quiet (for_plan x p) g.file p k es Cancel refl refl refl refl few
+    quiet (for_plan x p) g.file p k es Cancel refl refl refl few
 
 few_along : (g : Setup) (x : Exchange) (p k : ℕ) (before es : List Event) → AllowedAfter before es
     → EachAfter IsRenewed before es → All (IsEventSaid g x) es → FewOf (for_plan x p) g.file p k before
@@ -378,24 +397,19 @@ few_along g x p k before (e ∷ es) a r s few =
     (few_along g x p k (before ++ e ∷ []) es a.1 r.1 (All-tail (IsEventSaid g x) e es s)
     (few_after g x p k before e a.0 r.0 (All-head (IsEventSaid g x) e es s) few))
 
-few_all : (g : Setup) (x : Exchange) (p k : ℕ) (es : List Event) → IsAllowedHistory es → EachAfter IsRenewed [] es
-    → All (IsEventSaid g x) es → answers p k es ≤ count_by (for_plan x p) (asked_by g.file es)
-few_all g x p k es a r s = by (first_some (map (range_in p) es)) refl
+few_all : (g : Setup) (x : Exchange) (p k : ℕ) (es : List Event) (q : FileRange) → IsAllowedHistory es
+    → EachAfter IsRenewed [] es → All (IsEventSaid g x) es → range_at es p ≡ q ∷ []
+    → count_by (expires p k) es + open_one p k es ≤ count_by (for_plan x p) (asked_by g.file es)
+few_all g x p k es q a r s at = (few.some q at).1
   where
     few : FewOf (for_plan x p) g.file p k es
     few = few_along g x p k [] es a r s (record { none = λ n. refl; some = λ q n. absurd (cc) })
 
-    by : (o : Option FileRange) → first_some (map (range_in p) es) ≡ o
-        → answers p k es ≤ count_by (for_plan x p) (asked_by g.file es)
-    by None e = let z = few.none (ap (λ (o : Option FileRange). option_to_list o) e) in omega (arith, z)
-    by (Some q) e =
-        let t = few.some q (ap (λ (o : Option FileRange). option_to_list o) e) in let w = t.1 in omega (arith, w)
-
 -- ---- by what was heard
 
 pub answers_few : (g : Setup) (b n : RunTold) (es : List Event) (stop : Stop) (sl : Slack) → IsAllowedHistory es
-    → all_of sl.hidden ≡ [] → NoneLate sl.late → Ties g b n es stop sl → AnswersFew sl.heard
-answers_few g b n es stop sl a hidden late t = by sl.heard refl
+    → Ties g b n es stop sl → AnswersFew sl.heard
+answers_few g b n es stop sl a t = by sl.heard refl
   where
     by : (xs : List Exchange) → sl.heard ≡ xs → AnswersFew sl.heard
     by [] e = absurd (subst (λ (l : List Exchange). FirstSaid g es l) e t.said)
@@ -404,14 +418,26 @@ answers_few g b n es stop sl a hidden late t = by sl.heard refl
         let asked : HeardAsked g.file es sl.lost (x ∷ rest) =
         subst (λ (l : List Exchange). HeardAsked g.file es sl.lost l) e t.heard_asked in
         let few : AnswersFew (x ∷ rest) = (λ p k.
-        let one = few_all g x p k es a t.renewed said.0 in
-        let more = ap (λ (l : List Query). count_by (for_plan x p) l) asked in
-        let both = count-append (for_plan x p) (asked_by g.file es) sl.lost in
-        let heard = block_late g b n es stop sl p k late t in
         let mine = ap (λ (l : List Exchange). late_answers p k l) e in
-        let served = heard_count p k es 0 b.clients n.clients sl.heard sl.hidden t.heard t.heard_served in
         let here = ap (λ (l : List Exchange). count_by (is_pair p k) (served_of_all l)) e in
-        let most = lanes_most p k [] es 0 b.clients in
-        let none = ap (λ (l : List Served). count_by (is_pair p k) l) hidden in
-        omega (arith, one, more, both, heard, mine, served, here, most, none)) in
+        all p k (first_some (map (range_in p) es)) refl said.0 asked mine here) in
         subst (λ (l : List Exchange). AnswersFew l) (sym e) few
+      where
+        all : (p k : ℕ) (o : Option FileRange) → first_some (map (range_in p) es) ≡ o → All (IsEventSaid g x) es
+            → HeardAsked g.file es sl.lost (x ∷ rest) → late_answers p k sl.heard ≡ late_answers p k (x ∷ rest)
+            → count_by (is_pair p k) (served_of_all sl.heard) ≡ count_by (is_pair p k) (served_of_all (x ∷ rest))
+            → late_answers p k (x ∷ rest) + count_by (is_pair p k) (served_of_all (x ∷ rest)) ≤ plan_queries x.asked p
+        all p k None unknown said asked mine here =
+            let l = lates_none p k es sl.heard unknown t.late_planned in
+            let s = served_none p k 0 es sl.heard sl.hidden unknown t.heard_served t.served.planned in
+            omega (arith, mine, here, l, s)
+        all p k (Some q) is said asked mine here =
+            let at = ap (λ (o : Option FileRange). option_to_list o) is in
+            let one = few_all g x p k es q a t.renewed said at in
+            let more = ap (λ (l : List Query). count_by (for_plan x p) l) asked in
+            let both = count-append (for_plan x p) (asked_by g.file es) sl.lost in
+            let heard = block_late g b n es stop sl p k t in
+            let served = heard_count p k es 0 b.clients n.clients sl.heard sl.hidden t.heard t.heard_served in
+            let most = lanes_most p k [] es 0 b.clients in
+            let once = t.served.once p k in
+            omega (arith, one, more, both, heard, mine, served, here, most, once)

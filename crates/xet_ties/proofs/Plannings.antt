@@ -29,7 +29,8 @@ use Rattle.xet_ties.specs.Ties.{CutsRange, FirstAsked, FirstStarts, HeardAsked, 
 use Rattle.xet_run.specs.Events.{is_stale}
 use Rattle.xet_ties.proofs.AskTies.{none_terms}
 use Rattle.xet_ties.proofs.Asks.{AreIn, asked_cut, none_in}
-use Rattle.xet_ties.proofs.Numbers.{first_range, plan_at, reads_range, slice_first}
+use Rattle.xet_ties.proofs.CutPlaces.{first_at}
+use Rattle.xet_ties.proofs.Numbers.{first_range, plan_at, reads_range}
 use Rattle.xet_ties.proofs.Telling.{count-more, count-same}
 use Rattle.xet_ties.proofs.Told.{answers_told, bare, if_some, told_new}
 use Rattle.std.proofs.lemmas.Bool.{cases_lt}
@@ -93,7 +94,7 @@ numbered_at g es lost (x ∷ rest) p place q within cuts l is at number =
       cut = queries es ++ c.more;
       is_cut = c.is_cut;
       some = omega (arith, number);
-      at = ap (λ (i : ℕ). slice_get (queries es ++ c.more) i) (sym less) ∙ slice_first (queries es) c.more place q at;
+      at = ap (λ (i : ℕ). slice_get (queries es ++ c.more) i) (sym less) ∙ first_at (queries es) c.more place q at;
     }
 
 -- the plan that covers a range is of the query that starts where the range does

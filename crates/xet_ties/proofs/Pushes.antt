@@ -23,11 +23,11 @@ use Rattle.xet_run.specs.Events.{error_in, expires, first_error, Task, is_plan, 
 use Rattle.xet_history.specs.TrueHistory.{Download, IsTrueEvent, IsTrueHistory, pieces, queries, queries_in, task_piece}
 use Rattle.xet_run.proofs.CallerLemmas.{count_by-push, error-push, flat-push, planned-push, stale-push, written-push}
 use Rattle.xet_ties.specs.History.{asked_by, asked_in, cached_in, fetched_in, kept_in, limit_in, limits_of, range_at, telling, round_count, round_in}
-use Rattle.xet_ties.specs.InCall.{Exchange, Look}
+use Rattle.xet_ties.specs.InCall.{Exchange, Look, Place}
 use Rattle.xet_ties.specs.Saids.{IsTaskPiece, IsTested, has_bytes, some_of}
 use Rattle.xet_ties.specs.Setup.{AllTell, Setup}
 use Rattle.xet_ties.specs.Gains.{GrewBy}
-use Rattle.xet_ties.specs.Ties.{AllAre, CutsRange, FirstAsked, FirstStarts, IsLost, IsAmong, IsAsked, IsLimited, IsLooked, IsOffered, IsPolled, IsRecorded, IsTaken, IsTried, Reaches, has_one, is_one, IsNextQuery, AllWithin}
+use Rattle.xet_ties.specs.Ties.{AllAre, CutsRange, FirstAsked, FirstStarts, IsLost, IsAmong, IsAsked, IsLimited, IsLooked, IsOffered, IsPolled, IsRecorded, IsTaken, IsTried, Reaches, all_late, at_place, has_one, is_one, IsNextQuery, AllWithin}
 use Rattle.xet_ties.proofs.Telling.{count-append, count-same, range_at-push, telling-push}
 use Rattle.xet_ties.proofs.EarlyEnds.{goes_same}
 
@@ -124,8 +124,8 @@ first_push f es e lost rest [] ns is t = t
 first_push f es e lost rest (b ∷ bs) [] is t = t
 first_push f es e lost rest (b ∷ bs) (n ∷ ns) is t = (asked_push f es e lost rest b n is t.0, t.1)
 
-pub tried_push : (tries : ℕ) (es : List Event) (e : Event) → ((p k : ℕ) → count_by (expires p k) es + cond (expires p k e) 1 0 ≤ tries) → IsTried tries (es ++ e ∷ []) None
-tried_push tries es e h = record {
+pub tried_push : (tries : ℕ) (es : List Event) (e : Event) (late : List (List Place)) → ((p k : ℕ) → (count_by (expires p k) es + cond (expires p k e) 1 0) + count_by (at_place p k) (all_late late) ≤ tries) → IsTried tries (es ++ e ∷ []) late None
+tried_push tries es e late h = record {
   at_most = λ p k. let c = count_by-push (expires p k) es e in let a = h p k in omega (arith, a, c);
   spent = λ z. absurd (cc);
 }

@@ -1,5 +1,5 @@
 -- The ties after the events that take from the slack.
-use Rattle.std.proofs.Common.{◌≡◌, ℕ, ◌+◌, ◌≤◌, ◌<◌, Bool, true, false, cond, List, [], ◌∷◌, ◌++◌, length, refl, sym, subst, ◌∙◌, ap, arith, None}
+use Rattle.std.proofs.Common.{◌≡◌, ℕ, ◌+◌, ◌≤◌, false, cond, List, [], ◌∷◌, ◌++◌, length, refl, sym, subst, ◌∙◌, ap, arith, None}
 use Rattle.std.specs.Prelude.{count_by, map}
 use Rattle.xet_base.specs.declared.cas_types.ChunkRange.{ChunkRange}
 use Rattle.xet_base.specs.declared.merklehash.MerkleHash.{MerkleHash}
@@ -8,16 +8,14 @@ use Rattle.xet_outside.specs.declared.served.Served.{Served}
 use Rattle.xet_run.specs.declared.event.Event.{Event}
 use Rattle.xet_run.specs.declared.event.Event.TheVariants.{Fetched, Expired, Refreshed, Wrote}
 use Rattle.xet_run.specs.declared.event.PlannedBlock.{PlannedBlock}
-use Rattle.xet_run.specs.Events.{expires}
 use Rattle.xet_ties.specs.History.{block_at, entry_of, is_expired, range_at, round_in}
 use Rattle.xet_ties.specs.InCall.{Place}
 use Rattle.xet_ties.specs.Saids.{FirstRenewed, HasPassed}
 use Rattle.xet_ties.specs.Setup.{RunTold, Setup}
-use Rattle.xet_ties.specs.Ties.{FirstLate, EachExpired, IsServed, Slack, Ties, has_one, is_one, EachServed}
-use Rattle.xet_ties.proofs.Lanes.{served_expired, served_fetched, served_same}
+use Rattle.xet_ties.specs.Ties.{FirstLate, EachExpired, IsServed, Slack, Ties, all_late, at_place, has_one, is_one, EachServed}
+use Rattle.xet_ties.proofs.Lanes.{count_late, open_refreshed, open_same, served_expired, served_fetched, served_same}
 use Rattle.xet_ties.proofs.Lates.{expired_next, expired_same}
 use Rattle.xet_ties.proofs.Moves.{tie_event}
-use Rattle.xet_run.proofs.CallerLemmas.{same_numbers}
 use Rattle.xet_base.specs.declared.cas_types.FileRange.{FileRange}
 use Rattle.xet_ties.proofs.Orders.{FirstClear, first_late_clear, first_late_expired, first_late_push}
 use Rattle.xet_ties.proofs.HeardServed.{heard_served_same, heard_served_next}
@@ -66,9 +64,9 @@ tie_fetched g b n es sl m p k x h before after rest at fresh is hidden pending p
 
 -- a lane's next expired answer is recorded
 pub tie_expired : (g : Setup) (b n : RunTold) (es : List Event) (sl : Slack) (m p k : ℕ) (j : List Place) (before after : List (List Place))
-    → is_expired es p k ≡ false → count_by (expires p k) es < g.tries → m ≡ length before → sl.late ≡ before ++ ((p, k) ∷ j) ∷ after → (spare : ℕ) → length (round_in es (Expired m p k)) + spare ≤ sl.spare
+    → is_expired es p k ≡ false → m ≡ length before → sl.late ≡ before ++ ((p, k) ∷ j) ∷ after → (spare : ℕ) → length (round_in es (Expired m p k)) + spare ≤ sl.spare
     → Ties g b n es None sl → Ties g b n (es ++ Expired m p k ∷ []) None (record sl { late = before ++ j ∷ after; spare = spare })
-tie_expired g b n es sl m p k j before after fresh left is late spare fits t =
+tie_expired g b n es sl m p k j before after fresh is late spare fits t =
     let e : Event = Expired m p k in
     tie_event g b n es e sl (record sl { late = before ++ j ∷ after; spare = spare })
     (record {
@@ -81,12 +79,16 @@ tie_expired g b n es sl m p k j before after fresh left is late spare fits t =
       within = tt;
       plan = refl;
       tasks = refl;
-      served = λ bs ns v. served_expired es m p k (p, k) j sl.hidden before after bs ns is (subst (λ (l : List (List Place)). IsServed es sl.hidden l bs ns) late v);
+      served = λ bs ns v. served_expired es m p k j sl.hidden before after bs ns is (subst (λ (l : List (List Place)). IsServed es sl.hidden l bs ns) late v);
       expired = λ xs v. expired_next es m p k j 0 xs before after (omega (arith, is)) (subst (λ (l : List (List Place)). EachExpired es 0 xs l) late v);
       heard_served = λ xs v. heard_served_same es e 0 xs sl.hidden (λ l w. refl) v;
       first_late = λ v. first_late_expired es m p k j before after sl.heard (subst (λ (l : List (List Place)). FirstLate es l sl.heard) late v);
       asked = refl;
-      tried = λ q i. tried q i (expires q i e) refl;
+      tried = λ q i.
+          let a = t.tried.at_most q i in
+          let s = ap (λ (l : List (List Place)). count_by (at_place q i) (all_late l)) late in
+          let d = count_late q i (p, k) j after before in
+          omega (arith, a, s, d);
       renewed = fresh;
       refreshes = λ r. r;
       passed = tt;
@@ -99,13 +101,6 @@ tie_expired g b n es sl m p k j before after fresh left is late spare fits t =
       ahead = omega arith;
       error = refl;
     }) t
-  where
-    tried : (q i : ℕ) (v : Bool) → expires q i (Expired m p k) ≡ v → count_by (expires q i) es + cond v 1 0 ≤ g.tries
-    tried q i false h = let a = t.tried.at_most q i in omega (arith, a)
-    tried q i true h =
-        let s = same_numbers p k q i h in
-        let l : count_by (expires q i) es < g.tries = subst (λ (v : ℕ). count_by (expires v i) es < g.tries) s.0 (subst (λ (v : ℕ). count_by (expires p v) es < g.tries) s.1 left) in
-        omega (arith, l)
 
 -- the refresh of a plan is recorded
 pub tie_refreshed : (g : Setup) (b n : RunTold) (es : List Event) (sl : Slack) (p : ℕ) (r : FileRange) → range_at es p ≡ r ∷ [] → sl.lost ≡ (g.file, r) ∷ [] → (FirstRenewed g sl.lost sl.heard → FirstRenewed g [] sl.heard) → FirstClear p sl.heard
@@ -123,7 +118,7 @@ tie_refreshed g b n es sl p r at lost renewed clear t =
       within = tt;
       plan = refl;
       tasks = refl;
-      served = λ bs ns v. served_same es e sl.hidden sl.late bs ns (λ l. refl) (λ l. refl) (λ q k. refl) (λ m. tt) v;
+      served = λ bs ns v. served_same es e sl.hidden sl.late bs ns (λ l. refl) (λ l. refl) (λ q k. refl) (λ m. tt) (open_refreshed es p) v;
       expired = λ xs v. expired_same es e 0 xs sl.late (λ l w. refl) v;
       heard_served = λ xs v. heard_served_same es e 0 xs sl.hidden (λ l w. refl) v;
       first_late = λ v. first_late_clear es p sl.late sl.heard clear v;
@@ -157,7 +152,7 @@ tie_wrote g b n es sl taken rest is t =
       within = tt;
       plan = refl;
       tasks = refl;
-      served = λ bs ns v. served_same es e sl.hidden sl.late bs ns (λ l. refl) (λ l. refl) (λ q k. refl) (λ m. tt) v;
+      served = λ bs ns v. served_same es e sl.hidden sl.late bs ns (λ l. refl) (λ l. refl) (λ q k. refl) (λ m. tt) (open_same es e (λ q k. refl)) v;
       expired = λ xs v. expired_same es e 0 xs sl.late (λ l w. refl) v;
       heard_served = λ xs v. heard_served_same es e 0 xs sl.hidden (λ l w. refl) v;
       first_late = λ v. first_late_push es e sl.late sl.heard (λ q j. refl) v;

@@ -151,11 +151,11 @@ round_short g b at es sl fs ns ls k d new fresh waits none_h none_l asks may ask
     let j = are_joined fs at.clients ns d.drawn ls d.each in
     let got = lane_events fetched_on 0 ls in
     let late = lane_events expired_on 0 ls in
-    let first = round_joined g b at es sl fs ns ls d new fresh waits none_h none_l t in
+    let first = round_joined g b at es sl fs ns ls d new fresh waits none_h none_l may t in
     ⊎_elim
     (λ (over : length got < k).
     let c = cut_places g.tries 0 (es ++ got) (k - length got) (map places_of ls) (no_late at.clients) may (late_places at.clients ls j.ends) in
-    let from = round_fetched g b at es sl fs ns ls d new fresh waits none_h none_l asks asked t in
+    let from = round_fetched g b at es sl fs ns ls d new fresh waits none_h none_l asks may asked t in
     let mid : Slack = record (fetched_slack fs at.clients ns d.drawn ls j sl) { spare = from.left } in
     let all = tie_lanes_expired g b now (es ++ got) mid 0 c.places c.late [] c.may c.lanes refl c.counts
     (λ h. from.goes (asked_may expired_on (λ m. refl) es sl.spare fs at.clients ns d.drawn ls d.each asked (some_same (lanes_expired 0 (map places_of ls)) late (j.expired 0) (some_taken (k - length got) (lanes_expired 0 (map places_of ls)) (lanes_expired 0 c.places) c.events h)))) from.ties in

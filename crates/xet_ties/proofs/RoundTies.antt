@@ -23,12 +23,13 @@ use Rattle.xet_ties.specs.History.{block_at, fetches}
 use Rattle.xet_ties.specs.steps.Rounds.{AfterRound, calm_after, IsHeardData, IsHeardStep, IsPlanAsk, blocks_at, got_of}
 use Rattle.xet_ties.proofs.Heard.{asked_join, block_more, grew_join, join_match, step_join}
 use Rattle.xet_ties.proofs.ClientMoves.{tie_join}
-use Rattle.xet_ties.proofs.LaneJoins.{AreJoined, are_joined, fetched_among, joined_among, lates_among, served_apart}
+use Rattle.xet_ties.proofs.LaneJoins.{AreJoined, are_joined, fetched_among, joined_among, lates_among}
 use Rattle.xet_ties.proofs.LaneTies.{ArePassed, EachPassed, tie_lanes_expired, tie_lanes_fetched, InRound}
 use Rattle.xet_ties.proofs.LaneJoins.{each_failed, each_hides, first_counts}
 use Rattle.xet_ties.proofs.Orders.{first_joined}
 use Rattle.xet_ties.proofs.Recording.{tie_rest}
 use Rattle.xet_ties.proofs.RoundData.{are_paired}
+use Rattle.xet_ties.proofs.RoundOnce.{round_once, round_tries}
 use Rattle.std.proofs.lemmas.List.Elements.{All-append, All-cons, All-head, All-map, All-nil, All-tail, All-weaker}
 use Rattle.xet_blocks.specs.declared.reconstruction_terms.xorb_block.XorbBlock.{XorbBlock}
 use Rattle.xet_blocks.specs.declared.reconstruction_terms.xorb_block.XorbBlockData.{XorbBlockData}
@@ -133,9 +134,9 @@ drew_unfailed fs (suc i) (b ∷ bs) (m ∷ ms) (n ∷ ns) (d ∷ ds) (ss ∷ es)
 pub round_joined : (g : Setup) (b at : RunTold) (es : List Event) (sl : Slack) (fs : List Ask) (ns : List ClientTold) (ls : List (List LaneStep)) → (d : DrewApart fs at.clients ns ls)
     → ((p k : ℕ) → count_by (fetches p k) es + count_by (is_pair p k) (map asks_for fs) ≤ 1) → All (IsFreshAsk es) fs
     → ((x : MerkleHash) (r : ChunkRange) → count_by (is_one x r) (blocks_all (map key_of fs)) ≤ count_by (is_one x r) sl.pending)
-    → sl.hidden ≡ no_hidden b.clients → sl.late ≡ no_late b.clients → Ties g b at es None sl
+    → sl.hidden ≡ no_hidden b.clients → sl.late ≡ no_late b.clients → EachMayExpire g.tries 0 (es ++ lane_events fetched_on 0 ls) (map places_of ls) → Ties g b at es None sl
     → Ties g b (record at { clients = ns }) es None (joined_slack fs at.clients ns d.drawn ls (are_joined fs at.clients ns d.drawn ls d.each) sl)
-round_joined g b at es sl fs ns ls d new fresh waits none_h none_l t =
+round_joined g b at es sl fs ns ls d new fresh waits none_h none_l may t =
     let j = are_joined fs at.clients ns d.drawn ls d.each in
     let served = lanes_entries j.keys j.hidden in
     let late = lanes_late (map places_of ls) (no_late at.clients) in
@@ -144,7 +145,9 @@ round_joined g b at es sl fs ns ls d new fresh waits none_h none_l t =
     let entries = joined_among (IsPlannedEntry es) fs at.clients ns d.drawn ls d.each planned in
     let lates = lates_among (IsPlannedEntry es) fs at.clients ns d.drawn ls d.each planned in
     let joined = first_joined es fs served j.said b.clients at.clients sl.heard (first_counts fs at.clients ns ls d) (λ p k. let one = new p k in omega (arith, one)) fresh t.heard (subst (λ (l : List (List Place)). FirstLate es l sl.heard) none_l t.first_late) in
-    let first = tie_join g b at es sl ns served j.said late j.joined (served_apart es fs at.clients ns ls d new) entries lates (past_drew most_lanes fs at.clients ns d.drawn ls d.each d.few) none_h none_l joined (calm_after sl.calm ls) (drew_unfailed fs sl.calm b.clients at.clients ns d.drawn ls d.each t.unfailed) t in
+    let once = round_once es fs at.clients ns ls d new fresh (λ p k. let o = t.served.once p k in omega (arith, o)) in
+    let tried = round_tries g.tries es fs at.clients ns ls d may (λ p k. let o = t.tried.at_most p k in omega (arith, o)) in
+    let first = tie_join g b at es sl ns served j.said late j.joined once tried entries lates (past_drew most_lanes fs at.clients ns d.drawn ls d.each d.few) none_h none_l joined (calm_after sl.calm ls) (drew_unfailed fs sl.calm b.clients at.clients ns d.drawn ls d.each t.unfailed) t in
     tie_rest g b (record at { clients = ns }) es (record sl { heard = heard; hidden = served; late = late; calm = calm_after sl.calm ls }) (flat_map blocks_all j.keys) sl.spare
     (λ x r. let a = fetched_among fs at.clients ns ls d x r in let w = waits x r in omega (arith, a, w)) (omega arith) first
 
@@ -212,13 +215,13 @@ round_passed g b at es sl fs ns ls d all t =
 pub round_fetched : (g : Setup) (b at : RunTold) (es : List Event) (sl : Slack) (fs : List Ask) (ns : List ClientTold) (ls : List (List LaneStep)) → (d : DrewApart fs at.clients ns ls)
     → ((p k : ℕ) → count_by (fetches p k) es + count_by (is_pair p k) (map asks_for fs) ≤ 1) → All (IsFreshAsk es) fs
     → ((x : MerkleHash) (r : ChunkRange) → count_by (is_one x r) (blocks_all (map key_of fs)) ≤ count_by (is_one x r) sl.pending)
-    → sl.hidden ≡ no_hidden b.clients → sl.late ≡ no_late b.clients → All (IsPlanAsk g sl.heard) fs → (0 < length fs → 1 ≤ sl.spare) → Ties g b at es None sl
+    → sl.hidden ≡ no_hidden b.clients → sl.late ≡ no_late b.clients → All (IsPlanAsk g sl.heard) fs → EachMayExpire g.tries 0 (es ++ lane_events fetched_on 0 ls) (map places_of ls) → (0 < length fs → 1 ≤ sl.spare) → Ties g b at es None sl
     → InRound g b (record at { clients = ns }) es (lane_events fetched_on 0 ls) sl.spare (λ i. record (fetched_slack fs at.clients ns d.drawn ls (are_joined fs at.clients ns d.drawn ls d.each) sl) { spare = i })
-round_fetched g b at es sl fs ns ls d new fresh waits none_h none_l all asked t =
+round_fetched g b at es sl fs ns ls d new fresh waits none_h none_l all may asked t =
     let j = are_joined fs at.clients ns d.drawn ls d.each in
     let now : RunTold = record at { clients = ns } in
     let took = flat_map blocks_all j.keys in
-    let first = round_joined g b at es sl fs ns ls d new fresh waits none_h none_l t in
+    let first = round_joined g b at es sl fs ns ls d new fresh waits none_h none_l may t in
     let fetched = tie_lanes_fetched g b now es (joined_slack fs at.clients ns d.drawn ls j sl) 0 j.keys j.hidden [] [] (j.fresh es fresh) j.lanes refl refl (sym (append-nil took)) (round_passed g b at es sl fs ns ls d all t)
     (λ h. asked_may fetched_on (λ m. refl) es sl.spare fs at.clients ns d.drawn ls d.each asked (some_same (lanes_fetched 0 j.keys) (lane_events fetched_on 0 ls) (j.fetched 0) h)) first in
     subst (λ (l : List Event). InRound g b now es l sl.spare (λ i. record (fetched_slack fs at.clients ns d.drawn ls j sl) { spare = i })) (j.fetched 0) fetched
@@ -235,7 +238,7 @@ round_tied g b at es sl fs ns ls d new fresh waits none_h none_l asks may asked 
     let j = are_joined fs at.clients ns d.drawn ls d.each in
     let now : RunTold = record at { clients = ns } in
     let got = es ++ lane_events fetched_on 0 ls in
-    let from = round_fetched g b at es sl fs ns ls d new fresh waits none_h none_l asks asked t in
+    let from = round_fetched g b at es sl fs ns ls d new fresh waits none_h none_l asks may asked t in
     let all = tie_lanes_expired g b now got (record (fetched_slack fs at.clients ns d.drawn ls j sl) { spare = from.left }) 0 (map places_of ls) (no_late at.clients) [] may (late_places at.clients ls j.ends) refl refl
     (λ h. from.goes (asked_may expired_on (λ m. refl) es sl.spare fs at.clients ns d.drawn ls d.each asked (some_same (lanes_expired 0 (map places_of ls)) (lane_events expired_on 0 ls) (j.expired 0) h))) from.ties in
     let to : Slack = record sl { heard = heard_join (lanes_entries j.keys j.hidden) j.said sl.heard; hidden = j.hidden; late = no_late b.clients; pending = []; due = sl.due + count_by has_one (flat_map blocks_all j.keys); spare = 0; calm = calm_after sl.calm ls } in

@@ -1,5 +1,5 @@
 -- Which answers of a run are legal, by what its arguments tell before and after.
-use Rattle.std.specs.Prelude.{ℕ, ◌≡◌, ◌⊎◌, ◌+◌, ◌-◌, ◌^◌, ◌<◌, ◌≤◌, ◌==◌, ◌&&◌, ◌≢◌, Bool, List, [], ◌∷◌, drop, length}
+use Rattle.std.specs.Prelude.{ℕ, ◌≡◌, ◌⊎◌, ◌+◌, ◌-◌, ◌^◌, ◌<◌, ◌≤◌, ◌==◌, ◌&&◌, Bool, List, [], ◌∷◌, drop, length}
 use Rattle.std.specs.Prelude.{min, take, All, Some, IsSome, IfSome, OnOk, slice_get, option_map, count_by, Result}
 use Rattle.std.specs.Prelude.{Err, IfOk, IfErr}
 use Rattle.std.specs.List.{AllZip, concat}
@@ -163,9 +163,9 @@ EachCounted bs ns xs = ⊥
 abbrev pub NoneSpent : Setup → List Exchange → Type 0
 NoneSpent g xs = (p k : ℕ) → late_answers p k xs < g.tries
 
--- nor, unless memory is wanting, more often than that
-abbrev pub NonePast : Setup → List Exchange → FileReconstructionError → Type 0
-NonePast g xs e = e ≢ error.OutOfMemory → (p k : ℕ) → late_answers p k xs ≤ g.tries
+-- nor more often than that
+abbrev pub NonePast : Setup → List Exchange → Type 0
+NonePast g xs = (p k : ℕ) → late_answers p k xs ≤ g.tries
 
 -- how many of these queries are for this plan: its own one, and the refreshes that start where that does
 abbrev pub plan_queries : List Query → ℕ → ℕ
@@ -255,17 +255,16 @@ pub record Legal (g : Setup) (before after : RunTold) (answer : Result ℕ FileR
   -- by what the first connection was asked, and what it served and said in its order, an expired block is answered
   -- again only behind an answer to a query for its own plan, whatever the run's answer
   pub in_order : FirstInOrder heard.list
-  -- and on Ok, and with any error but these, a block has no more answers of all connections than its plan has queries,
-  -- the own one and refreshes
-  pub answered : IsFaultless (stop_of answer) → AnswersFew heard.list
+  -- and a block has no more answers of all connections than its plan has queries, the own one and refreshes
+  pub answered : AnswersFew heard.list
   -- no more expired answers were heard than the connections count
   pub counted : EachCounted before.clients after.clients heard.list
   -- each request that was answered as expired is for a block of a plan that was said
   pub late : AllLatePlanned g heard.list
-  -- on Ok, and with FileNotFound and Cancelled, no block's URL expired as often as it may be asked for
+  -- no block's URL expired more often than it may be asked for
+  pub at_most : NonePast g heard.list
+  -- and on Ok, and with FileNotFound and Cancelled, none so often
   pub under : IsUnspent (stop_of answer) → NoneSpent g heard.list
-  -- and with an error, but for want of memory, no more often than it may be
-  pub at_most : IfErr answer (NonePast g heard.list)
   -- no block of a plan was served twice
   pub served : ServedOnce (served_of_all heard.list)
   -- and each is a block of a plan that was said and passes its tests

@@ -1,6 +1,6 @@
 -- How a run's history is tied to what the run's arguments tell before and after.
 use Rattle.std.specs.Prelude.{ℕ, zero, suc, ◌≡◌, ◌⊎◌, ◌+◌, ◌-◌, ◌^◌, ◌<◌, ◌≤◌, ◌==◌, ◌&&◌, ◌≢◌, min, Bool, true, false}
-use Rattle.std.specs.Prelude.{not, List, [], ◌∷◌, ◌++◌, drop, filter, length, count_by, nat_eq, Option, Some, None}
+use Rattle.std.specs.Prelude.{cond, not, List, [], ◌∷◌, ◌++◌, drop, filter, length, count_by, nat_eq, Option, Some, None}
 use Rattle.std.specs.Prelude.{IfSome, IsSome, All, Contains}
 use Rattle.std.specs.List.{flat_map}
 use lib.Pointwise.{pointwise}
@@ -91,9 +91,16 @@ EachLane es lane bs ns hs ls = ⊥
 abbrev pub is_pair : ℕ → ℕ → Served → Bool
 is_pair p k e = e.plan == p && e.index == k
 
+abbrev pub at_place : ℕ → ℕ → Place → Bool
+at_place p k c = c.0 == p && c.1 == k
+
 -- the entries of all lanes
 abbrev pub all_of : List (List Served) → List Served
 all_of hs = flat_map (λ h. h) hs
+
+-- and the places of all
+abbrev pub all_late : List (List Place) → List Place
+all_late ls = flat_map (λ l. l) ls
 
 -- the entry is that of a planned block
 abbrev pub IsPlannedEntry : List Event → Served → Type 0
@@ -102,8 +109,10 @@ IsPlannedEntry es e = (x : PlannedBlock) × (block_at es e.plan e.index ≡ x �
 pub record IsServed (es : List Event) (hidden : List (List Served)) (late : List (List Place))
     (before after : List ClientTold) : Type 0 where
   pub lanes : EachLane es 0 before after hidden late
-  -- no block of a plan was served twice
-  pub once : (p k : ℕ) → count_by (fetches p k) es + count_by (is_pair p k) (all_of hidden) ≤ 1
+  -- no block of a plan was served twice, nor answered as expired besides without an event that says so; and none was
+  -- either while it is expired by the history
+  pub once : (p k : ℕ) → (count_by (fetches p k) es + count_by (is_pair p k) (all_of hidden))
+      + count_by (at_place p k) (all_late late) ≤ cond (is_expired es p k) 0 1
   -- each hidden entry is of a planned block
   pub planned : All (IsPlannedEntry es) (all_of hidden)
   -- each event is of one of the lanes
@@ -155,9 +164,6 @@ NoneAgain asked place late (e ∷ served) (said.Block b ∷ all) =
 abbrev pub FirstInOrder : List Exchange → Type 0
 FirstInOrder [] = Unit {0}
 FirstInOrder (x ∷ xs) = NoneAgain x.asked 0 [] x.served x.said
-
-abbrev pub at_place : ℕ → ℕ → Place → Bool
-at_place p k c = c.0 == p && c.1 == k
 
 -- a block that the first connection answered as expired, without an answer since to a query for its plan, is expired by
 -- the history, or no event says so yet
@@ -362,9 +368,10 @@ pub record IsRecorded (es : List Event) (stop : Stop) : Type 0 where
   pub answered : (e : FileReconstructionError) → first_error es ≡ Some e → stop ≡ Some e
   pub recorded : (e : FileReconstructionError) → stop ≡ Some e → (e ≡ error.OutOfMemory) ⊎ (first_error es ≡ Some e)
 
--- no block is recorded as expired more often than tries, and one is so often where the run stopped for that
-pub record IsTried (tries : ℕ) (es : List Event) (stop : Stop) : Type 0 where
-  pub at_most : (p k : ℕ) → count_by (expires p k) es ≤ tries
+-- no block expired more often than tries, by its events and the answers that no event says yet; and one is recorded so
+-- often where the run stopped for that
+pub record IsTried (tries : ℕ) (es : List Event) (late : List (List Place)) (stop : Stop) : Type 0 where
+  pub at_most : (p k : ℕ) → count_by (expires p k) es + count_by (at_place p k) (all_late late) ≤ tries
   pub spent : stop ≡ Some error.UrlExpired → (p : ℕ) × (k : ℕ) × (count_by (expires p k) es ≡ tries)
 
 -- ---- all of them
@@ -398,7 +405,7 @@ pub record Ties (g : Setup) (before after : RunTold) (es : List Event) (stop : S
   pub heard_asked : HeardAsked g.file es slack.lost slack.heard
   pub lost : IsLost g es slack.lost
   pub said : FirstSaid g es slack.heard
-  pub tried : IsTried g.tries es stop
+  pub tried : IsTried g.tries es slack.late stop
   pub renewed : EachAfter IsRenewed [] es
   -- each recorded query that doesn't cut the range has an answer that renews the plan which it asks again
   pub refreshes : FirstRenewed g slack.lost slack.heard
