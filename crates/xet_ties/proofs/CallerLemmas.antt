@@ -32,7 +32,7 @@ pub use Rattle.xet_ties.proofs.WindowTests.{window_tested}
 pub use Rattle.xet_ties.proofs.Wholes.{tasks_sized, some_sum}
 -- lanes and rounds
 pub use Rattle.xet_ties.proofs.LaneMore.{step_did, one_more, goes_both}
-pub use Rattle.xet_ties.proofs.LaneJoins.{AreJoined, are_joined, joined_among, fetched_among}
+pub use Rattle.xet_ties.proofs.LaneJoins.{AreJoined, are_joined, joined_among}
 pub use Rattle.xet_ties.proofs.LowestLanes.{all_passed, below_passed, others_passed, rose_since, some_rose}
 pub use Rattle.xet_ties.proofs.LaneTies.{tie_lanes_fetched, tie_lanes_expired, fresh-push, fresh-all}
 pub use Rattle.xet_ties.proofs.Pairs.{fetched_once}

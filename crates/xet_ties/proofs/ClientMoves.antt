@@ -13,11 +13,12 @@ use Rattle.xet_run.specs.declared.event.PlannedTerm.{PlannedTerm}
 use Rattle.xet_run.specs.Events.{expires, plan_count, planned}
 use Rattle.xet_history.specs.TrueHistory.{IsTrueEvent}
 use Rattle.xet_base.specs.declared.cas_types.FileRange.{FileRange}
+use Rattle.xet_base.specs.declared.cas_types.ChunkRange.{ChunkRange}
 use Rattle.xet_base.specs.declared.merklehash.MerkleHash.{MerkleHash}
 use Rattle.xet_ties.specs.History.{IsNumberedNext, IsOneCached, IsRenewed, asked_by, served_by, fetches, is_expired, IsWithin}
 use Rattle.xet_ties.specs.steps.Moves.{EachJoined, FirstQuery, JoinStep, QueryStep, no_hidden, no_late, heard_first, heard_join}
 use Rattle.xet_ties.specs.Setup.{AllTell, ClientGoesOn, IsOver, RunTold, Setup, download_of, most_lanes}
-use Rattle.xet_ties.specs.Ties.{EachUnasked, FirstLate, FirstUnfailed, NoneLate, all_late, all_of, at_place, is_pair, EachLane, FirstAsked, FirstStarts, IsLane, Slack, Ties, IsLost, IsPlannedEntry, IsNextQuery, EachServed}
+use Rattle.xet_ties.specs.Ties.{EachUnasked, FirstLate, FirstUnfailed, NoneLate, all_late, all_of, at_place, is_one, is_pair, is_served, EachLane, FirstAsked, FirstStarts, IsLane, Slack, Ties, IsLost, IsPlannedEntry, IsNextQuery, EachServed}
 use Rattle.xet_ties.proofs.Lanes.{open_same, served_same}
 use Rattle.xet_ties.specs.InCall.{Place}
 use Rattle.xet_ties.proofs.Gains.{gained_more}
@@ -166,7 +167,7 @@ tie_planned g b n es sl spare plan query terms blocks lost polls next within sta
       refreshes = renewed t.refreshes;
       passed = All-push (EventPassed g sl.heard) es e t.passed tt;
       one_cached = each-push IsOneCached es e t.one_cached tt;
-      looked = looked_push es e sl.pending sl.pending sl.looks b.clients b.cache n.cache refl (λ x r. omega arith) t.looked;
+      looked = looked_push es e sl.pending sl.pending (all_of sl.hidden) (all_of sl.hidden) sl.looks b.clients b.cache n.cache refl (λ x r. omega arith) t.looked;
       looked_entries = t.looked_entries;
       gained = t.gained;
       offered = offered_push es e sl.due sl.due b.cache n.cache (omega arith) t.offered;
@@ -227,8 +228,9 @@ asked_join f es lost (b ∷ bs) (m ∷ ms) (n ∷ ns) (h ∷ hs) (a ∷ alls) (k
 pub tie_join : (g : Setup) (b n : RunTold) (es : List Event) (sl : Slack) (to : List ClientTold) (hs : List (List Served)) (alls : List (List Said)) (ks : List (List Place)) → EachJoined n.clients to hs alls ks
     → ((p k : ℕ) → (count_by (fetches p k) es + count_by (is_pair p k) (all_of hs)) + count_by (at_place p k) (all_late ks) ≤ cond (is_expired es p k) 0 1)
     → ((p k : ℕ) → count_by (expires p k) es + count_by (at_place p k) (all_late ks) ≤ g.tries) → All (IsPlannedEntry es) (all_of hs) → All (λ all. All (IsPlannedEntry es) (late_in all)) alls → drop most_lanes to ≡ drop most_lanes n.clients → sl.hidden ≡ no_hidden b.clients → sl.late ≡ no_late b.clients
-    → FirstJoined hs alls sl.heard → (calm : ℕ) → FirstUnfailed calm b.clients to → Ties g b n es None sl → Ties g b (record n { clients = to }) es None (record sl { heard = heard_join hs alls sl.heard; hidden = hs; late = ks; calm = calm })
-tie_join g b n es sl to hs alls ks j once tried planned lates past no_h no_k joined calm unfailed t =
+    → ((x : MerkleHash) (r : ChunkRange) → count_by (is_served x r) (all_of hs) ≤ count_by (is_one x r) sl.pending) → FirstJoined hs alls sl.heard → (calm : ℕ) → FirstUnfailed calm b.clients to → Ties g b n es None sl
+    → Ties g b (record n { clients = to }) es None (record sl { heard = heard_join hs alls sl.heard; hidden = hs; late = ks; pending = []; calm = calm })
+tie_join g b n es sl to hs alls ks j once tried planned lates past no_h no_k waits joined calm unfailed t =
     let match = join_match b.clients n.clients to hs alls ks sl.heard j t.heard in
     record {
       heard = exchange_join b.clients n.clients to hs alls ks sl.heard j t.heard;
@@ -261,7 +263,14 @@ tie_join g b n es sl to hs alls ks j once tried planned lates past no_h no_k joi
       refreshes = renewed_join g hs alls sl.lost sl.heard match t.refreshes;
       passed = passed_more g sl.heard (heard_join hs alls sl.heard) es (grew_join hs alls sl.heard match) t.passed;
       one_cached = t.one_cached;
-      looked = t.looked;
+      looked = record {
+        looked = t.looked.looked;
+        cover = λ x r.
+            let c = t.looked.cover x r in
+            let w = waits x r in
+            let c0 = c.kept in
+            record { kept = omega (arith, c0, w); cached = c.cached; honest = λ s o. let c2 = c.honest s o in omega (arith, c2, w) };
+      };
       looked_entries = t.looked_entries;
       gained = gained_more g sl.heard (heard_join hs alls sl.heard) b.cache n.cache (grew_join hs alls sl.heard match) t.gained;
       offered = t.offered;

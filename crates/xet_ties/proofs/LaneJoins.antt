@@ -1,6 +1,6 @@
 -- What the lanes of a round did to the connections, as a step of the ties, and that no pair is served twice.
 use Rattle.std.proofs.Common.{ℕ, ◌≡◌, ◌+◌, ◌-◌, ◌<◌, ◌≤◌, true, false, Bool, zero, suc, List, [], ◌∷◌, ◌++◌, length, map, refl, sym, ap, ◌∙◌, subst, inl, inr, arith, length-append, Option, Some, None}
-use Rattle.std.specs.Prelude.{cond, nat_eq, nat_lt, slice_get, count_by, All, IfSome, ◌&&◌}
+use Rattle.std.specs.Prelude.{cond, nat_eq, nat_lt, slice_get, count_by, All, IfSome}
 use Rattle.std.specs.List.{concat, flat_map}
 use Rattle.std.proofs.lemmas.Bool.Decides.{nat_tests}
 use Rattle.xet_outside.proofs.CallerLemmas.{count_by-cons, added_none}
@@ -19,15 +19,13 @@ use Rattle.xet_ties.specs.InCall.{Exchange, place_of}
 use Rattle.xet_ties.proofs.LowestLanes.{lane_failed}
 use Rattle.xet_ties.proofs.Orders.{FirstCounts}
 use Rattle.xet_ties.proofs.RoundData.{ArePaired, lanes_more}
-use Rattle.xet_ties.specs.Ties.{all_of, is_pair, is_range}
+use Rattle.xet_ties.specs.Ties.{all_of, is_pair, is_served}
 use Rattle.xet_ties.specs.declared.lane_step.LaneStep.TheVariants as step
 use Rattle.std.proofs.lemmas.List.Elements.{All-append, All-cons, All-head, All-nil, All-tail}
 use Rattle.std.proofs.lemmas.List.{append-nil}
 use Rattle.xet_outside.specs.Answers.{IsPaired, late_in}
 use Rattle.xet_base.specs.declared.cas_types.ChunkRange.{ChunkRange}
 use Rattle.xet_base.specs.declared.merklehash.MerkleHash.{MerkleHash}
-use Rattle.xet_base.specs.Hashes.{hash_eq}
-use Rattle.xet_ties.proofs.Telling.{count-append}
 use Rattle.xet_ties.specs.Ties.{is_one as is_block}
 
 abbrev pub weigh : (Served → ℕ) → List Served → ℕ
@@ -502,49 +500,25 @@ counted p k (x ∷ xs) = let r = counted p k xs in let c = count_by-cons (is_pai
 
 -- ---- blocks of one range
 
-abbrev one_of : MerkleHash → ChunkRange → Served → Bool
-one_of x r e = hash_eq e.xorb x && is_range r e.ranges
+entries_count : (T : Served → Bool) (xs : List Served) → weigh (λ e. cond (T e) 1 0) xs ≡ count_by T xs
+entries_count T [] = refl
+entries_count T (x ∷ xs) = let h = entries_count T xs in let n = count_by-cons T x xs in omega (arith, h, n)
 
-entries_count : (x : MerkleHash) (r : ChunkRange) (cs : List Key) → weigh (λ e. cond (one_of x r e) 1 0) (entries_all cs) ≡ count_by (is_block x r) (blocks_all cs)
-entries_count x r [] = refl
-entries_count x r (c ∷ cs) = let h = entries_count x r cs in let n = count_by-cons (is_block x r) c.2 (blocks_all cs) in omega (arith, h, n)
-
-asks_count : (x : MerkleHash) (r : ChunkRange) (qs : List Ask) → weigh (λ e. cond (one_of x r e) 1 0) (map asks_for qs) ≡ count_by (is_block x r) (blocks_all (map key_of qs))
+asks_count : (x : MerkleHash) (r : ChunkRange) (qs : List Ask) → weigh (λ e. cond (is_served x r e) 1 0) (map asks_for qs) ≡ count_by (is_block x r) (blocks_all (map key_of qs))
 asks_count x r [] = refl
 asks_count x r (a ∷ qs) = let h = asks_count x r qs in let k : Key = key_of a in let n = count_by-cons (is_block x r) k.2 (blocks_all (map key_of qs)) in omega (arith, h, n)
 
--- the blocks that the lanes fetched
-fetched_weigh : (h : Served → ℕ) (css : List (List Key)) (hs : List (List Served)) → weigh h (flat_map entries_all css) ≤ weigh h (all_of (lanes_entries css hs))
-fetched_weigh h [] hs = omega arith
-fetched_weigh h (cs ∷ css) [] = let r = fetched_weigh h css [] in let a = weigh_append h (entries_all cs) (flat_map entries_all css) in let b = weigh_append h (entries_all cs) (all_of (lanes_entries css [])) in omega (arith, r, a, b)
-fetched_weigh h (cs ∷ css) (x ∷ hs) =
-    let r = fetched_weigh h css hs in
-    let a = weigh_append h (entries_all cs) (flat_map entries_all css) in
-    let b = weigh_append h (entries_all cs ++ x) (all_of (lanes_entries css hs)) in
-    let c = weigh_append h (entries_all cs) x in
-    omega (arith, r, a, b, c)
-
-flat_count : (x : MerkleHash) (r : ChunkRange) (css : List (List Key)) → weigh (λ e. cond (one_of x r e) 1 0) (flat_map entries_all css) ≡ count_by (is_block x r) (flat_map blocks_all css)
-flat_count x r [] = refl
-flat_count x r (cs ∷ css) =
-    let h = flat_count x r css in
-    let a = weigh_append (λ e. cond (one_of x r e) 1 0) (entries_all cs) (flat_map entries_all css) in
-    let b = count-append (is_block x r) (blocks_all cs) (flat_map blocks_all css) in
-    let c = entries_count x r cs in
-    omega (arith, h, a, b, c)
-
--- are among those of the fetches
-pub fetched_among : (fs : List Ask) (bs ns : List ClientTold) (es : List (List LaneStep)) → (d : DrewApart fs bs ns es) → (x : MerkleHash) (r : ChunkRange)
-    → (let j = are_joined fs bs ns d.drawn es d.each in count_by (is_block x r) (flat_map blocks_all j.keys) ≤ count_by (is_block x r) (blocks_all (map key_of fs)))
-fetched_among fs bs ns es d x r =
+-- the entries that the lanes were given are of no more blocks than the round's fetches
+pub entries_among : (fs : List Ask) (bs ns : List ClientTold) (es : List (List LaneStep)) → (d : DrewApart fs bs ns es) → (x : MerkleHash) (r : ChunkRange)
+    → (let j = are_joined fs bs ns d.drawn es d.each in count_by (is_served x r) (all_of (lanes_entries j.keys j.hidden)) ≤ count_by (is_block x r) (blocks_all (map key_of fs)))
+entries_among fs bs ns es d x r =
     let j = are_joined fs bs ns d.drawn es d.each in
-    let h : Served → ℕ = λ e. cond (one_of x r e) 1 0 in
+    let h : Served → ℕ = λ e. cond (is_served x r e) 1 0 in
     let most = numbers_weigh h fs (concat d.drawn) (λ y. let a = d.apart y in let o = once_most y d.count in omega (arith, a, o)) (λ y l. let w = d.within in d.apart y ∙ once_past y d.count (omega (arith, w, l))) in
     let w = j.weighs h in
-    let a = fetched_weigh h j.keys j.hidden in
-    let c = flat_count x r j.keys in
+    let c = entries_count (is_served x r) (all_of (lanes_entries j.keys j.hidden)) in
     let q = asks_count x r fs in
-    omega (arith, most, w, a, c, q)
+    omega (arith, most, w, c, q)
 
 -- of each lane, by what its own connection said
 pub each_failed : (fs : List Ask) (bs ns : List ClientTold) (drawn : List (List ℕ)) (es : List (List LaneStep)) (xs : List Exchange) → (e : EachDrew fs bs ns drawn es) → ArePaired bs xs

@@ -7,7 +7,6 @@ use Rattle.xet_outside.proofs.CallerLemmas.{count_by-cons}
 use Rattle.xet_outside.specs.declared.served.Served.{Served}
 use Rattle.xet_run.specs.declared.event.Event.{Event}
 use Rattle.xet_run.specs.declared.event.Event.TheVariants.{Fetched, Expired}
-use Rattle.xet_run.specs.declared.event.PlannedBlock.{PlannedBlock}
 use Rattle.xet_ties.specs.History.{expiry_of}
 use Rattle.xet_ties.specs.steps.Records.{AreFresh, EachFresh, EachMayExpire, Key, MayExpire, Place, blocks_all, entries_all, expired_all, fetched_all, lanes_entries, lanes_expired, lanes_fetched, lanes_late}
 use Rattle.xet_ties.specs.InCall.{Exchange}
@@ -75,25 +74,24 @@ round_none g b n es sl to t = record {
 }
 
 -- all that a lane served is recorded
-pub tie_lane_fetched : (g : Setup) (b n : RunTold) (es : List Event) (sl : Slack) (m : ℕ) (cs : List Key) (h : List Served) (before after : List (List Served)) (rest : List PlannedBlock)
-    → AreFresh es cs → m ≡ length before → sl.hidden ≡ before ++ (entries_all cs ++ h) ∷ after → sl.pending ≡ blocks_all cs ++ rest → ArePassed g sl.heard cs → (0 < length cs → MayFetch es sl.spare)
-    → Ties g b n es None sl → InRound g b n es (fetched_all m cs) sl.spare (λ i. record sl { hidden = before ++ h ∷ after; pending = rest; due = sl.due + count_by has_one (blocks_all cs); spare = i })
-tie_lane_fetched g b n es sl m [] h before after rest a is hidden pending passed may t =
+pub tie_lane_fetched : (g : Setup) (b n : RunTold) (es : List Event) (sl : Slack) (m : ℕ) (cs : List Key) (h : List Served) (before after : List (List Served))
+    → AreFresh es cs → m ≡ length before → sl.hidden ≡ before ++ (entries_all cs ++ h) ∷ after → ArePassed g sl.heard cs → (0 < length cs → MayFetch es sl.spare)
+    → Ties g b n es None sl → InRound g b n es (fetched_all m cs) sl.spare (λ i. record sl { hidden = before ++ h ∷ after; due = sl.due + count_by has_one (blocks_all cs); spare = i })
+tie_lane_fetched g b n es sl m [] h before after a is hidden passed may t =
     let none : sl.due ≡ sl.due + 0 = omega arith in
-    round_none g b n es sl (λ i. record sl { hidden = before ++ h ∷ after; pending = rest; due = sl.due + 0; spare = i })
-    (subst (λ (d : ℕ). Ties g b n es None (record sl { hidden = before ++ h ∷ after; pending = rest; due = d })) none
-    (subst (λ (p : List PlannedBlock). Ties g b n es None (record sl { hidden = before ++ h ∷ after; pending = p })) pending
-    (subst (λ (l : List (List Served)). Ties g b n es None (record sl { hidden = l })) hidden t)))
-tie_lane_fetched g b n es sl m (c ∷ cs) h before after rest a is hidden pending passed may t =
+    round_none g b n es sl (λ i. record sl { hidden = before ++ h ∷ after; due = sl.due + 0; spare = i })
+    (subst (λ (d : ℕ). Ties g b n es None (record sl { hidden = before ++ h ∷ after; due = d })) none
+    (subst (λ (l : List (List Served)). Ties g b n es None (record sl { hidden = l })) hidden t))
+tie_lane_fetched g b n es sl m (c ∷ cs) h before after a is hidden passed may t =
     let e : Event = Fetched m c.0 c.1 in
     let take = takes es e sl.spare refl (may (omega arith)) in
-    let one = tie_fetched g b n es sl m c.0 c.1 c.2 (entries_all cs ++ h) before after (blocks_all cs ++ rest) a.0 a.1 is hidden pending passed.0 take.left take.fits t in
-    let to : Slack = record sl { hidden = before ++ (entries_all cs ++ h) ∷ after; pending = blocks_all cs ++ rest; due = sl.due + cond (has_one c.2) 1 0; spare = take.left } in
-    let all = tie_lane_fetched g b n (es ++ e ∷ []) to m cs h before after rest (fresh-push es e (λ p k. refl) cs a.2) is refl refl passed.1 (λ _. take.goes) one in
+    let one = tie_fetched g b n es sl m c.0 c.1 c.2 (entries_all cs ++ h) before after a.0 a.1 is hidden passed.0 take.left take.fits t in
+    let to : Slack = record sl { hidden = before ++ (entries_all cs ++ h) ∷ after; due = sl.due + cond (has_one c.2) 1 0; spare = take.left } in
+    let all = tie_lane_fetched g b n (es ++ e ∷ []) to m cs h before after (fresh-push es e (λ p k. refl) cs a.2) is refl passed.1 (λ _. take.goes) one in
     let count = count_by-cons has_one c.2 (blocks_all cs) in
     let due : (sl.due + cond (has_one c.2) 1 0) + count_by has_one (blocks_all cs) ≡ sl.due + count_by has_one (c.2 ∷ blocks_all cs) = omega (arith, count) in
-    round_more g b n es e (fetched_all m cs) sl.spare take.left (λ i. record sl { hidden = before ++ h ∷ after; pending = rest; due = sl.due + count_by has_one (c.2 ∷ blocks_all cs); spare = i }) take.goes
-    (subst (λ (d : ℕ). InRound g b n (es ++ e ∷ []) (fetched_all m cs) take.left (λ i. record sl { hidden = before ++ h ∷ after; pending = rest; due = d; spare = i })) due all)
+    round_more g b n es e (fetched_all m cs) sl.spare take.left (λ i. record sl { hidden = before ++ h ∷ after; due = sl.due + count_by has_one (c.2 ∷ blocks_all cs); spare = i }) take.goes
+    (subst (λ (d : ℕ). InRound g b n (es ++ e ∷ []) (fetched_all m cs) take.left (λ i. record sl { hidden = before ++ h ∷ after; due = d; spare = i })) due all)
 
 -- all expired answers of a lane are recorded
 pub tie_lane_expired : (g : Setup) (b n : RunTold) (es : List Event) (sl : Slack) (m : ℕ) (cs j : List Place) (before after : List (List Place))
@@ -124,31 +122,29 @@ fetched_length m cs = length-map cs (λ (c : Key). Fetched m c.0 c.1)
 expired_length : (m : ℕ) (cs : List Place) → length (expired_all m cs) ≡ length cs
 expired_length m cs = length-map cs (λ (c : Place). Expired m c.0 c.1)
 
-pub tie_lanes_fetched : (g : Setup) (b n : RunTold) (es : List Event) (sl : Slack) (m : ℕ) (css : List (List Key)) (hs before : List (List Served)) (rest : List PlannedBlock)
-    → EachFresh es css → length css ≤ length hs → m ≡ length before → sl.hidden ≡ before ++ lanes_entries css hs → sl.pending ≡ flat_map blocks_all css ++ rest → EachPassed g sl.heard css → (0 < length (lanes_fetched m css) → MayFetch es sl.spare)
-    → Ties g b n es None sl → InRound g b n es (lanes_fetched m css) sl.spare (λ i. record sl { hidden = before ++ hs; pending = rest; due = sl.due + count_by has_one (flat_map blocks_all css); spare = i })
-tie_lanes_fetched g b n es sl m [] hs before rest a some is hidden pending passed may t =
+pub tie_lanes_fetched : (g : Setup) (b n : RunTold) (es : List Event) (sl : Slack) (m : ℕ) (css : List (List Key)) (hs before : List (List Served))
+    → EachFresh es css → length css ≤ length hs → m ≡ length before → sl.hidden ≡ before ++ lanes_entries css hs → EachPassed g sl.heard css → (0 < length (lanes_fetched m css) → MayFetch es sl.spare)
+    → Ties g b n es None sl → InRound g b n es (lanes_fetched m css) sl.spare (λ i. record sl { hidden = before ++ hs; due = sl.due + count_by has_one (flat_map blocks_all css); spare = i })
+tie_lanes_fetched g b n es sl m [] hs before a some is hidden passed may t =
     let none : sl.due ≡ sl.due + 0 = omega arith in
-    round_none g b n es sl (λ i. record sl { hidden = before ++ hs; pending = rest; due = sl.due + 0; spare = i })
-    (subst (λ (d : ℕ). Ties g b n es None (record sl { hidden = before ++ hs; pending = rest; due = d })) none
-    (subst (λ (p : List PlannedBlock). Ties g b n es None (record sl { hidden = before ++ hs; pending = p })) pending
-    (subst (λ (l : List (List Served)). Ties g b n es None (record sl { hidden = l })) hidden t)))
-tie_lanes_fetched g b n es sl m (cs ∷ css) [] before rest a some is hidden pending passed may t = absurd (omega (arith, some))
-tie_lanes_fetched g b n es sl m (cs ∷ css) (h ∷ hs) before rest a some is hidden pending passed may t =
+    round_none g b n es sl (λ i. record sl { hidden = before ++ hs; due = sl.due + 0; spare = i })
+    (subst (λ (d : ℕ). Ties g b n es None (record sl { hidden = before ++ hs; due = d })) none
+    (subst (λ (l : List (List Served)). Ties g b n es None (record sl { hidden = l })) hidden t))
+tie_lanes_fetched g b n es sl m (cs ∷ css) [] before a some is hidden passed may t = absurd (omega (arith, some))
+tie_lanes_fetched g b n es sl m (cs ∷ css) (h ∷ hs) before a some is hidden passed may t =
     let more = lanes_entries css hs in
-    let wait = flat_map blocks_all css ++ rest in
     let first = fetched_all m cs in
     let others = lanes_fetched (m + 1) css in
     let X = MayFetch es sl.spare in
-    let one = tie_lane_fetched g b n es sl m cs h before more wait a.0 is hidden (pending ∙ append_assoc (blocks_all cs) (flat_map blocks_all css) rest) passed.0 (λ k. first_may X first others may (let f = fetched_length m cs in omega (arith, f, k))) t in
-    let to : Slack = record sl { hidden = before ++ h ∷ more; pending = wait; due = sl.due + count_by has_one (blocks_all cs); spare = one.left } in
+    let one = tie_lane_fetched g b n es sl m cs h before more a.0 is hidden passed.0 (λ k. first_may X first others may (let f = fetched_length m cs in omega (arith, f, k))) t in
+    let to : Slack = record sl { hidden = before ++ h ∷ more; due = sl.due + count_by has_one (blocks_all cs); spare = one.left } in
     let next : m + 1 ≡ length (before ++ h ∷ []) = omega (arith, is, length-append before (h ∷ [])) in
-    let all = tie_lanes_fetched g b n (es ++ first) to (m + 1) css hs (before ++ h ∷ []) rest (each-fresh-all es m cs css a.1) (omega (arith, some)) next (sym (append_assoc before (h ∷ []) more)) refl passed.1 (λ k. one.goes (rest_may X first others may k)) one.ties in
+    let all = tie_lanes_fetched g b n (es ++ first) to (m + 1) css hs (before ++ h ∷ []) (each-fresh-all es m cs css a.1) (omega (arith, some)) next (sym (append_assoc before (h ∷ []) more)) passed.1 (λ k. one.goes (rest_may X first others may k)) one.ties in
     let count = count-append has_one (blocks_all cs) (flat_map blocks_all css) in
     let due : (sl.due + count_by has_one (blocks_all cs)) + count_by has_one (flat_map blocks_all css) ≡ sl.due + count_by has_one (blocks_all cs ++ flat_map blocks_all css) = omega (arith, count) in
-    round_both g b n es first others sl.spare one.left (λ i. record sl { hidden = before ++ h ∷ hs; pending = rest; due = sl.due + count_by has_one (blocks_all cs ++ flat_map blocks_all css); spare = i }) one.goes
-    (subst (λ (d : ℕ). InRound g b n (es ++ first) others one.left (λ i. record sl { hidden = before ++ h ∷ hs; pending = rest; due = d; spare = i })) due
-    (subst (λ (l : List (List Served)). InRound g b n (es ++ first) others one.left (λ i. record sl { hidden = l; pending = rest; due = (sl.due + count_by has_one (blocks_all cs)) + count_by has_one (flat_map blocks_all css); spare = i })) (append_assoc before (h ∷ []) hs) all))
+    round_both g b n es first others sl.spare one.left (λ i. record sl { hidden = before ++ h ∷ hs; due = sl.due + count_by has_one (blocks_all cs ++ flat_map blocks_all css); spare = i }) one.goes
+    (subst (λ (d : ℕ). InRound g b n (es ++ first) others one.left (λ i. record sl { hidden = before ++ h ∷ hs; due = d; spare = i })) due
+    (subst (λ (l : List (List Served)). InRound g b n (es ++ first) others one.left (λ i. record sl { hidden = l; due = (sl.due + count_by has_one (blocks_all cs)) + count_by has_one (flat_map blocks_all css); spare = i })) (append_assoc before (h ∷ []) hs) all))
 
 pub tie_lanes_expired : (g : Setup) (b n : RunTold) (es : List Event) (sl : Slack) (m : ℕ) (css ks before : List (List Place))
     → EachMayExpire g.tries m es css → length css ≤ length ks → m ≡ length before → sl.late ≡ before ++ lanes_late css ks → (0 < length (lanes_expired m css) → MayFetch es sl.spare)

@@ -147,12 +147,13 @@ each_fetched es first m p k x h gs at (b ∷ bs) (n ∷ ns) (f ∷ fs) (j ∷ ks
   each_fetched es (first + 1) m p k x h gs at bs ns fs ks (omega (arith, is)) t.1,
 )
 
-count_hidden : (p k : ℕ) (x : Served) (h : List Served) (gs fs : List (List Served)) → count_by (is_pair p k) (all_of (fs ++ (x ∷ h) ∷ gs)) ≡ cond (is_pair p k x) 1 0 + count_by (is_pair p k) (all_of (fs ++ h ∷ gs))
-count_hidden p k x h gs [] = count_by-cons (is_pair p k) x (h ++ all_of gs)
-count_hidden p k x h gs (f ∷ fs) =
-    let r = count_hidden p k x h gs fs in
-    let a = count-append (is_pair p k) f (all_of (fs ++ (x ∷ h) ∷ gs)) in
-    let b = count-append (is_pair p k) f (all_of (fs ++ h ∷ gs)) in
+-- as many entries of a kind with this one as without it, and it
+pub count_hidden : (T : Served → Bool) (x : Served) (h : List Served) (gs fs : List (List Served)) → count_by T (all_of (fs ++ (x ∷ h) ∷ gs)) ≡ cond (T x) 1 0 + count_by T (all_of (fs ++ h ∷ gs))
+count_hidden T x h gs [] = count_by-cons T x (h ++ all_of gs)
+count_hidden T x h gs (f ∷ fs) =
+    let r = count_hidden T x h gs fs in
+    let a = count-append T f (all_of (fs ++ (x ∷ h) ∷ gs)) in
+    let b = count-append T f (all_of (fs ++ h ∷ gs)) in
     omega (arith, r, a, b)
 
 -- without one of the hidden entries
@@ -167,7 +168,7 @@ served_fetched es m p k x h fs gs ks bs ns at is t = record {
   lanes = each_fetched es 0 m p k x h gs at bs ns fs ks (omega (arith, is)) t.lanes;
   once = λ q j.
       let a = t.once q j in
-      let c = count_hidden q j (entry_of p k x) h gs fs in
+      let c = count_hidden (is_pair q j) (entry_of p k x) h gs fs in
       let d = count_by-push (fetches q j) es (Fetched m p k) in
       let o = open_same es (Fetched m p k) (λ r i. refl) q j in
       omega (arith, a, c, d, o);

@@ -17,11 +17,11 @@ use Rattle.xet_ties.specs.Causes.{failing_setting, late_answers}
 use Rattle.xet_ties.specs.History.{entry_of, fetched_in, telling, IsWithin}
 use Rattle.xet_ties.specs.InCall.{Exchange, Look, served_of_all, Place}
 use Rattle.xet_ties.specs.Cuts.{FirstCut, Planning}
-use Rattle.xet_ties.specs.Legal.{AllLatePlanned, AllLooked, AllPlanned, AnswersFew, CacheGoesOn, FirstAsks, IsPlannedServed, Legal, SignalGoesOn, TookTested, TookWhole, is_served}
+use Rattle.xet_ties.specs.Legal.{AllLatePlanned, AllLooked, AllPlanned, AnswersFew, CacheGoesOn, FirstAsks, IsPlannedServed, Legal, SignalGoesOn, TookTested, TookWhole}
 use Rattle.xet_ties.specs.RunCalls.{IsFinished, IsUnspent, RunCall, TookAll}
 use Rattle.xet_ties.specs.Saids.{AllPassed, EntryPassed, FirstSaid, IsTested}
 use Rattle.xet_ties.specs.Setup.{EachGoesOn, RunTold, Setup}
-use Rattle.xet_ties.specs.Ties.{EachLane, EachUnfailed, FirstUnfailed, HeardAsked, IsEntryOf, IsOther, IsPlannedEntry, IsQuiet, LeavesNothing, Slack, Stop, Ties, all_of, has_one, is_one, is_pair}
+use Rattle.xet_ties.specs.Ties.{EachLane, EachUnfailed, FirstUnfailed, HeardAsked, IsEntryOf, IsOther, IsPlannedEntry, IsQuiet, LeavesNothing, Slack, Stop, Ties, all_of, has_one, is_one, is_pair, is_served}
 use Rattle.xet_ties.proofs.Asks.{first_asks}
 use Rattle.xet_ties.proofs.Expiries.{counted_start, each_counted, none_past, none_spent}
 use Rattle.xet_ties.proofs.FewAsks.{none_few, run_few}
@@ -88,13 +88,12 @@ offers_all g b n es sl t left =
 
 -- ---- looks
 
-looked_all : (g : Setup) (b n : RunTold) (es : List Event) (stop : Stop) (sl : Slack) → Ties g b n es stop sl → all_of sl.hidden ≡ [] → AllLooked (served_of_all sl.heard) sl.looks
-looked_all g b n es stop sl t none x r =
+looked_all : (g : Setup) (b n : RunTold) (es : List Event) (stop : Stop) (sl : Slack) → Ties g b n es stop sl → AllLooked (served_of_all sl.heard) sl.looks
+looked_all g b n es stop sl t x r =
     let all = served_counted (is_served x r) (is_one x r) (λ a c d. refl) es b.clients n.clients sl.heard sl.hidden t.heard t.heard_served t.served.on_lanes in
     let kept = (t.looked.cover x r).kept in
     let fetched = fetched_kept (is_one x r) [] es in
-    let hidden = ap (λ (l : List Served). count_by (is_served x r) l) none in
-    omega (arith, all, kept, fetched, hidden)
+    omega (arith, all, kept, fetched)
 
 -- ---- tested bytes
 
@@ -245,7 +244,7 @@ legal_refused g b x h = record {
   stored = λ s o. tt;
   heard = record { list = no_exchange b.clients; told = exchange_start b.clients };
   looks = record { list = []; told = added_none b.cache.looked b.cache.looked refl; given = All-nil (IsEntryOf b.cache.entries) };
-  looked = λ c. looked_nothing b.clients;
+  looked = looked_nothing b.clients;
   tested = record { planning = plans_nothing g b.clients; pieces = []; each = tt; took = none_took b.sink.took [] };
   whole = tt;
   total = tt;
@@ -303,7 +302,7 @@ legal_ran g b n es (Ok k) h a r =
       stored = λ s o. headline.is_stored g b n es k t.slack a t.ties none r.finished s o;
       heard = record { list = t.slack.heard; told = t.ties.heard };
       looks = record { list = t.slack.looks; told = t.ties.looked.looked; given = t.ties.looked_entries };
-      looked = λ c. looked_all g b n es None t.slack t.ties (t.left.quiet c).hidden;
+      looked = looked_all g b n es None t.slack t.ties;
       tested = tested_heard g b n es None t.slack a t.ties;
       whole = whole_heard g b n es k t.slack a t.ties (t.left.none refl).lost none r.finished;
       total = record { bytes = t.ties.taken.taken; took = t.ties.taken.took; total = let c = t.ties.taken.counted in let f = r.finished.count in omega (arith, c, f, none) };
@@ -348,7 +347,7 @@ legal_ran g b n es (Err e) h a r =
       stored = λ s o. tt;
       heard = record { list = t.slack.heard; told = t.ties.heard };
       looks = record { list = t.slack.looks; told = t.ties.looked.looked; given = t.ties.looked_entries };
-      looked = λ c. looked_all g b n es (Some e) t.slack t.ties (t.left.quiet c).hidden;
+      looked = looked_all g b n es (Some e) t.slack t.ties;
       tested = tested_heard g b n es (Some e) t.slack a t.ties;
       whole = tt;
       total = tt;

@@ -20,7 +20,7 @@ use Rattle.xet_ties.specs.Saids.{EventPassed, FirstRenewed, FirstSaid, IsTested}
 use Rattle.xet_ties.proofs.Heard.{said_push}
 use Rattle.xet_ties.specs.steps.Moves.{Fits}
 use Rattle.xet_ties.specs.Setup.{CacheTells, IsOver, RunTold, Setup, download_of}
-use Rattle.xet_ties.specs.Ties.{FirstInOrder, FirstLate, FirstUnfailed, AllAre, EachExpired, HeardAsked, IsAmong, IsEntryOf, IsLooked, IsTaken, LatePlanned, Slack, Ties, AllWithin, EachServed}
+use Rattle.xet_ties.specs.Ties.{all_of, FirstInOrder, FirstLate, FirstUnfailed, AllAre, EachExpired, HeardAsked, IsAmong, IsEntryOf, IsLooked, IsTaken, LatePlanned, Slack, Ties, AllWithin, EachServed}
 use Rattle.xet_ties.proofs.Lanes.{open_same, served_same}
 use Rattle.xet_ties.proofs.Lates.{expired_same, late_push}
 use Rattle.xet_ties.proofs.Pushes.{cuts_same, first_push, lost_push, limited_same, looked_push, offered_push, polled_push, reaches_more, recorded_same, starts_same, stored_same, taken_push, tried_push, true_same}
@@ -59,7 +59,7 @@ tie_event g b n es e sl to f t = record {
   refreshes = subst (λ (l : List Exchange). FirstRenewed g to.lost l) (sym f.heard) (f.refreshes t.refreshes);
   passed = subst (λ (l : List Exchange). All (EventPassed g l) (es ++ e ∷ [])) (sym f.heard) (All-push (EventPassed g sl.heard) es e t.passed f.passed);
   one_cached = each-push IsOneCached es e t.one_cached f.one_cached;
-  looked = subst (λ (l : List Look). IsLooked (es ++ e ∷ []) to.pending l b.clients b.cache n.cache) (sym f.looks) (looked_push es e sl.pending to.pending sl.looks b.clients b.cache n.cache f.cached f.pending t.looked);
+  looked = subst (λ (l : List Look). IsLooked (es ++ e ∷ []) to.pending (all_of to.hidden) l b.clients b.cache n.cache) (sym f.looks) (looked_push es e sl.pending to.pending (all_of sl.hidden) (all_of to.hidden) sl.looks b.clients b.cache n.cache f.cached f.pending t.looked);
   looked_entries = subst (λ (l : List Look). All (IsEntryOf n.cache.entries) l) (sym f.looks) t.looked_entries;
   gained = gained_as g sl.heard to.heard b.cache n.cache (sym f.heard) t.gained;
   offered = offered_push es e sl.due to.due b.cache n.cache f.due t.offered;
@@ -219,7 +219,7 @@ tie_admit g b n es sl to l c t =
       refreshes = t.refreshes;
       passed = All-push (EventPassed g sl.heard) es e t.passed tt;
       one_cached = each-push IsOneCached es e t.one_cached tt;
-      looked = looked_push es e sl.pending sl.pending sl.looks b.clients b.cache n.cache refl (λ x r. omega arith) t.looked;
+      looked = looked_push es e sl.pending sl.pending (all_of sl.hidden) (all_of sl.hidden) sl.looks b.clients b.cache n.cache refl (λ x r. omega arith) t.looked;
       looked_entries = t.looked_entries;
       gained = t.gained;
       offered = offered_push es e sl.due sl.due b.cache n.cache (omega arith) t.offered;
@@ -335,7 +335,7 @@ tie_fail g b n es sl x spent t =
       refreshes = t.refreshes;
       passed = All-push (EventPassed g sl.heard) es e t.passed tt;
       one_cached = each-push IsOneCached es e t.one_cached tt;
-      looked = looked_push es e sl.pending sl.pending sl.looks b.clients b.cache n.cache refl (λ y r. omega arith) t.looked;
+      looked = looked_push es e sl.pending sl.pending (all_of sl.hidden) (all_of sl.hidden) sl.looks b.clients b.cache n.cache refl (λ y r. omega arith) t.looked;
       looked_entries = t.looked_entries;
       gained = t.gained;
       offered = offered_push es e sl.due sl.due b.cache n.cache (omega arith) t.offered;

@@ -13,6 +13,7 @@ use Rattle.xet_base.specs.declared.cas_types.ChunkRange.{ChunkRange}
 use Rattle.xet_base.specs.declared.cas_types.FileRange.{FileRange}
 use Rattle.xet_base.specs.declared.merklehash.MerkleHash.{MerkleHash}
 use Rattle.xet_base.specs.Store.{Store, file_of}
+use Rattle.xet_outside.specs.declared.served.Served.{Served}
 use Rattle.xet_outside.specs.Told.{CacheTold, ClientTold, Counted, Query, SignalTold, SinkTold}
 use Rattle.xet_history.specs.Queries.{CutFrom}
 use Rattle.xet_run.specs.declared.event.Event.{Event}
@@ -27,7 +28,7 @@ use Rattle.xet_ties.specs.InCall.{Exchange, Look, Place}
 use Rattle.xet_ties.specs.Saids.{IsTaskPiece, IsTested, has_bytes, some_of}
 use Rattle.xet_ties.specs.Setup.{AllTell, Setup}
 use Rattle.xet_ties.specs.Gains.{GrewBy}
-use Rattle.xet_ties.specs.Ties.{AllAre, CutsRange, FirstAsked, FirstStarts, IsLost, IsAmong, IsAsked, IsLimited, IsLooked, IsOffered, IsPolled, IsRecorded, IsTaken, IsTried, Reaches, all_late, at_place, has_one, is_one, IsNextQuery, AllWithin}
+use Rattle.xet_ties.specs.Ties.{AllAre, CutsRange, FirstAsked, FirstStarts, IsLost, IsAmong, IsAsked, IsLimited, IsLooked, IsOffered, IsPolled, IsRecorded, IsTaken, IsTried, Reaches, all_late, at_place, has_one, is_one, is_served, IsNextQuery, AllWithin}
 use Rattle.xet_ties.proofs.Telling.{count-append, count-same, range_at-push, telling-push}
 use Rattle.xet_ties.proofs.EarlyEnds.{goes_same}
 
@@ -131,10 +132,10 @@ tried_push tries es e late h = record {
 }
 
 -- the blocks that an event keeps were pending
-pub looked_push : (es : List Event) (e : Event) (pending rest : List PlannedBlock) (looks : List Look) (bs : List ClientTold) (b n : CacheTold) → cached_in es e ≡ []
-    → ((x : MerkleHash) (g : ChunkRange) → count_by (is_one x g) (fetched_in es e) + count_by (is_one x g) rest ≤ count_by (is_one x g) pending)
-    → IsLooked es pending looks bs b n → IsLooked (es ++ e ∷ []) rest looks bs b n
-looked_push es e pending rest looks bs b n none h t = record {
+pub looked_push : (es : List Event) (e : Event) (pending rest : List PlannedBlock) (hidden left : List Served) (looks : List Look) (bs : List ClientTold) (b n : CacheTold) → cached_in es e ≡ []
+    → ((x : MerkleHash) (g : ChunkRange) → (count_by (is_one x g) (fetched_in es e) + count_by (is_one x g) rest) + count_by (is_served x g) left ≤ count_by (is_one x g) pending + count_by (is_served x g) hidden)
+    → IsLooked es pending hidden looks bs b n → IsLooked (es ++ e ∷ []) rest left looks bs b n
+looked_push es e pending rest hidden left looks bs b n none h t = record {
   looked = t.looked;
   cover = λ x g.
       let c = t.cover x g in

@@ -12,8 +12,8 @@ use Rattle.xet_ties.specs.History.{block_at, entry_of, is_expired, range_at, rou
 use Rattle.xet_ties.specs.InCall.{Place}
 use Rattle.xet_ties.specs.Saids.{FirstRenewed, HasPassed}
 use Rattle.xet_ties.specs.Setup.{RunTold, Setup}
-use Rattle.xet_ties.specs.Ties.{FirstLate, EachExpired, IsServed, Slack, Ties, all_late, at_place, has_one, is_one, EachServed}
-use Rattle.xet_ties.proofs.Lanes.{count_late, open_refreshed, open_same, served_expired, served_fetched, served_same}
+use Rattle.xet_ties.specs.Ties.{FirstLate, EachExpired, IsServed, Slack, Ties, all_late, all_of, at_place, has_one, is_one, is_served, EachServed}
+use Rattle.xet_ties.proofs.Lanes.{count_hidden, count_late, open_refreshed, open_same, served_expired, served_fetched, served_same}
 use Rattle.xet_ties.proofs.Lates.{expired_next, expired_same}
 use Rattle.xet_ties.proofs.Moves.{tie_event}
 use Rattle.xet_base.specs.declared.cas_types.FileRange.{FileRange}
@@ -21,12 +21,12 @@ use Rattle.xet_ties.proofs.Orders.{FirstClear, first_late_clear, first_late_expi
 use Rattle.xet_ties.proofs.HeardServed.{heard_served_same, heard_served_next}
 
 -- a lane's next served entry is recorded
-pub tie_fetched : (g : Setup) (b n : RunTold) (es : List Event) (sl : Slack) (m p k : ℕ) (x : PlannedBlock) (h : List Served) (before after : List (List Served)) (rest : List PlannedBlock)
-    → block_at es p k ≡ x ∷ [] → is_expired es p k ≡ false → m ≡ length before → sl.hidden ≡ before ++ (entry_of p k x ∷ h) ∷ after → sl.pending ≡ x ∷ rest → HasPassed g sl.heard p k → (spare : ℕ) → length (round_in es (Fetched m p k)) + spare ≤ sl.spare
-    → Ties g b n es None sl → Ties g b n (es ++ Fetched m p k ∷ []) None (record sl { hidden = before ++ h ∷ after; pending = rest; due = sl.due + cond (has_one x) 1 0; spare = spare })
-tie_fetched g b n es sl m p k x h before after rest at fresh is hidden pending passed spare fits t =
+pub tie_fetched : (g : Setup) (b n : RunTold) (es : List Event) (sl : Slack) (m p k : ℕ) (x : PlannedBlock) (h : List Served) (before after : List (List Served))
+    → block_at es p k ≡ x ∷ [] → is_expired es p k ≡ false → m ≡ length before → sl.hidden ≡ before ++ (entry_of p k x ∷ h) ∷ after → HasPassed g sl.heard p k → (spare : ℕ) → length (round_in es (Fetched m p k)) + spare ≤ sl.spare
+    → Ties g b n es None sl → Ties g b n (es ++ Fetched m p k ∷ []) None (record sl { hidden = before ++ h ∷ after; due = sl.due + cond (has_one x) 1 0; spare = spare })
+tie_fetched g b n es sl m p k x h before after at fresh is hidden passed spare fits t =
     let e : Event = Fetched m p k in
-    let to : Slack = record sl { hidden = before ++ h ∷ after; pending = rest; due = sl.due + cond (has_one x) 1 0; spare = spare } in
+    let to : Slack = record sl { hidden = before ++ h ∷ after; due = sl.due + cond (has_one x) 1 0; spare = spare } in
     tie_event g b n es e sl to
     (record {
       heard = refl;
@@ -51,9 +51,9 @@ tie_fetched g b n es sl m p k x h before after rest at fresh is hidden pending p
       cached = refl;
       pending = λ y r.
           let c = ap (λ (l : List PlannedBlock). count_by (is_one y r) l) at in
-          let d = ap (λ (l : List PlannedBlock). count_by (is_one y r) l) pending in
+          let d = ap (λ (l : List (List Served)). count_by (is_served y r) (all_of l)) hidden in
           let u = count_by-cons (is_one y r) x [] in
-          let v = count_by-cons (is_one y r) x rest in
+          let v = count_hidden (is_served y r) (entry_of p k x) h after before in
           omega (arith, c, d, u, v);
       due = let c = ap (λ (l : List PlannedBlock). count_by has_one l) at in let u = count_by-cons has_one x [] in omega (arith, c, u);
       spare = fits;

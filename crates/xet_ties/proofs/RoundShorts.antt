@@ -11,7 +11,6 @@ use Rattle.xet_outside.specs.Told.{ClientTold}
 use Rattle.xet_outside.specs.declared.served.Served.{Served}
 use Rattle.xet_run.specs.declared.event.Event.{Event}
 use Rattle.xet_run.specs.declared.event.Event.TheVariants.{Expired, Fetched, Wrote}
-use Rattle.xet_run.specs.declared.event.PlannedBlock.{PlannedBlock}
 use Rattle.xet_ties.specs.History.{fetches}
 use Rattle.xet_ties.specs.Lanes.{Ask, DrewApart}
 use Rattle.xet_ties.specs.InCall.{Exchange}
@@ -48,16 +47,14 @@ split_map f k xs = sym (ap (λ l. map f l) (take-append-drop k xs)) ∙ map-appe
 record CutKeys (g : Setup) (xs : List Exchange) (es : List Event) (k m : ℕ) (css : List (List Key)) (hs : List (List Served)) : Type 0 where
   pub keys : List (List Key)
   pub hidden : List (List Served)
-  pub rest : List PlannedBlock
   pub fresh : EachFresh es keys
   pub passed : EachPassed g xs keys
   pub lanes : length keys ≤ length hidden
   pub entries : lanes_entries css hs ≡ lanes_entries keys hidden
-  pub blocks : flat_map blocks_all css ≡ flat_map blocks_all keys ++ rest
   pub events : take k (lanes_fetched m css) ≡ lanes_fetched m keys
 
 cut_keys : (g : Setup) (xs : List Exchange) (es : List Event) (k m : ℕ) (css : List (List Key)) (hs : List (List Served)) → EachFresh es css → EachPassed g xs css → length css ≤ length hs → CutKeys g xs es k m css hs
-cut_keys g xs es k m [] hs a p some = record { keys = []; hidden = hs; rest = []; fresh = tt; passed = tt; lanes = omega arith; entries = refl; blocks = refl; events = take-nil k }
+cut_keys g xs es k m [] hs a p some = record { keys = []; hidden = hs; fresh = tt; passed = tt; lanes = omega arith; entries = refl; events = take-nil k }
 cut_keys g xs es k m (cs ∷ css) [] a p some = absurd (omega (arith, some))
 cut_keys g xs es k m (cs ∷ css) (h ∷ hs) a p some =
     ⊎_elim
@@ -68,26 +65,21 @@ cut_keys g xs es k m (cs ∷ css) (h ∷ hs) a p some =
     record {
       keys = cs ∷ r.keys;
       hidden = h ∷ r.hidden;
-      rest = r.rest;
       fresh = (a.0, r.fresh);
       passed = (p.0, r.passed);
       lanes = omega (arith, l);
       entries = ap (λ (x : List (List Served)). (entries_all cs ++ h) ∷ x) r.entries;
-      blocks = ap (λ (x : List PlannedBlock). blocks_all cs ++ x) r.blocks ∙ sym (append_assoc (blocks_all cs) (flat_map blocks_all r.keys) r.rest);
       events = ap (λ (n : ℕ). take n (fetched_all m cs ++ lanes_fetched (m + 1) css)) long ∙ take-append-add (fetched_all m cs) (lanes_fetched (m + 1) css) (k - length cs) ∙ ap (λ (x : List Event). fetched_all m cs ++ x) r.events;
     })
     (λ (within : k ≤ length cs).
     let more = lanes_entries css hs in
-    let wait = flat_map blocks_all css in
     record {
       keys = take k cs ∷ [];
       hidden = (entries_all (drop k cs) ++ h) ∷ more;
-      rest = blocks_all (drop k cs) ++ wait;
       fresh = (fresh_take es k cs a.0, tt);
       passed = (passed_take g xs k cs p.0, tt);
       lanes = omega arith;
       entries = ap (λ (x : List Served). x ∷ more) (ap (λ (x : List Served). x ++ h) (split_map _ k cs) ∙ append_assoc (entries_all (take k cs)) (entries_all (drop k cs)) h);
-      blocks = ap (λ (x : List PlannedBlock). x ++ wait) (split_map _ k cs ∙ ap (λ (x : List PlannedBlock). x ++ blocks_all (drop k cs)) (sym (append-nil (blocks_all (take k cs))))) ∙ append_assoc (blocks_all (take k cs) ++ []) (blocks_all (drop k cs)) wait;
       events = take-append-le k (fetched_all m cs) (lanes_fetched (m + 1) css) (omega (arith, within, length-map cs (λ (c : Key). Fetched m c.0 c.1))) ∙ take-map (λ (c : Key). Fetched m c.0 c.1) k cs ∙ sym (append-nil (fetched_all m (take k cs)));
     })
     (cases_lt (length cs) k)
@@ -167,11 +159,11 @@ round_short g b at es sl fs ns ls k d new fresh waits none_h none_l asks may ask
     (λ (within : k ≤ length got).
     let heard = heard_join (lanes_entries j.keys j.hidden) j.said sl.heard in
     let c = cut_keys g heard es k 0 j.keys j.hidden (j.fresh es fresh) (round_passed g b at es sl fs ns ls d asks t) j.lanes in
-    let all = tie_lanes_fetched g b now es (joined_slack fs at.clients ns d.drawn ls j sl) 0 c.keys c.hidden [] c.rest c.fresh c.lanes refl c.entries c.blocks c.passed
+    let all = tie_lanes_fetched g b now es (joined_slack fs at.clients ns d.drawn ls j sl) 0 c.keys c.hidden [] c.fresh c.lanes refl c.entries c.passed
     (λ h. asked_may fetched_on (λ m. refl) es sl.spare fs at.clients ns d.drawn ls d.each asked (some_same (lanes_fetched 0 j.keys) got (j.fetched 0) (some_taken k (lanes_fetched 0 j.keys) (lanes_fetched 0 c.keys) c.events h))) first in
     let names : take k (got ++ late) ≡ lanes_fetched 0 c.keys = take-append-le k got late within ∙ ap (λ (l : List Event). take k l) (sym (j.fetched 0)) ∙ c.events in
     let from = joined_slack fs at.clients ns d.drawn ls j sl in
-    let to : Slack = record from { hidden = c.hidden; pending = c.rest; due = from.due + count_by has_one (flat_map blocks_all c.keys); spare = all.left } in
+    let to : Slack = record from { hidden = c.hidden; due = from.due + count_by has_one (flat_map blocks_all c.keys); spare = all.left } in
     (to, subst (λ (l : List Event). Ties g b now (es ++ l) None to) (sym names) all.ties))
     (cases_lt (length got) k)
   where

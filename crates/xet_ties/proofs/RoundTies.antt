@@ -2,7 +2,6 @@
 use Rattle.std.proofs.Common.{◌≡◌, ℕ, zero, suc, ◌+◌, ◌<◌, ◌≤◌, List, [], ◌∷◌, ◌++◌, length, map, refl, sym, subst, ◌∙◌, ap, arith, inl, inr, ⊎_elim, None, Some}
 use Rattle.std.specs.Prelude.{Bool, cond, count_by, drop, false, true, All, slice_get}
 use Rattle.std.specs.List.{flat_map}
-use Rattle.std.proofs.lemmas.List.{append-nil}
 use Rattle.xet_base.specs.declared.cas_types.ChunkRange.{ChunkRange}
 use Rattle.xet_base.specs.declared.merklehash.MerkleHash.{MerkleHash}
 use Rattle.xet_outside.specs.Told.{ClientTold}
@@ -18,12 +17,12 @@ use Rattle.xet_ties.specs.Saids.{HasPassed, IsServedData, PassedIn}
 use Rattle.xet_ties.specs.steps.Records.{AreFresh, asks_for, Key, Place, places, places_of, EachFresh, EachMayExpire, blocks_all, expired_on, fetched_on, lanes_entries, lane_events, lanes_late, IsFreshAsk, key_of, lanes_expired, lanes_fetched}
 use Rattle.xet_ties.specs.steps.Moves.{no_hidden, no_late, heard_join}
 use Rattle.xet_ties.specs.Setup.{RunTold, Setup, most_lanes}
-use Rattle.xet_ties.specs.Ties.{EachLane, FirstLate, FirstUnfailed, Slack, Ties, has_one, is_one, is_pair, IsPlannedEntry}
+use Rattle.xet_ties.specs.Ties.{EachLane, FirstLate, FirstUnfailed, Slack, Ties, all_of, has_one, is_one, is_pair, is_served, IsPlannedEntry}
 use Rattle.xet_ties.specs.History.{block_at, fetches}
 use Rattle.xet_ties.specs.steps.Rounds.{AfterRound, calm_after, IsHeardData, IsHeardStep, IsPlanAsk, blocks_at, got_of}
 use Rattle.xet_ties.proofs.Heard.{asked_join, block_more, grew_join, join_match, step_join}
 use Rattle.xet_ties.proofs.ClientMoves.{tie_join}
-use Rattle.xet_ties.proofs.LaneJoins.{AreJoined, are_joined, fetched_among, joined_among, lates_among}
+use Rattle.xet_ties.proofs.LaneJoins.{AreJoined, are_joined, entries_among, joined_among, lates_among}
 use Rattle.xet_ties.proofs.LaneTies.{ArePassed, EachPassed, tie_lanes_expired, tie_lanes_fetched, InRound}
 use Rattle.xet_ties.proofs.LaneJoins.{each_failed, each_hides, first_counts}
 use Rattle.xet_ties.proofs.Orders.{first_joined}
@@ -81,11 +80,11 @@ joined_slack fs bs ns drawn ls j sl = record sl {
   heard = heard_join (lanes_entries j.keys j.hidden) j.said sl.heard;
   hidden = lanes_entries j.keys j.hidden;
   late = lanes_late (map places_of ls) (no_late bs);
-  pending = flat_map blocks_all j.keys;
+  pending = [];
   calm = calm_after sl.calm ls;
 }
 
--- and after the Fetched events: what the lanes served goes from the pending blocks to those that are to be offered, and
+-- and after the Fetched events: what the lanes served goes from the hidden entries to the blocks that are to be offered, and
 -- what they have hidden stays
 abbrev pub fetched_slack : (fs : List Ask) (bs ns : List ClientTold) (drawn : List (List ℕ)) (ls : List (List LaneStep)) → AreJoined fs bs ns drawn ls → Slack → Slack
 fetched_slack fs bs ns drawn ls j sl = record sl {
@@ -147,9 +146,8 @@ round_joined g b at es sl fs ns ls d new fresh waits none_h none_l may t =
     let joined = first_joined es fs served j.said b.clients at.clients sl.heard (first_counts fs at.clients ns ls d) (λ p k. let one = new p k in omega (arith, one)) fresh t.heard (subst (λ (l : List (List Place)). FirstLate es l sl.heard) none_l t.first_late) in
     let once = round_once es fs at.clients ns ls d new fresh (λ p k. let o = t.served.once p k in omega (arith, o)) in
     let tried = round_tries g.tries es fs at.clients ns ls d may (λ p k. let o = t.tried.at_most p k in omega (arith, o)) in
-    let first = tie_join g b at es sl ns served j.said late j.joined once tried entries lates (past_drew most_lanes fs at.clients ns d.drawn ls d.each d.few) none_h none_l joined (calm_after sl.calm ls) (drew_unfailed fs sl.calm b.clients at.clients ns d.drawn ls d.each t.unfailed) t in
-    tie_rest g b (record at { clients = ns }) es (record sl { heard = heard; hidden = served; late = late; calm = calm_after sl.calm ls }) (flat_map blocks_all j.keys) sl.spare
-    (λ x r. let a = fetched_among fs at.clients ns ls d x r in let w = waits x r in omega (arith, a, w)) (omega arith) first
+    let among : (x : MerkleHash) (r : ChunkRange) → count_by (is_served x r) (all_of served) ≤ count_by (is_one x r) sl.pending = λ x r. let a = entries_among fs at.clients ns ls d x r in let w = waits x r in omega (arith, a, w) in
+    tie_join g b at es sl ns served j.said late j.joined once tried entries lates (past_drew most_lanes fs at.clients ns d.drawn ls d.each d.few) none_h none_l among joined (calm_after sl.calm ls) (drew_unfailed fs sl.calm b.clients at.clients ns d.drawn ls d.each t.unfailed) t
 
 -- ---- what was served has passed
 
@@ -220,9 +218,8 @@ pub round_fetched : (g : Setup) (b at : RunTold) (es : List Event) (sl : Slack) 
 round_fetched g b at es sl fs ns ls d new fresh waits none_h none_l all may asked t =
     let j = are_joined fs at.clients ns d.drawn ls d.each in
     let now : RunTold = record at { clients = ns } in
-    let took = flat_map blocks_all j.keys in
     let first = round_joined g b at es sl fs ns ls d new fresh waits none_h none_l may t in
-    let fetched = tie_lanes_fetched g b now es (joined_slack fs at.clients ns d.drawn ls j sl) 0 j.keys j.hidden [] [] (j.fresh es fresh) j.lanes refl refl (sym (append-nil took)) (round_passed g b at es sl fs ns ls d all t)
+    let fetched = tie_lanes_fetched g b now es (joined_slack fs at.clients ns d.drawn ls j sl) 0 j.keys j.hidden [] (j.fresh es fresh) j.lanes refl refl (round_passed g b at es sl fs ns ls d all t)
     (λ h. asked_may fetched_on (λ m. refl) es sl.spare fs at.clients ns d.drawn ls d.each asked (some_same (lanes_fetched 0 j.keys) (lane_events fetched_on 0 ls) (j.fetched 0) h)) first in
     subst (λ (l : List Event). InRound g b now es l sl.spare (λ i. record (fetched_slack fs at.clients ns d.drawn ls j sl) { spare = i })) (j.fetched 0) fetched
 

@@ -6,6 +6,7 @@ use Rattle.std.proofs.lemmas.List.{append-nil}
 use Rattle.std.proofs.lemmas.List.Elements.{All-nil, All-cons, All-push}
 use Rattle.xet_base.specs.declared.cas_types.FileRange.{FileRange}
 use Rattle.xet_base.specs.declared.merklehash.MerkleHash.{MerkleHash}
+use Rattle.xet_outside.specs.declared.served.Served.{Served}
 use Rattle.xet_outside.specs.Told.{ClientTold, SinkTold}
 use Rattle.xet_run.specs.Budgets.{LimitTold, LimitCall}
 use Rattle.xet_error.specs.declared.error.FileReconstructionError.{FileReconstructionError}
@@ -21,7 +22,7 @@ use Rattle.xet_ties.specs.History.{IsNumberedNext, IsOneCached, IsRenewed, IsOnL
 use Rattle.xet_ties.specs.steps.Moves.{no_slack, no_hidden, no_late, no_exchange}
 use Rattle.xet_ties.specs.Causes.{failing_setting}
 use Rattle.xet_ties.specs.Setup.{RunTold, Setup, download_of}
-use Rattle.xet_ties.specs.Ties.{all_late, all_of, at_place, is_pair, EachLane, EachUnasked, EachUnfailed, FirstAsked, IsFaultless, HeardAsked, IsEntryOf, IsLane, MayLeave, NoneLate, Slack, Ties, IsPlannedEntry, LeavesNothing, IsServed}
+use Rattle.xet_ties.specs.Ties.{all_late, all_of, at_place, is_pair, is_served, EachLane, EachUnasked, EachUnfailed, FirstAsked, IsFaultless, HeardAsked, IsEntryOf, IsLane, MayLeave, NoneLate, Slack, Ties, IsPlannedEntry, LeavesNothing, IsServed}
 use Rattle.xet_ties.proofs.Lanes.{open_same, served_same}
 use Rattle.xet_ties.proofs.Lates.{expired_same, expired_start, late_push, late_start}
 use Rattle.xet_ties.proofs.Moves.{tie_fail, tie_admit, tie_limit}
@@ -60,9 +61,9 @@ asked_start : (g : Setup) (bs : List ClientTold) → failing_setting g bs ≡ No
 asked_start g [] h = absurd (cc)
 asked_start g (b ∷ bs) h = (record { asked = same_list b.asked }, unasked_start bs)
 
-none_hidden_count : (p k : ℕ) (bs : List ClientTold) → count_by (is_pair p k) (all_of (no_hidden bs)) ≡ 0
-none_hidden_count p k [] = refl
-none_hidden_count p k (b ∷ bs) = none_hidden_count p k bs
+none_hidden_by : (T : Served → Bool) (bs : List ClientTold) → count_by T (all_of (no_hidden bs)) ≡ 0
+none_hidden_by T [] = refl
+none_hidden_by T (b ∷ bs) = none_hidden_by T bs
 
 pub none_late_count : (p k : ℕ) (bs : List ClientTold) → count_by (at_place p k) (all_late (no_late bs)) ≡ 0
 none_late_count p k [] = refl
@@ -85,7 +86,7 @@ none_planned [] = All-nil (IsPlannedEntry [])
 none_planned (b ∷ bs) = none_planned bs
 
 pub served_start : (bs : List ClientTold) → IsServed [] (no_hidden bs) (no_late bs) bs bs
-served_start bs = record { lanes = lanes_start 0 bs; once = λ p k. let n = none_hidden_count p k bs in let l = none_late_count p k bs in omega (arith, n, l); planned = none_planned bs; on_lanes = All-nil (IsOnLane (length bs)); past = refl }
+served_start bs = record { lanes = lanes_start 0 bs; once = λ p k. let n = none_hidden_by (is_pair p k) bs in let l = none_late_count p k bs in omega (arith, n, l); planned = none_planned bs; on_lanes = All-nil (IsOnLane (length bs)); past = refl }
 
 pub first_start : (f : MerkleHash) (b : ClientTold) (bs : List ClientTold) → FirstAsked f [] [] (b ∷ bs) (b ∷ bs)
 first_start f b bs = (record { asked = same_list b.asked }, unasked_start bs)
@@ -121,7 +122,7 @@ tie_start g b h = record {
   refreshes = renewed_start g b.clients h;
   passed = All-nil (EventPassed g (no_exchange b.clients));
   one_cached = tt;
-  looked = record { looked = same_list b.cache.looked; cover = λ x r. record { kept = omega arith; cached = omega arith; honest = λ s o. omega arith } };
+  looked = record { looked = same_list b.cache.looked; cover = λ x r. let h = none_hidden_by (is_served x r) b.clients in record { kept = omega (arith, h); cached = omega arith; honest = λ s o. omega (arith, h) } };
   looked_entries = All-nil (IsEntryOf b.cache.entries);
   gained = gained_none g (no_exchange b.clients) b.cache;
   offered = record { puts = 0; offers = grew_by_none b.cache.offers; cover = omega arith; faults = omega arith };
@@ -168,7 +169,7 @@ tie_cancel g b n es sl t =
       refreshes = t.refreshes;
       passed = All-push (EventPassed g sl.heard) es e t.passed tt;
       one_cached = each-push IsOneCached es e t.one_cached tt;
-      looked = looked_push es e sl.pending sl.pending sl.looks b.clients b.cache n.cache refl (λ y r. omega arith) t.looked;
+      looked = looked_push es e sl.pending sl.pending (all_of sl.hidden) (all_of sl.hidden) sl.looks b.clients b.cache n.cache refl (λ y r. omega arith) t.looked;
       looked_entries = t.looked_entries;
       gained = t.gained;
       offered = offered_push es e sl.due sl.due b.cache n.cache (omega arith) t.offered;

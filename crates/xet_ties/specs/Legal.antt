@@ -1,12 +1,11 @@
 -- Which answers of a run are legal, by what its arguments tell before and after.
-use Rattle.std.specs.Prelude.{ℕ, ◌≡◌, ◌⊎◌, ◌+◌, ◌-◌, ◌^◌, ◌<◌, ◌≤◌, ◌==◌, ◌&&◌, Bool, List, [], ◌∷◌, drop, length}
+use Rattle.std.specs.Prelude.{ℕ, ◌≡◌, ◌⊎◌, ◌+◌, ◌-◌, ◌^◌, ◌<◌, ◌≤◌, ◌==◌, List, [], ◌∷◌, drop, length}
 use Rattle.std.specs.Prelude.{min, take, All, Some, IsSome, IfSome, OnOk, slice_get, option_map, count_by, Result}
 use Rattle.std.specs.Prelude.{Err, IfOk, IfErr}
 use Rattle.std.specs.List.{AllZip, concat}
 use Rattle.xet_base.specs.declared.cas_types.ChunkRange.{ChunkRange}
 use Rattle.xet_base.specs.declared.cas_types.FileRange.{FileRange}
 use Rattle.xet_base.specs.declared.merklehash.MerkleHash.{MerkleHash}
-use Rattle.xet_base.specs.Hashes.{hash_eq}
 use Rattle.xet_base.specs.Store.{Store, file_of, window}
 use Rattle.xet_outside.specs.declared.served.Served.{Served}
 use Rattle.xet_outside.specs.Answers.{late_in}
@@ -24,7 +23,7 @@ use Rattle.xet_ties.specs.RunCalls.{DidNothing, IsCancelled, IsUnspent, Unfailed
 use Rattle.xet_ties.specs.Saids.{AllPassed, AllRenewed, BlockOfPlan, own_query, planned_of, same_start}
 use Rattle.xet_ties.specs.Setup.{AllTell, CacheTells, EachGoesOn, IsEmptyRange, IsOver, RunTold, Setup, most_lanes}
 use Rattle.xet_ties.specs.Ties.{CutsRange, EachUnasked, EachUnfailed, FirstInOrder, IsEntryOf, IsFaultless, Reaches}
-use Rattle.xet_ties.specs.Ties.{is_look, is_pair, is_range}
+use Rattle.xet_ties.specs.Ties.{is_look, is_pair, is_served}
 
 -- ---- what was heard
 
@@ -180,10 +179,6 @@ AnswersFew (x ∷ xs) = (p k : ℕ)
 
 -- ---- looks
 
--- the entry is of this one range of this xorb
-abbrev pub is_served : MerkleHash → ChunkRange → Served → Bool
-is_served x r e = hash_eq e.xorb x && is_range r e.ranges
-
 -- each block of one range that was served was looked for, as often at least as it was served
 abbrev pub AllLooked : List Served → List Look → Type 0
 AllLooked es looks = (x : MerkleHash) (r : ChunkRange) → count_by (is_served x r) es ≤ count_by (is_look x r) looks
@@ -215,8 +210,8 @@ pub record Legal (g : Setup) (before after : RunTold) (answer : Result ℕ FileR
   -- what the connections were asked, served and said, and the looks into the cache
   pub heard : HeardOf before.clients after.clients
   pub looks : LooksOf before.cache after.cache
-  -- on Ok, and with any error but these, each served block of one range was looked for in the cache
-  pub looked : IsFaultless (stop_of answer) → AllLooked (served_of_all heard.list) looks.list
+  -- each served block of one range was looked for in the cache
+  pub looked : AllLooked (served_of_all heard.list) looks.list
   -- whatever is told, the writer took tested bytes of these and no others, whatever the answer
   pub tested : TookTested g heard.list looks.list before.sink after.sink
   -- and on Ok those of all terms of plans that cut the range, up to its end or one that an answer told

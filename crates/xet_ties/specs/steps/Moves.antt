@@ -20,7 +20,7 @@ use Rattle.xet_ties.specs.InCall.{Exchange, Place, late_places}
 use Rattle.xet_ties.specs.Saids.{EventPassed, FirstRenewed, IsEventSaid}
 use Rattle.xet_ties.specs.Setup.{ClientGoesOn, Setup}
 use Rattle.xet_ties.specs.Ties.{FirstLate, EachExpired, EachServed, IsEntryOf, IsServed, Slack, all_late, at_place}
-use Rattle.xet_ties.specs.Ties.{has_one, is_one}
+use Rattle.xet_ties.specs.Ties.{all_of, has_one, is_one, is_served}
 
 -- ---- queries
 
@@ -95,8 +95,10 @@ pub record Fits (g : Setup) (es : List Event) (e : Event) (sl to : Slack) : Type
   pub passed : EventPassed g sl.heard e
   pub one_cached : IsOneCached es e
   pub cached : cached_in es e ≡ []
-  pub pending : (x : MerkleHash) (r : ChunkRange) → count_by (is_one x r) (fetched_in es e)
-      + count_by (is_one x r) to.pending ≤ count_by (is_one x r) sl.pending
+  pub pending : (x : MerkleHash) (r : ChunkRange)
+      → (count_by (is_one x r) (fetched_in es e) + count_by (is_one x r) to.pending)
+      + count_by (is_served x r) (all_of to.hidden)
+      ≤ count_by (is_one x r) sl.pending + count_by (is_served x r) (all_of sl.hidden)
   pub due : sl.due + count_by has_one (fetched_in es e) ≡ to.due
   pub spare : length (round_in es e) + to.spare ≤ sl.spare
   pub limit : limit_in e ≡ []
