@@ -1,5 +1,5 @@
-//! Tests of `xet_lanes`: that lanes run side by side, beside the writing, and stop one another, and which error of a
-//! join comes first. They stand in a crate of their own, since a crate with tests is proved twice.
+//! Tests of `xet_lanes`: that lanes run side by side, beside the writing, and stop one another, what a gate is told and
+//! when, and which error of a join comes first. They stand in a crate of their own, since a crate with tests is proved twice.
 #![tactic(auto)]
 
 #[cfg(test)]
@@ -12,3 +12,5 @@ mod one_byte;
 mod rounds;
 #[cfg(test)]
 mod side_by_side;
+#[cfg(test)]
+mod trace;

@@ -1,4 +1,5 @@
 //! A connection that answers at once.
+use crate::trace::Trace;
 use bytes::Bytes;
 use std::alloc::Global;
 use xet_base::{FileRange, MerkleHash, OutOfMemory};
@@ -6,25 +7,36 @@ use xet_outside::{
     BlockAnswer, BlockBytes, BlockRequest, Client, ClientError, Offsets, PlanAnswer,
 };
 
-/// Answers every request with one chunk of one byte, or fails at each.
+/// Answers every request with one chunk of one byte, or fails at each. Where there is a trace each request stands in it.
 #[derive(Drop)]
-pub(crate) struct OneByte {
+pub(crate) struct OneByte<'a> {
     fails: bool,
     pub(crate) calls: u64,
     faults: u64,
+    trace: Option<&'a Trace>,
 }
 
-impl OneByte {
-    pub(crate) fn new(fails: bool) -> OneByte {
+impl<'a> OneByte<'a> {
+    pub(crate) fn new(fails: bool) -> OneByte<'a> {
         OneByte {
             fails,
             calls: 0,
             faults: 0,
+            trace: None,
+        }
+    }
+
+    pub(crate) fn traced(trace: &'a Trace) -> OneByte<'a> {
+        OneByte {
+            fails: false,
+            calls: 0,
+            faults: 0,
+            trace: Some(trace),
         }
     }
 }
 
-impl Client for OneByte {
+impl<'a> Client for OneByte<'a> {
     ghost use Rattle.std.specs.Prelude.{[], None};
 
     ghost told = { λ c. record {
@@ -52,6 +64,9 @@ impl Client for OneByte {
         _request: &BlockRequest,
     ) -> Result<BlockAnswer, ClientError> {
         self.calls = self.calls.saturating_add(1);
+        if let Some(trace) = self.trace {
+            trace.add(0);
+        }
         if self.fails {
             self.faults = self.faults.saturating_add(1);
             return Err(ClientError::Failed);

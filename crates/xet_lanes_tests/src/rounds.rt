@@ -72,7 +72,7 @@ fn round<L: Ledger + Send + Sync, R: Threads + Wait + Sync, G: Gate + Sync>(
     blank: Blank,
     gate: &G,
     count: u64,
-    clients: &mut [OneByte],
+    clients: &mut [OneByte<'_>],
     beside: bool,
     writer: &mut SequentialWriter<Waiting>,
 ) -> Result<Joined, OutOfMemory>
@@ -103,7 +103,7 @@ pub(crate) fn one_round<R: Threads + Wait + Sync, G: Gate + Sync>(
     alloc: Global,
     gate: &G,
     count: u64,
-    clients: &mut [OneByte],
+    clients: &mut [OneByte<'_>],
     beside: bool,
     writer: &mut SequentialWriter<Waiting>,
 ) -> Result<Joined, OutOfMemory>

@@ -2,6 +2,7 @@
 use crate::meeting::{Beside, Meeting, Waiting};
 use crate::one_byte::OneByte;
 use crate::rounds::{one_round, ready, served};
+use crate::trace::Trace;
 use std::test::Fail;
 use xet_error::FileReconstructionError;
 use xet_lanes::{LaneStep, OpenGate};
@@ -66,6 +67,22 @@ fn lanes_are_no_more_than_fetches(rt: HostRuntime) -> Result<(), Fail> {
     assert_eq!(rt; clients[0].calls, 1);
     assert_eq!(rt; clients[1].calls, 0);
     assert_eq!(rt; joined.first_error(), None);
+    Ok(())
+}
+
+#[test]
+fn each_fetch_is_between_the_calls_of_its_gate(rt: HostRuntime) -> Result<(), Fail> {
+    let alloc = rt.alloc();
+    let trace = Trace::new();
+    let mut clients = [OneByte::traced(&trace)];
+    let sink = Waiting {
+        meeting: None,
+        taken: 0,
+    };
+    let mut writer = SequentialWriter::new(alloc, sink, false);
+    let joined = one_round(&rt, alloc, &trace, 3, &mut clients, false, &mut writer)?;
+    assert_eq!(rt; served(&joined), 3);
+    assert_eq!(rt; trace.digits(), 9_102_304_506);
     Ok(())
 }
 
