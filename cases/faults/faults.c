@@ -4,7 +4,7 @@
 // FAIL_ALLOC=N: the Nth allocation fails. FAIL_READ=N, FAIL_WRITE=N, FAIL_THREAD=N: the Nth read, write or start of a
 // thread does. FAIL_ON=1: and all later ones of this kind. INTERRUPTIONS=N: N interruptions before each read and write.
 // SHORT=1: one byte a read and write. COUNTS=PATH: at the end the numbers of allocations, reads, writes and starts of
-// threads, and of writes after a failed one, go there.
+// threads, and of reads and writes after a failed one or the end of the input, go there.
 #define _GNU_SOURCE
 #include <dlfcn.h>
 #include <errno.h>
@@ -21,7 +21,7 @@ extern void *__libc_memalign(size_t, size_t);
 
 enum { ALLOC, READ, WRITE, THREAD, KINDS };
 static const char *const names[KINDS] = {"FAIL_ALLOC", "FAIL_READ", "FAIL_WRITE", "FAIL_THREAD"};
-static _Atomic long calls[KINDS], interrupted[KINDS], writes_after_a_failed_one;
+static _Atomic long calls[KINDS], interrupted[KINDS], ended, late;
 
 static long number(const char *name) {
     const char *text = getenv(name);
@@ -30,7 +30,7 @@ static long number(const char *name) {
 
 static int fails(int kind) {
     long at = number(names[kind]), call = ++calls[kind];
-    if (kind == WRITE && at && call > at) writes_after_a_failed_one++;
+    if ((kind == READ || kind == WRITE) && at && call > at) late++;
     return at && (call == at || (call > at && number("FAIL_ON")));
 }
 
@@ -54,7 +54,10 @@ int posix_memalign(void **out, size_t align, size_t size) { return (*out = memal
 
 ssize_t read(int file, void *to, size_t size) {
     if (file == 0 && faulty(READ)) return -1;
-    return syscall(SYS_read, file, to, file == 0 && size > 1 && number("SHORT") ? 1 : size);
+    late += file == 0 && ended;
+    ssize_t count = syscall(SYS_read, file, to, file == 0 && size > 1 && number("SHORT") ? 1 : size);
+    ended |= file == 0 && count == 0 && size > 0;
+    return count;
 }
 
 ssize_t write(int file, const void *from, size_t size) {
@@ -82,7 +85,7 @@ __attribute__((destructor)) static void told(void) {
     const char *path = getenv("COUNTS");
     char text[128];
     int size = snprintf(text, sizeof text, "%ld %ld %ld %ld %ld\n", (long)calls[ALLOC], (long)calls[READ],
-                        (long)calls[WRITE], (long)calls[THREAD], (long)writes_after_a_failed_one);
+                        (long)calls[WRITE], (long)calls[THREAD], (long)late);
     int file = path ? open(path, O_WRONLY | O_CREAT | O_TRUNC, 0600) : -1;
     if (file >= 0 && write(file, text, size) == size) close(file);
 }
