@@ -4,7 +4,7 @@
 // FAIL_ALLOC=N: the Nth allocation fails. FAIL_READ=N, FAIL_WRITE=N, FAIL_THREAD=N: the Nth read, write or start of a
 // thread does. FAIL_ON=1: and all later ones of this kind. INTERRUPTIONS=N: N interruptions before each read and write.
 // SHORT=1: one byte a read and write. COUNTS=PATH: at the end the numbers of allocations, reads, writes and starts of
-// threads, and of reads and writes after a failed one or the end of the input, go there.
+// threads go there, and that of reads after a failed read or the end of the input and of writes after a failed write.
 #define _GNU_SOURCE
 #include <dlfcn.h>
 #include <errno.h>

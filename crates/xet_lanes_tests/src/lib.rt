@@ -1,5 +1,6 @@
 //! Tests of `xet_lanes`: that lanes run side by side, beside the writing, and stop one another, what a gate is told and
-//! when, and which error of a join comes first. They stand in a crate of their own, since a crate with tests is proved twice.
+//! when, and which error of a join comes first. They stand in a crate of their own, since a crate with tests is proved
+//! twice.
 #![tactic(auto)]
 
 #[cfg(test)]

@@ -7,7 +7,8 @@ use xet_outside::{
     BlockAnswer, BlockBytes, BlockRequest, Client, ClientError, Offsets, PlanAnswer,
 };
 
-/// Answers every request with one chunk of one byte, or fails at each. Where there is a trace each request stands in it.
+/// Answers every request with one chunk of one byte, or fails at each. Each request stands in the trace, where there is
+/// one.
 #[derive(Drop)]
 pub(crate) struct OneByte<'a> {
     fails: bool,

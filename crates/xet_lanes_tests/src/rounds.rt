@@ -45,17 +45,18 @@ fn one_url(alloc: Global) -> Result<TermBlockRetrievalURLs, OutOfMemory> {
     Ok(TermBlockRetrievalURLs::new(MerkleHash([1; 32]), FileRange::new(0, 1), id, urls))
 }
 
-/// So many fetches of one block.
+/// Fetches of one block, of the numbers from the first to before the end.
 fn fetches<'a>(
     alloc: Global,
     block: &'a XorbBlock,
     urls: &'a TermBlockRetrievalURLs,
-    count: u64,
+    first: u64,
+    end: u64,
 ) -> Result<Vec<Fetch<'a>>, OutOfMemory>
     ensures { IfOk result (λ v. All IsFor (map ask_of v.items)) }
 {
     let mut all = Vec::new(alloc);
-    for number in 0..count {
+    for number in first..end {
         all.push(Fetch {
             number,
             block,
@@ -71,7 +72,8 @@ fn round<L: Ledger + Send + Sync, R: Threads + Wait + Sync, G: Gate + Sync>(
     alloc: Global,
     blank: Blank,
     gate: &G,
-    count: u64,
+    first: u64,
+    end: u64,
     clients: &mut [OneByte<'_>],
     beside: bool,
     writer: &mut SequentialWriter<Waiting>,
@@ -83,7 +85,7 @@ fn round<L: Ledger + Send + Sync, R: Threads + Wait + Sync, G: Gate + Sync>(
     let (state, mut pass) = RunState::<L>::new(alloc, blank, MerkleHash([1; 32]))?;
     let block = one_chunk(alloc)?;
     let urls = one_url(alloc)?;
-    let fetches = fetches(alloc, &block, &urls, count)?;
+    let fetches = fetches(alloc, &block, &urls, first, end)?;
     fetch_and_write(
         rt,
         alloc,
@@ -102,7 +104,8 @@ pub(crate) fn one_round<R: Threads + Wait + Sync, G: Gate + Sync>(
     rt: &R,
     alloc: Global,
     gate: &G,
-    count: u64,
+    first: u64,
+    end: u64,
     clients: &mut [OneByte<'_>],
     beside: bool,
     writer: &mut SequentialWriter<Waiting>,
@@ -110,7 +113,7 @@ pub(crate) fn one_round<R: Threads + Wait + Sync, G: Gate + Sync>(
     requires clients { 0 < length clients.old }
 {
     let blank = Blank::new(1 << 32);
-    round::<Brand, R, G>(rt, alloc, blank, gate, count, clients, beside, writer)
+    round::<Brand, R, G>(rt, alloc, blank, gate, first, end, clients, beside, writer)
 }
 
 /// How many steps of the lanes were served.

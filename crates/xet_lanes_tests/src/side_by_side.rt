@@ -18,7 +18,7 @@ fn two_fetches_run_side_by_side(rt: HostRuntime) -> Result<(), Fail> {
         taken: 0,
     };
     let mut writer = SequentialWriter::new(alloc, sink, false);
-    let joined = one_round(&rt, alloc, &meeting, 2, &mut clients, false, &mut writer)?;
+    let joined = one_round(&rt, alloc, &meeting, 0, 2, &mut clients, false, &mut writer)?;
     assert_eq!(rt; served(&joined), 2);
     assert!(rt; joined.ends.len() == 2);
     assert!(rt; joined.ends[0].steps.len() == 1);
@@ -40,7 +40,7 @@ fn a_write_and_a_fetch_run_side_by_side(rt: HostRuntime) -> Result<(), Fail> {
     let mut writer = SequentialWriter::new(alloc, sink, false);
     assert_eq!(rt; ready(alloc, &mut writer, 0, b"Hello, "), Ok(()));
     assert_eq!(rt; ready(alloc, &mut writer, 7, b"world!"), Ok(()));
-    let joined = one_round(&rt, alloc, &gate, 2, &mut clients, true, &mut writer)?;
+    let joined = one_round(&rt, alloc, &gate, 0, 2, &mut clients, true, &mut writer)?;
     assert_eq!(rt; served(&joined), 2);
     assert_eq!(rt; joined.wrote, Ok(13));
     assert_eq!(rt; writer.into_inner().taken, 13);
@@ -58,10 +58,19 @@ fn lanes_are_no_more_than_fetches(rt: HostRuntime) -> Result<(), Fail> {
     };
     let mut writer = SequentialWriter::new(alloc, sink, false);
     assert_eq!(rt; ready(alloc, &mut writer, 0, b"Hello"), Ok(()));
-    let joined = one_round(&rt, alloc, &OpenGate, 0, &mut clients, true, &mut writer)?;
+    let joined = one_round(&rt, alloc, &OpenGate, 0, 0, &mut clients, true, &mut writer)?;
     assert!(rt; joined.ends.is_empty());
     assert_eq!(rt; joined.wrote, Ok(5));
-    let joined = one_round(&rt, alloc, &OpenGate, 1, &mut clients, false, &mut writer)?;
+    let joined = one_round(
+        &rt,
+        alloc,
+        &OpenGate,
+        0,
+        1,
+        &mut clients,
+        false,
+        &mut writer,
+    )?;
     assert!(rt; joined.ends.len() == 1);
     assert_eq!(rt; served(&joined), 1);
     assert_eq!(rt; clients[0].calls, 1);
@@ -80,9 +89,9 @@ fn each_fetch_is_between_the_calls_of_its_gate(rt: HostRuntime) -> Result<(), Fa
         taken: 0,
     };
     let mut writer = SequentialWriter::new(alloc, sink, false);
-    let joined = one_round(&rt, alloc, &trace, 3, &mut clients, false, &mut writer)?;
-    assert_eq!(rt; served(&joined), 3);
-    assert_eq!(rt; trace.digits(), 9_102_304_506);
+    let joined = one_round(&rt, alloc, &trace, 2, 4, &mut clients, false, &mut writer)?;
+    assert_eq!(rt; served(&joined), 2);
+    assert_eq!(rt; trace.digits(), 9_506_708);
     Ok(())
 }
 
@@ -95,7 +104,16 @@ fn a_lane_that_fails_stops_the_others(rt: HostRuntime) -> Result<(), Fail> {
         taken: 0,
     };
     let mut writer = SequentialWriter::new(alloc, sink, false);
-    let joined = one_round(&rt, alloc, &OpenGate, 3, &mut clients, false, &mut writer)?;
+    let joined = one_round(
+        &rt,
+        alloc,
+        &OpenGate,
+        0,
+        3,
+        &mut clients,
+        false,
+        &mut writer,
+    )?;
     assert_eq!(rt; clients[0].calls, 1);
     assert!(rt; joined.ends.len() == 1);
     let [LaneStep::Failed { error }] = joined.ends[0].steps.as_slice() else {

@@ -1,7 +1,7 @@
 -- How a run's history is tied to what the run's arguments tell before and after.
 use Rattle.std.specs.Prelude.{ℕ, zero, suc, ◌≡◌, ◌⊎◌, ◌+◌, ◌-◌, ◌^◌, ◌<◌, ◌≤◌, ◌==◌, ◌&&◌, ◌≢◌, min, Bool, true, false}
-use Rattle.std.specs.Prelude.{cond, not, List, [], ◌∷◌, ◌++◌, drop, filter, length, count_by, nat_eq, Option, Some, None}
-use Rattle.std.specs.Prelude.{IfSome, IsSome, All, Contains}
+use Rattle.std.specs.Prelude.{cond, not, List, [], ◌∷◌, ◌++◌, drop, filter, length, count_by, nat_eq, Option, Some}
+use Rattle.std.specs.Prelude.{None, IfSome, IsSome, All, Contains}
 use Rattle.std.specs.List.{flat_map}
 use lib.Pointwise.{pointwise}
 use Rattle.xet_base.specs.declared.cas_types.ChunkRange.{ChunkRange}
@@ -109,8 +109,8 @@ IsPlannedEntry es e = (x : PlannedBlock) × (block_at es e.plan e.index ≡ x �
 pub record IsServed (es : List Event) (hidden : List (List Served)) (late : List (List Place))
     (before after : List ClientTold) : Type 0 where
   pub lanes : EachLane es 0 before after hidden late
-  -- no block of a plan was served twice, nor answered as expired besides without an event that says so; and none was
-  -- either while it is expired by the history
+  -- no block of a plan was served twice, nor served and also answered as expired with no event that says so; a block
+  -- that the history has as expired was neither served nor so answered
   pub once : (p k : ℕ) → (count_by (fetches p k) es + count_by (is_pair p k) (all_of hidden))
       + count_by (at_place p k) (all_late late) ≤ cond (is_expired es p k) 0 1
   -- each hidden entry is of a planned block
@@ -277,9 +277,9 @@ is_one x r b = hash_eq b.xorb x && is_range r b.ranges
 abbrev pub is_served : MerkleHash → ChunkRange → Served → Bool
 is_served x r e = hash_eq e.xorb x && is_range r e.ranges
 
--- by these looks, of each block of one range: as many looks as Fetched and Cached events, besides those of blocks that
--- are still to be fetched, and of entries that no event says; as many that gave an entry as Cached ones; over a store
--- as many that didn't give its block as Fetched ones, and those
+-- for each block of one range at least as many looks as Fetched and Cached events, blocks still to be fetched, and
+-- entries that no event says; as many that gave an entry as Cached events; over a store as many that didn't give its
+-- block as Fetched events, such blocks and such entries
 pub record LooksCover (es : List Event) (pending : List PlannedBlock) (hidden : List Served) (clients : List ClientTold)
     (looks : List Look) (x : MerkleHash) (r : ChunkRange) : Type 0 where
   pub kept : (count_by (is_one x r) (telling kept_in [] es) + count_by (is_one x r) pending)
