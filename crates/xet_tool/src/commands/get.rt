@@ -20,6 +20,7 @@ use crate::printing::{finish, say, say_after, stopped};
 use crate::reading::{LIMIT, ReadError, read_to_end};
 use crate::status::Status;
 use std::alloc::Global;
+use std::mem::forget;
 use std::sync::{Arc, Wait};
 use std::thread::Threads;
 use xet_base::OutOfMemory;
@@ -119,7 +120,12 @@ pub fn get<R: Threads + Wait + Sync, I: Source, O: Sink, T: Tap + Send>(
         Err(ReadError::TooLong) => return say(out, Status::TooLong),
     };
     match store_of_text(alloc, text) {
-        Ok(Some(store)) => print_within(rt, alloc, wanted, &store, taps, out),
+        Ok(Some(store)) => {
+            let status = print_within(rt, alloc, wanted, &store, taps, out);
+            // The process ends after a command and gives its memory back as a whole, which takes less time.
+            forget(store);
+            status
+        }
         Ok(None) => say(out, Status::BadStore),
         Err(_) => say(out, Status::NoMemory),
     }

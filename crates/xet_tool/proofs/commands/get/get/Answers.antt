@@ -26,9 +26,9 @@ returns-in-Err-TooLong-clause-outcome g c =
 pub returns-in-Ok-Some-clause-outcome : goal.returns-in-Ok-Some-clause-outcome
 returns-in-Ok-Some-clause-outcome g c =
     let b : Told = record { source = g.I.Source.told c.args.input.now; sink = g.O.Sink.told c.args.out.now; taps = map g.T.Tap.told c.args.taps.now.items } in
-    let n : Told = record { source = g.I.Source.told c.read_to_end.new.input; sink = g.O.Sink.told c.print_within.new.out; taps = map g.T.Tap.told c.print_within.new.taps.items } in
-    got_from _ _ b n c.in-Ok.text.items c.in-Ok-Some.store c.print_within.result (rw c.in-Ok.is at c.read_to_end.ensures).bytes (search rules)
-    c.print_within.ensures.printed
+    let n : Told = record { source = g.I.Source.told c.read_to_end.new.input; sink = g.O.Sink.told c.print_within-status.new.out; taps = map g.T.Tap.told c.print_within-status.new.taps.items } in
+    got_from _ _ b n c.in-Ok.text.items c.in-Ok-Some.store c.print_within-status.result (rw c.in-Ok.is at c.read_to_end.ensures).bytes (search rules)
+    c.print_within-status.ensures.printed
 
 pub returns-in-Ok-None-clause-outcome : goal.returns-in-Ok-None-clause-outcome
 returns-in-Ok-None-clause-outcome g c =
