@@ -7,6 +7,9 @@ use xet_outside::{Sink, SinkError};
 /// How often one looks for the other.
 const LOOKS: u64 = 50_000_000;
 
+/// How often a slow fetch gives up the processor.
+const TURNS: u64 = 10_000;
+
 /// Two flags, and whether one that looked for the other's gave up.
 #[derive(Drop)]
 pub(crate) struct Meeting {
@@ -54,6 +57,26 @@ impl Gate for Meeting {
     fn before(&self, number: u64) {
         if number < 2 {
             self.meet(number);
+        }
+    }
+
+    fn after(&self, _number: u64) {}
+}
+
+/// The fetches 0 and 1 wait for each other, and each later one lets others run for a while.
+#[derive(Drop)]
+pub(crate) struct Slow<'a> {
+    pub(crate) meeting: &'a Meeting,
+}
+
+impl<'a> Gate for Slow<'a> {
+    fn before(&self, number: u64) {
+        if number < 2 {
+            self.meeting.meet(number);
+            return;
+        }
+        for _ in 0..TURNS {
+            yield_now();
         }
     }
 

@@ -1,5 +1,5 @@
 //! Lanes run side by side and beside the writing, and one that fails stops the others.
-use crate::meeting::{Beside, Meeting, Waiting};
+use crate::meeting::{Beside, Meeting, Slow, Waiting};
 use crate::one_byte::OneByte;
 use crate::rounds::{one_round, ready, served};
 use crate::trace::Trace;
@@ -96,7 +96,7 @@ fn each_fetch_is_between_the_calls_of_its_gate(rt: HostRuntime) -> Result<(), Fa
 }
 
 #[test]
-fn a_lane_that_fails_stops_the_others(rt: HostRuntime) -> Result<(), Fail> {
+fn a_lane_that_fails_goes_no_further(rt: HostRuntime) -> Result<(), Fail> {
     let alloc = rt.alloc();
     let mut clients = [OneByte::new(true)];
     let sink = Waiting {
@@ -125,5 +125,37 @@ fn a_lane_that_fails_stops_the_others(rt: HostRuntime) -> Result<(), Fail> {
         joined.first_error(),
         Some(FileReconstructionError::ClientError)
     );
+    Ok(())
+}
+
+/// Each of two lanes begins one of the first two fetches. The one that fails stops the other long before its last.
+#[test]
+fn a_lane_that_fails_stops_the_others(rt: HostRuntime) -> Result<(), Fail> {
+    let alloc = rt.alloc();
+    let meeting = Meeting::new();
+    let gate = Slow { meeting: &meeting };
+    let mut clients = [OneByte::new(true), OneByte::new(false)];
+    let sink = Waiting {
+        meeting: None,
+        taken: 0,
+    };
+    let mut writer = SequentialWriter::new(alloc, sink, false);
+    let joined = one_round(
+        &rt,
+        alloc,
+        &gate,
+        0,
+        1_000,
+        &mut clients,
+        false,
+        &mut writer,
+    )?;
+    assert_eq!(rt;
+        joined.first_error(),
+        Some(FileReconstructionError::ClientError)
+    );
+    assert_eq!(rt; clients[0].calls, 1);
+    assert!(rt; 0 < clients[1].calls && clients[1].calls < 999);
+    assert!(rt; !meeting.failed(), "one of the two gave up");
     Ok(())
 }

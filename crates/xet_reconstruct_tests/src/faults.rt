@@ -11,7 +11,7 @@ use xet_error::{FileReconstructionError, Result};
 use xet_outside::{NeverCancel, NoCache, Sink};
 use xet_sinks::VecSink;
 use xet_store::MemClient;
-use xet_store::worked::{FILE_OF_ALL, FILE_OF_REPEATS, worked_store};
+use xet_store::worked::{FILE_OF_ALL, FILE_OF_REPEATS, FILE_OF_TWO_ENDS, worked_store};
 use xet_terms::ReconstructionConfig;
 
 /// How many bytes are written, and how many plans were asked for.
@@ -191,6 +191,22 @@ fn each_call_fails_in_turn(rt: HostRuntime) -> std::result::Result<(), Fail> {
     sweep(&rt, alloc, vectored, Who::Writer, io, &writes, (13, 4))
 }
 
+/// After a yes no block is asked for: before each plan and before each round of fetches those of the rounds before it
+/// were, which fetch one block, two, and one.
+#[test]
+fn no_block_is_asked_for_after_a_yes(rt: HostRuntime) -> std::result::Result<(), Fail> {
+    let config = by_four(&whole(FILE_OF_REPEATS)).config;
+    for (call, blocks) in [0, 0, 1, 1, 3, 3, 3, 3, 4].into_iter().enumerate() {
+        let text = script(rt.alloc(), call, "n", "y")?;
+        let words = [text.as_str()];
+        let row = failing(FILE_OF_REPEATS, config, Who::Signal, &words);
+        let ended = run_row(&rt, rt.alloc(), &row)?;
+        assert_eq!(rt; ended.answer, Err(FileReconstructionError::Cancelled));
+        assert_eq!(rt; ended.blocks, blocks, "ask {call}");
+    }
+    Ok(())
+}
+
 // The scripts of three connections, of which one has this one.
 fn three<'a>(lane: usize, script: &'a str) -> [&'a str; 3] {
     match lane {
@@ -239,15 +255,16 @@ fn one_of_three_connections_fails(rt: HostRuntime) -> std::result::Result<(), Fa
     Ok(())
 }
 
-// The answer of a run by queries of four bytes over a cache, and what it wrote.
+// The answer of a run over a cache, and what it wrote.
 fn cached<R: Threads + Wait + Sync>(
     rt: &R,
     alloc: Global,
+    row: &Row<'_>,
     cache: &mut FaultyCache,
 ) -> std::result::Result<(Result<u64>, VecSink), Fail> {
     let store = worked_store(alloc)?;
     let mut sink = VecSink::new(alloc);
-    let answer = wanted(&by_four(&whole(FILE_OF_REPEATS))).reconstruct_to_writer(
+    let answer = wanted(row).reconstruct_to_writer(
         rt,
         alloc,
         &mut [MemClient::new(alloc, &store)],
@@ -262,6 +279,7 @@ fn cached<R: Threads + Wait + Sync>(
 #[test]
 fn a_cache_fails_at_each_call(rt: HostRuntime) -> std::result::Result<(), Fail> {
     let calls = LOOKS_AND_OFFERS;
+    let row = by_four(&whole(FILE_OF_REPEATS));
     for call in 0..=calls {
         let (from, to) = if call < calls {
             (call, call.saturating_add(1))
@@ -269,9 +287,33 @@ fn a_cache_fails_at_each_call(rt: HostRuntime) -> std::result::Result<(), Fail> 
             (0, calls)
         };
         let mut cache = FaultyCache { from, to, calls: 0 };
-        let (answer, sink) = cached(&rt, rt.alloc(), &mut cache)?;
+        let (answer, sink) = cached(&rt, rt.alloc(), &row, &mut cache)?;
         assert_eq!(rt; (answer, cache.calls), (Ok(23), calls), "call {call}");
         assert!(rt; sink.taken() == REPEATS.as_bytes(), "call {call}");
+    }
+    Ok(())
+}
+
+/// A block of two ranges is neither looked for nor offered; two blocks of one range each are both.
+#[test]
+fn a_block_of_two_ranges_asks_no_cache(rt: HostRuntime) -> std::result::Result<(), Fail> {
+    let two = whole(FILE_OF_TWO_ENDS);
+    for (enable_multirange_fetching, calls) in [(false, 4), (true, 0)] {
+        let row = Row {
+            config: ReconstructionConfig {
+                enable_multirange_fetching,
+                ..two.config
+            },
+            ..two
+        };
+        let mut cache = FaultyCache {
+            from: 0,
+            to: 0,
+            calls: 0,
+        };
+        let (answer, sink) = cached(&rt, rt.alloc(), &row, &mut cache)?;
+        assert_eq!(rt; (answer, cache.calls), (Ok(6), calls));
+        assert!(rt; sink.taken() == b"Hello!".as_slice());
     }
     Ok(())
 }

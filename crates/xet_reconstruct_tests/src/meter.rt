@@ -1,10 +1,20 @@
-//! A meter that a gate and a writer share.
-use crate::row::{Row, by_four, run_gated, whole};
+//! A meter that a writer shares with a gate or a connection.
+use crate::fakes::Counted;
+use crate::row::{Row, by_four, client, run_gated, wanted, whole};
+use std::alloc::Global;
 use std::sync::atomic::{AtomicBool, AtomicU64, Ordering};
+use std::sync::{Arc, Wait};
 use std::test::Fail;
-use xet_outside::{Sink, SinkError};
-use xet_reconstruct::Gate;
-use xet_store::worked::FILE_OF_ALL;
+use std::thread::Threads;
+use xet_base::{FileRange, MerkleHash};
+use xet_blocks::Steady;
+use xet_outside::{
+    BlockAnswer, BlockRequest, Client, ClientError, NeverCancel, NoCache, PlanAnswer, Sink,
+    SinkError,
+};
+use xet_reconstruct::{FileReconstructor, Gate};
+use xet_run::{BookView, BudgetBook, BudgetSettings};
+use xet_store::worked::{FILE_OF_ALL, worked_store};
 
 /// How many bytes are fetched and not yet written, where the n-th fetch has so many.
 #[derive(Drop)]
@@ -99,5 +109,90 @@ fn a_meter_of_gate_and_writer(rt: HostRuntime) -> Result<(), Fail> {
         assert_eq!(rt; (answer, sink.taken, meter.level()), (Ok(13), 13, 0));
         assert_eq!(rt; meter.passed(), passed, "limit {limit}");
     }
+    Ok(())
+}
+
+/// A connection whose blocks enter the meter.
+#[derive(Drop)]
+struct Weighed<'a> {
+    inner: Counted<'a>,
+    meter: &'a Meter<'a>,
+}
+
+impl<'a> Client for Weighed<'a> {
+    ghost told = { λ c. ⟦<Counted<'a> as Client>⟧.told c.inner };
+
+    fn plan(
+        &mut self,
+        alloc: Global,
+        file: &MerkleHash,
+        range: FileRange,
+    ) -> Result<PlanAnswer, ClientError> {
+        self.inner.plan(alloc, file, range)
+    }
+
+    fn block(&mut self, alloc: Global, request: &BlockRequest) -> Result<BlockAnswer, ClientError> {
+        self.meter.before(self.inner.blocks);
+        self.inner.block(alloc, request)
+    }
+}
+
+// Twelve bytes in three blocks of one plan, of 5, 2 and 5 bytes.
+fn three_blocks() -> Row<'static> {
+    Row {
+        terms: &[(0, 1, 5), (1, 2, 2), (2, 3, 5)],
+        ranges: &[(0, 1), (1, 2), (2, 3)],
+        ..whole(FILE_OF_ALL)
+    }
+}
+
+// Whether this run has more than five bytes fetched and not written at once.
+fn passes_five<R: Threads + Wait + Sync>(
+    rt: &R,
+    alloc: Global,
+    wanted: FileReconstructor<Steady>,
+) -> Result<bool, Fail> {
+    let store = worked_store(alloc)?;
+    let meter = Meter::new(&[5, 2, 5], 5);
+    let mut clients = [Weighed {
+        inner: client(alloc, &store, &three_blocks(), "p")?,
+        meter: &meter,
+    }];
+    let mut sink = Metered {
+        meter: &meter,
+        taken: 0,
+    };
+    let answer = wanted.reconstruct_to_writer(
+        rt,
+        alloc,
+        &mut clients,
+        &mut NoCache,
+        &mut NeverCancel,
+        &mut sink,
+    );
+    if answer != Ok(12) || sink.taken != 12 {
+        return Err(Fail::new("the three blocks were not written"));
+    }
+    Ok(meter.passed())
+}
+
+/// Without a limit three blocks are fetched before the first is written. A limit of five bytes of the settings, or of a
+/// book with one running download, leaves one block at a time.
+#[test]
+fn a_limit_of_settings_or_book(rt: HostRuntime) -> Result<(), Fail> {
+    let alloc = rt.alloc();
+    let settings = BudgetSettings {
+        base: 0,
+        per_file: 5,
+        limit: 8,
+    };
+    let book = Arc::new(alloc, BudgetBook::new(alloc, settings)?)?;
+    book.start(&rt);
+    let free = wanted(&three_blocks());
+    assert!(rt; passes_five(&rt, alloc, free)?);
+    let limited = wanted(&three_blocks()).with_buffer_semaphore(5);
+    assert!(rt; !passes_five(&rt, alloc, limited)?);
+    let booked = wanted(&three_blocks()).with_budget_book(BookView::new(book));
+    assert!(rt; !passes_five(&rt, alloc, booked)?);
     Ok(())
 }

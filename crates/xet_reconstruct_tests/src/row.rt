@@ -150,7 +150,7 @@ fn client_step(
 }
 
 /// A connection that does this.
-fn client<'a>(
+pub(crate) fn client<'a>(
     alloc: Global,
     store: &'a MemStore,
     row: &Row<'_>,
@@ -209,12 +209,13 @@ fn cache(alloc: Global, row: &Row<'_>) -> std::result::Result<MapCache, Fail> {
     Ok(cache)
 }
 
-/// What a run answered, what its writer took, and how many plans its first connection was asked for.
+/// What a run answered, what its writer took, and how many plans and blocks its first connection was asked for.
 #[derive(Drop)]
 pub(crate) struct Ended {
     pub(crate) answer: Result<u64>,
     pub(crate) sink: ScriptSink,
     pub(crate) plans: u64,
+    pub(crate) blocks: u64,
 }
 
 /// A reconstruction of this row.
@@ -243,11 +244,14 @@ pub(crate) fn run_row<R: Threads + Wait + Sync>(
         &mut signal,
         &mut sink,
     );
-    let plans = clients.first().map_or(0, |client| client.plans);
+    let (plans, blocks) = clients
+        .first()
+        .map_or((0, 0), |client| (client.plans, client.blocks));
     Ok(Ended {
         answer,
         sink,
         plans,
+        blocks,
     })
 }
 
