@@ -114,12 +114,12 @@ fn a_meter_of_gate_and_writer(rt: HostRuntime) -> Result<(), Fail> {
 
 /// A connection whose blocks enter the meter.
 #[derive(Drop)]
-struct Weighed<'a> {
+struct Weighed<'a, 'm> {
     inner: Counted<'a>,
-    meter: &'a Meter<'a>,
+    meter: &'m Meter<'m>,
 }
 
-impl<'a> Client for Weighed<'a> {
+impl<'a, 'm> Client for Weighed<'a, 'm> {
     ghost told = { λ c. ⟦<Counted<'a> as Client>⟧.told c.inner };
 
     fn plan(
@@ -146,22 +146,17 @@ fn three_blocks() -> Row<'static> {
     }
 }
 
-// Whether this run has more than five bytes fetched and not written at once.
-fn passes_five<R: Threads + Wait + Sync>(
+// The answer of this run over the connection, whose blocks enter the meter, and how many bytes were written.
+fn written_within<R: Threads + Wait + Sync>(
     rt: &R,
     alloc: Global,
     wanted: FileReconstructor<Steady>,
-) -> Result<bool, Fail> {
-    let store = worked_store(alloc)?;
-    let meter = Meter::new(&[5, 2, 5], 5);
-    let mut clients = [Weighed {
-        inner: client(alloc, &store, &three_blocks(), "p")?,
-        meter: &meter,
-    }];
-    let mut sink = Metered {
-        meter: &meter,
-        taken: 0,
-    };
+    inner: Counted<'_>,
+    meter: &Meter<'_>,
+) -> (xet_error::Result<u64>, u64) {
+    let weighed = Weighed { inner, meter };
+    let mut clients = [weighed];
+    let mut sink = Metered { meter, taken: 0 };
     let answer = wanted.reconstruct_to_writer(
         rt,
         alloc,
@@ -170,10 +165,22 @@ fn passes_five<R: Threads + Wait + Sync>(
         &mut NeverCancel,
         &mut sink,
     );
-    if answer != Ok(12) || sink.taken != 12 {
+    (answer, sink.taken)
+}
+
+// Whether this run over three blocks never has more than five bytes fetched and not written.
+fn holds_five<R: Threads + Wait + Sync>(
+    rt: &R,
+    alloc: Global,
+    wanted: FileReconstructor<Steady>,
+) -> Result<bool, Fail> {
+    let store = worked_store(alloc)?;
+    let inner = client(alloc, &store, &three_blocks(), "p")?;
+    let meter = Meter::new(&[5, 2, 5], 5);
+    if written_within(rt, alloc, wanted, inner, &meter) != (Ok(12), 12) {
         return Err(Fail::new("the three blocks were not written"));
     }
-    Ok(meter.passed())
+    Ok(!meter.passed())
 }
 
 /// Without a limit three blocks are fetched before the first is written. A limit of five bytes of the settings, or of a
@@ -189,10 +196,10 @@ fn a_limit_of_settings_or_book(rt: HostRuntime) -> Result<(), Fail> {
     let book = Arc::new(alloc, BudgetBook::new(alloc, settings)?)?;
     book.start(&rt);
     let free = wanted(&three_blocks());
-    assert!(rt; passes_five(&rt, alloc, free)?);
+    assert!(rt; !holds_five(&rt, alloc, free)?);
     let limited = wanted(&three_blocks()).with_buffer_semaphore(5);
-    assert!(rt; !passes_five(&rt, alloc, limited)?);
+    assert!(rt; holds_five(&rt, alloc, limited)?);
     let booked = wanted(&three_blocks()).with_budget_book(BookView::new(book));
-    assert!(rt; !passes_five(&rt, alloc, booked)?);
+    assert!(rt; holds_five(&rt, alloc, booked)?);
     Ok(())
 }
