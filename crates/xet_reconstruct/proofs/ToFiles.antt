@@ -83,6 +83,7 @@ module _ (g : Setup) (b n : RunTold) (at : SinkTold) (flushed : Option ℕ) (fau
     heard = l.heard;
     looks = l.looks;
     looked = l.looked;
+    missed_first = l.missed_first;
     tested = other_tested l.heard.list l.looks.list l.tested;
     whole = if_ok answer (TookWhole g l.heard.list l.looks.list at n.sink)
         (TookWhole g l.heard.list l.looks.list then_sink n.sink) (other_whole l.heard.list l.looks.list) l.whole;
@@ -101,8 +102,7 @@ module _ (g : Setup) (b n : RunTold) (at : SinkTold) (flushed : Option ℕ) (fau
     refreshed = l.refreshed;
     renewed = l.renewed;
     all_renewed = l.all_renewed;
-    in_order = l.in_order;
-    answered = l.answered;
+    followed = l.followed;
     counted = l.counted;
     late = l.late;
     under = l.under;
@@ -157,7 +157,6 @@ refused_file limits g truncate place b e h =
         refl,
       );
       legal = refused_legal g b e h;
-      content = inr unready;
       ran = inr unready;
       exact = λ s o c. tt;
       link = refl;
@@ -177,7 +176,6 @@ unready_file limits g truncate place at b to e h r =
     record {
       settings = λ x h2. absurd (let z : None ≡ Some x = sym h ∙ h2 in cc);
       legal = halted_legal g (placed_as to.link b) to e h r.took r.faults refl r.cause;
-      content = inr unready;
       ran = inr unready;
       exact = λ s o c. tt;
       link = r.link;
@@ -203,11 +201,11 @@ ready_file limits g truncate place p b n at answer is h given l ran =
     record {
       settings = λ x h2. absurd (let z : None ≡ Some x = sym h ∙ h2 in cc);
       legal = legal;
-      content = inl stands;
       ran = inl (record {
         ready = at;
         made = record { took = r.took; unfailed = r.unfailed; placed = r.placed; link = r.link };
         ran = ran;
+        stands = stands;
       });
       exact = λ s o c. on_ok answer (IsExact s g (placed_as n.sink.link b).sink n.sink)
           (StandAt truncate place b.sink n.sink (window s g.file g.range))

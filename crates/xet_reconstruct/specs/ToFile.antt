@@ -61,12 +61,14 @@ pub record IsUnready (truncate : Bool) (before after : RunTold)
   pub cause : IfErr answer (UnreadyCause before.sink.faults after.sink.faults)
   pub left : IsLeft truncate before.sink after.sink
 
--- a run gave this answer, over the file as it was made ready, as `RanUnder` says
+-- a run gave this answer, over the file as it was made ready, as `RanUnder` says, and whatever the file took stands at
+-- its place
 pub record RanInto (limits : LimitTold) (g : Setup) (truncate : Bool) (place : ℕ) (before after : RunTold)
     (answer : Result ℕ FileReconstructionError) : Type 0 where
   pub ready : SinkTold
   pub made : IsReady truncate place before.sink ready
   pub ran : RanUnder limits g (record before { sink = ready }) after answer
+  pub stands : StandsAt truncate place before.sink after.sink
 
 -- the same, told of a file whose place was set in this way
 abbrev pub placed_as : Link → RunTold → RunTold
@@ -80,8 +82,6 @@ pub record ToFileCall (limits : LimitTold) (g : Setup) (truncate : Bool) (place 
       → (answer ≡ Err (error.ConfigurationError e)) × (after ≡ before)
   -- but for how the file's place was set, the answer is legal
   pub legal : Legal g (placed_as after.sink.link before) after answer
-  -- whatever the file took stands at its place, or it could not be made ready
-  pub content : StandsAt truncate place before.sink after.sink ⊎ IsUnready truncate before after answer
   -- a run stands behind it, from the moment at which the file was made ready, or it could not be made ready
   pub ran : RanInto limits g truncate place before after answer ⊎ IsUnready truncate before after answer
   -- so on Ok, over connections and a cache that tell one valid store, does the window

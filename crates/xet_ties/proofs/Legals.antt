@@ -4,7 +4,7 @@ use Rattle.std.specs.Prelude.{All, count_by, Ok, Err, Result}
 use Rattle.std.specs.List.{concat}
 use Rattle.std.proofs.lemmas.List.{append-nil, take_all, take-append-le}
 use Rattle.std.proofs.lemmas.List.Elements.{All-cons, All-nil, All-weaker}
-use Rattle.xet_base.specs.Store.{window}
+use Rattle.xet_base.specs.Store.{Store, window}
 use Rattle.xet_outside.specs.declared.served.Served.{Served}
 use Rattle.xet_outside.specs.Answers.{late_in}
 use Rattle.xet_outside.specs.Told.{ClientTold, Query, SinkTold, Took, TookPrefix}
@@ -17,10 +17,10 @@ use Rattle.xet_ties.specs.Causes.{failing_setting, late_answers}
 use Rattle.xet_ties.specs.History.{entry_of, fetched_in, telling, IsWithin}
 use Rattle.xet_ties.specs.InCall.{Exchange, Look, served_of_all, Place}
 use Rattle.xet_ties.specs.Cuts.{FirstCut, Planning}
-use Rattle.xet_ties.specs.Legal.{AllLatePlanned, AllLooked, AllPlanned, AnswersFew, CacheGoesOn, FirstAsks, IsPlannedServed, Legal, SignalGoesOn, TookTested, TookWhole}
+use Rattle.xet_ties.specs.Legal.{AllLatePlanned, AllLooked, AllMissed, AllPlanned, CacheGoesOn, FirstAsks, FirstFollowed, IsPlannedServed, Legal, SignalGoesOn, TookTested, TookWhole}
 use Rattle.xet_ties.specs.RunCalls.{IsFinished, IsUnspent, RunCall, TookAll}
 use Rattle.xet_ties.specs.Saids.{AllPassed, EntryPassed, FirstSaid, IsTested}
-use Rattle.xet_ties.specs.Setup.{EachGoesOn, RunTold, Setup}
+use Rattle.xet_ties.specs.Setup.{EachGoesOn, IsOver, RunTold, Setup}
 use Rattle.xet_ties.specs.Ties.{EachLane, EachUnfailed, FirstUnfailed, HeardAsked, IsEntryOf, IsOther, IsPlannedEntry, IsQuiet, LeavesNothing, Slack, Stop, Ties, all_of, has_one, is_one, is_pair, is_served}
 use Rattle.xet_ties.proofs.Asks.{first_asks}
 use Rattle.xet_ties.proofs.Expiries.{counted_start, each_counted, none_past, none_spent}
@@ -30,9 +30,8 @@ use Rattle.xet_ties.proofs.OfferCounts.{fetched_kept, served_counted}
 use Rattle.xet_ties.specs.Gains.{OffersFew, one_range}
 use Rattle.xet_ties.proofs.Headline as headline
 use Rattle.xet_ties.proofs.LowestLanes.{all_passed}
-use Rattle.xet_ties.proofs.Orders.{in_order_start}
 use Rattle.xet_ties.proofs.Pairs.{served_once, served_planned}
-use Rattle.xet_ties.proofs.PlanAnswers.{answers_few}
+use Rattle.xet_ties.proofs.PlanAnswers.{first_followed}
 use Rattle.xet_ties.proofs.Plannings.{PlanningOf, first_pieces, first_plans_all, numbered_at, planning_heard, plans_end, some_pieces}
 use Rattle.xet_ties.proofs.Renewed.{renews_all, renews_but_last, renews_none}
 use Rattle.xet_ties.proofs.SaidTies.{block_said}
@@ -94,6 +93,12 @@ looked_all g b n es stop sl t x r =
     let kept = (t.looked.cover x r).kept in
     let fetched = fetched_kept (is_one x r) [] es in
     omega (arith, all, kept, fetched)
+
+missed_all : (g : Setup) (b n : RunTold) (es : List Event) (stop : Stop) (sl : Slack) → Ties g b n es stop sl → (s : Store) → IsOver s b.clients → AllMissed s (served_of_all sl.heard) sl.looks
+missed_all g b n es stop sl t s o x r =
+    let all = served_counted (is_served x r) (is_one x r) (λ a c d. refl) es b.clients n.clients sl.heard sl.hidden t.heard t.heard_served t.served.on_lanes in
+    let fetched = (t.looked.cover x r).honest s o in
+    omega (arith, all, fetched)
 
 -- ---- tested bytes
 
@@ -173,9 +178,15 @@ late_heard g b n es stop sl t = by sl.heard refl
 
 -- ---- the legal answer
 
-none_answered : (bs : List ClientTold) → AnswersFew (no_exchange bs)
-none_answered [] = tt
-none_answered (b ∷ bs) = λ p k. let l = none_late bs p k in let s = none_served bs p k in omega (arith, l, s)
+none_followed : (g : Setup) (bs : List ClientTold) → FirstFollowed g (no_exchange bs)
+none_followed g [] = tt
+none_followed g (b ∷ bs) = record {
+  count = 0;
+  most = omega arith;
+  renewed = λ i h. absurd (omega (arith, h));
+  in_order = tt;
+  few = λ p k. let l = none_late bs p k in let s = none_served bs p k in omega (arith, l, s);
+}
   where
     none_late : (l : List ClientTold) (p k : ℕ) → late_answers p k (no_exchange l) ≡ 0
     none_late [] p k = refl
@@ -236,6 +247,10 @@ looked_nothing : (bs : List ClientTold) → AllLooked (served_of_all (no_exchang
 looked_nothing [] x r = omega arith
 looked_nothing (b ∷ bs) x r = looked_nothing bs x r
 
+missed_nothing : (s : Store) (bs : List ClientTold) → AllMissed s (served_of_all (no_exchange bs)) []
+missed_nothing s [] x r = omega arith
+missed_nothing s (b ∷ bs) x r = missed_nothing s bs x r
+
 -- a run that its settings refuse
 legal_refused : (g : Setup) (b : RunTold) (x : Setting) → failing_setting g b.clients ≡ Some x → Legal g b b (Err (error.ConfigurationError x))
 legal_refused g b x h = record {
@@ -245,6 +260,7 @@ legal_refused g b x h = record {
   heard = record { list = no_exchange b.clients; told = exchange_start b.clients };
   looks = record { list = []; told = added_none b.cache.looked b.cache.looked refl; given = All-nil (IsEntryOf b.cache.entries) };
   looked = looked_nothing b.clients;
+  missed_first = λ s o. missed_nothing s b.clients;
   tested = record { planning = plans_nothing g b.clients; pieces = []; each = tt; took = none_took b.sink.took [] };
   whole = tt;
   total = tt;
@@ -260,8 +276,7 @@ legal_refused g b x h = record {
   refreshed = none_few g b.clients;
   renewed = renews_none g b.clients;
   all_renewed = tt;
-  in_order = in_order_start b.clients;
-  answered = none_answered b.clients;
+  followed = none_followed g b.clients;
   counted = counted_start b.clients;
   late = late_nothing g b.clients;
   under = λ u. absurd u;
@@ -303,6 +318,7 @@ legal_ran g b n es (Ok k) h a r =
       heard = record { list = t.slack.heard; told = t.ties.heard };
       looks = record { list = t.slack.looks; told = t.ties.looked.looked; given = t.ties.looked_entries };
       looked = looked_all g b n es None t.slack t.ties;
+      missed_first = λ s o. missed_all g b n es None t.slack t.ties s o;
       tested = tested_heard g b n es None t.slack a t.ties;
       whole = whole_heard g b n es k t.slack a t.ties (t.left.none refl).lost none r.finished;
       total = record { bytes = t.ties.taken.taken; took = t.ties.taken.took; total = let c = t.ties.taken.counted in let f = r.finished.count in omega (arith, c, f, none) };
@@ -320,8 +336,7 @@ legal_ran g b n es (Ok k) h a r =
       all_renewed = renews_all g b n es None t.slack t.ties (t.left.none refl).lost;
       served = served_once es b.clients n.clients t.slack.heard t.slack.hidden t.slack.late t.ties.heard t.ties.heard_served t.ties.served;
       planned = planned_heard g b n es None t.slack t.ties;
-      in_order = t.ties.in_order;
-      answered = answers_few g b n es None t.slack a t.ties;
+      followed = first_followed g b n es None t.slack a t.ties;
       counted = each_counted es 0 b.clients n.clients t.slack.hidden t.slack.late t.slack.heard t.ties.served.lanes t.ties.expired;
       late = late_heard g b n es None t.slack t.ties;
       under = λ u. none_spent g b n es None t.slack (t.left.late (λ e. absurd (cc))) (t.under u) t.ties;
@@ -348,6 +363,7 @@ legal_ran g b n es (Err e) h a r =
       heard = record { list = t.slack.heard; told = t.ties.heard };
       looks = record { list = t.slack.looks; told = t.ties.looked.looked; given = t.ties.looked_entries };
       looked = looked_all g b n es (Some e) t.slack t.ties;
+      missed_first = λ s o. missed_all g b n es (Some e) t.slack t.ties s o;
       tested = tested_heard g b n es (Some e) t.slack a t.ties;
       whole = tt;
       total = tt;
@@ -365,8 +381,7 @@ legal_ran g b n es (Err e) h a r =
       all_renewed = tt;
       served = served_once es b.clients n.clients t.slack.heard t.slack.hidden t.slack.late t.ties.heard t.ties.heard_served t.ties.served;
       planned = planned_heard g b n es (Some e) t.slack t.ties;
-      in_order = t.ties.in_order;
-      answered = answers_few g b n es (Some e) t.slack a t.ties;
+      followed = first_followed g b n es (Some e) t.slack a t.ties;
       counted = each_counted es 0 b.clients n.clients t.slack.hidden t.slack.late t.slack.heard t.ties.served.lanes t.ties.expired;
       late = late_heard g b n es (Some e) t.slack t.ties;
       under = λ u. none_spent g b n es (Some e) t.slack (t.left.late (unspent_other (Some e) u)) (t.under u) t.ties;

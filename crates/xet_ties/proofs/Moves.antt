@@ -29,7 +29,7 @@ use Rattle.xet_ties.proofs.Telling.{count-same, each-push}
 use Rattle.xet_error.specs.declared.error.FileReconstructionError.TheVariants as error
 use Rattle.xet_ties.proofs.EarlyEnds.{ends_same}
 use Rattle.xet_ties.proofs.HeardServed.{heard_served_same}
-use Rattle.xet_ties.proofs.Orders.{first_late_push}
+use Rattle.xet_ties.proofs.Orders.{first_late_push, in_order_recorded}
 
 -- ---- events alone
 
@@ -46,8 +46,8 @@ tie_event g b n es e sl to f t = record {
   served = f.served b.clients n.clients t.served;
   expired = f.expired to.heard (subst (λ (l : List Exchange). EachExpired es 0 l sl.late) (sym f.heard) t.expired);
   late_planned = late_push es e to.heard (subst (λ (l : List Exchange). LatePlanned es l) (sym f.heard) t.late_planned);
-  in_order = subst (λ (l : List Exchange). FirstInOrder l) (sym f.heard) t.in_order;
-  first_late = subst (λ (l : List Exchange). FirstLate (es ++ e ∷ []) to.late l) (sym f.heard) (f.first_late t.first_late);
+  in_order = subst (λ (l : List Exchange). FirstInOrder to.lost l) (sym f.heard) (in_order_recorded sl.lost (asked_in g.file es e) to.lost sl.heard f.asked t.in_order);
+  first_late = subst (λ (l : List Exchange). FirstLate (es ++ e ∷ []) to.lost to.late l) (sym f.heard) (f.first_late t.first_late);
   heard_served = f.heard_served to.heard (subst (λ (l : List Exchange). EachServed es 0 l sl.hidden) (sym f.heard) t.heard_served);
   unfailed = subst (λ (i : ℕ). FirstUnfailed i b.clients n.clients) (sym f.calm) t.unfailed;
   asked = first_push g.file es e sl.lost to.lost b.clients n.clients f.asked t.asked;
@@ -207,7 +207,7 @@ tie_admit g b n es sl to l c t =
       expired = expired_same es e 0 sl.heard sl.late (λ l w. refl) t.expired;
       late_planned = late_push es e sl.heard t.late_planned;
       in_order = t.in_order;
-      first_late = first_late_push es e sl.late sl.heard (λ p k. refl) t.first_late;
+      first_late = first_late_push es e sl.lost sl.late sl.heard (λ p k. refl) t.first_late;
       heard_served = heard_served_same es e 0 sl.heard sl.hidden (λ l w. refl) t.heard_served;
       unfailed = t.unfailed;
       asked = first_push g.file es e sl.lost sl.lost b.clients n.clients refl t.asked;
@@ -320,7 +320,7 @@ tie_fail g b n es sl x spent t =
       expired = expired_same es e 0 sl.heard sl.late (λ l w. refl) t.expired;
       late_planned = late_push es e sl.heard t.late_planned;
       in_order = t.in_order;
-      first_late = first_late_push es e sl.late sl.heard (λ p k. refl) t.first_late;
+      first_late = first_late_push es e sl.lost sl.late sl.heard (λ p k. refl) t.first_late;
       heard_served = heard_served_same es e 0 sl.heard sl.hidden (λ l w. refl) t.heard_served;
       unfailed = t.unfailed;
       asked = first_push g.file es e sl.lost sl.lost b.clients n.clients refl t.asked;

@@ -1,9 +1,9 @@
 -- In which order the first connection answers for a block that expired.
-use Rattle.std.proofs.Common.{◌≡◌, ◌⊎◌, ℕ, ◌+◌, ◌<◌, ◌≤◌, ◌==◌, ◌&&◌, Bool, true, false, cond, List, [], ◌∷◌, ◌++◌, length, refl, sym, subst, ◌∙◌, ap, arith, inl, inr, ⊎_elim, Option, None, Some, ◌-◌}
-use Rattle.std.specs.Prelude.{All, count_by, map, not, slice_get}
+use Rattle.std.proofs.Common.{◌≡◌, ◌⊎◌, ℕ, ◌+◌, ◌<◌, ◌≤◌, ◌==◌, ◌&&◌, Bool, true, false, cond, List, [], ◌∷◌, ◌++◌, length, refl, sym, subst, ◌∙◌, ap, arith, inl, inr, ⊎_elim, Option, None, Some, ◌-◌, length-append, zero, suc}
+use Rattle.std.specs.Prelude.{All, count_by, map, not, slice_get, take}
 use Rattle.std.specs.List.{flat_map}
 use Rattle.std.proofs.lemmas.Bool.{cases_lt, eq-eqb, eqb-true}
-use Rattle.std.proofs.lemmas.List.{append-nil}
+use Rattle.std.proofs.lemmas.List.{append-nil, take-append-le, take_all}
 use Rattle.std.proofs.lemmas.List.Elements.{All-head, All-tail}
 use Rattle.xet_outside.specs.Answers.{bytes_in, late_in, plans_in}
 use Rattle.xet_outside.specs.Told.{ClientTold, Query}
@@ -21,7 +21,7 @@ use Rattle.xet_ties.specs.Lanes.{Ask}
 use Rattle.xet_ties.specs.steps.Moves.{heard_first, heard_join, no_exchange, no_late}
 use Rattle.xet_ties.specs.steps.Records.{IsFreshAsk, asks_for}
 use Rattle.xet_ties.specs.Saids.{asks_for_plan, cut_places, own_query, query_at, same_start}
-use Rattle.xet_ties.specs.Ties.{FirstInOrder, FirstLate, NoneAgain, at_place, is_pair, late_since, of_others}
+use Rattle.xet_ties.specs.Ties.{FirstInOrder, FirstLate, NoneAgain, at_place, is_pair, late_since, of_others, recorded}
 use Rattle.xet_ties.proofs.CutPlaces.{cut_end, first_at, places_append}
 use Rattle.xet_ties.proofs.Expiries.{places_count}
 use Rattle.xet_ties.proofs.Heard.{Match}
@@ -227,22 +227,65 @@ since_both asked i p k late (said.Expired v ∷ a) e =
     omega (arith, r, n, m)
 since_both asked i p k late (said.Block v ∷ a) e = since_both asked i p k late a e
 
+-- ---- recorded queries
+
+-- of fewer lost ones more are recorded
+take_grew : (a b : ℕ) (qs : List Query) → a ≤ b → (more : List Query) × (take b qs ≡ take a qs ++ more)
+take_grew zero b qs h = (take b qs, refl)
+take_grew (suc a) zero qs h = absurd (omega (arith, h))
+take_grew (suc a) (suc b) [] h = ([], refl)
+take_grew (suc a) (suc b) (q ∷ qs) h = let r = take_grew a b qs (omega (arith, h)) in (r.0, ap (λ (l : List Query). q ∷ l) r.1)
+
+recorded_more : (asked lost more rest : List Query) → lost ≡ more ++ rest → (extra : List Query) × (recorded asked rest ≡ recorded asked lost ++ extra)
+recorded_more asked lost more rest e =
+    let n = ap (λ (l : List Query). length l) e in
+    let m = length-append more rest in
+    take_grew (length asked - length lost) (length asked - length rest) asked (omega (arith, n, m))
+
+recorded_all : (asked : List Query) → recorded asked [] ≡ asked
+recorded_all asked = take_all (length asked - 0) asked (omega arith)
+
+-- a query whose answer isn't recorded leaves them
+pub recorded_query : (asked qs lost : List Query) → recorded (asked ++ qs) (lost ++ qs) ≡ recorded asked lost
+recorded_query asked qs lost =
+    let a = length-append asked qs in
+    let b = length-append lost qs in
+    let same : length (asked ++ qs) - length (lost ++ qs) ≡ length asked - length lost = omega (arith, a, b) in
+    ap (λ (n : ℕ). take n (asked ++ qs)) same ∙ take-append-le (length asked - length lost) asked qs (omega arith)
+
+-- a lost query's answer is recorded
+pub in_order_recorded : (lost more rest : List Query) (xs : List Exchange) → lost ≡ more ++ rest → FirstInOrder lost xs → FirstInOrder rest xs
+in_order_recorded lost more rest [] e t = tt
+in_order_recorded lost more rest (x ∷ xs) e t =
+    let r = recorded_more x.asked lost more rest e in
+    subst (λ (l : List Query). NoneAgain l 0 [] x.served x.said) (sym r.1)
+    (again_more (recorded x.asked lost) r.0 0 [] [] x.served x.said (λ p k. omega arith) t)
+
+pub first_late_recorded : (es : List Event) (lost more rest : List Query) (ls : List (List Place)) (xs : List Exchange) → lost ≡ more ++ rest → FirstLate es lost ls xs → FirstLate es rest ls xs
+first_late_recorded es lost more rest [] xs e t = tt
+first_late_recorded es lost more rest (l ∷ ls) [] e t = tt
+first_late_recorded es lost more rest (l ∷ ls) (x ∷ xs) e t = λ p k i.
+    let r = recorded_more x.asked lost more rest e in
+    let same = ap (λ (a : List Query). count_by (is_pair p k) (late_since a 0 [] x.said)) r.1 in
+    let fewer = since_more (recorded x.asked lost) r.0 0 [] [] x.said (λ p k. omega arith) p k in
+    t p k (omega (arith, same, fewer, i))
+
 -- ---- the start
 
-pub in_order_start : (bs : List ClientTold) → FirstInOrder (no_exchange bs)
+pub in_order_start : (bs : List ClientTold) → FirstInOrder [] (no_exchange bs)
 in_order_start [] = tt
 in_order_start (b ∷ bs) = tt
 
-pub first_late_start : (bs : List ClientTold) → FirstLate [] (no_late bs) (no_exchange bs)
+pub first_late_start : (bs : List ClientTold) → FirstLate [] [] (no_late bs) (no_exchange bs)
 first_late_start [] = tt
 first_late_start (b ∷ bs) = λ p k i. absurd (omega (arith, i))
 
 -- ---- events
 
-pub first_late_push : (es : List Event) (e : Event) (ls : List (List Place)) (xs : List Exchange) → ((p k : ℕ) → expiry_of p k e ≡ []) → FirstLate es ls xs → FirstLate (es ++ e ∷ []) ls xs
-first_late_push es e [] xs q t = tt
-first_late_push es e (l ∷ ls) [] q t = tt
-first_late_push es e (l ∷ ls) (x ∷ xs) q t = λ p k i. ⊎_elim (λ (h : is_expired es p k ≡ true). inl (expired-push es e p k (q p k) ∙ h)) (λ (h : 0 < count_by (at_place p k) l). inr h) (t p k i)
+pub first_late_push : (es : List Event) (e : Event) (lost : List Query) (ls : List (List Place)) (xs : List Exchange) → ((p k : ℕ) → expiry_of p k e ≡ []) → FirstLate es lost ls xs → FirstLate (es ++ e ∷ []) lost ls xs
+first_late_push es e lost [] xs q t = tt
+first_late_push es e lost (l ∷ ls) [] q t = tt
+first_late_push es e lost (l ∷ ls) (x ∷ xs) q t = λ p k i. ⊎_elim (λ (h : is_expired es p k ≡ true). inl (expired-push es e p k (q p k) ∙ h)) (λ (h : 0 < count_by (at_place p k) l). inr h) (t p k i)
 
 -- the history after an Expired event
 after_expired : (es : List Event) (m a c p k : ℕ) → is_expired (es ++ Expired m a c ∷ []) p k ≡ last_of (is_expired es p k) (expiry_of p k (Expired m a c))
@@ -260,12 +303,12 @@ still_expired es m a c p k h = after_expired es m a c p k ∙ by (a == p && c ==
 pub now_expired : (es : List Event) (m a c p k : ℕ) → (a == p && c == k) ≡ true → is_expired (es ++ Expired m a c ∷ []) p k ≡ true
 now_expired es m a c p k h = after_expired es m a c p k ∙ ap (λ (v : Bool). last_of (is_expired es p k) (cond v (true ∷ []) [])) h
 
-pub first_late_expired : (es : List Event) (m a c : ℕ) (j : List Place) (before after : List (List Place)) (xs : List Exchange) → FirstLate es (before ++ ((a, c) ∷ j) ∷ after) xs
-    → FirstLate (es ++ Expired m a c ∷ []) (before ++ j ∷ after) xs
-first_late_expired es m a c j [] after [] t = tt
-first_late_expired es m a c j (y ∷ before) after [] t = tt
-first_late_expired es m a c j (y ∷ before) after (x ∷ xs) t = λ p k i. ⊎_elim (λ (h : is_expired es p k ≡ true). inl (still_expired es m a c p k h)) (λ (h : 0 < count_by (at_place p k) y). inr h) (t p k i)
-first_late_expired es m a c j [] after (x ∷ xs) t = λ p k i.
+pub first_late_expired : (es : List Event) (m a c : ℕ) (j : List Place) (lost : List Query) (before after : List (List Place)) (xs : List Exchange) → FirstLate es lost (before ++ ((a, c) ∷ j) ∷ after) xs
+    → FirstLate (es ++ Expired m a c ∷ []) lost (before ++ j ∷ after) xs
+first_late_expired es m a c j lost [] after [] t = tt
+first_late_expired es m a c j lost (y ∷ before) after [] t = tt
+first_late_expired es m a c j lost (y ∷ before) after (x ∷ xs) t = λ p k i. ⊎_elim (λ (h : is_expired es p k ≡ true). inl (still_expired es m a c p k h)) (λ (h : 0 < count_by (at_place p k) y). inr h) (t p k i)
+first_late_expired es m a c j lost [] after (x ∷ xs) t = λ p k i.
     ⊎_elim (λ (h : is_expired es p k ≡ true). inl (still_expired es m a c p k h))
     (λ (h : 0 < count_by (at_place p k) ((a, c) ∷ j)). here p k (a == p && c == k) refl h) (t p k i)
   where
@@ -299,72 +342,77 @@ first_clear p qs v (x ∷ xs) a = λ k.
     ∙ ap (λ (v : Bool). cond {A = ℕ} v 0 (count_by (is_pair p k) late)) a
 
 -- so it is after the refresh of the plan is recorded
-pub first_late_clear : (es : List Event) (p : ℕ) (ls : List (List Place)) (xs : List Exchange) → FirstClear p xs → FirstLate es ls xs → FirstLate (es ++ Refreshed p ∷ []) ls xs
-first_late_clear es p [] xs c t = tt
-first_late_clear es p (l ∷ ls) [] c t = tt
-first_late_clear es p (l ∷ ls) (x ∷ xs) c t = λ r k i. by r k i (p == r) refl
+pub first_late_clear : (es : List Event) (p : ℕ) (lost : List Query) (ls : List (List Place)) (xs : List Exchange) → FirstClear p xs → FirstLate es lost ls xs → FirstLate (es ++ Refreshed p ∷ []) [] ls xs
+first_late_clear es p lost [] xs c t = tt
+first_late_clear es p lost (l ∷ ls) [] c t = tt
+first_late_clear es p lost (l ∷ ls) (x ∷ xs) c t = λ r k i. by r k i (p == r) refl
   where
-    by : (r k : ℕ) → 0 < count_by (is_pair r k) (late_since x.asked 0 [] x.said) → (v : Bool) → (p == r) ≡ v → (is_expired (es ++ Refreshed p ∷ []) r k ≡ true) ⊎ (0 < count_by (at_place r k) l)
+    was : FirstLate es [] (l ∷ ls) (x ∷ xs)
+    was = first_late_recorded es lost lost [] (l ∷ ls) (x ∷ xs) (sym (append-nil lost)) t
+
+    by : (r k : ℕ) → 0 < count_by (is_pair r k) (late_since (recorded x.asked []) 0 [] x.said) → (v : Bool) → (p == r) ≡ v → (is_expired (es ++ Refreshed p ∷ []) r k ≡ true) ⊎ (0 < count_by (at_place r k) l)
     by r k i true e =
         let n = subst (λ (q : ℕ). count_by (is_pair q k) (late_since x.asked 0 [] x.said) ≡ 0) (eqb-true p r e) (c k) in
-        absurd (omega (arith, n, i))
+        let all = ap (λ (a : List Query). count_by (is_pair r k) (late_since a 0 [] x.said)) (recorded_all x.asked) in
+        absurd (omega (arith, n, all, i))
     by r k i false e =
         let none : expiry_of r k (Refreshed p) ≡ [] = ap (λ (v : Bool). cond {A = List Bool} v (false ∷ []) []) e in
-        ⊎_elim (λ (h : is_expired es r k ≡ true). inl (expired-push es (Refreshed p) r k none ∙ h)) (λ (h : 0 < count_by (at_place r k) l). inr h) (t r k i)
+        ⊎_elim (λ (h : is_expired es r k ≡ true). inl (expired-push es (Refreshed p) r k none ∙ h)) (λ (h : 0 < count_by (at_place r k) l). inr h) (was r k i)
 
-pub in_order_query : (bs ns : List ClientTold) (qs : List Query) (a : List Said) (xs : List Exchange) → late_in a ≡ [] → EachExchange bs ns xs → FirstInOrder xs → FirstInOrder (heard_first qs a xs)
-in_order_query bs ns qs a [] e t o = tt
-in_order_query [] [] qs a (x ∷ xs) e t o = absurd t
-in_order_query [] (n ∷ ns) qs a (x ∷ xs) e t o = absurd t
-in_order_query (b ∷ bs) [] qs a (x ∷ xs) e t o = absurd t
-in_order_query (b ∷ bs) (n ∷ ns) qs a (x ∷ xs) e t o =
-    let asked = x.asked ++ qs in
-    let before : NoneAgain asked 0 [] x.served x.said = again_more x.asked qs 0 [] [] x.served x.said (λ p k. omega arith) o in
-    subst (λ (s : List Served). NoneAgain asked 0 [] s (x.said ++ a)) (append-nil x.served)
-    (ordered_append asked 0 [] x.served [] x.said a t.0.paired before (ordered_none asked (0 + length (plans_in x.said)) (late_since asked 0 [] x.said) a e))
+pub in_order_query : (bs ns : List ClientTold) (lost qs : List Query) (a : List Said) (xs : List Exchange) → late_in a ≡ [] → EachExchange bs ns xs → FirstInOrder lost xs → FirstInOrder (lost ++ qs) (heard_first qs a xs)
+in_order_query bs ns lost qs a [] e t o = tt
+in_order_query [] [] lost qs a (x ∷ xs) e t o = absurd t
+in_order_query [] (n ∷ ns) lost qs a (x ∷ xs) e t o = absurd t
+in_order_query (b ∷ bs) [] lost qs a (x ∷ xs) e t o = absurd t
+in_order_query (b ∷ bs) (n ∷ ns) lost qs a (x ∷ xs) e t o =
+    let known = recorded x.asked lost in
+    subst (λ (l : List Query). NoneAgain l 0 [] x.served (x.said ++ a)) (sym (recorded_query x.asked qs lost))
+    (subst (λ (s : List Served). NoneAgain known 0 [] s (x.said ++ a)) (append-nil x.served)
+    (ordered_append known 0 [] x.served [] x.said a t.0.paired o (ordered_none known (0 + length (plans_in x.said)) (late_since known 0 [] x.said) a e)))
 
-pub first_late_query : (es : List Event) (ls : List (List Place)) (qs : List Query) (a : List Said) (xs : List Exchange) → late_in a ≡ [] → FirstLate es ls xs → FirstLate es ls (heard_first qs a xs)
-first_late_query es [] qs a xs e t = tt
-first_late_query es (l ∷ ls) qs a [] e t = tt
-first_late_query es (l ∷ ls) qs a (x ∷ xs) e t = λ p k i.
-    let asked = x.asked ++ qs in
-    let same = ap (λ (s : List Served). count_by (is_pair p k) s) (since_append asked 0 [] x.said a) in
-    let fewer = since_fewer asked (0 + length (plans_in x.said)) p k (late_since asked 0 [] x.said) a e in
-    let more = since_more x.asked qs 0 [] [] x.said (λ p k. omega arith) p k in
-    t p k (omega (arith, same, fewer, more, i))
+pub first_late_query : (es : List Event) (lost : List Query) (ls : List (List Place)) (qs : List Query) (a : List Said) (xs : List Exchange) → late_in a ≡ [] → FirstLate es lost ls xs → FirstLate es (lost ++ qs) ls (heard_first qs a xs)
+first_late_query es lost [] qs a xs e t = tt
+first_late_query es lost (l ∷ ls) qs a [] e t = tt
+first_late_query es lost (l ∷ ls) qs a (x ∷ xs) e t = λ p k i.
+    let known = recorded x.asked lost in
+    let all = ap (λ (l : List Query). count_by (is_pair p k) (late_since l 0 [] (x.said ++ a))) (recorded_query x.asked qs lost) in
+    let same = ap (λ (s : List Served). count_by (is_pair p k) s) (since_append known 0 [] x.said a) in
+    let fewer = since_fewer known (0 + length (plans_in x.said)) p k (late_since known 0 [] x.said) a e in
+    t p k (omega (arith, all, same, fewer, i))
 
 -- ---- joins
 
 -- what the first connection served and said in a join goes on in order
-abbrev pub FirstJoined : List (List Served) → List (List Said) → List Exchange → Type 0
-FirstJoined (h ∷ hs) (a ∷ alls) (x ∷ xs) = NoneAgain x.asked (0 + length (plans_in x.said)) (late_since x.asked 0 [] x.said) h a
-FirstJoined [] alls xs = Unit {0}
-FirstJoined (h ∷ hs) [] xs = Unit {0}
-FirstJoined (h ∷ hs) (a ∷ alls) [] = Unit {0}
+abbrev pub FirstJoined : List Query → List (List Served) → List (List Said) → List Exchange → Type 0
+FirstJoined lost (h ∷ hs) (a ∷ alls) (x ∷ xs) = NoneAgain (recorded x.asked lost) (0 + length (plans_in x.said)) (late_since (recorded x.asked lost) 0 [] x.said) h a
+FirstJoined lost [] alls xs = Unit {0}
+FirstJoined lost (h ∷ hs) [] xs = Unit {0}
+FirstJoined lost (h ∷ hs) (a ∷ alls) [] = Unit {0}
 
-pub in_order_join : (bs ns : List ClientTold) (hs : List (List Served)) (alls : List (List Said)) (xs : List Exchange) → EachExchange bs ns xs → FirstJoined hs alls xs → FirstInOrder xs → FirstInOrder (heard_join hs alls xs)
-in_order_join bs ns [] alls xs t j o = tt
-in_order_join bs ns (h ∷ hs) [] xs t j o = tt
-in_order_join bs ns (h ∷ hs) (a ∷ alls) [] t j o = tt
-in_order_join [] [] (h ∷ hs) (a ∷ alls) (x ∷ xs) t j o = absurd t
-in_order_join [] (n ∷ ns) (h ∷ hs) (a ∷ alls) (x ∷ xs) t j o = absurd t
-in_order_join (b ∷ bs) [] (h ∷ hs) (a ∷ alls) (x ∷ xs) t j o = absurd t
-in_order_join (b ∷ bs) (n ∷ ns) (h ∷ hs) (a ∷ alls) (x ∷ xs) t j o = ordered_append x.asked 0 [] x.served h x.said a t.0.paired o j
+pub in_order_join : (bs ns : List ClientTold) (lost : List Query) (hs : List (List Served)) (alls : List (List Said)) (xs : List Exchange) → EachExchange bs ns xs → FirstJoined lost hs alls xs → FirstInOrder lost xs → FirstInOrder lost (heard_join hs alls xs)
+in_order_join bs ns lost [] alls xs t j o = tt
+in_order_join bs ns lost (h ∷ hs) [] xs t j o = tt
+in_order_join bs ns lost (h ∷ hs) (a ∷ alls) [] t j o = tt
+in_order_join [] [] lost (h ∷ hs) (a ∷ alls) (x ∷ xs) t j o = absurd t
+in_order_join [] (n ∷ ns) lost (h ∷ hs) (a ∷ alls) (x ∷ xs) t j o = absurd t
+in_order_join (b ∷ bs) [] lost (h ∷ hs) (a ∷ alls) (x ∷ xs) t j o = absurd t
+in_order_join (b ∷ bs) (n ∷ ns) lost (h ∷ hs) (a ∷ alls) (x ∷ xs) t j o = ordered_append (recorded x.asked lost) 0 [] x.served h x.said a t.0.paired o j
 
-pub first_late_join : (es : List Event) (hs : List (List Served)) (alls : List (List Said)) (ks : List (List Place)) (bs ns : List ClientTold) (xs : List Exchange) → EachExchange bs ns xs → Match hs alls xs → SaidLate alls ks → FirstLate es (no_late bs) xs
-    → FirstLate es ks (heard_join hs alls xs)
-first_late_join es hs alls [] bs ns xs t m s o = tt
-first_late_join es [] [] (l ∷ ks) bs ns [] t m s o = absurd s
-first_late_join es [] [] (l ∷ ks) bs ns (x ∷ xs) t m s o = absurd m
-first_late_join es [] (a ∷ alls) (l ∷ ks) bs ns xs t m s o = absurd m
-first_late_join es (h ∷ hs) [] (l ∷ ks) bs ns xs t m s o = absurd m
-first_late_join es (h ∷ hs) (a ∷ alls) (l ∷ ks) bs ns [] t m s o = absurd m
-first_late_join es (h ∷ hs) (a ∷ alls) (l ∷ ks) [] [] (x ∷ xs) t m s o = absurd t
-first_late_join es (h ∷ hs) (a ∷ alls) (l ∷ ks) [] (n ∷ ns) (x ∷ xs) t m s o = absurd t
-first_late_join es (h ∷ hs) (a ∷ alls) (l ∷ ks) (b ∷ bs) ns (x ∷ xs) t m s o = λ p k i.
-    let old = late_since x.asked 0 [] x.said in
-    let same = ap (λ (v : List Served). count_by (is_pair p k) v) (since_append x.asked 0 [] x.said a) in
-    let both = since_both x.asked (0 + length (plans_in x.said)) p k old a m.0 in
+pub first_late_join : (es : List Event) (lost : List Query) (hs : List (List Served)) (alls : List (List Said)) (ks : List (List Place)) (bs ns : List ClientTold) (xs : List Exchange) → EachExchange bs ns xs → Match hs alls xs → SaidLate alls ks → FirstLate es lost (no_late bs) xs
+    → FirstLate es lost ks (heard_join hs alls xs)
+first_late_join es lost hs alls [] bs ns xs t m s o = tt
+first_late_join es lost [] [] (l ∷ ks) bs ns [] t m s o = absurd s
+first_late_join es lost [] [] (l ∷ ks) bs ns (x ∷ xs) t m s o = absurd m
+first_late_join es lost [] (a ∷ alls) (l ∷ ks) bs ns xs t m s o = absurd m
+first_late_join es lost (h ∷ hs) [] (l ∷ ks) bs ns xs t m s o = absurd m
+first_late_join es lost (h ∷ hs) (a ∷ alls) (l ∷ ks) bs ns [] t m s o = absurd m
+first_late_join es lost (h ∷ hs) (a ∷ alls) (l ∷ ks) [] [] (x ∷ xs) t m s o = absurd t
+first_late_join es lost (h ∷ hs) (a ∷ alls) (l ∷ ks) [] (n ∷ ns) (x ∷ xs) t m s o = absurd t
+first_late_join es lost (h ∷ hs) (a ∷ alls) (l ∷ ks) (b ∷ bs) ns (x ∷ xs) t m s o = λ p k i.
+    let known = recorded x.asked lost in
+    let old = late_since known 0 [] x.said in
+    let same = ap (λ (v : List Served). count_by (is_pair p k) v) (since_append known 0 [] x.said a) in
+    let both = since_both known (0 + length (plans_in x.said)) p k old a m.0 in
     let new = places_count p k (late_in a) in
     let named = ap (λ (v : List Place). count_by (at_place p k) v) s.0 in
     ⊎_elim
@@ -393,16 +441,17 @@ FirstCounts fs (h ∷ hs) (a ∷ alls) = (p k : ℕ) → count_by (is_pair p k) 
 FirstCounts fs [] alls = Unit {0}
 FirstCounts fs (h ∷ hs) [] = Unit {0}
 
-pub first_joined : (es : List Event) (fs : List Ask) (hs : List (List Served)) (alls : List (List Said)) (bs ns : List ClientTold) (xs : List Exchange) → FirstCounts fs hs alls → ((p k : ℕ) → count_by (is_pair p k) (map asks_for fs) ≤ 1) → All (IsFreshAsk es) fs
-    → EachExchange bs ns xs → FirstLate es (no_late bs) xs → FirstJoined hs alls xs
-first_joined es fs [] alls bs ns xs c one fresh t o = tt
-first_joined es fs (h ∷ hs) [] bs ns xs c one fresh t o = tt
-first_joined es fs (h ∷ hs) (a ∷ alls) bs ns [] c one fresh t o = tt
-first_joined es fs (h ∷ hs) (a ∷ alls) [] [] (x ∷ xs) c one fresh t o = absurd t
-first_joined es fs (h ∷ hs) (a ∷ alls) [] (n ∷ ns) (x ∷ xs) c one fresh t o = absurd t
-first_joined es fs (h ∷ hs) (a ∷ alls) (b ∷ bs) ns (x ∷ xs) c one fresh t o =
-    let old = late_since x.asked 0 [] x.said in
-    ordered_join x.asked (0 + length (plans_in x.said)) old h a (λ p k. let m = c p k in let s = one p k in omega (arith, m, s))
+pub first_joined : (es : List Event) (fs : List Ask) (hs : List (List Served)) (alls : List (List Said)) (bs ns : List ClientTold) (lost : List Query) (xs : List Exchange) → FirstCounts fs hs alls → ((p k : ℕ) → count_by (is_pair p k) (map asks_for fs) ≤ 1) → All (IsFreshAsk es) fs
+    → EachExchange bs ns xs → FirstLate es lost (no_late bs) xs → FirstJoined lost hs alls xs
+first_joined es fs [] alls bs ns lost xs c one fresh t o = tt
+first_joined es fs (h ∷ hs) [] bs ns lost xs c one fresh t o = tt
+first_joined es fs (h ∷ hs) (a ∷ alls) bs ns lost [] c one fresh t o = tt
+first_joined es fs (h ∷ hs) (a ∷ alls) [] [] lost (x ∷ xs) c one fresh t o = absurd t
+first_joined es fs (h ∷ hs) (a ∷ alls) [] (n ∷ ns) lost (x ∷ xs) c one fresh t o = absurd t
+first_joined es fs (h ∷ hs) (a ∷ alls) (b ∷ bs) ns lost (x ∷ xs) c one fresh t o =
+    let known = recorded x.asked lost in
+    let old = late_since known 0 [] x.said in
+    ordered_join known (0 + length (plans_in x.said)) old h a (λ p k. let m = c p k in let s = one p k in omega (arith, m, s))
     (λ p k i.
     let m = c p k in
     let f = asked_fresh es fs p k fresh (omega (arith, m, i)) in

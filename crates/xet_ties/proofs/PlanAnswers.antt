@@ -1,10 +1,10 @@
 -- Each block is answered no more often than there are queries for its plan, by all connections together.
-use Rattle.std.proofs.Common.{◌≡◌, ℕ, zero, suc, ◌+◌, ◌≤◌, ◌==◌, ◌&&◌, ◌||◌, Bool, true, false, cond, List, [], ◌∷◌, ◌++◌, refl, sym, subst, ◌∙◌, ap, arith, append_assoc, Some, None, Option}
+use Rattle.std.proofs.Common.{◌≡◌, ℕ, zero, suc, ◌+◌, ◌≤◌, ◌==◌, ◌&&◌, ◌||◌, Bool, true, false, cond, List, [], ◌∷◌, ◌++◌, refl, sym, subst, ◌∙◌, ap, arith, append_assoc, Some, None, Option, length, ◌-◌, length-append}
 use Rattle.std.specs.Prelude.{All, count_by, filter, map, option_to_list, slice_get, take}
 use Rattle.std.specs.List.{flat_map, list_any}
 use Rattle.std.specs.Option.{option_or}
 use Rattle.std.proofs.lemmas.Bool.{eq-eqb, eqb-true}
-use Rattle.std.proofs.lemmas.List.{append-nil, map-append}
+use Rattle.std.proofs.lemmas.List.{append-nil, map-append, take-append-le, take_all}
 use Rattle.std.proofs.lemmas.List.Elements.{All-head, All-tail}
 use Rattle.xet_base.specs.declared.cas_types.FileRange.{FileRange}
 use Rattle.xet_base.specs.declared.merklehash.MerkleHash.{MerkleHash}
@@ -23,12 +23,13 @@ use Rattle.xet_run.proofs.CallerLemmas.{count_by-push, first_some-push, same_num
 use Rattle.xet_ties.specs.Causes.{late_answers}
 use Rattle.xet_ties.specs.History.{EachAfter, IsRenewed, actual_range, asked_by, asked_in, block_at, blocks_in, expiry_of, is_expired, range_at, range_in, served_by}
 use Rattle.xet_ties.specs.InCall.{Exchange, served_of_all}
-use Rattle.xet_ties.specs.Legal.{AnswersFew, plan_queries}
-use Rattle.xet_ties.specs.Saids.{FirstSaid, IsEventSaid, own_query, same_start}
+use Rattle.xet_ties.specs.Legal.{FirstFollowed, plan_queries}
+use Rattle.xet_ties.specs.Saids.{FirstRenewed, FirstSaid, IsEventSaid, own_query, same_start}
 use Rattle.xet_ties.specs.Setup.{RunTold, Setup}
-use Rattle.xet_ties.specs.Ties.{EachServed, HeardAsked, IsPlannedEntry, LatePlanned, Slack, Stop, Ties, all_of, is_pair}
+use Rattle.xet_ties.specs.Ties.{EachServed, FirstInOrder, HeardAsked, IsPlannedEntry, LatePlanned, Slack, Stop, Ties, all_of, is_pair, recorded}
 use Rattle.xet_ties.proofs.Asks.{or_none}
 use Rattle.xet_ties.proofs.Orders.{now_expired}
+use Rattle.xet_ties.proofs.Renewed.{lost_few}
 use Rattle.xet_ties.proofs.Expiries.{block_late}
 use Rattle.xet_ties.proofs.OwnQueries.{own_is}
 use Rattle.xet_ties.proofs.Lanes.{one_most}
@@ -407,26 +408,48 @@ few_all g x p k es q a r s at = (few.some q at).1
 
 -- ---- by what was heard
 
-pub answers_few : (g : Setup) (b n : RunTold) (es : List Event) (stop : Stop) (sl : Slack) → IsAllowedHistory es
-    → Ties g b n es stop sl → AnswersFew sl.heard
-answers_few g b n es stop sl a t = by sl.heard refl
+-- the queries whose answers are recorded
+recorded_asked : (asked told lost : List Query) → asked ≡ told ++ lost → recorded asked lost ≡ told
+recorded_asked asked told lost e =
+    let n = length-append told lost in
+    let same : length (told ++ lost) - length lost ≡ length told = omega (arith, n) in
+    ap (λ (l : List Query). recorded l lost) e
+    ∙ ap (λ (k : ℕ). take k (told ++ lost)) same
+    ∙ take-append-le (length told) told lost (omega arith)
+    ∙ take_all (length told) told (omega arith)
+
+pub first_followed : (g : Setup) (b n : RunTold) (es : List Event) (stop : Stop) (sl : Slack) → IsAllowedHistory es
+    → Ties g b n es stop sl → FirstFollowed g sl.heard
+first_followed g b n es stop sl a t = by sl.heard refl t.in_order t.refreshes
   where
-    by : (xs : List Exchange) → sl.heard ≡ xs → AnswersFew sl.heard
-    by [] e = absurd (subst (λ (l : List Exchange). FirstSaid g es l) e t.said)
-    by (x ∷ rest) e =
+    by : (xs : List Exchange) → sl.heard ≡ xs → FirstInOrder sl.lost xs → FirstRenewed g sl.lost xs
+        → FirstFollowed g sl.heard
+    by [] e o r = absurd r
+    by (x ∷ rest) e o r =
         let said : FirstSaid g es (x ∷ rest) = subst (λ (l : List Exchange). FirstSaid g es l) e t.said in
         let asked : HeardAsked g.file es sl.lost (x ∷ rest) =
         subst (λ (l : List Exchange). HeardAsked g.file es sl.lost l) e t.heard_asked in
-        let few : AnswersFew (x ∷ rest) = (λ p k.
-        let mine = ap (λ (l : List Exchange). late_answers p k l) e in
-        let here = ap (λ (l : List Exchange). count_by (is_pair p k) (served_of_all l)) e in
-        all p k (first_some (map (range_in p) es)) refl said.0 asked mine here) in
-        subst (λ (l : List Exchange). AnswersFew l) (sym e) few
+        let lost = lost_few g es sl.lost t.lost in
+        let it : FirstFollowed g (x ∷ rest) = record {
+          count = length x.asked - length sl.lost;
+          most = omega (arith, lost);
+          renewed = r;
+          in_order = o;
+          few = λ p k.
+              let mine = ap (λ (l : List Exchange). late_answers p k l) e in
+              let here = ap (λ (l : List Exchange). count_by (is_pair p k) (served_of_all l)) e in
+              all p k (first_some (map (range_in p) es)) refl said.0 asked mine here;
+        } in
+        subst (λ (l : List Exchange). FirstFollowed g l) (sym e) it
       where
+        known : ℕ
+        known = length x.asked - length sl.lost
+
         all : (p k : ℕ) (o : Option FileRange) → first_some (map (range_in p) es) ≡ o → All (IsEventSaid g x) es
             → HeardAsked g.file es sl.lost (x ∷ rest) → late_answers p k sl.heard ≡ late_answers p k (x ∷ rest)
             → count_by (is_pair p k) (served_of_all sl.heard) ≡ count_by (is_pair p k) (served_of_all (x ∷ rest))
-            → late_answers p k (x ∷ rest) + count_by (is_pair p k) (served_of_all (x ∷ rest)) ≤ plan_queries x.asked p
+            → late_answers p k (x ∷ rest) + count_by (is_pair p k) (served_of_all (x ∷ rest))
+            ≤ plan_queries x.asked known p
         all p k None unknown said asked mine here =
             let l = lates_none p k es sl.heard unknown t.late_planned in
             let s = served_none p k 0 es sl.heard sl.hidden unknown t.heard_served t.served.planned in
@@ -434,10 +457,9 @@ answers_few g b n es stop sl a t = by sl.heard refl
         all p k (Some q) is said asked mine here =
             let at = ap (λ (o : Option FileRange). option_to_list o) is in
             let one = few_all g x p k es q a t.renewed said at in
-            let more = ap (λ (l : List Query). count_by (for_plan x p) l) asked in
-            let both = count-append (for_plan x p) (asked_by g.file es) sl.lost in
+            let more = ap (λ (l : List Query). count_by (for_plan x p) l) (recorded_asked x.asked (asked_by g.file es) sl.lost asked) in
             let heard = block_late g b n es stop sl p k t in
             let served = heard_count p k es 0 b.clients n.clients sl.heard sl.hidden t.heard t.heard_served in
             let most = lanes_most p k [] es 0 b.clients in
             let once = t.served.once p k in
-            omega (arith, one, more, both, heard, mine, served, here, most, once)
+            omega (arith, one, more, heard, mine, served, here, most, once)

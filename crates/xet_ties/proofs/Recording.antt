@@ -41,7 +41,7 @@ tie_fetched g b n es sl m p k x h before after at fresh is hidden passed spare f
       served = λ bs ns v. served_fetched es m p k x h before after sl.late bs ns at is (subst (λ (l : List (List Served)). IsServed es l sl.late bs ns) hidden v);
       expired = λ xs v. expired_same es e 0 xs sl.late (λ l w. refl) v;
       heard_served = λ xs v. heard_served_next es m p k 0 x h xs before after at (omega (arith, is)) (subst (λ (l : List (List Served)). EachServed es 0 xs l) hidden v);
-      first_late = λ v. first_late_push es e sl.late sl.heard (λ q j. refl) v;
+      first_late = λ v. first_late_push es e sl.lost sl.late sl.heard (λ q j. refl) v;
       asked = refl;
       tried = λ q j. let a = t.tried.at_most q j in omega (arith, a);
       renewed = fresh;
@@ -82,7 +82,7 @@ tie_expired g b n es sl m p k j before after fresh is late spare fits t =
       served = λ bs ns v. served_expired es m p k j sl.hidden before after bs ns is (subst (λ (l : List (List Place)). IsServed es sl.hidden l bs ns) late v);
       expired = λ xs v. expired_next es m p k j 0 xs before after (omega (arith, is)) (subst (λ (l : List (List Place)). EachExpired es 0 xs l) late v);
       heard_served = λ xs v. heard_served_same es e 0 xs sl.hidden (λ l w. refl) v;
-      first_late = λ v. first_late_expired es m p k j before after sl.heard (subst (λ (l : List (List Place)). FirstLate es l sl.heard) late v);
+      first_late = λ v. first_late_expired es m p k j sl.lost before after sl.heard (subst (λ (l : List (List Place)). FirstLate es sl.lost l sl.heard) late v);
       asked = refl;
       tried = λ q i.
           let a = t.tried.at_most q i in
@@ -121,7 +121,7 @@ tie_refreshed g b n es sl p r at lost renewed clear t =
       served = λ bs ns v. served_same es e sl.hidden sl.late bs ns (λ l. refl) (λ l. refl) (λ q k. refl) (λ m. tt) (open_refreshed es p) v;
       expired = λ xs v. expired_same es e 0 xs sl.late (λ l w. refl) v;
       heard_served = λ xs v. heard_served_same es e 0 xs sl.hidden (λ l w. refl) v;
-      first_late = λ v. first_late_clear es p sl.late sl.heard clear v;
+      first_late = λ v. first_late_clear es p sl.lost sl.late sl.heard clear v;
       asked = lost ∙ ap (λ (l : List FileRange). map (λ v. (g.file, v)) l ++ []) (sym at);
       tried = λ q j. let a = t.tried.at_most q j in omega (arith, a);
       renewed = tt;
@@ -155,7 +155,7 @@ tie_wrote g b n es sl taken rest is t =
       served = λ bs ns v. served_same es e sl.hidden sl.late bs ns (λ l. refl) (λ l. refl) (λ q k. refl) (λ m. tt) (open_same es e (λ q k. refl)) v;
       expired = λ xs v. expired_same es e 0 xs sl.late (λ l w. refl) v;
       heard_served = λ xs v. heard_served_same es e 0 xs sl.hidden (λ l w. refl) v;
-      first_late = λ v. first_late_push es e sl.late sl.heard (λ q j. refl) v;
+      first_late = λ v. first_late_push es e sl.lost sl.late sl.heard (λ q j. refl) v;
       asked = refl;
       tried = λ q j. let a = t.tried.at_most q j in omega (arith, a);
       renewed = tt;

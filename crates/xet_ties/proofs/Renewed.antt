@@ -183,7 +183,7 @@ renewed_refreshed g p q a (x ∷ xs) accepted step passes t =
 -- ---- at an exit
 
 -- the answer of one query at most isn't recorded
-lost_few : (g : Setup) (es : List Event) (lost : List Query) → IsLost g es lost → length lost ≤ 1
+pub lost_few : (g : Setup) (es : List Event) (lost : List Query) → IsLost g es lost → length lost ≤ 1
 lost_few g es [] l = omega arith
 lost_few g es (q ∷ []) l = omega arith
 lost_few g es (q ∷ r ∷ qs) l = absurd l

@@ -143,7 +143,7 @@ round_joined g b at es sl fs ns ls d new fresh waits none_h none_l may t =
     let planned : All (IsPlannedEntry es) (map asks_for fs) = All-map (IsPlannedEntry es) asks_for fs (All-weaker (IsFreshAsk es) (λ a. IsPlannedEntry es (asks_for a)) (λ a h. ((key_of a).2, h.planned, refl)) fs fresh) in
     let entries = joined_among (IsPlannedEntry es) fs at.clients ns d.drawn ls d.each planned in
     let lates = lates_among (IsPlannedEntry es) fs at.clients ns d.drawn ls d.each planned in
-    let joined = first_joined es fs served j.said b.clients at.clients sl.heard (first_counts fs at.clients ns ls d) (λ p k. let one = new p k in omega (arith, one)) fresh t.heard (subst (λ (l : List (List Place)). FirstLate es l sl.heard) none_l t.first_late) in
+    let joined = first_joined es fs served j.said b.clients at.clients sl.lost sl.heard (first_counts fs at.clients ns ls d) (λ p k. let one = new p k in omega (arith, one)) fresh t.heard (subst (λ (l : List (List Place)). FirstLate es sl.lost l sl.heard) none_l t.first_late) in
     let once = round_once es fs at.clients ns ls d new fresh (λ p k. let o = t.served.once p k in omega (arith, o)) in
     let tried = round_tries g.tries es fs at.clients ns ls d may (λ p k. let o = t.tried.at_most p k in omega (arith, o)) in
     let among : (x : MerkleHash) (r : ChunkRange) → count_by (is_served x r) (all_of served) ≤ count_by (is_one x r) sl.pending = λ x r. let a = entries_among fs at.clients ns ls d x r in let w = waits x r in omega (arith, a, w) in

@@ -22,8 +22,8 @@ use Rattle.xet_ties.specs.InCall.{EachExchange, Exchange, Look, answers_of, expi
 use Rattle.xet_ties.specs.RunCalls.{DidNothing, IsCancelled, IsUnspent, Unfailed, stop_of}
 use Rattle.xet_ties.specs.Saids.{AllPassed, AllRenewed, BlockOfPlan, own_query, planned_of, same_start}
 use Rattle.xet_ties.specs.Setup.{AllTell, CacheTells, EachGoesOn, IsEmptyRange, IsOver, RunTold, Setup, most_lanes}
-use Rattle.xet_ties.specs.Ties.{CutsRange, EachUnasked, EachUnfailed, FirstInOrder, IsEntryOf, IsFaultless, Reaches}
-use Rattle.xet_ties.specs.Ties.{is_look, is_pair, is_served}
+use Rattle.xet_ties.specs.Ties.{CutsRange, EachUnasked, EachUnfailed, IsEntryOf, IsFaultless, NoneAgain, Reaches}
+use Rattle.xet_ties.specs.Ties.{is_look, is_pair, is_served, missed}
 
 -- ---- what was heard
 
@@ -166,22 +166,40 @@ NoneSpent g xs = (p k : ℕ) → late_answers p k xs < g.tries
 abbrev pub NonePast : Setup → List Exchange → Type 0
 NonePast g xs = (p k : ℕ) → late_answers p k xs ≤ g.tries
 
--- how many of these queries are for this plan: its own one, and the refreshes that start where that does
-abbrev pub plan_queries : List Query → ℕ → ℕ
-plan_queries asked p = count_by (λ q. same_start (Some q) (own_query asked p)) asked
+-- how many of the first of these queries, so many, are for this plan: its own one, and the refreshes that start where
+-- that does
+abbrev pub plan_queries : List Query → ℕ → ℕ → ℕ
+plan_queries asked count p = count_by (λ q. same_start (Some q) (own_query asked p)) (take count asked)
 
--- the requests for a block were answered, as expired or with bytes, by all connections together, no more often than the
--- first one was asked for the block's plan
-abbrev pub AnswersFew : List Exchange → Type 0
-AnswersFew [] = Unit {0}
-AnswersFew (x ∷ xs) = (p k : ℕ)
-    → late_answers p k (x ∷ xs) + count_by (is_pair p k) (served_of_all (x ∷ xs)) ≤ plan_queries x.asked p
+-- what answers for blocks follow, of the queries of the first connection: all but perhaps the last one, and each that
+-- doesn't cut the range was answered so that it renews its plan
+pub record IsFollowed (g : Setup) (x : Exchange) (xs : List Exchange) : Type 0 where
+  pub count : ℕ
+  pub most : length x.asked ≤ count + 1
+  pub renewed : AllRenewed g x count
+  -- an expired block is answered again only behind the answer to one of them for its own plan, by what this connection
+  -- served and said in its order
+  pub in_order : NoneAgain (take count x.asked) 0 [] x.served x.said
+  -- and a block was answered, as expired or with bytes, by all connections together, no more often than its plan was
+  -- asked for by these
+  pub few : (p k : ℕ)
+      → late_answers p k xs + count_by (is_pair p k) (served_of_all xs) ≤ plan_queries x.asked count p
+
+-- so of the first connection, by what all connections served and said
+abbrev pub FirstFollowed : Setup → List Exchange → Type 0
+FirstFollowed g [] = Unit {0}
+FirstFollowed g (x ∷ xs) = IsFollowed g x (x ∷ xs)
 
 -- ---- looks
 
 -- each block of one range that was served was looked for, as often at least as it was served
 abbrev pub AllLooked : List Served → List Look → Type 0
 AllLooked es looks = (x : MerkleHash) (r : ChunkRange) → count_by (is_served x r) es ≤ count_by (is_look x r) looks
+
+-- and as often in vain: a look gave nothing, or another entry than the store's block
+abbrev pub AllMissed : Store → List Served → List Look → Type 0
+AllMissed s es looks = (x : MerkleHash) (r : ChunkRange)
+    → count_by (is_served x r) es ≤ count_by (missed s x r) looks
 
 -- ---- counts
 
@@ -212,6 +230,8 @@ pub record Legal (g : Setup) (before after : RunTold) (answer : Result ℕ FileR
   pub looks : LooksOf before.cache after.cache
   -- each served block of one range was looked for in the cache
   pub looked : AllLooked (served_of_all heard.list) looks.list
+  -- and over connections that tell one valid store in vain: what the cache gave of the store wasn't fetched
+  pub missed_first : (s : Store) → IsOver s before.clients → AllMissed s (served_of_all heard.list) looks.list
   -- whatever is told, the writer took tested bytes of these and no others, whatever the answer
   pub tested : TookTested g heard.list looks.list before.sink after.sink
   -- and on Ok those of all terms of plans that cut the range, up to its end or one that an answer told
@@ -247,11 +267,9 @@ pub record Legal (g : Setup) (before after : RunTold) (answer : Result ℕ FileR
   pub renewed : FirstRenewsBut g 1 heard.list
   -- and on Ok the last one too
   pub all_renewed : OnOk answer (FirstRenewsBut g 0 heard.list)
-  -- by what the first connection was asked, and what it served and said in its order, an expired block is answered
-  -- again only behind an answer to a query for its own plan, whatever the run's answer
-  pub in_order : FirstInOrder heard.list
-  -- and a block has no more answers of all connections than its plan has queries, the own one and refreshes
-  pub answered : AnswersFew heard.list
+  -- an expired block is answered again only behind an answer that renews its own plan, and no more often than its plan
+  -- was asked for and so answered, whatever the run's answer
+  pub followed : FirstFollowed g heard.list
   -- no more expired answers were heard than the connections count
   pub counted : EachCounted before.clients after.clients heard.list
   -- each request that was answered as expired is for a block of a plan that was said

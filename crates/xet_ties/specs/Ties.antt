@@ -1,7 +1,7 @@
 -- How a run's history is tied to what the run's arguments tell before and after.
 use Rattle.std.specs.Prelude.{ℕ, zero, suc, ◌≡◌, ◌⊎◌, ◌+◌, ◌-◌, ◌^◌, ◌<◌, ◌≤◌, ◌==◌, ◌&&◌, ◌≢◌, min, Bool, true, false}
 use Rattle.std.specs.Prelude.{cond, not, List, [], ◌∷◌, ◌++◌, drop, filter, length, count_by, nat_eq, Option, Some}
-use Rattle.std.specs.Prelude.{None, IfSome, IsSome, All, Contains}
+use Rattle.std.specs.Prelude.{None, IfSome, IsSome, All, Contains, take}
 use Rattle.std.specs.List.{flat_map}
 use lib.Pointwise.{pointwise}
 use Rattle.xet_base.specs.declared.cas_types.ChunkRange.{ChunkRange}
@@ -160,18 +160,23 @@ NoneAgain asked place late [] (said.Block b ∷ all) = NoneAgain asked place lat
 NoneAgain asked place late (e ∷ served) (said.Block b ∷ all) =
     IsOfNone e late × NoneAgain asked place late served all
 
--- so of the first connection, which answers the queries
-abbrev pub FirstInOrder : List Exchange → Type 0
-FirstInOrder [] = Unit {0}
-FirstInOrder (x ∷ xs) = NoneAgain x.asked 0 [] x.served x.said
+-- the queries whose answers are recorded: all but the last ones, as many as are lost
+abbrev pub recorded : List Query → List Query → List Query
+recorded asked lost = take (length asked - length lost) asked
 
--- a block that the first connection answered as expired, without an answer since to a query for its plan, is expired by
--- the history, or no event says so yet
-abbrev pub FirstLate : List Event → List (List Place) → List Exchange → Type 0
-FirstLate es (l ∷ ls) (x ∷ xs) = (p k : ℕ) → 0 < count_by (is_pair p k) (late_since x.asked 0 [] x.said)
+-- so of the first connection, which answers the queries, by those whose answers are recorded
+abbrev pub FirstInOrder : List Query → List Exchange → Type 0
+FirstInOrder lost [] = Unit {0}
+FirstInOrder lost (x ∷ xs) = NoneAgain (recorded x.asked lost) 0 [] x.served x.said
+
+-- a block that the first connection answered as expired, without a recorded answer since to a query for its plan, is
+-- expired by the history, or no event says so yet
+abbrev pub FirstLate : List Event → List Query → List (List Place) → List Exchange → Type 0
+FirstLate es lost (l ∷ ls) (x ∷ xs) = (p k : ℕ)
+    → 0 < count_by (is_pair p k) (late_since (recorded x.asked lost) 0 [] x.said)
     → (is_expired es p k ≡ true) ⊎ (0 < count_by (at_place p k) l)
-FirstLate es [] xs = Unit {0}
-FirstLate es (l ∷ ls) [] = Unit {0}
+FirstLate es lost [] xs = Unit {0}
+FirstLate es lost (l ∷ ls) [] = Unit {0}
 
 -- of each lane from a number on, whether or not its connection tells its list: it served the entries of its Fetched
 -- events, then those that no event says yet
@@ -401,9 +406,9 @@ pub record Ties (g : Setup) (before after : RunTold) (es : List Event) (stop : S
   pub unfailed : FirstUnfailed slack.calm before.clients after.clients
   pub expired : EachExpired es 0 slack.heard slack.late
   pub late_planned : LatePlanned es slack.heard
-  -- the first connection answers for an expired block again only behind an answer to a query for the block's plan
-  pub in_order : FirstInOrder slack.heard
-  pub first_late : FirstLate es slack.late slack.heard
+  -- the first connection answers for an expired block again only behind a recorded answer to a query for its plan
+  pub in_order : FirstInOrder slack.lost slack.heard
+  pub first_late : FirstLate es slack.lost slack.late slack.heard
   pub heard_served : EachServed es 0 slack.heard slack.hidden
   pub asked : FirstAsked g.file es slack.lost before.clients after.clients
   pub heard_asked : HeardAsked g.file es slack.lost slack.heard

@@ -86,7 +86,7 @@ pub record Fits (g : Setup) (es : List Event) (e : Event) (sl to : Slack) : Type
       → IsServed (es ++ e ∷ []) to.hidden to.late bs ns
   pub expired : (xs : List Exchange) → EachExpired es 0 xs sl.late → EachExpired (es ++ e ∷ []) 0 xs to.late
   pub heard_served : (xs : List Exchange) → EachServed es 0 xs sl.hidden → EachServed (es ++ e ∷ []) 0 xs to.hidden
-  pub first_late : FirstLate es sl.late sl.heard → FirstLate (es ++ e ∷ []) to.late sl.heard
+  pub first_late : FirstLate es sl.lost sl.late sl.heard → FirstLate (es ++ e ∷ []) to.lost to.late sl.heard
   pub asked : sl.lost ≡ asked_in g.file es e ++ to.lost
   pub tried : (p k : ℕ) → (count_by (expires p k) es + cond (expires p k e) 1 0)
       + count_by (at_place p k) (all_late to.late) ≤ g.tries
