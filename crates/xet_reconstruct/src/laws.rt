@@ -4,7 +4,8 @@ ghost use Rattle.xet_reconstruct.specs.Laws.{HonestAnswersPass, HonestPiecesJoin
 
 /// Where nothing that a call is lent fails, a legal answer is Ok, or want of memory, whatever the cache holds: all
 /// settings can be met, the connections tell one valid store that has the file or the range is empty, no count of
-/// faults and none of a yes rose, and there came fewer expired answers than a block has tries.
+/// faults and none of a yes rose, none of expired answers stands at its last value, and there came fewer of these than
+/// a block has tries.
 pub fn calls_are_complete()
     ensures { LegalIsComplete }
 {}

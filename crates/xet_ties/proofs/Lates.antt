@@ -64,7 +64,7 @@ expired_next es m p k j lane (x ∷ xs) (f ∷ before) after is h = (
 
 -- ---- what was said
 
-late_both : (all more : List Said) → late_in (all ++ more) ≡ late_in all ++ late_in more
+pub late_both : (all more : List Said) → late_in (all ++ more) ≡ late_in all ++ late_in more
 late_both all more = flat_map-append late_said all more
 
 places_both : (all more : List Said) → late_places (all ++ more) ≡ late_places all ++ late_places more

@@ -2,7 +2,7 @@
 use Rattle.std.proofs.Common.{◌≡◌, ◌⊎◌, ℕ, ◌+◌, ◌<◌, ◌≤◌, ◌==◌, ◌&&◌, Bool, true, false, cond, List, [], ◌∷◌, ◌++◌, length, refl, sym, subst, ◌∙◌, ap, arith, inl, inr, ⊎_elim, Option, None, Some, ◌-◌, length-append, zero, suc}
 use Rattle.std.specs.Prelude.{All, count_by, map, not, slice_get, take}
 use Rattle.std.specs.List.{flat_map}
-use Rattle.std.proofs.lemmas.Bool.{cases_lt, eq-eqb, eqb-true}
+use Rattle.std.proofs.lemmas.Bool.{and_from, and_parts, cases_lt, eq-eqb, eqb-true}
 use Rattle.std.proofs.lemmas.List.{append-nil, take-append-le, take_all}
 use Rattle.std.proofs.lemmas.List.Elements.{All-head, All-tail}
 use Rattle.xet_outside.specs.Answers.{bytes_in, late_in, plans_in}
@@ -15,23 +15,24 @@ use Rattle.xet_run.specs.declared.event.Event.{Event}
 use Rattle.xet_run.specs.declared.event.Event.TheVariants.{Expired, Refreshed}
 use Rattle.xet_run.specs.Events.{last_of}
 use Rattle.xet_run.proofs.CallerLemmas.{flat-push, last_of-append, same_numbers}
-use Rattle.xet_ties.specs.History.{expiry_of, is_expired}
+use Rattle.xet_ties.specs.History.{expiry_of, fetches, is_expired, served_by}
 use Rattle.xet_ties.specs.InCall.{EachExchange, Exchange, Place}
 use Rattle.xet_ties.specs.Lanes.{Ask}
-use Rattle.xet_ties.specs.steps.Moves.{heard_first, heard_join, no_exchange, no_late}
+use Rattle.xet_ties.specs.steps.Moves.{heard_first, heard_join, no_exchange, no_hidden, no_late}
 use Rattle.xet_ties.specs.steps.Records.{IsFreshAsk, asks_for}
-use Rattle.xet_ties.specs.Saids.{asks_for_plan, cut_places, own_query, query_at, same_start}
-use Rattle.xet_ties.specs.Ties.{FirstInOrder, FirstLate, NoneAgain, at_place, is_pair, late_since, of_others, recorded}
+use Rattle.xet_ties.specs.Saids.{asks_again, cut_places, is_before, own_place, own_query, query_at, same_start}
+use Rattle.xet_ties.specs.Ties.{EachServed, FirstInOrder, FirstLate, NoneAgain, at_place, is_pair, late_since, of_others, recorded}
 use Rattle.xet_ties.proofs.CutPlaces.{cut_end, first_at, places_append}
 use Rattle.xet_ties.proofs.Expiries.{places_count}
 use Rattle.xet_ties.proofs.Heard.{Match}
-use Rattle.xet_ties.proofs.Lates.{SaidLate}
-use Rattle.xet_ties.proofs.Telling.{expired-push}
+use Rattle.xet_ties.proofs.Lates.{SaidLate, late_both}
+use Rattle.xet_ties.proofs.Pairs.{lanes_most}
+use Rattle.xet_ties.proofs.Telling.{count-append, expired-push}
 
 -- ---- what a query asks for
 
 -- a plan's own query stays the same when more is asked
-own_more : (asked more : List Query) (p : ℕ) (q : Query) → own_query asked p ≡ Some q → own_query (asked ++ more) p ≡ Some q
+pub own_more : (asked more : List Query) (p : ℕ) (q : Query) → own_query asked p ≡ Some q → own_query (asked ++ more) p ≡ Some q
 own_more asked more p q h = by (slice_get (cut_places 0 0 asked) (p - 1)) refl
   where
     by : (o : Option ℕ) → slice_get (cut_places 0 0 asked) (p - 1) ≡ o → own_query (asked ++ more) p ≡ Some q
@@ -42,30 +43,40 @@ own_more asked more p q h = by (slice_get (cut_places 0 0 asked) (p - 1)) refl
         let is : slice_get asked i ≡ Some q = sym (ap (λ (o : Option ℕ). query_at asked o) e) ∙ h in
         ap (λ (o : Option ℕ). query_at (asked ++ more) o) at ∙ first_at asked more i q is
 
--- and so does what a query asks for
-asks_more : (asked more : List Query) (i p : ℕ) → asks_for_plan asked i p ≡ true → asks_for_plan (asked ++ more) i p ≡ true
-asks_more asked more i p h = by (slice_get asked i) (own_query asked p) refl refl h
+-- its place too
+pub place_stays : (asked more : List Query) (p i : ℕ) → own_place asked p ≡ Some i → own_place (asked ++ more) p ≡ Some i
+place_stays asked more p i e =
+    ap (λ (l : List ℕ). slice_get l (p - 1)) (places_append 0 0 asked more)
+    ∙ first_at (cut_places 0 0 asked) (cut_places (0 + length asked) (cut_end 0 asked) more) (p - 1) i e
+
+-- and so does what a query asks for again
+asks_more : (asked more : List Query) (i p : ℕ) → asks_again asked i p ≡ true → asks_again (asked ++ more) i p ≡ true
+asks_more asked more i p h = by (own_place asked p) (slice_get asked i) (own_query asked p) refl refl refl h
   where
-    by : (o c : Option Query) → slice_get asked i ≡ o → own_query asked p ≡ c → same_start o c ≡ true → asks_for_plan (asked ++ more) i p ≡ true
-    by None c e f h = absurd (let z : false ≡ true = h in cc)
-    by (Some q) None e f h = absurd (let z : false ≡ true = h in cc)
-    by (Some q) (Some c) e f h =
-        ap (λ (o : Option Query). same_start o (own_query (asked ++ more) p)) (first_at asked more i q e)
+    by : (n : Option ℕ) (o c : Option Query) → own_place asked p ≡ n → slice_get asked i ≡ o → own_query asked p ≡ c → (is_before n i && same_start o c) ≡ true → asks_again (asked ++ more) i p ≡ true
+    by None o c d e f h = absurd (let z : false ≡ true = h in cc)
+    by (Some n) None c d e f h = absurd (let z = (and_parts (is_before (Some n) i) false h).1 in cc)
+    by (Some n) (Some q) None d e f h = absurd (let z = (and_parts (is_before (Some n) i) false h).1 in cc)
+    by (Some n) (Some q) (Some c) d e f h =
+        let z = and_parts (is_before (Some n) i) (same_start (Some q) (Some c)) h in
+        and_from (is_before (own_place (asked ++ more) p) i) (same_start (slice_get (asked ++ more) i) (own_query (asked ++ more) p))
+        (ap (λ (o : Option ℕ). is_before o i) (place_stays asked more p n d) ∙ z.0)
+        (ap (λ (o : Option Query). same_start o (own_query (asked ++ more) p)) (first_at asked more i q e)
         ∙ ap (λ (o : Option Query). same_start (Some q) o) (own_more asked more p c f)
-        ∙ h
+        ∙ z.1)
 
 most : (v : Bool) (n : ℕ) → cond {A = ℕ} v 0 n ≤ n
 most true n = omega arith
 most false n = omega arith
 
 -- the requests of one block that stay late behind an answer to a query
-others_count : (asked : List Query) (i p k : ℕ) (late : List Served) → count_by (is_pair p k) (of_others asked i late) ≡ cond {A = ℕ} (asks_for_plan asked i p) 0 (count_by (is_pair p k) late)
-others_count asked i p k [] = by (asks_for_plan asked i p)
+others_count : (asked : List Query) (i p k : ℕ) (late : List Served) → count_by (is_pair p k) (of_others asked i late) ≡ cond {A = ℕ} (asks_again asked i p) 0 (count_by (is_pair p k) late)
+others_count asked i p k [] = by (asks_again asked i p)
   where
     by : (v : Bool) → 0 ≡ cond {A = ℕ} v 0 0
     by true = refl
     by false = refl
-others_count asked i p k (e ∷ late) = by (asks_for_plan asked i e.plan) refl (is_pair p k e) refl (asks_for_plan asked i p) refl (others_count asked i p k late)
+others_count asked i p k (e ∷ late) = by (asks_again asked i e.plan) refl (is_pair p k e) refl (asks_again asked i p) refl (others_count asked i p k late)
   where
     rest : List Served
     rest = of_others asked i late
@@ -73,13 +84,13 @@ others_count asked i p k (e ∷ late) = by (asks_for_plan asked i e.plan) refl (
     one : (w : Bool) → is_pair p k e ≡ w → cond {A = ℕ} (is_pair p k e) 1 0 ≡ cond {A = ℕ} w 1 0
     one w h = ap (λ (v : Bool). cond {A = ℕ} v 1 0) h
 
-    by : (v : Bool) → asks_for_plan asked i e.plan ≡ v → (w : Bool) → is_pair p k e ≡ w → (a : Bool) → asks_for_plan asked i p ≡ a → count_by (is_pair p k) rest ≡ cond {A = ℕ} a 0 (count_by (is_pair p k) late)
+    by : (v : Bool) → asks_again asked i e.plan ≡ v → (w : Bool) → is_pair p k e ≡ w → (a : Bool) → asks_again asked i p ≡ a → count_by (is_pair p k) rest ≡ cond {A = ℕ} a 0 (count_by (is_pair p k) late)
         → count_by (is_pair p k) (cond (not v) (e ∷ rest) rest) ≡ cond {A = ℕ} a 0 (count_by (is_pair p k) (e ∷ late))
     by true ev true ew true ea r = r
-    by true ev true ew false ea r = absurd (let same : true ≡ false = sym ev ∙ ap (λ (j : ℕ). asks_for_plan asked i j) (same_numbers e.plan e.index p k ew).0 ∙ ea in cc)
+    by true ev true ew false ea r = absurd (let same : true ≡ false = sym ev ∙ ap (λ (j : ℕ). asks_again asked i j) (same_numbers e.plan e.index p k ew).0 ∙ ea in cc)
     by true ev false ew true ea r = r
     by true ev false ew false ea r = let n = count_by-cons (is_pair p k) e late in let z = one false ew in omega (arith, n, z, r)
-    by false ev true ew true ea r = absurd (let same : false ≡ true = sym ev ∙ ap (λ (j : ℕ). asks_for_plan asked i j) (same_numbers e.plan e.index p k ew).0 ∙ ea in cc)
+    by false ev true ew true ea r = absurd (let same : false ≡ true = sym ev ∙ ap (λ (j : ℕ). asks_again asked i j) (same_numbers e.plan e.index p k ew).0 ∙ ea in cc)
     by false ev true ew false ea r = let m = count_by-cons (is_pair p k) e rest in let n = count_by-cons (is_pair p k) e late in omega (arith, m, n, r)
     by false ev false ew true ea r = let m = count_by-cons (is_pair p k) e rest in let z = one false ew in omega (arith, m, z, r)
     by false ev false ew false ea r = let m = count_by-cons (is_pair p k) e rest in let n = count_by-cons (is_pair p k) e late in omega (arith, m, n, r)
@@ -87,7 +98,7 @@ others_count asked i p k (e ∷ late) = by (asks_for_plan asked i e.plan) refl (
 others_most : (asked : List Query) (i p k : ℕ) (late : List Served) → count_by (is_pair p k) (of_others asked i late) ≤ count_by (is_pair p k) late
 others_most asked i p k late =
     let c = others_count asked i p k late in
-    let m = most (asks_for_plan asked i p) (count_by (is_pair p k) late) in
+    let m = most (asks_again asked i p) (count_by (is_pair p k) late) in
     omega (arith, c, m)
 
 -- of each block the first ones have no more requests
@@ -106,22 +117,22 @@ others_fewer : (asked more : List Query) (i : ℕ) (less late : List Served) →
 others_fewer asked more i less late f p k =
     let a = others_count (asked ++ more) i p k less in
     let b = others_count asked i p k late in
-    let m = most (asks_for_plan (asked ++ more) i p) (count_by (is_pair p k) less) in
+    let m = most (asks_again (asked ++ more) i p) (count_by (is_pair p k) less) in
     let h = f p k in
-    by (asks_for_plan asked i p) refl a b m h
+    by (asks_again asked i p) refl a b m h
   where
     now : ℕ
-    now = cond {A = ℕ} (asks_for_plan (asked ++ more) i p) 0 (count_by (is_pair p k) less)
+    now = cond {A = ℕ} (asks_again (asked ++ more) i p) 0 (count_by (is_pair p k) less)
 
-    by : (v : Bool) → asks_for_plan asked i p ≡ v → count_by (is_pair p k) (of_others (asked ++ more) i less) ≡ now
-        → count_by (is_pair p k) (of_others asked i late) ≡ cond {A = ℕ} (asks_for_plan asked i p) 0 (count_by (is_pair p k) late)
+    by : (v : Bool) → asks_again asked i p ≡ v → count_by (is_pair p k) (of_others (asked ++ more) i less) ≡ now
+        → count_by (is_pair p k) (of_others asked i late) ≡ cond {A = ℕ} (asks_again asked i p) 0 (count_by (is_pair p k) late)
         → now ≤ count_by (is_pair p k) less → count_by (is_pair p k) less ≤ count_by (is_pair p k) late
         → count_by (is_pair p k) (of_others (asked ++ more) i less) ≤ count_by (is_pair p k) (of_others asked i late)
     by true e a b m h =
         let z : now ≡ 0 = ap (λ (v : Bool). cond {A = ℕ} v 0 (count_by (is_pair p k) less)) (asks_more asked more i p e) in
         omega (arith, a, z)
     by false e a b m h =
-        let y : cond {A = ℕ} (asks_for_plan asked i p) 0 (count_by (is_pair p k) late) ≡ count_by (is_pair p k) late = ap (λ (v : Bool). cond {A = ℕ} v 0 (count_by (is_pair p k) late)) e in
+        let y : cond {A = ℕ} (asks_again asked i p) 0 (count_by (is_pair p k) late) ≡ count_by (is_pair p k) late = ap (λ (v : Bool). cond {A = ℕ} v 0 (count_by (is_pair p k) late)) e in
         omega (arith, a, b, y, m, h)
 
 since_more : (asked more : List Query) (i : ℕ) (less late : List Served) (a : List Said) → Fewer less late → Fewer (late_since (asked ++ more) i less a) (late_since asked i late a)
@@ -142,7 +153,7 @@ again_more asked more i less late [] (said.Block v ∷ a) f t = again_more asked
 again_more asked more i less late (e ∷ h) (said.Block v ∷ a) f t =
     let m = f e.plan e.index in
     let z = t.0 in
-    (omega (arith, m, z), again_more asked more i less late h a f t.1)
+    (omega (arith, m, z), t.1, again_more asked more i less late h a f t.2)
 
 -- ---- lists of answers
 
@@ -174,24 +185,40 @@ ordered_join asked i late h (said.Expired e ∷ a) c d =
 ordered_join asked i late [] (said.Block b ∷ a) c d = ordered_join asked i late [] a c d
 ordered_join asked i late (e ∷ h) (said.Block b ∷ a) c d =
     let own = self e in
-    let mine = count_by-cons (is_pair e.plan e.index) e h in (
+    let mine = count_by-cons (is_pair e.plan e.index) e h in
+    let one = c e.plan e.index in (
       d e.plan e.index (omega (arith, own, mine)),
+      omega (arith, own, mine, one),
       ordered_join asked i late h a
           (λ p k. let one = c p k in let n = count_by-cons (is_pair p k) e h in omega (arith, one, n))
           (λ p k j. let n = count_by-cons (is_pair p k) e h in d p k (omega (arith, j, n))),
     )
 
+-- of each block with bytes among these there is no expired answer among those
+abbrev pub NoneAfter : List Served → List Said → Type 0
+NoneAfter served all = (p k : ℕ) → 0 < count_by (is_pair p k) served → count_by (is_pair p k) (late_in all) ≡ 0
+
 -- two lists of answers, one after the other
-pub ordered_append : (asked : List Query) (i : ℕ) (late h g : List Served) (a c : List Said) → length h ≡ length (bytes_in a) → NoneAgain asked i late h a → NoneAgain asked (i + length (plans_in a)) (late_since asked i late a) g c
+pub ordered_append : (asked : List Query) (i : ℕ) (late h g : List Served) (a c : List Said) → length h ≡ length (bytes_in a) → NoneAfter h c → NoneAgain asked i late h a → NoneAgain asked (i + length (plans_in a)) (late_since asked i late a) g c
     → NoneAgain asked i late (h ++ g) (a ++ c)
-ordered_append asked i late [] g [] c e x y = let z : i + 0 ≡ i = omega arith in subst (λ (j : ℕ). NoneAgain asked j late g c) z y
-ordered_append asked i late (s ∷ h) g [] c e x y = absurd (omega (arith, e))
-ordered_append asked i late h g (said.Plan v ∷ a) c e x y =
+ordered_append asked i late [] g [] c e d x y = let z : i + 0 ≡ i = omega arith in subst (λ (j : ℕ). NoneAgain asked j late g c) z y
+ordered_append asked i late (s ∷ h) g [] c e d x y = absurd (omega (arith, e))
+ordered_append asked i late h g (said.Plan v ∷ a) c e d x y =
     let z : i + length (v ∷ plans_in a) ≡ (i + 1) + length (plans_in a) = omega arith in
-    ordered_append asked (i + 1) (of_others asked i late) h g a c e x (subst (λ (j : ℕ). NoneAgain asked j (late_since asked (i + 1) (of_others asked i late) a) g c) z y)
-ordered_append asked i late h g (said.Expired v ∷ a) c e x y = (x.0, ordered_append asked i (v ∷ late) h g a c e x.1 y)
-ordered_append asked i late [] g (said.Block v ∷ a) c e x y = absurd (omega (arith, e))
-ordered_append asked i late (s ∷ h) g (said.Block v ∷ a) c e x y = (x.0, ordered_append asked i late h g a c (omega (arith, e)) x.1 y)
+    ordered_append asked (i + 1) (of_others asked i late) h g a c e d x (subst (λ (j : ℕ). NoneAgain asked j (late_since asked (i + 1) (of_others asked i late) a) g c) z y)
+ordered_append asked i late h g (said.Expired v ∷ a) c e d x y = (x.0, ordered_append asked i (v ∷ late) h g a c e d x.1 y)
+ordered_append asked i late [] g (said.Block v ∷ a) c e d x y = absurd (omega (arith, e))
+ordered_append asked i late (s ∷ h) g (said.Block v ∷ a) c e d x y =
+    let own = self s in
+    let mine = count_by-cons (is_pair s.plan s.index) s h in
+    let first = x.1 in
+    let then = d s.plan s.index (omega (arith, own, mine)) in
+    let both = ap (λ (l : List Served). count_by (is_pair s.plan s.index) l) (late_both a c) in
+    let sum = count-append (is_pair s.plan s.index) (late_in a) (late_in c) in (
+      x.0,
+      omega (arith, first, then, both, sum),
+      ordered_append asked i late h g a c (omega (arith, e)) (λ p k j. let n = count_by-cons (is_pair p k) s h in d p k (omega (arith, n, j))) x.2 y,
+    )
 
 -- no expired answer
 ordered_none : (asked : List Query) (i : ℕ) (late : List Served) (a : List Said) → late_in a ≡ [] → NoneAgain asked i late [] a
@@ -326,10 +353,10 @@ abbrev pub FirstClear : ℕ → List Exchange → Type 0
 FirstClear p [] = Unit {0}
 FirstClear p (x ∷ xs) = (k : ℕ) → count_by (is_pair p k) (late_since x.asked 0 [] x.said) ≡ 0
 
--- the last answer is that to a query for this plan
+-- the last answer is that to a query that asks for this plan again
 abbrev pub FirstAnswered : ℕ → List Query → List Exchange → Type 0
 FirstAnswered p qs [] = Unit {0}
-FirstAnswered p qs (x ∷ xs) = asks_for_plan (x.asked ++ qs) (0 + length (plans_in x.said)) p ≡ true
+FirstAnswered p qs (x ∷ xs) = asks_again (x.asked ++ qs) (0 + length (plans_in x.said)) p ≡ true
 
 pub first_clear : (p : ℕ) (qs : List Query) (v : _) (xs : List Exchange) → FirstAnswered p qs xs → FirstClear p (heard_first qs (said.Plan v ∷ []) xs)
 first_clear p qs v [] a = tt
@@ -368,7 +395,7 @@ in_order_query (b ∷ bs) (n ∷ ns) lost qs a (x ∷ xs) e t o =
     let known = recorded x.asked lost in
     subst (λ (l : List Query). NoneAgain l 0 [] x.served (x.said ++ a)) (sym (recorded_query x.asked qs lost))
     (subst (λ (s : List Served). NoneAgain known 0 [] s (x.said ++ a)) (append-nil x.served)
-    (ordered_append known 0 [] x.served [] x.said a t.0.paired o (ordered_none known (0 + length (plans_in x.said)) (late_since known 0 [] x.said) a e)))
+    (ordered_append known 0 [] x.served [] x.said a t.0.paired (λ p k j. ap (λ (l : List Served). count_by (is_pair p k) l) e) o (ordered_none known (0 + length (plans_in x.said)) (late_since known 0 [] x.said) a e)))
 
 pub first_late_query : (es : List Event) (lost : List Query) (ls : List (List Place)) (qs : List Query) (a : List Said) (xs : List Exchange) → late_in a ≡ [] → FirstLate es lost ls xs → FirstLate es (lost ++ qs) ls (heard_first qs a xs)
 first_late_query es lost [] qs a xs e t = tt
@@ -384,7 +411,7 @@ first_late_query es lost (l ∷ ls) qs a (x ∷ xs) e t = λ p k i.
 
 -- what the first connection served and said in a join goes on in order
 abbrev pub FirstJoined : List Query → List (List Served) → List (List Said) → List Exchange → Type 0
-FirstJoined lost (h ∷ hs) (a ∷ alls) (x ∷ xs) = NoneAgain (recorded x.asked lost) (0 + length (plans_in x.said)) (late_since (recorded x.asked lost) 0 [] x.said) h a
+FirstJoined lost (h ∷ hs) (a ∷ alls) (x ∷ xs) = NoneAgain (recorded x.asked lost) (0 + length (plans_in x.said)) (late_since (recorded x.asked lost) 0 [] x.said) h a × NoneAfter x.served a
 FirstJoined lost [] alls xs = Unit {0}
 FirstJoined lost (h ∷ hs) [] xs = Unit {0}
 FirstJoined lost (h ∷ hs) (a ∷ alls) [] = Unit {0}
@@ -396,7 +423,7 @@ in_order_join bs ns lost (h ∷ hs) (a ∷ alls) [] t j o = tt
 in_order_join [] [] lost (h ∷ hs) (a ∷ alls) (x ∷ xs) t j o = absurd t
 in_order_join [] (n ∷ ns) lost (h ∷ hs) (a ∷ alls) (x ∷ xs) t j o = absurd t
 in_order_join (b ∷ bs) [] lost (h ∷ hs) (a ∷ alls) (x ∷ xs) t j o = absurd t
-in_order_join (b ∷ bs) (n ∷ ns) lost (h ∷ hs) (a ∷ alls) (x ∷ xs) t j o = ordered_append (recorded x.asked lost) 0 [] x.served h x.said a t.0.paired o j
+in_order_join (b ∷ bs) (n ∷ ns) lost (h ∷ hs) (a ∷ alls) (x ∷ xs) t j o = ordered_append (recorded x.asked lost) 0 [] x.served h x.said a t.0.paired j.1 o j.0
 
 pub first_late_join : (es : List Event) (lost : List Query) (hs : List (List Served)) (alls : List (List Said)) (ks : List (List Place)) (bs ns : List ClientTold) (xs : List Exchange) → EachExchange bs ns xs → Match hs alls xs → SaidLate alls ks → FirstLate es lost (no_late bs) xs
     → FirstLate es lost ks (heard_join hs alls xs)
@@ -441,21 +468,29 @@ FirstCounts fs (h ∷ hs) (a ∷ alls) = (p k : ℕ) → count_by (is_pair p k) 
 FirstCounts fs [] alls = Unit {0}
 FirstCounts fs (h ∷ hs) [] = Unit {0}
 
-pub first_joined : (es : List Event) (fs : List Ask) (hs : List (List Served)) (alls : List (List Said)) (bs ns : List ClientTold) (lost : List Query) (xs : List Exchange) → FirstCounts fs hs alls → ((p k : ℕ) → count_by (is_pair p k) (map asks_for fs) ≤ 1) → All (IsFreshAsk es) fs
-    → EachExchange bs ns xs → FirstLate es lost (no_late bs) xs → FirstJoined lost hs alls xs
-first_joined es fs [] alls bs ns lost xs c one fresh t o = tt
-first_joined es fs (h ∷ hs) [] bs ns lost xs c one fresh t o = tt
-first_joined es fs (h ∷ hs) (a ∷ alls) bs ns lost [] c one fresh t o = tt
-first_joined es fs (h ∷ hs) (a ∷ alls) [] [] lost (x ∷ xs) c one fresh t o = absurd t
-first_joined es fs (h ∷ hs) (a ∷ alls) [] (n ∷ ns) lost (x ∷ xs) c one fresh t o = absurd t
-first_joined es fs (h ∷ hs) (a ∷ alls) (b ∷ bs) ns lost (x ∷ xs) c one fresh t o =
+pub first_joined : (es : List Event) (fs : List Ask) (hs : List (List Served)) (alls : List (List Said)) (bs ns : List ClientTold) (lost : List Query) (xs : List Exchange) → FirstCounts fs hs alls → ((p k : ℕ) → count_by (fetches p k) es + count_by (is_pair p k) (map asks_for fs) ≤ 1) → All (IsFreshAsk es) fs
+    → EachExchange bs ns xs → EachServed es 0 xs (no_hidden bs) → FirstLate es lost (no_late bs) xs → FirstJoined lost hs alls xs
+first_joined es fs [] alls bs ns lost xs c one fresh t s o = tt
+first_joined es fs (h ∷ hs) [] bs ns lost xs c one fresh t s o = tt
+first_joined es fs (h ∷ hs) (a ∷ alls) bs ns lost [] c one fresh t s o = tt
+first_joined es fs (h ∷ hs) (a ∷ alls) [] [] lost (x ∷ xs) c one fresh t s o = absurd t
+first_joined es fs (h ∷ hs) (a ∷ alls) [] (n ∷ ns) lost (x ∷ xs) c one fresh t s o = absurd t
+first_joined es fs (h ∷ hs) (a ∷ alls) (b ∷ bs) ns lost (x ∷ xs) c one fresh t s o =
     let known = recorded x.asked lost in
-    let old = late_since known 0 [] x.said in
-    ordered_join known (0 + length (plans_in x.said)) old h a (λ p k. let m = c p k in let s = one p k in omega (arith, m, s))
-    (λ p k i.
-    let m = c p k in
-    let f = asked_fresh es fs p k fresh (omega (arith, m, i)) in
-    ⊎_elim
-    (λ (some : 0 < count_by (is_pair p k) old). ⊎_elim (λ (e : is_expired es p k ≡ true). absurd (let z : false ≡ true = sym f ∙ e in cc)) (λ (none : 0 < 0). absurd (omega (arith, none))) (o p k some))
-    (λ (none : count_by (is_pair p k) old ≤ 0). omega (arith, none))
-    (cases_lt 0 (count_by (is_pair p k) old)))
+    let old = late_since known 0 [] x.said in (
+      ordered_join known (0 + length (plans_in x.said)) old h a (λ p k. let m = c p k in let u = one p k in omega (arith, m, u))
+          (λ p k i.
+          let m = c p k in
+          let f = asked_fresh es fs p k fresh (omega (arith, m, i)) in
+          ⊎_elim
+          (λ (some : 0 < count_by (is_pair p k) old). ⊎_elim (λ (e : is_expired es p k ≡ true). absurd (let z : false ≡ true = sym f ∙ e in cc)) (λ (none : 0 < 0). absurd (omega (arith, none))) (o p k some))
+          (λ (none : count_by (is_pair p k) old ≤ 0). omega (arith, none))
+          (cases_lt 0 (count_by (is_pair p k) old))),
+      λ p k i.
+          let m = c p k in
+          let u = one p k in
+          let was = ap (λ (l : List Served). count_by (is_pair p k) l) s.0 in
+          let both = count-append (is_pair p k) (served_by 0 es) [] in
+          let most = lanes_most p k [] es 0 (b ∷ []) in
+          omega (arith, m, u, was, both, most, i),
+    )

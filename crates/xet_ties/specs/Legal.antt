@@ -177,8 +177,8 @@ pub record IsFollowed (g : Setup) (x : Exchange) (xs : List Exchange) : Type 0 w
   pub count : ℕ
   pub most : length x.asked ≤ count + 1
   pub renewed : AllRenewed g x count
-  -- an expired block is answered again only behind the answer to one of them for its own plan, by what this connection
-  -- served and said in its order
+  -- an expired block is answered again only behind the answer to one of them that asks for its own plan again, and a
+  -- served one not at all, by what this connection served and said in its order
   pub in_order : NoneAgain (take count x.asked) 0 [] x.served x.said
   -- and a block was answered, as expired or with bytes, by all connections together, no more often than its plan was
   -- asked for by these
@@ -196,7 +196,7 @@ FirstFollowed g (x ∷ xs) = IsFollowed g x (x ∷ xs)
 abbrev pub AllLooked : List Served → List Look → Type 0
 AllLooked es looks = (x : MerkleHash) (r : ChunkRange) → count_by (is_served x r) es ≤ count_by (is_look x r) looks
 
--- and as often in vain: a look gave nothing, or another entry than the store's block
+-- and as often at least in vain: the look gave nothing, or another entry than the store's block
 abbrev pub AllMissed : Store → List Served → List Look → Type 0
 AllMissed s es looks = (x : MerkleHash) (r : ChunkRange)
     → count_by (is_served x r) es ≤ count_by (missed s x r) looks
@@ -230,7 +230,7 @@ pub record Legal (g : Setup) (before after : RunTold) (answer : Result ℕ FileR
   pub looks : LooksOf before.cache after.cache
   -- each served block of one range was looked for in the cache
   pub looked : AllLooked (served_of_all heard.list) looks.list
-  -- and over connections that tell one valid store in vain: what the cache gave of the store wasn't fetched
+  -- and over connections that tell one valid store as often in vain
   pub missed_first : (s : Store) → IsOver s before.clients → AllMissed s (served_of_all heard.list) looks.list
   -- whatever is told, the writer took tested bytes of these and no others, whatever the answer
   pub tested : TookTested g heard.list looks.list before.sink after.sink
@@ -267,8 +267,10 @@ pub record Legal (g : Setup) (before after : RunTold) (answer : Result ℕ FileR
   pub renewed : FirstRenewsBut g 1 heard.list
   -- and on Ok the last one too
   pub all_renewed : OnOk answer (FirstRenewsBut g 0 heard.list)
-  -- an expired block is answered again only behind an answer that renews its own plan, and no more often than its plan
-  -- was asked for and so answered, whatever the run's answer
+  -- by what the first connection was asked, and what it served and said in its order, an expired block is answered
+  -- again only behind an answer that isn't refused, to a query that asks for its own plan again, and a served one not
+  -- at all; and no block is answered more often by all connections than its plan was asked for and so answered,
+  -- whatever the run's answer
   pub followed : FirstFollowed g heard.list
   -- no more expired answers were heard than the connections count
   pub counted : EachCounted before.clients after.clients heard.list

@@ -1,6 +1,6 @@
 -- How plans and data are tied to what the connections said, each answer to its own request.
-use Rattle.std.specs.Prelude.{ℕ, ◌≡◌, ◌⊎◌, ◌+◌, ◌-◌, ◌<◌, ◌≤◌, ◌==◌, Bool, true, false, cond, List, [], ◌∷◌, length}
-use Rattle.std.specs.Prelude.{map, take, filter, nat_le, nat_lt, All, Contains, Option, None, Some, slice_get}
+use Rattle.std.specs.Prelude.{ℕ, ◌≡◌, ◌⊎◌, ◌+◌, ◌-◌, ◌<◌, ◌≤◌, ◌==◌, ◌&&◌, Bool, true, false, cond, List, [], ◌∷◌}
+use Rattle.std.specs.Prelude.{length, map, take, filter, nat_le, nat_lt, All, Contains, Option, None, Some, slice_get}
 use Rattle.std.specs.List.{AllZip, concat}
 use Rattle.xet_base.specs.declared.cas_types.ChunkRange.{ChunkRange}
 use Rattle.xet_base.specs.declared.cas_types.FileRange.{FileRange}
@@ -59,13 +59,17 @@ pub record AnswerOf (x : Exchange) (number : ℕ) (q : Query) (a : PlanAnswer) :
   pub query : slice_get x.asked place ≡ Some q
   pub answer : slice_get (plans_in x.said) place ≡ Some a
 
--- a plan's own query: the one of its number among those that cut the range, counted from 1
+-- the place of a plan's own query: the one of its number among those that cut the range, counted from 1
+abbrev pub own_place : List Query → ℕ → Option ℕ
+own_place asked number = slice_get (cut_places 0 0 asked) (number - 1)
+
+-- and that query
 abbrev pub query_at : List Query → Option ℕ → Option Query
 query_at asked None = None
 query_at asked (Some i) = slice_get asked i
 
 abbrev pub own_query : List Query → ℕ → Option Query
-own_query asked number = query_at asked (slice_get (cut_places 0 0 asked) (number - 1))
+own_query asked number = query_at asked (own_place asked number)
 
 -- both queries start at the same place
 abbrev pub same_start : Option Query → Option Query → Bool
@@ -73,9 +77,16 @@ same_start None q = false
 same_start (Some q) None = false
 same_start (Some q) (Some c) = q.1.start == c.1.start
 
--- the query at this place asks for the bytes of this plan: it starts where the plan's own query does
-abbrev pub asks_for_plan : List Query → ℕ → ℕ → Bool
-asks_for_plan asked place number = same_start (slice_get asked place) (own_query asked number)
+-- there is one before this place
+abbrev pub is_before : Option ℕ → ℕ → Bool
+is_before None place = false
+is_before (Some own) place = nat_lt own place
+
+-- the query at this place asks for the bytes of this plan again: it stands behind the plan's own query, and starts
+-- where that does
+abbrev pub asks_again : List Query → ℕ → ℕ → Bool
+asks_again asked place number =
+    is_before (own_place asked number) place && same_start (slice_get asked place) (own_query asked number)
 
 -- so the first connection did
 abbrev pub IsCutAnswer : MerkleHash → List Exchange → ℕ → FileRange → PlanAnswer → Type 0
@@ -121,8 +132,8 @@ abbrev pub IsEventSaid : Setup → Exchange → Event → Type 0
 IsEventSaid g x (Planned plan query terms blocks) = IsPlannedBy g x plan query terms blocks
 IsEventSaid g x _ = Unit {0}
 
--- the query at this place asked for the bytes that an accepted plan covers, and its answer renews the plan: it isn't
--- refused, by the plan's range and blocks
+-- the query at this place asked for the bytes that a plan covers which was said, and its answer renews the plan: it
+-- isn't refused, by the plan's range and blocks
 pub record IsRenewal (g : Setup) (x : Exchange) (place : ℕ) : Type 0 where
   pub number : ℕ
   pub plan : Plan

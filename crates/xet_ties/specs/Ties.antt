@@ -31,7 +31,7 @@ use Rattle.xet_ties.specs.History.{EachAfter, IsNumberedNext, IsOnLane, IsOneCac
 use Rattle.xet_ties.specs.History.{block_at, cached_in, entry_of, expired_by, fetched_in, fetches, is_expired, kept_in}
 use Rattle.xet_ties.specs.History.{late_by, limits_of, range_at, served_by, telling, round_count}
 use Rattle.xet_ties.specs.InCall.{EachExchange, Exchange, Look, Place, late_places}
-use Rattle.xet_ties.specs.Saids.{EventPassed, FirstRenewed, FirstSaid, IsTested, asks_for_plan}
+use Rattle.xet_ties.specs.Saids.{EventPassed, FirstRenewed, FirstSaid, IsTested, asks_again}
 use Rattle.xet_ties.specs.Setup.{AllTell, CacheTells, ClientGoesOn, IsOver, RunTold, Setup, download_of, most_lanes}
 
 -- where a run stands: none while it goes on and where it answered Ok, else the error that it answered
@@ -131,13 +131,13 @@ EachExpired es lane xs ls = ⊥
 abbrev pub LatePlanned : List Event → List Exchange → Type 0
 LatePlanned es xs = All (λ x. All (IsPlannedEntry es) (late_in x.said)) xs
 
--- the requests for blocks of other plans than the query at this place asks for
+-- the requests for blocks of other plans than the query at this place asks for again
 abbrev pub of_others : List Query → ℕ → List Served → List Served
-of_others asked place late = filter (λ e. not (asks_for_plan asked place e.plan)) late
+of_others asked place late = filter (λ e. not (asks_again asked place e.plan)) late
 
--- the requests that a connection answered as expired, without an answer since to a query for the block's own plan, the
--- last one first: by what it was asked, and what it said in its order; those before it said that are given, and the
--- place of the query that it answers next
+-- the requests that a connection answered as expired, without an answer since to a query that asks for the block's own
+-- plan again, the last one first: by what it was asked, and what it said in its order; those before it said that are
+-- given, and the place of the query that it answers next
 abbrev pub late_since : List Query → ℕ → List Served → List Said → List Served
 late_since asked place late [] = late
 late_since asked place late (said.Plan a ∷ all) = late_since asked (place + 1) (of_others asked place late) all
@@ -148,8 +148,9 @@ late_since asked place late (said.Expired e ∷ all) = late_since asked place (e
 abbrev pub IsOfNone : Served → List Served → Type 0
 IsOfNone e late = count_by (is_pair e.plan e.index) late ≡ 0
 
--- after an expired answer a block's next one comes behind an answer to a query for its plan, by what a connection was
--- asked, and what it served and said in its order; the requests that were answered as expired before are given
+-- after an expired answer a block's next one comes behind an answer to a query that asks for its plan again, and after
+-- one with bytes none comes, by what a connection was asked, and what it served and said in its order; the requests
+-- that were answered as expired before are given
 abbrev pub NoneAgain : List Query → ℕ → List Served → List Served → List Said → Type 0
 NoneAgain asked place late served [] = Unit {0}
 NoneAgain asked place late served (said.Plan a ∷ all) =
@@ -158,7 +159,7 @@ NoneAgain asked place late served (said.Expired e ∷ all) =
     IsOfNone e late × NoneAgain asked place (e ∷ late) served all
 NoneAgain asked place late [] (said.Block b ∷ all) = NoneAgain asked place late [] all
 NoneAgain asked place late (e ∷ served) (said.Block b ∷ all) =
-    IsOfNone e late × NoneAgain asked place late served all
+    IsOfNone e late × IsOfNone e (late_in all) × NoneAgain asked place late served all
 
 -- the queries whose answers are recorded: all but the last ones, as many as are lost
 abbrev pub recorded : List Query → List Query → List Query
@@ -169,8 +170,8 @@ abbrev pub FirstInOrder : List Query → List Exchange → Type 0
 FirstInOrder lost [] = Unit {0}
 FirstInOrder lost (x ∷ xs) = NoneAgain (recorded x.asked lost) 0 [] x.served x.said
 
--- a block that the first connection answered as expired, without a recorded answer since to a query for its plan, is
--- expired by the history, or no event says so yet
+-- a block that the first connection answered as expired, without a recorded answer since to a query that asks for its
+-- plan again, is expired by the history, or no event says so yet
 abbrev pub FirstLate : List Event → List Query → List (List Place) → List Exchange → Type 0
 FirstLate es lost (l ∷ ls) (x ∷ xs) = (p k : ℕ)
     → 0 < count_by (is_pair p k) (late_since (recorded x.asked lost) 0 [] x.said)
@@ -406,7 +407,8 @@ pub record Ties (g : Setup) (before after : RunTold) (es : List Event) (stop : S
   pub unfailed : FirstUnfailed slack.calm before.clients after.clients
   pub expired : EachExpired es 0 slack.heard slack.late
   pub late_planned : LatePlanned es slack.heard
-  -- the first connection answers for an expired block again only behind a recorded answer to a query for its plan
+  -- the first connection answers for an expired block again only behind a recorded answer to a query that asks for its
+  -- plan again, and for a served one not again
   pub in_order : FirstInOrder slack.lost slack.heard
   pub first_late : FirstLate es slack.lost slack.late slack.heard
   pub heard_served : EachServed es 0 slack.heard slack.hidden
