@@ -68,6 +68,7 @@ unlimited_legal g b n answer l = record {
   renewed = l.renewed;
   all_renewed = l.all_renewed;
   followed = l.followed;
+  bytes_last = l.bytes_last;
   counted = l.counted;
   late = l.late;
   under = l.under;

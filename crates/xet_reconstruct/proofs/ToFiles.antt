@@ -103,6 +103,7 @@ module _ (g : Setup) (b n : RunTold) (at : SinkTold) (flushed : Option ℕ) (fau
     renewed = l.renewed;
     all_renewed = l.all_renewed;
     followed = l.followed;
+    bytes_last = l.bytes_last;
     counted = l.counted;
     late = l.late;
     under = l.under;

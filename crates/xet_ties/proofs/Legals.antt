@@ -23,6 +23,7 @@ use Rattle.xet_ties.specs.Saids.{AllPassed, EntryPassed, FirstSaid, IsTested}
 use Rattle.xet_ties.specs.Setup.{EachGoesOn, IsOver, RunTold, Setup}
 use Rattle.xet_ties.specs.Ties.{EachLane, EachUnfailed, FirstUnfailed, HeardAsked, IsEntryOf, IsOther, IsPlannedEntry, IsQuiet, LeavesNothing, Slack, Stop, Ties, all_of, has_one, is_one, is_pair, is_served}
 use Rattle.xet_ties.proofs.Asks.{first_asks}
+use Rattle.xet_ties.proofs.BytesLasts.{last_start}
 use Rattle.xet_ties.proofs.Expiries.{counted_start, each_counted, none_past, none_spent}
 use Rattle.xet_ties.proofs.FewAsks.{none_few, run_few}
 use Rattle.xet_ties.proofs.Gains.{gained_none}
@@ -185,6 +186,7 @@ none_followed g (b ∷ bs) = record {
   most = omega arith;
   renewed = λ i h. absurd (omega (arith, h));
   in_order = tt;
+  late = λ p k i. none_served bs p k;
   few = λ p k. let l = none_late bs p k in let s = none_served bs p k in omega (arith, l, s);
 }
   where
@@ -277,6 +279,7 @@ legal_refused g b x h = record {
   renewed = renews_none g b.clients;
   all_renewed = tt;
   followed = none_followed g b.clients;
+  bytes_last = last_start b.clients;
   counted = counted_start b.clients;
   late = late_nothing g b.clients;
   under = λ u. absurd u;
@@ -337,6 +340,7 @@ legal_ran g b n es (Ok k) h a r =
       served = served_once es b.clients n.clients t.slack.heard t.slack.hidden t.slack.late t.ties.heard t.ties.heard_served t.ties.served;
       planned = planned_heard g b n es None t.slack t.ties;
       followed = first_followed g b n es None t.slack a t.ties;
+      bytes_last = t.ties.bytes_last;
       counted = each_counted es 0 b.clients n.clients t.slack.hidden t.slack.late t.slack.heard t.ties.served.lanes t.ties.expired;
       late = late_heard g b n es None t.slack t.ties;
       under = λ u. none_spent g b n es None t.slack (t.left.late (λ e. absurd (cc))) (t.under u) t.ties;
@@ -382,6 +386,7 @@ legal_ran g b n es (Err e) h a r =
       served = served_once es b.clients n.clients t.slack.heard t.slack.hidden t.slack.late t.ties.heard t.ties.heard_served t.ties.served;
       planned = planned_heard g b n es (Some e) t.slack t.ties;
       followed = first_followed g b n es (Some e) t.slack a t.ties;
+      bytes_last = t.ties.bytes_last;
       counted = each_counted es 0 b.clients n.clients t.slack.hidden t.slack.late t.slack.heard t.ties.served.lanes t.ties.expired;
       late = late_heard g b n es (Some e) t.slack t.ties;
       under = λ u. none_spent g b n es (Some e) t.slack (t.left.late (unspent_other (Some e) u)) (t.under u) t.ties;

@@ -1,5 +1,6 @@
 mod Asks
 mod AskTies
+mod BytesLasts
 mod CacheMoves
 pub mod CallerLemmas
 mod ClientMoves

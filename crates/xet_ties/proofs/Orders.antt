@@ -15,19 +15,18 @@ use Rattle.xet_run.specs.declared.event.Event.{Event}
 use Rattle.xet_run.specs.declared.event.Event.TheVariants.{Expired, Refreshed}
 use Rattle.xet_run.specs.Events.{last_of}
 use Rattle.xet_run.proofs.CallerLemmas.{flat-push, last_of-append, same_numbers}
-use Rattle.xet_ties.specs.History.{expiry_of, fetches, is_expired, served_by}
+use Rattle.xet_ties.specs.History.{expiry_of, is_expired}
 use Rattle.xet_ties.specs.InCall.{EachExchange, Exchange, Place}
 use Rattle.xet_ties.specs.Lanes.{Ask}
-use Rattle.xet_ties.specs.steps.Moves.{heard_first, heard_join, no_exchange, no_hidden, no_late}
+use Rattle.xet_ties.specs.steps.Moves.{heard_first, heard_join, no_exchange, no_late}
 use Rattle.xet_ties.specs.steps.Records.{IsFreshAsk, asks_for}
 use Rattle.xet_ties.specs.Saids.{asks_again, cut_places, is_before, own_place, own_query, query_at, same_start}
-use Rattle.xet_ties.specs.Ties.{EachServed, FirstInOrder, FirstLate, NoneAgain, at_place, is_pair, late_since, of_others, recorded}
+use Rattle.xet_ties.specs.Ties.{FirstInOrder, FirstLate, NoneAgain, at_place, is_pair, late_since, of_others, recorded}
 use Rattle.xet_ties.proofs.CutPlaces.{cut_end, first_at, places_append}
 use Rattle.xet_ties.proofs.Expiries.{places_count}
 use Rattle.xet_ties.proofs.Heard.{Match}
-use Rattle.xet_ties.proofs.Lates.{SaidLate, late_both}
-use Rattle.xet_ties.proofs.Pairs.{lanes_most}
-use Rattle.xet_ties.proofs.Telling.{count-append, expired-push}
+use Rattle.xet_ties.proofs.Lates.{SaidLate}
+use Rattle.xet_ties.proofs.Telling.{expired-push}
 
 -- ---- what a query asks for
 
@@ -153,12 +152,12 @@ again_more asked more i less late [] (said.Block v ∷ a) f t = again_more asked
 again_more asked more i less late (e ∷ h) (said.Block v ∷ a) f t =
     let m = f e.plan e.index in
     let z = t.0 in
-    (omega (arith, m, z), t.1, again_more asked more i less late h a f t.2)
+    (omega (arith, m, z), again_more asked more i less late h a f t.1)
 
 -- ---- lists of answers
 
 -- an entry is of its own block
-self : (e : Served) → cond {A = ℕ} (is_pair e.plan e.index e) 1 0 ≡ 1
+pub self : (e : Served) → cond {A = ℕ} (is_pair e.plan e.index e) 1 0 ≡ 1
 self e =
     let p : (e.plan == e.plan) ≡ true = eq-eqb e.plan e.plan refl in
     let k : (e.index == e.index) ≡ true = eq-eqb e.index e.index refl in
@@ -185,40 +184,24 @@ ordered_join asked i late h (said.Expired e ∷ a) c d =
 ordered_join asked i late [] (said.Block b ∷ a) c d = ordered_join asked i late [] a c d
 ordered_join asked i late (e ∷ h) (said.Block b ∷ a) c d =
     let own = self e in
-    let mine = count_by-cons (is_pair e.plan e.index) e h in
-    let one = c e.plan e.index in (
+    let mine = count_by-cons (is_pair e.plan e.index) e h in (
       d e.plan e.index (omega (arith, own, mine)),
-      omega (arith, own, mine, one),
       ordered_join asked i late h a
           (λ p k. let one = c p k in let n = count_by-cons (is_pair p k) e h in omega (arith, one, n))
           (λ p k j. let n = count_by-cons (is_pair p k) e h in d p k (omega (arith, j, n))),
     )
 
--- of each block with bytes among these there is no expired answer among those
-abbrev pub NoneAfter : List Served → List Said → Type 0
-NoneAfter served all = (p k : ℕ) → 0 < count_by (is_pair p k) served → count_by (is_pair p k) (late_in all) ≡ 0
-
 -- two lists of answers, one after the other
-pub ordered_append : (asked : List Query) (i : ℕ) (late h g : List Served) (a c : List Said) → length h ≡ length (bytes_in a) → NoneAfter h c → NoneAgain asked i late h a → NoneAgain asked (i + length (plans_in a)) (late_since asked i late a) g c
+pub ordered_append : (asked : List Query) (i : ℕ) (late h g : List Served) (a c : List Said) → length h ≡ length (bytes_in a) → NoneAgain asked i late h a → NoneAgain asked (i + length (plans_in a)) (late_since asked i late a) g c
     → NoneAgain asked i late (h ++ g) (a ++ c)
-ordered_append asked i late [] g [] c e d x y = let z : i + 0 ≡ i = omega arith in subst (λ (j : ℕ). NoneAgain asked j late g c) z y
-ordered_append asked i late (s ∷ h) g [] c e d x y = absurd (omega (arith, e))
-ordered_append asked i late h g (said.Plan v ∷ a) c e d x y =
+ordered_append asked i late [] g [] c e x y = let z : i + 0 ≡ i = omega arith in subst (λ (j : ℕ). NoneAgain asked j late g c) z y
+ordered_append asked i late (s ∷ h) g [] c e x y = absurd (omega (arith, e))
+ordered_append asked i late h g (said.Plan v ∷ a) c e x y =
     let z : i + length (v ∷ plans_in a) ≡ (i + 1) + length (plans_in a) = omega arith in
-    ordered_append asked (i + 1) (of_others asked i late) h g a c e d x (subst (λ (j : ℕ). NoneAgain asked j (late_since asked (i + 1) (of_others asked i late) a) g c) z y)
-ordered_append asked i late h g (said.Expired v ∷ a) c e d x y = (x.0, ordered_append asked i (v ∷ late) h g a c e d x.1 y)
-ordered_append asked i late [] g (said.Block v ∷ a) c e d x y = absurd (omega (arith, e))
-ordered_append asked i late (s ∷ h) g (said.Block v ∷ a) c e d x y =
-    let own = self s in
-    let mine = count_by-cons (is_pair s.plan s.index) s h in
-    let first = x.1 in
-    let then = d s.plan s.index (omega (arith, own, mine)) in
-    let both = ap (λ (l : List Served). count_by (is_pair s.plan s.index) l) (late_both a c) in
-    let sum = count-append (is_pair s.plan s.index) (late_in a) (late_in c) in (
-      x.0,
-      omega (arith, first, then, both, sum),
-      ordered_append asked i late h g a c (omega (arith, e)) (λ p k j. let n = count_by-cons (is_pair p k) s h in d p k (omega (arith, n, j))) x.2 y,
-    )
+    ordered_append asked (i + 1) (of_others asked i late) h g a c e x (subst (λ (j : ℕ). NoneAgain asked j (late_since asked (i + 1) (of_others asked i late) a) g c) z y)
+ordered_append asked i late h g (said.Expired v ∷ a) c e x y = (x.0, ordered_append asked i (v ∷ late) h g a c e x.1 y)
+ordered_append asked i late [] g (said.Block v ∷ a) c e x y = absurd (omega (arith, e))
+ordered_append asked i late (s ∷ h) g (said.Block v ∷ a) c e x y = (x.0, ordered_append asked i late h g a c (omega (arith, e)) x.1 y)
 
 -- no expired answer
 ordered_none : (asked : List Query) (i : ℕ) (late : List Served) (a : List Said) → late_in a ≡ [] → NoneAgain asked i late [] a
@@ -395,7 +378,7 @@ in_order_query (b ∷ bs) (n ∷ ns) lost qs a (x ∷ xs) e t o =
     let known = recorded x.asked lost in
     subst (λ (l : List Query). NoneAgain l 0 [] x.served (x.said ++ a)) (sym (recorded_query x.asked qs lost))
     (subst (λ (s : List Served). NoneAgain known 0 [] s (x.said ++ a)) (append-nil x.served)
-    (ordered_append known 0 [] x.served [] x.said a t.0.paired (λ p k j. ap (λ (l : List Served). count_by (is_pair p k) l) e) o (ordered_none known (0 + length (plans_in x.said)) (late_since known 0 [] x.said) a e)))
+    (ordered_append known 0 [] x.served [] x.said a t.0.paired o (ordered_none known (0 + length (plans_in x.said)) (late_since known 0 [] x.said) a e)))
 
 pub first_late_query : (es : List Event) (lost : List Query) (ls : List (List Place)) (qs : List Query) (a : List Said) (xs : List Exchange) → late_in a ≡ [] → FirstLate es lost ls xs → FirstLate es (lost ++ qs) ls (heard_first qs a xs)
 first_late_query es lost [] qs a xs e t = tt
@@ -411,7 +394,7 @@ first_late_query es lost (l ∷ ls) qs a (x ∷ xs) e t = λ p k i.
 
 -- what the first connection served and said in a join goes on in order
 abbrev pub FirstJoined : List Query → List (List Served) → List (List Said) → List Exchange → Type 0
-FirstJoined lost (h ∷ hs) (a ∷ alls) (x ∷ xs) = NoneAgain (recorded x.asked lost) (0 + length (plans_in x.said)) (late_since (recorded x.asked lost) 0 [] x.said) h a × NoneAfter x.served a
+FirstJoined lost (h ∷ hs) (a ∷ alls) (x ∷ xs) = NoneAgain (recorded x.asked lost) (0 + length (plans_in x.said)) (late_since (recorded x.asked lost) 0 [] x.said) h a
 FirstJoined lost [] alls xs = Unit {0}
 FirstJoined lost (h ∷ hs) [] xs = Unit {0}
 FirstJoined lost (h ∷ hs) (a ∷ alls) [] = Unit {0}
@@ -423,7 +406,7 @@ in_order_join bs ns lost (h ∷ hs) (a ∷ alls) [] t j o = tt
 in_order_join [] [] lost (h ∷ hs) (a ∷ alls) (x ∷ xs) t j o = absurd t
 in_order_join [] (n ∷ ns) lost (h ∷ hs) (a ∷ alls) (x ∷ xs) t j o = absurd t
 in_order_join (b ∷ bs) [] lost (h ∷ hs) (a ∷ alls) (x ∷ xs) t j o = absurd t
-in_order_join (b ∷ bs) (n ∷ ns) lost (h ∷ hs) (a ∷ alls) (x ∷ xs) t j o = ordered_append (recorded x.asked lost) 0 [] x.served h x.said a t.0.paired j.1 o j.0
+in_order_join (b ∷ bs) (n ∷ ns) lost (h ∷ hs) (a ∷ alls) (x ∷ xs) t j o = ordered_append (recorded x.asked lost) 0 [] x.served h x.said a t.0.paired o j
 
 pub first_late_join : (es : List Event) (lost : List Query) (hs : List (List Served)) (alls : List (List Said)) (ks : List (List Place)) (bs ns : List ClientTold) (xs : List Exchange) → EachExchange bs ns xs → Match hs alls xs → SaidLate alls ks → FirstLate es lost (no_late bs) xs
     → FirstLate es lost ks (heard_join hs alls xs)
@@ -468,29 +451,21 @@ FirstCounts fs (h ∷ hs) (a ∷ alls) = (p k : ℕ) → count_by (is_pair p k) 
 FirstCounts fs [] alls = Unit {0}
 FirstCounts fs (h ∷ hs) [] = Unit {0}
 
-pub first_joined : (es : List Event) (fs : List Ask) (hs : List (List Served)) (alls : List (List Said)) (bs ns : List ClientTold) (lost : List Query) (xs : List Exchange) → FirstCounts fs hs alls → ((p k : ℕ) → count_by (fetches p k) es + count_by (is_pair p k) (map asks_for fs) ≤ 1) → All (IsFreshAsk es) fs
-    → EachExchange bs ns xs → EachServed es 0 xs (no_hidden bs) → FirstLate es lost (no_late bs) xs → FirstJoined lost hs alls xs
-first_joined es fs [] alls bs ns lost xs c one fresh t s o = tt
-first_joined es fs (h ∷ hs) [] bs ns lost xs c one fresh t s o = tt
-first_joined es fs (h ∷ hs) (a ∷ alls) bs ns lost [] c one fresh t s o = tt
-first_joined es fs (h ∷ hs) (a ∷ alls) [] [] lost (x ∷ xs) c one fresh t s o = absurd t
-first_joined es fs (h ∷ hs) (a ∷ alls) [] (n ∷ ns) lost (x ∷ xs) c one fresh t s o = absurd t
-first_joined es fs (h ∷ hs) (a ∷ alls) (b ∷ bs) ns lost (x ∷ xs) c one fresh t s o =
+pub first_joined : (es : List Event) (fs : List Ask) (hs : List (List Served)) (alls : List (List Said)) (bs ns : List ClientTold) (lost : List Query) (xs : List Exchange) → FirstCounts fs hs alls → ((p k : ℕ) → count_by (is_pair p k) (map asks_for fs) ≤ 1) → All (IsFreshAsk es) fs
+    → EachExchange bs ns xs → FirstLate es lost (no_late bs) xs → FirstJoined lost hs alls xs
+first_joined es fs [] alls bs ns lost xs c one fresh t o = tt
+first_joined es fs (h ∷ hs) [] bs ns lost xs c one fresh t o = tt
+first_joined es fs (h ∷ hs) (a ∷ alls) bs ns lost [] c one fresh t o = tt
+first_joined es fs (h ∷ hs) (a ∷ alls) [] [] lost (x ∷ xs) c one fresh t o = absurd t
+first_joined es fs (h ∷ hs) (a ∷ alls) [] (n ∷ ns) lost (x ∷ xs) c one fresh t o = absurd t
+first_joined es fs (h ∷ hs) (a ∷ alls) (b ∷ bs) ns lost (x ∷ xs) c one fresh t o =
     let known = recorded x.asked lost in
-    let old = late_since known 0 [] x.said in (
-      ordered_join known (0 + length (plans_in x.said)) old h a (λ p k. let m = c p k in let u = one p k in omega (arith, m, u))
-          (λ p k i.
-          let m = c p k in
-          let f = asked_fresh es fs p k fresh (omega (arith, m, i)) in
-          ⊎_elim
-          (λ (some : 0 < count_by (is_pair p k) old). ⊎_elim (λ (e : is_expired es p k ≡ true). absurd (let z : false ≡ true = sym f ∙ e in cc)) (λ (none : 0 < 0). absurd (omega (arith, none))) (o p k some))
-          (λ (none : count_by (is_pair p k) old ≤ 0). omega (arith, none))
-          (cases_lt 0 (count_by (is_pair p k) old))),
-      λ p k i.
-          let m = c p k in
-          let u = one p k in
-          let was = ap (λ (l : List Served). count_by (is_pair p k) l) s.0 in
-          let both = count-append (is_pair p k) (served_by 0 es) [] in
-          let most = lanes_most p k [] es 0 (b ∷ []) in
-          omega (arith, m, u, was, both, most, i),
-    )
+    let old = late_since known 0 [] x.said in
+    ordered_join known (0 + length (plans_in x.said)) old h a (λ p k. let m = c p k in let s = one p k in omega (arith, m, s))
+    (λ p k i.
+    let m = c p k in
+    let f = asked_fresh es fs p k fresh (omega (arith, m, i)) in
+    ⊎_elim
+    (λ (some : 0 < count_by (is_pair p k) old). ⊎_elim (λ (e : is_expired es p k ≡ true). absurd (let z : false ≡ true = sym f ∙ e in cc)) (λ (none : 0 < 0). absurd (omega (arith, none))) (o p k some))
+    (λ (none : count_by (is_pair p k) old ≤ 0). omega (arith, none))
+    (cases_lt 0 (count_by (is_pair p k) old)))

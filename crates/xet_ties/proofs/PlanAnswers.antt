@@ -1,5 +1,5 @@
 -- Each block is answered no more often than there are queries for its plan, by all connections together.
-use Rattle.std.proofs.Common.{◌≡◌, ℕ, zero, suc, ◌+◌, ◌≤◌, ◌==◌, ◌&&◌, ◌||◌, Bool, true, false, cond, List, [], ◌∷◌, ◌++◌, refl, sym, subst, ◌∙◌, ap, arith, append_assoc, Some, None, Option, length, ◌-◌, length-append}
+use Rattle.std.proofs.Common.{◌≡◌, ℕ, zero, suc, ◌+◌, ◌≤◌, ◌==◌, ◌&&◌, ◌||◌, Bool, true, false, cond, List, [], ◌∷◌, ◌++◌, refl, sym, subst, ◌∙◌, ap, arith, append_assoc, Some, None, Option, length, ◌-◌, length-append, ⊎_elim, ◌<◌}
 use Rattle.std.specs.Prelude.{All, count_by, filter, map, option_to_list, slice_get, take}
 use Rattle.std.specs.List.{flat_map, list_any}
 use Rattle.std.specs.Option.{option_or}
@@ -22,11 +22,12 @@ use Rattle.xet_run.specs.Events.{Task, ended, expires, has_more, is_admit, needs
 use Rattle.xet_run.proofs.CallerLemmas.{count_by-push, first_some-push, same_numbers}
 use Rattle.xet_ties.specs.Causes.{late_answers}
 use Rattle.xet_ties.specs.History.{EachAfter, IsRenewed, actual_range, asked_by, asked_in, block_at, blocks_in, expiry_of, is_expired, range_at, range_in, served_by}
-use Rattle.xet_ties.specs.InCall.{Exchange, served_of_all}
+use Rattle.xet_ties.specs.InCall.{Exchange, Place, served_of_all}
 use Rattle.xet_ties.specs.Legal.{FirstFollowed, plan_queries}
 use Rattle.xet_ties.specs.Saids.{FirstRenewed, FirstSaid, IsEventSaid, own_query, same_start}
 use Rattle.xet_ties.specs.Setup.{RunTold, Setup}
-use Rattle.xet_ties.specs.Ties.{EachServed, FirstInOrder, HeardAsked, IsPlannedEntry, LatePlanned, Slack, Stop, Ties, all_of, is_pair, recorded}
+use Rattle.xet_ties.specs.Ties.{EachExpired, EachServed, FirstInOrder, FirstLate, HeardAsked, IsPlannedEntry}
+use Rattle.xet_ties.specs.Ties.{LatePlanned, Slack, Stop, Ties, all_late, all_of, at_place, is_pair, late_since, recorded}
 use Rattle.xet_ties.proofs.Asks.{or_none}
 use Rattle.xet_ties.proofs.Orders.{now_expired}
 use Rattle.xet_ties.proofs.Renewed.{lost_few}
@@ -418,6 +419,34 @@ recorded_asked asked told lost e =
     ∙ take-append-le (length told) told lost (omega arith)
     ∙ take_all (length told) told (omega arith)
 
+-- a block that the first connection answered as expired, with no recorded refresh of its plan since, wasn't served
+unserved : (g : Setup) (b n : RunTold) (es : List Event) (stop : Stop) (sl : Slack) → Ties g b n es stop sl
+    → (x : Exchange) (rest : List Exchange) → sl.heard ≡ x ∷ rest → (p k : ℕ)
+    → 0 < count_by (is_pair p k) (late_since (recorded x.asked sl.lost) 0 [] x.said)
+    → count_by (is_pair p k) (served_of_all sl.heard) ≡ 0
+unserved g b n es stop sl t x rest e p k i = by sl.late refl
+  where
+    by : (ls : List (List Place)) → sl.late ≡ ls → count_by (is_pair p k) (served_of_all sl.heard) ≡ 0
+    by [] f =
+        absurd (subst (λ (v : List (List Place)). EachExpired es 0 (x ∷ rest) v) f
+        (subst (λ (l : List Exchange). EachExpired es 0 l sl.late) e t.expired))
+    by (l ∷ ls) f =
+        let late : FirstLate es sl.lost (l ∷ ls) (x ∷ rest) =
+        subst (λ (v : List (List Place)). FirstLate es sl.lost v (x ∷ rest)) f
+        (subst (λ (v : List Exchange). FirstLate es sl.lost sl.late v) e t.first_late) in
+        let once = t.served.once p k in
+        let served = heard_count p k es 0 b.clients n.clients sl.heard sl.hidden t.heard t.heard_served in
+        let most = lanes_most p k [] es 0 b.clients in
+        ⊎_elim
+        (λ (h : is_expired es p k ≡ true).
+        let z = ap (λ (v : Bool). cond {A = ℕ} v 0 1) h in omega (arith, once, served, most, z))
+        (λ (h : 0 < count_by (at_place p k) l).
+        let o = one_most (is_expired es p k) in
+        let s = ap (λ (v : List (List Place)). count_by (at_place p k) (all_late v)) f in
+        let c = count-append (at_place p k) l (all_late ls) in
+        omega (arith, once, served, most, o, s, c, h))
+        (late p k i)
+
 pub first_followed : (g : Setup) (b n : RunTold) (es : List Event) (stop : Stop) (sl : Slack) → IsAllowedHistory es
     → Ties g b n es stop sl → FirstFollowed g sl.heard
 first_followed g b n es stop sl a t = by sl.heard refl t.in_order t.refreshes
@@ -435,6 +464,9 @@ first_followed g b n es stop sl a t = by sl.heard refl t.in_order t.refreshes
           most = omega (arith, lost);
           renewed = r;
           in_order = o;
+          late = λ p k i.
+              ap (λ (l : List Exchange). count_by (is_pair p k) (served_of_all l)) (sym e)
+              ∙ unserved g b n es stop sl t x rest e p k i;
           few = λ p k.
               let mine = ap (λ (l : List Exchange). late_answers p k l) e in
               let here = ap (λ (l : List Exchange). count_by (is_pair p k) (served_of_all l)) e in

@@ -187,6 +187,7 @@ tie_rest g b n es sl rest spare fewer less t = record {
   expired = t.expired;
   late_planned = t.late_planned;
   in_order = t.in_order;
+  bytes_last = t.bytes_last;
   first_late = t.first_late;
   heard_served = t.heard_served;
   unfailed = t.unfailed;

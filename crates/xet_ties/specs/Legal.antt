@@ -22,8 +22,8 @@ use Rattle.xet_ties.specs.InCall.{EachExchange, Exchange, Look, answers_of, expi
 use Rattle.xet_ties.specs.RunCalls.{DidNothing, IsCancelled, IsUnspent, Unfailed, stop_of}
 use Rattle.xet_ties.specs.Saids.{AllPassed, AllRenewed, BlockOfPlan, own_query, planned_of, same_start}
 use Rattle.xet_ties.specs.Setup.{AllTell, CacheTells, EachGoesOn, IsEmptyRange, IsOver, RunTold, Setup, most_lanes}
-use Rattle.xet_ties.specs.Ties.{CutsRange, EachUnasked, EachUnfailed, IsEntryOf, IsFaultless, NoneAgain, Reaches}
-use Rattle.xet_ties.specs.Ties.{is_look, is_pair, is_served, missed}
+use Rattle.xet_ties.specs.Ties.{CutsRange, EachBytesLast, EachUnasked, EachUnfailed, IsEntryOf, IsFaultless}
+use Rattle.xet_ties.specs.Ties.{NoneAgain, Reaches, is_look, is_pair, is_served, late_since, missed}
 
 -- ---- what was heard
 
@@ -177,9 +177,12 @@ pub record IsFollowed (g : Setup) (x : Exchange) (xs : List Exchange) : Type 0 w
   pub count : ℕ
   pub most : length x.asked ≤ count + 1
   pub renewed : AllRenewed g x count
-  -- an expired block is answered again only behind the answer to one of them that asks for its own plan again, and a
-  -- served one not at all, by what this connection served and said in its order
+  -- an expired block is answered again only behind the answer to one of them that asks for its own plan again, by what
+  -- this connection served and said in its order
   pub in_order : NoneAgain (take count x.asked) 0 [] x.served x.said
+  -- and where none of these answers came since, no connection served it
+  pub late : (p k : ℕ) → 0 < count_by (is_pair p k) (late_since (take count x.asked) 0 [] x.said)
+      → count_by (is_pair p k) (served_of_all xs) ≡ 0
   -- and a block was answered, as expired or with bytes, by all connections together, no more often than its plan was
   -- asked for by these
   pub few : (p k : ℕ)
@@ -268,10 +271,11 @@ pub record Legal (g : Setup) (before after : RunTold) (answer : Result ℕ FileR
   -- and on Ok the last one too
   pub all_renewed : OnOk answer (FirstRenewsBut g 0 heard.list)
   -- by what the first connection was asked, and what it served and said in its order, an expired block is answered
-  -- again only behind an answer that isn't refused, to a query that asks for its own plan again, and a served one not
-  -- at all; and no block is answered more often by all connections than its plan was asked for and so answered,
-  -- whatever the run's answer
+  -- again only behind an answer that isn't refused, to a query that asks for its own plan again; and no block is
+  -- answered more often by all connections than its plan was asked for and so answered, whatever the run's answer
   pub followed : FirstFollowed g heard.list
+  -- and no connection answers for a block as expired that it served, by the order of its answers
+  pub bytes_last : EachBytesLast heard.list
   -- no more expired answers were heard than the connections count
   pub counted : EachCounted before.clients after.clients heard.list
   -- each request that was answered as expired is for a block of a plan that was said

@@ -148,9 +148,9 @@ late_since asked place late (said.Expired e ∷ all) = late_since asked place (e
 abbrev pub IsOfNone : Served → List Served → Type 0
 IsOfNone e late = count_by (is_pair e.plan e.index) late ≡ 0
 
--- after an expired answer a block's next one comes behind an answer to a query that asks for its plan again, and after
--- one with bytes none comes, by what a connection was asked, and what it served and said in its order; the requests
--- that were answered as expired before are given
+-- after an expired answer a block's next one comes behind an answer to a query that asks for its plan again, by what a
+-- connection was asked, and what it served and said in its order; the requests that were answered as expired before are
+-- given
 abbrev pub NoneAgain : List Query → ℕ → List Served → List Served → List Said → Type 0
 NoneAgain asked place late served [] = Unit {0}
 NoneAgain asked place late served (said.Plan a ∷ all) =
@@ -159,7 +159,19 @@ NoneAgain asked place late served (said.Expired e ∷ all) =
     IsOfNone e late × NoneAgain asked place (e ∷ late) served all
 NoneAgain asked place late [] (said.Block b ∷ all) = NoneAgain asked place late [] all
 NoneAgain asked place late (e ∷ served) (said.Block b ∷ all) =
-    IsOfNone e late × IsOfNone e (late_in all) × NoneAgain asked place late served all
+    IsOfNone e late × NoneAgain asked place late served all
+
+-- after an answer with bytes a block has no expired one, by what a connection served and said in its order
+abbrev pub BytesLast : List Served → List Said → Type 0
+BytesLast served [] = Unit {0}
+BytesLast served (said.Plan a ∷ all) = BytesLast served all
+BytesLast served (said.Expired e ∷ all) = BytesLast served all
+BytesLast [] (said.Block b ∷ all) = BytesLast [] all
+BytesLast (e ∷ served) (said.Block b ∷ all) = IsOfNone e (late_in all) × BytesLast served all
+
+-- so of each connection
+abbrev pub EachBytesLast : List Exchange → Type 0
+EachBytesLast xs = All (λ x. BytesLast x.served x.said) xs
 
 -- the queries whose answers are recorded: all but the last ones, as many as are lost
 abbrev pub recorded : List Query → List Query → List Query
@@ -408,9 +420,10 @@ pub record Ties (g : Setup) (before after : RunTold) (es : List Event) (stop : S
   pub expired : EachExpired es 0 slack.heard slack.late
   pub late_planned : LatePlanned es slack.heard
   -- the first connection answers for an expired block again only behind a recorded answer to a query that asks for its
-  -- plan again, and for a served one not again
+  -- plan again, and none answers one as expired that it served
   pub in_order : FirstInOrder slack.lost slack.heard
   pub first_late : FirstLate es slack.lost slack.late slack.heard
+  pub bytes_last : EachBytesLast slack.heard
   pub heard_served : EachServed es 0 slack.heard slack.hidden
   pub asked : FirstAsked g.file es slack.lost before.clients after.clients
   pub heard_asked : HeardAsked g.file es slack.lost slack.heard
