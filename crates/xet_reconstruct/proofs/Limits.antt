@@ -69,6 +69,7 @@ unlimited_legal g b n answer l = record {
   all_renewed = l.all_renewed;
   followed = l.followed;
   bytes_last = l.bytes_last;
+  behind = l.behind;
   counted = l.counted;
   late = l.late;
   under = l.under;

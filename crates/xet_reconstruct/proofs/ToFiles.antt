@@ -104,6 +104,7 @@ module _ (g : Setup) (b n : RunTold) (at : SinkTold) (flushed : Option ℕ) (fau
     all_renewed = l.all_renewed;
     followed = l.followed;
     bytes_last = l.bytes_last;
+    behind = l.behind;
     counted = l.counted;
     late = l.late;
     under = l.under;

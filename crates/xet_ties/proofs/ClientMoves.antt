@@ -34,6 +34,7 @@ use Rattle.xet_ties.proofs.Renewed.{renewed_join, renewed_query}
 use Rattle.xet_ties.proofs.Heard.{FirstEvent, exchange_join, exchange_query, grew_first, grew_join, join_match, passed_more, said_join, said_planned, said_query}
 use Rattle.xet_ties.proofs.EarlyEnds.{ends_push}
 use Rattle.xet_ties.proofs.BytesLasts.{last_query}
+use Rattle.xet_ties.proofs.PlansFirst.{behind_join, behind_query}
 use Rattle.xet_ties.proofs.Orders.{FirstJoined, first_late_join, first_late_push, first_late_query, first_late_recorded, in_order_join, in_order_query, in_order_recorded}
 use Rattle.xet_ties.proofs.HeardServed.{heard_served_same, heard_served_join, heard_served_query}
 
@@ -113,6 +114,7 @@ tie_query g b n es sl to qs all s l calm unfailed t = record {
   expired = expired_query es qs all sl.heard sl.late (first_late n.clients to qs all s) t.expired;
   late_planned = late_query es qs all sl.heard (first_late n.clients to qs all s) t.late_planned;
   bytes_last = last_query b.clients n.clients qs all sl.heard (first_late n.clients to qs all s) t.heard t.bytes_last;
+  behind = behind_query b.clients n.clients qs all sl.heard (first_late n.clients to qs all s) t.heard t.behind;
   in_order = in_order_query b.clients n.clients sl.lost qs all sl.heard (first_late n.clients to qs all s) t.heard t.in_order;
   first_late = first_late_query es sl.lost sl.late qs all sl.heard (first_late n.clients to qs all s) t.first_late;
   heard_served = heard_served_query es qs all sl.heard sl.hidden t.heard_served;
@@ -157,6 +159,7 @@ tie_planned g b n es sl spare plan query terms blocks lost polls next within sta
       expired = expired_same es e 0 sl.heard sl.late (λ l w. refl) t.expired;
       late_planned = late_push es e sl.heard t.late_planned;
       bytes_last = t.bytes_last;
+      behind = t.behind;
       in_order = in_order_recorded sl.lost ((g.file, query) ∷ []) [] sl.heard lost t.in_order;
       first_late = first_late_push es e [] sl.late sl.heard (λ p k. refl) (first_late_recorded es sl.lost ((g.file, query) ∷ []) [] sl.late sl.heard lost t.first_late);
       heard_served = heard_served_same es e 0 sl.heard sl.hidden (λ l w. refl) t.heard_served;
@@ -254,6 +257,7 @@ tie_join g b n es sl to hs alls ks j once tried planned lates past no_h no_k wai
       expired = expired_join es 0 hs alls ks sl.late sl.heard match (joined_late n.clients to hs alls ks j) (subst (λ (l : List (List Place)). NoneLate l) (sym no_k) (none_late b.clients)) t.expired;
       late_planned = late_join es hs alls sl.heard match lates t.late_planned;
       bytes_last = last;
+      behind = behind_join g es hs alls b.clients n.clients sl.heard match t.heard t.cuts t.numbers t.said planned lates t.behind;
       in_order = in_order_join b.clients n.clients sl.lost hs alls sl.heard t.heard joined t.in_order;
       first_late = first_late_join es sl.lost hs alls ks b.clients n.clients sl.heard t.heard match (joined_late n.clients to hs alls ks j) (subst (λ (l : List (List Place)). FirstLate es sl.lost l sl.heard) no_k t.first_late);
       heard_served = heard_served_join es 0 hs alls b.clients sl.heard match (subst (λ (l : List (List Served)). EachServed es 0 sl.heard l) no_h t.heard_served);

@@ -33,6 +33,7 @@ use Rattle.xet_ties.proofs.Headline as headline
 use Rattle.xet_ties.proofs.LowestLanes.{all_passed}
 use Rattle.xet_ties.proofs.Pairs.{served_once, served_planned}
 use Rattle.xet_ties.proofs.PlanAnswers.{first_followed}
+use Rattle.xet_ties.proofs.PlansFirst.{behind_start}
 use Rattle.xet_ties.proofs.Plannings.{PlanningOf, first_pieces, first_plans_all, numbered_at, planning_heard, plans_end, some_pieces}
 use Rattle.xet_ties.proofs.Renewed.{renews_all, renews_but_last, renews_none}
 use Rattle.xet_ties.proofs.SaidTies.{block_said}
@@ -280,6 +281,7 @@ legal_refused g b x h = record {
   all_renewed = tt;
   followed = none_followed g b.clients;
   bytes_last = last_start b.clients;
+  behind = behind_start b.clients;
   counted = counted_start b.clients;
   late = late_nothing g b.clients;
   under = λ u. absurd u;
@@ -341,6 +343,7 @@ legal_ran g b n es (Ok k) h a r =
       planned = planned_heard g b n es None t.slack t.ties;
       followed = first_followed g b n es None t.slack a t.ties;
       bytes_last = t.ties.bytes_last;
+      behind = t.ties.behind;
       counted = each_counted es 0 b.clients n.clients t.slack.hidden t.slack.late t.slack.heard t.ties.served.lanes t.ties.expired;
       late = late_heard g b n es None t.slack t.ties;
       under = λ u. none_spent g b n es None t.slack (t.left.late (λ e. absurd (cc))) (t.under u) t.ties;
@@ -387,6 +390,7 @@ legal_ran g b n es (Err e) h a r =
       planned = planned_heard g b n es (Some e) t.slack t.ties;
       followed = first_followed g b n es (Some e) t.slack a t.ties;
       bytes_last = t.ties.bytes_last;
+      behind = t.ties.behind;
       counted = each_counted es 0 b.clients n.clients t.slack.hidden t.slack.late t.slack.heard t.ties.served.lanes t.ties.expired;
       late = late_heard g b n es (Some e) t.slack t.ties;
       under = λ u. none_spent g b n es (Some e) t.slack (t.left.late (unspent_other (Some e) u)) (t.under u) t.ties;

@@ -37,6 +37,7 @@ mod PartTies
 mod PastEnds
 mod PlanAnswers
 mod PlanAsks
+mod PlansFirst
 mod Plannings
 mod Pushes
 mod Recording

@@ -20,7 +20,7 @@ use Rattle.xet_ties.specs.Saids.{EventPassed, FirstRenewed, FirstSaid, IsTested}
 use Rattle.xet_ties.proofs.Heard.{said_push}
 use Rattle.xet_ties.specs.steps.Moves.{Fits}
 use Rattle.xet_ties.specs.Setup.{CacheTells, IsOver, RunTold, Setup, download_of}
-use Rattle.xet_ties.specs.Ties.{all_of, EachBytesLast, FirstInOrder, FirstLate, FirstUnfailed, AllAre, EachExpired, HeardAsked, IsAmong, IsEntryOf, IsLooked, IsTaken, LatePlanned, Slack, Ties, AllWithin, EachServed}
+use Rattle.xet_ties.specs.Ties.{all_of, EachBytesLast, FirstBehind, FirstInOrder, FirstLate, FirstUnfailed, AllAre, EachExpired, HeardAsked, IsAmong, IsEntryOf, IsLooked, IsTaken, LatePlanned, Slack, Ties, AllWithin, EachServed}
 use Rattle.xet_ties.proofs.Lanes.{open_same, served_same}
 use Rattle.xet_ties.proofs.Lates.{expired_same, late_push}
 use Rattle.xet_ties.proofs.Pushes.{cuts_same, first_push, lost_push, limited_same, looked_push, offered_push, polled_push, reaches_more, recorded_same, starts_same, stored_same, taken_push, tried_push, true_same}
@@ -49,6 +49,7 @@ tie_event g b n es e sl to f t = record {
   in_order = subst (λ (l : List Exchange). FirstInOrder to.lost l) (sym f.heard) (in_order_recorded sl.lost (asked_in g.file es e) to.lost sl.heard f.asked t.in_order);
   first_late = subst (λ (l : List Exchange). FirstLate (es ++ e ∷ []) to.lost to.late l) (sym f.heard) (f.first_late t.first_late);
   bytes_last = subst (λ (l : List Exchange). EachBytesLast l) (sym f.heard) t.bytes_last;
+  behind = subst (λ (l : List Exchange). FirstBehind l) (sym f.heard) t.behind;
   heard_served = f.heard_served to.heard (subst (λ (l : List Exchange). EachServed es 0 l sl.hidden) (sym f.heard) t.heard_served);
   unfailed = subst (λ (i : ℕ). FirstUnfailed i b.clients n.clients) (sym f.calm) t.unfailed;
   asked = first_push g.file es e sl.lost to.lost b.clients n.clients f.asked t.asked;
@@ -91,6 +92,7 @@ tie_poll g b n es sl to a t = record {
   late_planned = t.late_planned;
   in_order = t.in_order;
   bytes_last = t.bytes_last;
+  behind = t.behind;
   first_late = t.first_late;
   heard_served = t.heard_served;
   unfailed = t.unfailed;
@@ -162,6 +164,7 @@ tie_limit g b n es sl to l c t = record {
   late_planned = t.late_planned;
   in_order = t.in_order;
   bytes_last = t.bytes_last;
+  behind = t.behind;
   first_late = t.first_late;
   heard_served = t.heard_served;
   unfailed = t.unfailed;
@@ -211,6 +214,7 @@ tie_admit g b n es sl to l c t =
       late_planned = late_push es e sl.heard t.late_planned;
       in_order = t.in_order;
       bytes_last = t.bytes_last;
+      behind = t.behind;
       first_late = first_late_push es e sl.lost sl.late sl.heard (λ p k. refl) t.first_late;
       heard_served = heard_served_same es e 0 sl.heard sl.hidden (λ l w. refl) t.heard_served;
       unfailed = t.unfailed;
@@ -269,6 +273,7 @@ tie_window g b n es sl to bytes took faults link t p q = record {
   late_planned = t.late_planned;
   in_order = t.in_order;
   bytes_last = t.bytes_last;
+  behind = t.behind;
   first_late = t.first_late;
   heard_served = t.heard_served;
   unfailed = t.unfailed;
@@ -326,6 +331,7 @@ tie_fail g b n es sl x spent t =
       late_planned = late_push es e sl.heard t.late_planned;
       in_order = t.in_order;
       bytes_last = t.bytes_last;
+      behind = t.behind;
       first_late = first_late_push es e sl.lost sl.late sl.heard (λ p k. refl) t.first_late;
       heard_served = heard_served_same es e 0 sl.heard sl.hidden (λ l w. refl) t.heard_served;
       unfailed = t.unfailed;
@@ -371,6 +377,7 @@ tie_short g b n es sl t = record {
   late_planned = t.late_planned;
   in_order = t.in_order;
   bytes_last = t.bytes_last;
+  behind = t.behind;
   first_late = t.first_late;
   heard_served = t.heard_served;
   unfailed = t.unfailed;

@@ -188,6 +188,7 @@ tie_rest g b n es sl rest spare fewer less t = record {
   late_planned = t.late_planned;
   in_order = t.in_order;
   bytes_last = t.bytes_last;
+  behind = t.behind;
   first_late = t.first_late;
   heard_served = t.heard_served;
   unfailed = t.unfailed;

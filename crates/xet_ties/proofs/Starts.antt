@@ -39,6 +39,7 @@ use Rattle.xet_ties.proofs.Gains.{gained_none}
 use Rattle.xet_ties.proofs.EarlyEnds.{ends_same, cuts_none}
 use Rattle.xet_ties.proofs.HeardServed.{heard_served_same, heard_served_start}
 use Rattle.xet_ties.proofs.BytesLasts.{last_start}
+use Rattle.xet_ties.proofs.PlansFirst.{behind_start}
 use Rattle.xet_ties.proofs.Orders.{first_late_push, first_late_start, in_order_start}
 
 -- ---- the start
@@ -112,6 +113,7 @@ tie_start g b h = record {
   late_planned = late_start b.clients;
   in_order = in_order_start b.clients;
   bytes_last = last_start b.clients;
+  behind = behind_start b.clients;
   first_late = first_late_start b.clients;
   heard_served = heard_served_start 0 b.clients;
   unfailed = unfailed_start b.clients;
@@ -160,6 +162,7 @@ tie_cancel g b n es sl t =
       late_planned = late_push es e sl.heard t.late_planned;
       in_order = t.in_order;
       bytes_last = t.bytes_last;
+      behind = t.behind;
       first_late = first_late_push es e sl.lost sl.late sl.heard (λ p k. refl) t.first_late;
       heard_served = heard_served_same es e 0 sl.heard sl.hidden (λ l w. refl) t.heard_served;
       unfailed = t.unfailed;
@@ -223,6 +226,7 @@ tie_flush g b n es sl to took faults link t = record {
   late_planned = t.late_planned;
   in_order = t.in_order;
   bytes_last = t.bytes_last;
+  behind = t.behind;
   first_late = t.first_late;
   heard_served = t.heard_served;
   unfailed = t.unfailed;

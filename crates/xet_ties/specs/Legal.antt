@@ -22,8 +22,8 @@ use Rattle.xet_ties.specs.InCall.{EachExchange, Exchange, Look, answers_of, expi
 use Rattle.xet_ties.specs.RunCalls.{DidNothing, IsCancelled, IsUnspent, Unfailed, stop_of}
 use Rattle.xet_ties.specs.Saids.{AllPassed, AllRenewed, BlockOfPlan, own_query, planned_of, same_start}
 use Rattle.xet_ties.specs.Setup.{AllTell, CacheTells, EachGoesOn, IsEmptyRange, IsOver, RunTold, Setup, most_lanes}
-use Rattle.xet_ties.specs.Ties.{CutsRange, EachBytesLast, EachUnasked, EachUnfailed, IsEntryOf, IsFaultless}
-use Rattle.xet_ties.specs.Ties.{NoneAgain, Reaches, is_look, is_pair, is_served, late_since, missed}
+use Rattle.xet_ties.specs.Ties.{CutsRange, EachBytesLast, EachUnasked, EachUnfailed, FirstBehind, IsEntryOf}
+use Rattle.xet_ties.specs.Ties.{IsFaultless, NoneAgain, Reaches, is_look, is_pair, is_served, late_since, missed}
 
 -- ---- what was heard
 
@@ -276,6 +276,8 @@ pub record Legal (g : Setup) (before after : RunTold) (answer : Result ℕ FileR
   pub followed : FirstFollowed g heard.list
   -- and no connection answers for a block as expired that it served, by the order of its answers
   pub bytes_last : EachBytesLast heard.list
+  -- nor does the first one answer for a block before it said the block's plan
+  pub behind : FirstBehind heard.list
   -- no more expired answers were heard than the connections count
   pub counted : EachCounted before.clients after.clients heard.list
   -- each request that was answered as expired is for a block of a plan that was said

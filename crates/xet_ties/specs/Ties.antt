@@ -31,7 +31,7 @@ use Rattle.xet_ties.specs.History.{EachAfter, IsNumberedNext, IsOnLane, IsOneCac
 use Rattle.xet_ties.specs.History.{block_at, cached_in, entry_of, expired_by, fetched_in, fetches, is_expired, kept_in}
 use Rattle.xet_ties.specs.History.{late_by, limits_of, range_at, served_by, telling, round_count}
 use Rattle.xet_ties.specs.InCall.{EachExchange, Exchange, Look, Place, late_places}
-use Rattle.xet_ties.specs.Saids.{EventPassed, FirstRenewed, FirstSaid, IsTested, asks_again}
+use Rattle.xet_ties.specs.Saids.{EventPassed, FirstRenewed, FirstSaid, IsTested, asks_again, is_before, own_place}
 use Rattle.xet_ties.specs.Setup.{AllTell, CacheTells, ClientGoesOn, IsOver, RunTold, Setup, download_of, most_lanes}
 
 -- where a run stands: none while it goes on and where it answered Ok, else the error that it answered
@@ -172,6 +172,26 @@ BytesLast (e ∷ served) (said.Block b ∷ all) = IsOfNone e (late_in all) × By
 -- so of each connection
 abbrev pub EachBytesLast : List Exchange → Type 0
 EachBytesLast xs = All (λ x. BytesLast x.served x.said) xs
+
+-- the own query of the entry's plan stands before this place
+abbrev pub IsSaidBefore : List Query → ℕ → Served → Type 0
+IsSaidBefore asked place e = is_before (own_place asked e.plan) place ≡ true
+
+-- answers for a block come behind the own answer of its plan, by what a connection was asked, and what it served and
+-- said in its order; the place of the query that it answers next is given
+abbrev pub BehindPlans : List Query → ℕ → List Served → List Said → Type 0
+BehindPlans asked place served [] = Unit {0}
+BehindPlans asked place served (said.Plan a ∷ all) = BehindPlans asked (place + 1) served all
+BehindPlans asked place served (said.Expired e ∷ all) =
+    IsSaidBefore asked place e × BehindPlans asked place served all
+BehindPlans asked place [] (said.Block b ∷ all) = BehindPlans asked place [] all
+BehindPlans asked place (e ∷ served) (said.Block b ∷ all) =
+    IsSaidBefore asked place e × BehindPlans asked place served all
+
+-- so of the first connection, which says the plans
+abbrev pub FirstBehind : List Exchange → Type 0
+FirstBehind [] = Unit {0}
+FirstBehind (x ∷ xs) = BehindPlans x.asked 0 x.served x.said
 
 -- the queries whose answers are recorded: all but the last ones, as many as are lost
 abbrev pub recorded : List Query → List Query → List Query
@@ -424,6 +444,8 @@ pub record Ties (g : Setup) (before after : RunTold) (es : List Event) (stop : S
   pub in_order : FirstInOrder slack.lost slack.heard
   pub first_late : FirstLate es slack.lost slack.late slack.heard
   pub bytes_last : EachBytesLast slack.heard
+  -- nor does the first one for a block whose plan it didn't say before
+  pub behind : FirstBehind slack.heard
   pub heard_served : EachServed es 0 slack.heard slack.hidden
   pub asked : FirstAsked g.file es slack.lost before.clients after.clients
   pub heard_asked : HeardAsked g.file es slack.lost slack.heard
