@@ -18,14 +18,14 @@ use Rattle.xet_base.specs.declared.merklehash.MerkleHash.{MerkleHash}
 use Rattle.xet_ties.specs.History.{IsNumberedNext, IsOneCached, IsRenewed, asked_by, served_by, fetches, is_expired, IsWithin}
 use Rattle.xet_ties.specs.steps.Moves.{EachJoined, FirstQuery, JoinStep, QueryStep, no_hidden, no_late, heard_first, heard_join}
 use Rattle.xet_ties.specs.Setup.{AllTell, ClientGoesOn, IsOver, RunTold, Setup, download_of, most_lanes}
-use Rattle.xet_ties.specs.Ties.{EachBytesLast, EachUnasked, FirstLate, FirstUnfailed, NoneLate, all_late, all_of, at_place, is_one, is_pair, is_served, EachLane, FirstAsked, FirstStarts, IsLane, Slack, Ties, IsLost, IsPlannedEntry, IsNextQuery, EachServed}
+use Rattle.xet_ties.specs.Ties.{EachBytesLast, EachUnasked, FirstLate, FirstUnfailed, NoneLate, all_late, all_of, at_place, is_one, is_pair, is_served, EachLane, FirstAsked, FirstStarts, IsLane, Slack, Ties, IsLost, IsPlannedEntry, IsNextQuery, EachServed, lates_of, IsLooked}
 use Rattle.xet_ties.proofs.Lanes.{open_same, served_same}
 use Rattle.xet_ties.specs.InCall.{Place}
 use Rattle.xet_ties.proofs.Gains.{gained_more}
 use Rattle.xet_ties.proofs.Lates.{expired_join, expired_query, expired_same, joined_late, late_join, late_push, late_query, none_late}
 use Rattle.xet_ties.proofs.Pushes.{first_push, limited_same, looked_push, offered_push, polled_push, recorded_same, taken_push, tried_push, true_push, cuts_push}
 use Rattle.xet_ties.proofs.Numbers.{heard_joined, heard_push, heard_query}
-use Rattle.xet_ties.proofs.Telling.{each-push}
+use Rattle.xet_ties.proofs.Telling.{count-append, each-push}
 use Rattle.std.proofs.lemmas.List.Elements.{All-push}
 use Rattle.xet_outside.specs.declared.said.Said.{Said}
 use Rattle.xet_ties.specs.Saids.{EventPassed, FirstRenewed}
@@ -35,6 +35,7 @@ use Rattle.xet_ties.proofs.Heard.{FirstEvent, exchange_join, exchange_query, gre
 use Rattle.xet_ties.proofs.EarlyEnds.{ends_push}
 use Rattle.xet_ties.proofs.BytesLasts.{last_query}
 use Rattle.xet_ties.proofs.PlansFirst.{behind_join, behind_query}
+use Rattle.xet_ties.proofs.Requests.{all_lates, lates_join, lates_query}
 use Rattle.xet_ties.proofs.Orders.{FirstJoined, first_late_join, first_late_push, first_late_query, first_late_recorded, in_order_join, in_order_query, in_order_recorded}
 use Rattle.xet_ties.proofs.HeardServed.{heard_served_same, heard_served_join, heard_served_query}
 
@@ -128,7 +129,7 @@ tie_query g b n es sl to qs all s l calm unfailed t = record {
   refreshes = renewed_query g qs all sl.lost sl.heard t.refreshes;
   passed = passed_more g sl.heard (heard_first qs all sl.heard) es (grew_first qs all sl.heard) t.passed;
   one_cached = t.one_cached;
-  looked = t.looked;
+  looked = subst (λ (l : List Served). IsLooked es sl.pending (all_of sl.hidden ++ l) sl.looks b.clients b.cache n.cache) (sym (lates_query qs all sl.heard (first_late n.clients to qs all s))) t.looked;
   looked_entries = t.looked_entries;
   gained = gained_more g sl.heard (heard_first qs all sl.heard) b.cache n.cache (grew_first qs all sl.heard) t.gained;
   offered = t.offered;
@@ -173,7 +174,7 @@ tie_planned g b n es sl spare plan query terms blocks lost polls next within sta
       refreshes = renewed t.refreshes;
       passed = All-push (EventPassed g sl.heard) es e t.passed tt;
       one_cached = each-push IsOneCached es e t.one_cached tt;
-      looked = looked_push es e sl.pending sl.pending (all_of sl.hidden) (all_of sl.hidden) sl.looks b.clients b.cache n.cache refl (λ x r. omega arith) t.looked;
+      looked = looked_push es e sl.pending sl.pending (all_of sl.hidden ++ lates_of sl.heard) (all_of sl.hidden ++ lates_of sl.heard) sl.looks b.clients b.cache n.cache refl (λ x r. omega arith) t.looked;
       looked_entries = t.looked_entries;
       gained = t.gained;
       offered = offered_push es e sl.due sl.due b.cache n.cache (omega arith) t.offered;
@@ -234,7 +235,7 @@ asked_join f es lost (b ∷ bs) (m ∷ ms) (n ∷ ns) (h ∷ hs) (a ∷ alls) (k
 pub tie_join : (g : Setup) (b n : RunTold) (es : List Event) (sl : Slack) (to : List ClientTold) (hs : List (List Served)) (alls : List (List Said)) (ks : List (List Place)) → EachJoined n.clients to hs alls ks
     → ((p k : ℕ) → (count_by (fetches p k) es + count_by (is_pair p k) (all_of hs)) + count_by (at_place p k) (all_late ks) ≤ cond (is_expired es p k) 0 1)
     → ((p k : ℕ) → count_by (expires p k) es + count_by (at_place p k) (all_late ks) ≤ g.tries) → All (IsPlannedEntry es) (all_of hs) → All (λ all. All (IsPlannedEntry es) (late_in all)) alls → drop most_lanes to ≡ drop most_lanes n.clients → sl.hidden ≡ no_hidden b.clients → sl.late ≡ no_late b.clients
-    → ((x : MerkleHash) (r : ChunkRange) → count_by (is_served x r) (all_of hs) ≤ count_by (is_one x r) sl.pending) → FirstJoined sl.lost hs alls sl.heard → EachBytesLast (heard_join hs alls sl.heard) → (calm : ℕ) → FirstUnfailed calm b.clients to → Ties g b n es None sl
+    → ((x : MerkleHash) (r : ChunkRange) → count_by (is_served x r) (all_of hs) + count_by (is_served x r) (all_lates alls) ≤ count_by (is_one x r) sl.pending) → FirstJoined sl.lost hs alls sl.heard → EachBytesLast (heard_join hs alls sl.heard) → (calm : ℕ) → FirstUnfailed calm b.clients to → Ties g b n es None sl
     → Ties g b (record n { clients = to }) es None (record sl { heard = heard_join hs alls sl.heard; hidden = hs; late = ks; pending = []; calm = calm })
 tie_join g b n es sl to hs alls ks j once tried planned lates past no_h no_k waits joined last calm unfailed t =
     let match = join_match b.clients n.clients to hs alls ks sl.heard j t.heard in
@@ -276,8 +277,11 @@ tie_join g b n es sl to hs alls ks j once tried planned lates past no_h no_k wai
         cover = λ x r.
             let c = t.looked.cover x r in
             let w = waits x r in
+            let l = lates_join (is_served x r) hs alls sl.heard match in
+            let was = count-append (is_served x r) (all_of sl.hidden) (lates_of sl.heard) in
+            let now = count-append (is_served x r) (all_of hs) (lates_of (heard_join hs alls sl.heard)) in
             let c0 = c.kept in
-            record { kept = omega (arith, c0, w); cached = c.cached; honest = λ s o. let c2 = c.honest s o in omega (arith, c2, w) };
+            record { kept = omega (arith, c0, w, l, was, now); cached = c.cached; honest = λ s o. let c2 = c.honest s o in omega (arith, c2, w, l, was, now) };
       };
       looked_entries = t.looked_entries;
       gained = gained_more g sl.heard (heard_join hs alls sl.heard) b.cache n.cache (grew_join hs alls sl.heard match) t.gained;

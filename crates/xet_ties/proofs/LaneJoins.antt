@@ -16,6 +16,8 @@ use Rattle.xet_claims.specs.ClaimViews.{once_below, times}
 use Rattle.xet_ties.specs.steps.Moves.{EachJoined, JoinStep, heard_join, no_hidden, no_late}
 use Rattle.xet_ties.specs.steps.Rounds.{AreLaneEnds, EachHides, IsHeardStep, IsLaneEnd, got_of}
 use Rattle.xet_ties.specs.InCall.{Exchange, place_of}
+use Rattle.xet_ties.proofs.Requests.{all_lates}
+use Rattle.xet_ties.proofs.Telling.{count-append}
 use Rattle.xet_ties.proofs.LowestLanes.{lane_failed}
 use Rattle.xet_ties.proofs.Orders.{FirstCounts}
 use Rattle.xet_ties.proofs.RoundData.{ArePaired, lanes_more}
@@ -508,18 +510,6 @@ asks_count : (x : MerkleHash) (r : ChunkRange) (qs : List Ask) → weigh (λ e. 
 asks_count x r [] = refl
 asks_count x r (a ∷ qs) = let h = asks_count x r qs in let k : Key = key_of a in let n = count_by-cons (is_block x r) k.2 (blocks_all (map key_of qs)) in omega (arith, h, n)
 
--- the entries that the lanes were given are of no more blocks than the round's fetches
-pub entries_among : (fs : List Ask) (bs ns : List ClientTold) (es : List (List LaneStep)) → (d : DrewApart fs bs ns es) → (x : MerkleHash) (r : ChunkRange)
-    → (let j = are_joined fs bs ns d.drawn es d.each in count_by (is_served x r) (all_of (lanes_entries j.keys j.hidden)) ≤ count_by (is_block x r) (blocks_all (map key_of fs)))
-entries_among fs bs ns es d x r =
-    let j = are_joined fs bs ns d.drawn es d.each in
-    let h : Served → ℕ = λ e. cond (is_served x r e) 1 0 in
-    let most = numbers_weigh h fs (concat d.drawn) (λ y. let a = d.apart y in let o = once_most y d.count in omega (arith, a, o)) (λ y l. let w = d.within in d.apart y ∙ once_past y d.count (omega (arith, w, l))) in
-    let w = j.weighs h in
-    let c = entries_count (is_served x r) (all_of (lanes_entries j.keys j.hidden)) in
-    let q = asks_count x r fs in
-    omega (arith, most, w, c, q)
-
 -- of each lane, by what its own connection said
 pub each_failed : (fs : List Ask) (bs ns : List ClientTold) (drawn : List (List ℕ)) (es : List (List LaneStep)) (xs : List Exchange) → (e : EachDrew fs bs ns drawn es) → ArePaired bs xs
     → (let j = are_joined fs bs ns drawn es e in AreLaneEnds fs bs (heard_join (lanes_entries j.keys j.hidden) j.said xs) j.hidden es)
@@ -635,3 +625,24 @@ answered_among fs bs ns es d p k =
     let c = counted p k (map asks_for fs) in
     let l = lates_counted p k j.said in
     omega (arith, most, w, a, c, l)
+
+lates_ranges : (T : Served → Bool) (alls : List (List Said)) → lates_weigh (λ e. cond (T e) 1 0) alls ≡ count_by T (all_lates alls)
+lates_ranges T [] = refl
+lates_ranges T (a ∷ alls) =
+    let r = lates_ranges T alls in
+    let c = entries_count T (late_in a) in
+    let d = count-append T (late_in a) (all_lates alls) in
+    omega (arith, r, c, d)
+
+-- of one range the lanes were given answers, with bytes or as expired, for no more blocks than the round's fetches
+pub requests_among : (fs : List Ask) (bs ns : List ClientTold) (es : List (List LaneStep)) → (d : DrewApart fs bs ns es) → (x : MerkleHash) (r : ChunkRange)
+    → (let j = are_joined fs bs ns d.drawn es d.each in count_by (is_served x r) (all_of (lanes_entries j.keys j.hidden)) + count_by (is_served x r) (all_lates j.said) ≤ count_by (is_block x r) (blocks_all (map key_of fs)))
+requests_among fs bs ns es d x r =
+    let j = are_joined fs bs ns d.drawn es d.each in
+    let h : Served → ℕ = λ e. cond (is_served x r e) 1 0 in
+    let most = numbers_weigh h fs (concat d.drawn) (λ y. let a = d.apart y in let o = once_most y d.count in omega (arith, a, o)) (λ y l. let w = d.within in d.apart y ∙ once_past y d.count (omega (arith, w, l))) in
+    let w = all_weighs h fs bs ns d.drawn es d.each in
+    let c = entries_count (is_served x r) (all_of (lanes_entries j.keys j.hidden)) in
+    let l = lates_ranges (is_served x r) j.said in
+    let q = asks_count x r fs in
+    omega (arith, most, w, c, l, q)

@@ -17,11 +17,11 @@ use Rattle.xet_ties.specs.Causes.{failing_setting, late_answers}
 use Rattle.xet_ties.specs.History.{entry_of, fetched_in, telling, IsWithin}
 use Rattle.xet_ties.specs.InCall.{Exchange, Look, served_of_all, Place}
 use Rattle.xet_ties.specs.Cuts.{FirstCut, Planning}
-use Rattle.xet_ties.specs.Legal.{AllLatePlanned, AllLooked, AllMissed, AllPlanned, CacheGoesOn, FirstAsks, FirstFollowed, IsPlannedServed, Legal, SignalGoesOn, TookTested, TookWhole}
+use Rattle.xet_ties.specs.Legal.{AllLatePlanned, AllLooked, AllMissed, AllPlanned, CacheGoesOn, FirstAsks, FirstFollowed, IsPlannedServed, Legal, SignalGoesOn, TookTested, TookWhole, requests_of}
 use Rattle.xet_ties.specs.RunCalls.{IsFinished, IsUnspent, RunCall, TookAll}
 use Rattle.xet_ties.specs.Saids.{AllPassed, EntryPassed, FirstSaid, IsTested}
 use Rattle.xet_ties.specs.Setup.{EachGoesOn, IsOver, RunTold, Setup}
-use Rattle.xet_ties.specs.Ties.{EachLane, EachUnfailed, FirstUnfailed, HeardAsked, IsEntryOf, IsOther, IsPlannedEntry, IsQuiet, LeavesNothing, Slack, Stop, Ties, all_of, has_one, is_one, is_pair, is_served}
+use Rattle.xet_ties.specs.Ties.{EachLane, EachUnfailed, FirstUnfailed, HeardAsked, IsEntryOf, IsOther, IsPlannedEntry, IsQuiet, LeavesNothing, Slack, Stop, Ties, all_of, has_one, is_one, is_pair, is_served, lates_of}
 use Rattle.xet_ties.proofs.Asks.{first_asks}
 use Rattle.xet_ties.proofs.BytesLasts.{last_start}
 use Rattle.xet_ties.proofs.Expiries.{counted_start, each_counted, none_past, none_spent}
@@ -38,6 +38,7 @@ use Rattle.xet_ties.proofs.Plannings.{PlanningOf, first_pieces, first_plans_all,
 use Rattle.xet_ties.proofs.Renewed.{renews_all, renews_but_last, renews_none}
 use Rattle.xet_ties.proofs.SaidTies.{block_said}
 use Rattle.xet_ties.proofs.ServedChunks.{chunks_heard}
+use Rattle.xet_ties.proofs.Telling.{count-append}
 use Rattle.xet_ties.proofs.Wholes.{took_all}
 use Rattle.xet_outside.proofs.CallerLemmas.{added_none}
 use Rattle.xet_ties.specs.steps.Moves.{no_exchange, no_hidden, no_late}
@@ -89,18 +90,22 @@ offers_all g b n es sl t left =
 
 -- ---- looks
 
-looked_all : (g : Setup) (b n : RunTold) (es : List Event) (stop : Stop) (sl : Slack) → Ties g b n es stop sl → AllLooked (served_of_all sl.heard) sl.looks
+looked_all : (g : Setup) (b n : RunTold) (es : List Event) (stop : Stop) (sl : Slack) → Ties g b n es stop sl → AllLooked (requests_of sl.heard) sl.looks
 looked_all g b n es stop sl t x r =
     let all = served_counted (is_served x r) (is_one x r) (λ a c d. refl) es b.clients n.clients sl.heard sl.hidden t.heard t.heard_served t.served.on_lanes in
     let kept = (t.looked.cover x r).kept in
     let fetched = fetched_kept (is_one x r) [] es in
-    omega (arith, all, kept, fetched)
+    let both = count-append (is_served x r) (served_of_all sl.heard) (lates_of sl.heard) in
+    let left = count-append (is_served x r) (all_of sl.hidden) (lates_of sl.heard) in
+    omega (arith, all, kept, fetched, both, left)
 
-missed_all : (g : Setup) (b n : RunTold) (es : List Event) (stop : Stop) (sl : Slack) → Ties g b n es stop sl → (s : Store) → IsOver s b.clients → AllMissed s (served_of_all sl.heard) sl.looks
+missed_all : (g : Setup) (b n : RunTold) (es : List Event) (stop : Stop) (sl : Slack) → Ties g b n es stop sl → (s : Store) → IsOver s b.clients → AllMissed s (requests_of sl.heard) sl.looks
 missed_all g b n es stop sl t s o x r =
     let all = served_counted (is_served x r) (is_one x r) (λ a c d. refl) es b.clients n.clients sl.heard sl.hidden t.heard t.heard_served t.served.on_lanes in
     let fetched = (t.looked.cover x r).honest s o in
-    omega (arith, all, fetched)
+    let both = count-append (is_served x r) (served_of_all sl.heard) (lates_of sl.heard) in
+    let left = count-append (is_served x r) (all_of sl.hidden) (lates_of sl.heard) in
+    omega (arith, all, fetched, both, left)
 
 -- ---- tested bytes
 
@@ -246,11 +251,11 @@ none_heard : (g : Setup) (bs : List ClientTold) (p k : ℕ) → late_answers p k
 none_heard g [] p k = omega arith
 none_heard g (b ∷ bs) p k = let r = none_heard g bs p k in omega (arith, r)
 
-looked_nothing : (bs : List ClientTold) → AllLooked (served_of_all (no_exchange bs)) []
+looked_nothing : (bs : List ClientTold) → AllLooked (requests_of (no_exchange bs)) []
 looked_nothing [] x r = omega arith
 looked_nothing (b ∷ bs) x r = looked_nothing bs x r
 
-missed_nothing : (s : Store) (bs : List ClientTold) → AllMissed s (served_of_all (no_exchange bs)) []
+missed_nothing : (s : Store) (bs : List ClientTold) → AllMissed s (requests_of (no_exchange bs)) []
 missed_nothing s [] x r = omega arith
 missed_nothing s (b ∷ bs) x r = missed_nothing s bs x r
 

@@ -43,6 +43,7 @@ mod Pushes
 mod Recording
 mod Records
 mod Renewals
+mod Requests
 mod Renewed
 mod RoundAllowed
 mod RoundAsks

@@ -3,6 +3,8 @@ use Rattle.std.proofs.Common.{◌≡◌, ℕ, ◌+◌, ◌≤◌, Bool, false, c
 use Rattle.std.specs.Prelude.{All, IfSome, count_by, option_map}
 use Rattle.std.proofs.lemmas.List.Elements.{All-push}
 use Rattle.std.specs.Option.{option_or}
+use Rattle.xet_base.specs.declared.cas_types.ChunkRange.{ChunkRange}
+use Rattle.xet_base.specs.declared.merklehash.MerkleHash.{MerkleHash}
 use Rattle.xet_base.specs.Store.{Store}
 use Rattle.xet_outside.specs.Told.{AskCall, SignalTold, SinkTold, Took, Added}
 use Rattle.xet_error.specs.declared.error.FileReconstructionError.{FileReconstructionError}
@@ -13,19 +15,19 @@ use Rattle.xet_run.specs.Events.{expires, first_error, is_plan}
 use Rattle.xet_history.specs.Laws.{IsPrefix}
 use Rattle.xet_history.specs.TrueHistory.{pieces}
 use Rattle.xet_run.proofs.CallerLemmas.{error-push, flat-push}
-use Rattle.xet_ties.specs.History.{IsNumberedNext, IsOneCached, IsRenewed, IsWithin, asked_in, limit_in, limits_of, round_in}
+use Rattle.xet_ties.specs.History.{fetched_in, IsNumberedNext, IsOneCached, IsRenewed, IsWithin, asked_in, limit_in, limits_of, round_in}
 use Rattle.xet_ties.proofs.Gains.{gained_as}
 use Rattle.xet_ties.specs.InCall.{EachExchange, Exchange, Look}
 use Rattle.xet_ties.specs.Saids.{EventPassed, FirstRenewed, FirstSaid, IsTested}
 use Rattle.xet_ties.proofs.Heard.{said_push}
 use Rattle.xet_ties.specs.steps.Moves.{Fits}
 use Rattle.xet_ties.specs.Setup.{CacheTells, IsOver, RunTold, Setup, download_of}
-use Rattle.xet_ties.specs.Ties.{all_of, EachBytesLast, FirstBehind, FirstInOrder, FirstLate, FirstUnfailed, AllAre, EachExpired, HeardAsked, IsAmong, IsEntryOf, IsLooked, IsTaken, LatePlanned, Slack, Ties, AllWithin, EachServed}
+use Rattle.xet_ties.specs.Ties.{all_of, EachBytesLast, FirstBehind, FirstInOrder, FirstLate, FirstUnfailed, AllAre, EachExpired, HeardAsked, IsAmong, IsEntryOf, IsLooked, IsTaken, LatePlanned, Slack, Ties, AllWithin, EachServed, lates_of, is_one, is_served}
 use Rattle.xet_ties.proofs.Lanes.{open_same, served_same}
 use Rattle.xet_ties.proofs.Lates.{expired_same, late_push}
 use Rattle.xet_ties.proofs.Pushes.{cuts_same, first_push, lost_push, limited_same, looked_push, offered_push, polled_push, reaches_more, recorded_same, starts_same, stored_same, taken_push, tried_push, true_same}
 use Rattle.xet_ties.proofs.Numbers.{heard_push, next_same}
-use Rattle.xet_ties.proofs.Telling.{count-same, each-push}
+use Rattle.xet_ties.proofs.Telling.{count-append, count-same, each-push}
 use Rattle.xet_error.specs.declared.error.FileReconstructionError.TheVariants as error
 use Rattle.xet_ties.proofs.EarlyEnds.{ends_same}
 use Rattle.xet_ties.proofs.HeardServed.{heard_served_same}
@@ -61,7 +63,9 @@ tie_event g b n es e sl to f t = record {
   refreshes = subst (λ (l : List Exchange). FirstRenewed g to.lost l) (sym f.heard) (f.refreshes t.refreshes);
   passed = subst (λ (l : List Exchange). All (EventPassed g l) (es ++ e ∷ [])) (sym f.heard) (All-push (EventPassed g sl.heard) es e t.passed f.passed);
   one_cached = each-push IsOneCached es e t.one_cached f.one_cached;
-  looked = subst (λ (l : List Look). IsLooked (es ++ e ∷ []) to.pending (all_of to.hidden) l b.clients b.cache n.cache) (sym f.looks) (looked_push es e sl.pending to.pending (all_of sl.hidden) (all_of to.hidden) sl.looks b.clients b.cache n.cache f.cached f.pending t.looked);
+  looked = subst (λ (l : List Look). IsLooked (es ++ e ∷ []) to.pending (all_of to.hidden ++ lates_of to.heard) l b.clients b.cache n.cache) (sym f.looks)
+      (subst (λ (h : List Exchange). IsLooked (es ++ e ∷ []) to.pending (all_of to.hidden ++ lates_of h) sl.looks b.clients b.cache n.cache) (sym f.heard)
+      (looked_push es e sl.pending to.pending (all_of sl.hidden ++ lates_of sl.heard) (all_of to.hidden ++ lates_of sl.heard) sl.looks b.clients b.cache n.cache f.cached still t.looked));
   looked_entries = subst (λ (l : List Look). All (IsEntryOf n.cache.entries) l) (sym f.looks) t.looked_entries;
   gained = gained_as g sl.heard to.heard b.cache n.cache (sym f.heard) t.gained;
   offered = offered_push es e sl.due to.due b.cache n.cache f.due t.offered;
@@ -71,6 +75,13 @@ tie_event g b n es e sl to f t = record {
   recorded = recorded_same es e f.error t.recorded;
 }
   where
+    still : (x : MerkleHash) (r : ChunkRange) → (count_by (is_one x r) (fetched_in es e) + count_by (is_one x r) to.pending) + count_by (is_served x r) (all_of to.hidden ++ lates_of sl.heard) ≤ count_by (is_one x r) sl.pending + count_by (is_served x r) (all_of sl.hidden ++ lates_of sl.heard)
+    still x r =
+        let p = f.pending x r in
+        let a = count-append (is_served x r) (all_of sl.hidden) (lates_of sl.heard) in
+        let c = count-append (is_served x r) (all_of to.hidden) (lates_of sl.heard) in
+        omega (arith, p, a, c)
+
     as_is : (x : ℕ) → x ≡ 0 + length (round_in es e) + to.spare → x ≤ sl.spare
     as_is x e = let h = f.spare in omega (arith, e, h)
 
@@ -227,7 +238,7 @@ tie_admit g b n es sl to l c t =
       refreshes = t.refreshes;
       passed = All-push (EventPassed g sl.heard) es e t.passed tt;
       one_cached = each-push IsOneCached es e t.one_cached tt;
-      looked = looked_push es e sl.pending sl.pending (all_of sl.hidden) (all_of sl.hidden) sl.looks b.clients b.cache n.cache refl (λ x r. omega arith) t.looked;
+      looked = looked_push es e sl.pending sl.pending (all_of sl.hidden ++ lates_of sl.heard) (all_of sl.hidden ++ lates_of sl.heard) sl.looks b.clients b.cache n.cache refl (λ x r. omega arith) t.looked;
       looked_entries = t.looked_entries;
       gained = t.gained;
       offered = offered_push es e sl.due sl.due b.cache n.cache (omega arith) t.offered;
@@ -347,7 +358,7 @@ tie_fail g b n es sl x spent t =
       refreshes = t.refreshes;
       passed = All-push (EventPassed g sl.heard) es e t.passed tt;
       one_cached = each-push IsOneCached es e t.one_cached tt;
-      looked = looked_push es e sl.pending sl.pending (all_of sl.hidden) (all_of sl.hidden) sl.looks b.clients b.cache n.cache refl (λ y r. omega arith) t.looked;
+      looked = looked_push es e sl.pending sl.pending (all_of sl.hidden ++ lates_of sl.heard) (all_of sl.hidden ++ lates_of sl.heard) sl.looks b.clients b.cache n.cache refl (λ y r. omega arith) t.looked;
       looked_entries = t.looked_entries;
       gained = t.gained;
       offered = offered_push es e sl.due sl.due b.cache n.cache (omega arith) t.offered;

@@ -22,13 +22,13 @@ use Rattle.xet_ties.specs.History.{IsNumberedNext, IsOneCached, IsRenewed, IsOnL
 use Rattle.xet_ties.specs.steps.Moves.{no_slack, no_hidden, no_late, no_exchange}
 use Rattle.xet_ties.specs.Causes.{failing_setting}
 use Rattle.xet_ties.specs.Setup.{RunTold, Setup, download_of}
-use Rattle.xet_ties.specs.Ties.{all_late, all_of, at_place, is_pair, is_served, EachLane, EachUnasked, EachUnfailed, FirstAsked, IsFaultless, HeardAsked, IsEntryOf, IsLane, MayLeave, NoneLate, Slack, Ties, IsPlannedEntry, LeavesNothing, IsServed}
+use Rattle.xet_ties.specs.Ties.{all_late, all_of, at_place, is_pair, is_served, EachLane, EachUnasked, EachUnfailed, FirstAsked, IsFaultless, HeardAsked, IsEntryOf, IsLane, MayLeave, NoneLate, Slack, Ties, IsPlannedEntry, LeavesNothing, IsServed, lates_of}
 use Rattle.xet_ties.proofs.Lanes.{open_same, served_same}
 use Rattle.xet_ties.proofs.Lates.{expired_same, expired_start, late_push, late_start}
 use Rattle.xet_ties.proofs.Moves.{tie_fail, tie_admit, tie_limit}
 use Rattle.xet_ties.proofs.Pushes.{first_push, limited_same, looked_push, offered_push, polled_push, grew_by_none, reaches_start, starts_same, stored_same, taken_push, true_same, cuts_same, lost_push}
 use Rattle.xet_ties.proofs.Numbers.{heard_push}
-use Rattle.xet_ties.proofs.Telling.{count-same, each-push}
+use Rattle.xet_ties.proofs.Telling.{count-append, count-same, each-push}
 use Rattle.xet_error.specs.declared.error.FileReconstructionError.TheVariants as error
 use Rattle.xet_terms.specs.Settings as settings
 use Rattle.xet_ties.specs.Saids.{EventPassed, FirstSaid, IsEventSaid, IsUnasked}
@@ -66,6 +66,17 @@ asked_start g (b ∷ bs) h = (record { asked = same_list b.asked }, unasked_star
 none_hidden_by : (T : Served → Bool) (bs : List ClientTold) → count_by T (all_of (no_hidden bs)) ≡ 0
 none_hidden_by T [] = refl
 none_hidden_by T (b ∷ bs) = none_hidden_by T bs
+
+none_lates : (T : Served → Bool) (bs : List ClientTold) → count_by T (lates_of (no_exchange bs)) ≡ 0
+none_lates T [] = refl
+none_lates T (b ∷ bs) = none_lates T bs
+
+none_asked : (T : Served → Bool) (bs : List ClientTold) → count_by T (all_of (no_hidden bs) ++ lates_of (no_exchange bs)) ≡ 0
+none_asked T bs =
+    let h = none_hidden_by T bs in
+    let l = none_lates T bs in
+    let c = count-append T (all_of (no_hidden bs)) (lates_of (no_exchange bs)) in
+    omega (arith, h, l, c)
 
 pub none_late_count : (p k : ℕ) (bs : List ClientTold) → count_by (at_place p k) (all_late (no_late bs)) ≡ 0
 none_late_count p k [] = refl
@@ -126,7 +137,7 @@ tie_start g b h = record {
   refreshes = renewed_start g b.clients h;
   passed = All-nil (EventPassed g (no_exchange b.clients));
   one_cached = tt;
-  looked = record { looked = same_list b.cache.looked; cover = λ x r. let h = none_hidden_by (is_served x r) b.clients in record { kept = omega (arith, h); cached = omega arith; honest = λ s o. omega (arith, h) } };
+  looked = record { looked = same_list b.cache.looked; cover = λ x r. let h = none_asked (is_served x r) b.clients in record { kept = omega (arith, h); cached = omega arith; honest = λ s o. omega (arith, h) } };
   looked_entries = All-nil (IsEntryOf b.cache.entries);
   gained = gained_none g (no_exchange b.clients) b.cache;
   offered = record { puts = 0; offers = grew_by_none b.cache.offers; cover = omega arith; faults = omega arith };
@@ -175,7 +186,7 @@ tie_cancel g b n es sl t =
       refreshes = t.refreshes;
       passed = All-push (EventPassed g sl.heard) es e t.passed tt;
       one_cached = each-push IsOneCached es e t.one_cached tt;
-      looked = looked_push es e sl.pending sl.pending (all_of sl.hidden) (all_of sl.hidden) sl.looks b.clients b.cache n.cache refl (λ y r. omega arith) t.looked;
+      looked = looked_push es e sl.pending sl.pending (all_of sl.hidden ++ lates_of sl.heard) (all_of sl.hidden ++ lates_of sl.heard) sl.looks b.clients b.cache n.cache refl (λ y r. omega arith) t.looked;
       looked_entries = t.looked_entries;
       gained = t.gained;
       offered = offered_push es e sl.due sl.due b.cache n.cache (omega arith) t.offered;

@@ -1,5 +1,5 @@
 -- Which answers of a run are legal, by what its arguments tell before and after.
-use Rattle.std.specs.Prelude.{ℕ, ◌≡◌, ◌⊎◌, ◌+◌, ◌-◌, ◌^◌, ◌<◌, ◌≤◌, ◌==◌, List, [], ◌∷◌, drop, length}
+use Rattle.std.specs.Prelude.{ℕ, ◌≡◌, ◌⊎◌, ◌+◌, ◌-◌, ◌^◌, ◌<◌, ◌≤◌, ◌==◌, List, [], ◌∷◌, ◌++◌, drop, length}
 use Rattle.std.specs.Prelude.{min, take, All, Some, IsSome, IfSome, OnOk, slice_get, option_map, count_by, Result}
 use Rattle.std.specs.Prelude.{Err, IfOk, IfErr}
 use Rattle.std.specs.List.{AllZip, concat}
@@ -23,7 +23,8 @@ use Rattle.xet_ties.specs.RunCalls.{DidNothing, IsCancelled, IsUnspent, Unfailed
 use Rattle.xet_ties.specs.Saids.{AllPassed, AllRenewed, BlockOfPlan, own_query, planned_of, same_start}
 use Rattle.xet_ties.specs.Setup.{AllTell, CacheTells, EachGoesOn, IsEmptyRange, IsOver, RunTold, Setup, most_lanes}
 use Rattle.xet_ties.specs.Ties.{CutsRange, EachBytesLast, EachUnasked, EachUnfailed, FirstBehind, IsEntryOf}
-use Rattle.xet_ties.specs.Ties.{IsFaultless, NoneAgain, Reaches, is_look, is_pair, is_served, late_since, missed}
+use Rattle.xet_ties.specs.Ties.{IsFaultless, NoneAgain, Reaches, is_look, is_pair, is_served, late_since}
+use Rattle.xet_ties.specs.Ties.{lates_of, missed}
 
 -- ---- what was heard
 
@@ -195,7 +196,11 @@ FirstFollowed g (x ∷ xs) = IsFollowed g x (x ∷ xs)
 
 -- ---- looks
 
--- each block of one range that was served was looked for, as often at least as it was served
+-- the requests for blocks that connections answered, with bytes or as expired
+abbrev pub requests_of : List Exchange → List Served
+requests_of xs = served_of_all xs ++ lates_of xs
+
+-- each block of one range was looked for, as often at least as these requests are for it
 abbrev pub AllLooked : List Served → List Look → Type 0
 AllLooked es looks = (x : MerkleHash) (r : ChunkRange) → count_by (is_served x r) es ≤ count_by (is_look x r) looks
 
@@ -231,10 +236,10 @@ pub record Legal (g : Setup) (before after : RunTold) (answer : Result ℕ FileR
   -- what the connections were asked, served and said, and the looks into the cache
   pub heard : HeardOf before.clients after.clients
   pub looks : LooksOf before.cache after.cache
-  -- each served block of one range was looked for in the cache
-  pub looked : AllLooked (served_of_all heard.list) looks.list
+  -- each request for a block of one range that was answered is behind a look of its own into the cache
+  pub looked : AllLooked (requests_of heard.list) looks.list
   -- and over connections that tell one valid store as often in vain
-  pub missed_first : (s : Store) → IsOver s before.clients → AllMissed s (served_of_all heard.list) looks.list
+  pub missed_first : (s : Store) → IsOver s before.clients → AllMissed s (requests_of heard.list) looks.list
   -- whatever is told, the writer took tested bytes of these and no others, whatever the answer
   pub tested : TookTested g heard.list looks.list before.sink after.sink
   -- and on Ok those of all terms of plans that cut the range, up to its end or one that an answer told

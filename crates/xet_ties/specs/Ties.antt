@@ -315,26 +315,30 @@ is_one x r b = hash_eq b.xorb x && is_range r b.ranges
 abbrev pub is_served : MerkleHash → ChunkRange → Served → Bool
 is_served x r e = hash_eq e.xorb x && is_range r e.ranges
 
+-- the requests for blocks that connections answered as expired
+abbrev pub lates_of : List Exchange → List Served
+lates_of xs = flat_map (λ x. late_in x.said) xs
+
 -- for each block of one range at least as many looks as Fetched and Cached events, blocks still to be fetched, and
--- entries that no event says; as many that gave an entry as Cached events; over a store as many that didn't give its
--- block as Fetched events, such blocks and such entries
-pub record LooksCover (es : List Event) (pending : List PlannedBlock) (hidden : List Served) (clients : List ClientTold)
+-- other requests that were answered; as many that gave an entry as Cached events; over a store as many that didn't give
+-- its block as Fetched events, such blocks and such requests
+pub record LooksCover (es : List Event) (pending : List PlannedBlock) (asked : List Served) (clients : List ClientTold)
     (looks : List Look) (x : MerkleHash) (r : ChunkRange) : Type 0 where
   pub kept : (count_by (is_one x r) (telling kept_in [] es) + count_by (is_one x r) pending)
-      + count_by (is_served x r) hidden ≤ count_by (is_look x r) looks
+      + count_by (is_served x r) asked ≤ count_by (is_look x r) looks
   pub cached : count_by (is_one x r) (telling cached_in [] es) ≤ count_by (gave x r) looks
   pub honest : (s : Store) → IsOver s clients
       → (count_by (is_one x r) (telling fetched_in [] es) + count_by (is_one x r) pending)
-      + count_by (is_served x r) hidden ≤ count_by (missed s x r) looks
+      + count_by (is_served x r) asked ≤ count_by (missed s x r) looks
 
 -- the entry that a look gave is among those of a cache that tells them
 abbrev pub IsEntryOf : Option (List CacheEntry) → Look → Type 0
 IsEntryOf entries l = IfSome l.2 (λ e. IfSome entries (λ es. Contains es (l.0, l.1, e)))
 
-pub record IsLooked (es : List Event) (pending : List PlannedBlock) (hidden : List Served) (looks : List Look)
+pub record IsLooked (es : List Event) (pending : List PlannedBlock) (asked : List Served) (looks : List Look)
     (clients : List ClientTold) (before after : CacheTold) : Type 0 where
   pub looked : Added before.looked after.looked looks
-  pub cover : (x : MerkleHash) (r : ChunkRange) → LooksCover es pending hidden clients looks x r
+  pub cover : (x : MerkleHash) (r : ChunkRange) → LooksCover es pending asked clients looks x r
 
 -- the block is one range of a xorb, as a test that computes
 abbrev pub has_one : PlannedBlock → Bool
@@ -458,7 +462,9 @@ pub record Ties (g : Setup) (before after : RunTold) (es : List Event) (stop : S
   -- each fetched block was answered with bytes that pass its tests
   pub passed : All (EventPassed g slack.heard) es
   pub one_cached : EachAfter IsOneCached [] es
-  pub looked : IsLooked es slack.pending (all_of slack.hidden) slack.looks before.clients before.cache after.cache
+  -- the entries that no event says, and the requests that were answered as expired, are behind looks too
+  pub looked : IsLooked es slack.pending (all_of slack.hidden ++ lates_of slack.heard) slack.looks before.clients
+      before.cache after.cache
   pub looked_entries : All (IsEntryOf after.cache.entries) slack.looks
   pub offered : IsOffered es slack.due before.cache after.cache
   -- whatever store is told or not, a cache gained entries of blocks that were served in this call, and lost none
