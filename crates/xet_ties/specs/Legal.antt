@@ -236,9 +236,9 @@ pub record Legal (g : Setup) (before after : RunTold) (answer : Result ℕ FileR
   -- what the connections were asked, served and said, and the looks into the cache
   pub heard : HeardOf before.clients after.clients
   pub looks : LooksOf before.cache after.cache
-  -- each request for a block of one range that was answered is behind a look of its own into the cache
+  -- each request for a block of one range that was answered has a look of its own into the cache
   pub looked : AllLooked (requests_of heard.list) looks.list
-  -- and over connections that tell one valid store as often in vain
+  -- and over connections that tell one valid store one in vain
   pub missed_first : (s : Store) → IsOver s before.clients → AllMissed s (requests_of heard.list) looks.list
   -- whatever is told, the writer took tested bytes of these and no others, whatever the answer
   pub tested : TookTested g heard.list looks.list before.sink after.sink

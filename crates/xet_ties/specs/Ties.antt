@@ -462,7 +462,7 @@ pub record Ties (g : Setup) (before after : RunTold) (es : List Event) (stop : S
   -- each fetched block was answered with bytes that pass its tests
   pub passed : All (EventPassed g slack.heard) es
   pub one_cached : EachAfter IsOneCached [] es
-  -- the entries that no event says, and the requests that were answered as expired, are behind looks too
+  -- the entries that no event says, and the requests that were answered as expired, have looks too
   pub looked : IsLooked es slack.pending (all_of slack.hidden ++ lates_of slack.heard) slack.looks before.clients
       before.cache after.cache
   pub looked_entries : All (IsEntryOf after.cache.entries) slack.looks
