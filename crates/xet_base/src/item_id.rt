@@ -55,22 +55,3 @@ impl IdSource {
         Ok(id)
     }
 }
-
-#[cfg(test)]
-mod tests {
-    use super::*;
-
-    #[test]
-    fn gives_each_number_once_but_the_last(rt: HostRuntime) {
-        let mut ids = IdSource::new(u64::MAX - 2);
-        for wanted in [
-            Ok(UniqueID(u64::MAX - 2)),
-            Ok(UniqueID(u64::MAX - 1)),
-            Err(Invalid::IdsUsedUp),
-            Err(Invalid::IdsUsedUp),
-        ] {
-            assert_eq!(rt; ids.next(), wanted);
-        }
-        assert_eq!(rt; IdSource::new(0).next(), Ok(UniqueID(0)));
-    }
-}

@@ -47,19 +47,3 @@ impl SharedText {
         Ok(SharedText { text })
     }
 }
-
-#[cfg(test)]
-mod tests {
-    use super::*;
-    use std::test::Fail;
-
-    #[test]
-    fn copies_share_a_text(rt: HostRuntime) -> Result<(), Fail> {
-        let alloc = rt.alloc();
-        let shared = SharedText::from_string(alloc, String::from_str(alloc, "añb")?)?;
-        let copy = shared.copied()?;
-        assert_eq!(rt; (shared.as_str(), copy.as_str()), ("añb", "añb"));
-        assert_eq!(rt; Arc::strong_count(&shared.text), 2);
-        Ok(())
-    }
-}

@@ -121,24 +121,3 @@ impl<T: Copy> ShortList<T> {
         }
     }
 }
-
-#[cfg(test)]
-mod tests {
-    use super::*;
-    use std::test::Fail;
-
-    #[test]
-    fn keeps_what_is_pushed_and_copied(rt: HostRuntime) -> Result<(), Fail> {
-        let wanted = [4, 2, 7];
-        let mut list = ShortList::new();
-        for length in 0..3 {
-            let copy = list.copied(rt.alloc())?;
-            assert_eq!(rt; copy.len(), length);
-            assert_eq!(rt; copy.as_slice(), &wanted[..length]);
-            list.push(rt.alloc(), wanted[length])?;
-        }
-        assert_eq!(rt; list.copied(rt.alloc())?.as_slice(), wanted.as_slice());
-        assert_eq!(rt; ShortList::of_one(4).as_slice(), &wanted[..1]);
-        Ok(())
-    }
-}

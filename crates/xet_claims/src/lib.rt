@@ -3,7 +3,5 @@
 
 pub mod claim_rule;
 pub mod claims;
-#[cfg(test)]
-mod tests;
 
 pub use claims::{ClaimPass, Claims};

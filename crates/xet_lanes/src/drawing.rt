@@ -33,7 +33,7 @@ pub(crate) struct Shared<'a, R, G, L: Ledger> {
 
 /// What a lane does next.
 #[derive(Clone, Copy, Debug)]
-pub(crate) enum Next {
+pub enum Next {
     /// The fetch of this number.
     Number(u64),
     /// Nothing: all numbers were drawn, or a lane stopped the others.
@@ -43,7 +43,7 @@ pub(crate) enum Next {
 }
 
 /// Draws the next number, unless the run or a lane was stopped.
-pub(crate) fn next_number<R: Wait, L: Ledger>(
+pub fn next_number<R: Wait, L: Ledger>(
     rt: &R,
     claims: &Claims,
     state: &RunState<L>,

@@ -2,15 +2,13 @@
 //! writing beside it.
 #![tactic(auto)]
 
-mod drawing;
+pub mod drawing;
 pub mod gate;
 mod halves;
 mod jobs;
 pub mod joined;
 pub mod lane;
 pub mod round;
-#[cfg(test)]
-mod tests;
 
 pub use gate::{Gate, OpenGate};
 pub use joined::{Joined, LaneEnd};

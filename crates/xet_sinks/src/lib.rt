@@ -9,8 +9,6 @@ mod pushing;
 pub mod read_source;
 pub mod script_sink;
 pub mod script_source;
-#[cfg(test)]
-mod tests;
 mod tries;
 pub mod vec_sink;
 pub mod vec_source;

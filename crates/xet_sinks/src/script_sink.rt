@@ -195,34 +195,3 @@ impl Sink for ScriptSink {
         self.answer(step.fails, count)
     }
 }
-
-#[cfg(test)]
-mod tests {
-    use super::*;
-    use std::test::Fail;
-
-    #[test]
-    fn follows_its_steps(rt: HostRuntime) -> Result<(), Fail> {
-        let steps = vec![in rt.alloc();
-            SinkStep::Take(0),
-            SinkStep::Take(3),
-            SinkStep::FailAfter(1),
-            SinkStep::Fail,
-        ]?;
-        let mut sink = ScriptSink::new(rt.alloc(), steps);
-        let pieces = [
-            Bytes::from_static(b"bc"),
-            Bytes::new(),
-            Bytes::from_static(b"de"),
-        ];
-        assert!(rt; sink.write(b"ab") == Ok(1));
-        assert!(rt; sink.write(b"") == Ok(0));
-        assert!(rt; sink.write_vectored(&pieces) == Ok(3));
-        assert!(rt; sink.write(b"ef") == Err(SinkError::Failed));
-        assert!(rt; sink.write_vectored(&pieces) == Err(SinkError::Failed));
-        assert!(rt; sink.write(b"fg") == Ok(2));
-        assert!(rt; sink.flush() == Ok(()));
-        assert!(rt; sink.taken() == b"abcdefg".as_slice());
-        Ok(())
-    }
-}

@@ -69,28 +69,3 @@ impl Source for ScriptSource {
         }
     }
 }
-
-#[cfg(test)]
-mod tests {
-    use super::*;
-    use std::test::Fail;
-
-    #[test]
-    fn follows_its_steps(rt: HostRuntime) -> Result<(), Fail> {
-        let steps = vec![in rt.alloc();
-            SourceStep::Give(0),
-            SourceStep::Fail,
-            SourceStep::Give(2),
-        ]?;
-        let mut source = ScriptSource::new(b"abcdef".to_vec(rt.alloc())?, steps);
-        let mut into = [0; 3];
-        assert!(rt; source.read(&mut []) == Ok(0));
-        assert!(rt; source.read(&mut into) == Ok(1));
-        assert!(rt; source.read(&mut into) == Err(SourceFault));
-        assert!(rt; source.read(&mut into) == Ok(2));
-        assert!(rt; source.read(&mut into) == Ok(3));
-        assert!(rt; into == *b"def");
-        assert!(rt; source.read(&mut into) == Ok(0));
-        Ok(())
-    }
-}

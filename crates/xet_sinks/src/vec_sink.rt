@@ -58,24 +58,3 @@ impl Sink for VecSink {
         Ok(())
     }
 }
-
-#[cfg(test)]
-mod tests {
-    use super::*;
-    use bytes::Bytes;
-
-    #[test]
-    fn takes_all(rt: HostRuntime) {
-        let mut sink = VecSink::new(rt.alloc());
-        assert!(rt; sink.write(b"abc") == Ok(3));
-        assert!(rt; sink.write(b"") == Ok(0));
-        let pieces = [
-            Bytes::from_static(b"de"),
-            Bytes::new(),
-            Bytes::from_static(b"f"),
-        ];
-        assert!(rt; (&mut sink).write_vectored(&pieces) == Ok(3));
-        assert!(rt; sink.flush() == Ok(()));
-        assert!(rt; sink.taken() == b"abcdef".as_slice());
-    }
-}

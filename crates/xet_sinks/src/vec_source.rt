@@ -38,21 +38,3 @@ impl Source for VecSource {
         Ok(count)
     }
 }
-
-#[cfg(test)]
-mod tests {
-    use super::*;
-    use std::alloc::AllocError;
-
-    #[test]
-    fn reads_to_the_end(rt: HostRuntime) -> Result<(), AllocError> {
-        let mut source = VecSource::new(b"abc".to_vec(rt.alloc())?);
-        let mut into = [0; 2];
-        assert!(rt; source.read(&mut into) == Ok(2));
-        assert!(rt; into == [97, 98]);
-        assert!(rt; source.read(&mut into) == Ok(1));
-        assert!(rt; into == [99, 98]);
-        assert!(rt; source.read(&mut into) == Ok(0));
-        Ok(())
-    }
-}
