@@ -6,7 +6,7 @@ use crate::leader::LedPlan;
 use std::collections::VecDeque;
 
 /// The place of the plan of this number, counted from the first plan, whose numbers follow one another.
-pub(crate) fn plan_index(plans: &VecDeque<LedPlan>, number: u64) -> usize
+pub fn plan_index(plans: &VecDeque<LedPlan>, number: u64) -> usize
     ensures { result ≡ plan_index plans.now.items number }
 {
     match plans.front() {

@@ -38,16 +38,16 @@ pub struct LedPlan {
 /// the planned terms. Contracts see it as a `Led` of `specs/Led`.
 #[derive(Drop)]
 pub struct Leader<P: FetchPolicy> {
-    pub(crate) manager: ReconstructionTermManager<P>,
+    pub manager: ReconstructionTermManager<P>,
     // oldest first; their numbers follow one another
-    pub(crate) plans: VecDeque<LedPlan>,
+    pub plans: VecDeque<LedPlan>,
     // the planned, admitted and wholly written terms
-    pub(crate) planned: u64,
-    pub(crate) admitted: u64,
-    pub(crate) finished: u64,
+    pub planned: u64,
+    pub admitted: u64,
+    pub finished: u64,
     // the number of the next fetch
-    pub(crate) fetches: u64,
-    pub(crate) progress: Option<ItemProgressUpdater>,
+    pub fetches: u64,
+    pub progress: Option<ItemProgressUpdater>,
 }
 
 impl<P: FetchPolicy> Model for Leader<P> {
@@ -116,7 +116,7 @@ impl<P: FetchPolicy + Drop> Leader<P> {
 }
 
 /// What a manager keeps holds of it.
-pub(crate) fn check_manager<P: FetchPolicy>(manager: &ReconstructionTermManager<P>)
+pub fn check_manager<P: FetchPolicy>(manager: &ReconstructionTermManager<P>)
     ensures { IsManager manager.now }
 {
     let _ = manager.queries();

@@ -7,7 +7,7 @@ use std::collections::VecDeque;
 use xet_blocks::XorbBlock;
 
 /// The place of the plan of this number, where numbers follow one another.
-pub(crate) fn find_plan(plans: &VecDeque<LedPlan>, number: u64) -> Option<usize>
+pub fn find_plan(plans: &VecDeque<LedPlan>, number: u64) -> Option<usize>
     ensures { result ≡ find_plan plans.now.items number }
 {
     let first = match plans.front() {
@@ -25,7 +25,7 @@ pub(crate) fn find_plan(plans: &VecDeque<LedPlan>, number: u64) -> Option<usize>
 }
 
 /// The block of this number of the plan of this number.
-pub(crate) fn find_block(plans: &VecDeque<LedPlan>, plan: u64, block: usize) -> Option<&XorbBlock>
+pub fn find_block(plans: &VecDeque<LedPlan>, plan: u64, block: usize) -> Option<&XorbBlock>
     ensures { MatchOption result (block_in plans.now.items plan block ≡ None)
         (λ x. block_in plans.now.items plan block ≡ Some x.now) }
 {

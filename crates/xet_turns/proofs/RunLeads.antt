@@ -1,0 +1,144 @@
+-- A run from its start to its end.
+use Rattle.std.proofs.Common.{◌≡◌, ◌<◌, Bool, true, false, cond, Option, Some, None, Ok, Err, List, [], ◌∷◌, length, sym, subst, ◌∙◌, arith}
+use Rattle.std.specs.Prelude.{map, MatchOption}
+use Rattle.xet_outside.specs.Told.{ClientTold, SinkTold}
+use Rattle.xet_error.specs.declared.error.FileReconstructionError.{FileReconstructionError}
+use Rattle.xet_error.specs.declared.error.FileReconstructionError.TheVariants as error
+use Rattle.xet_error.specs.declared.error.Setting.{Setting}
+use Rattle.xet_run.specs.declared.event.Event.{Event}
+use Rattle.xet_run.specs.Allowed.{IsRunning}
+use Rattle.xet_writers.specs.Sequential.{Sequential}
+use Rattle.xet_terms.specs.Settings as settings
+use Rattle.xet_ties.specs.Causes.{failing_setting}
+use Rattle.xet_ties.specs.Setup.{RunTold, Setup}
+use Rattle.xet_ties.proofs.CallerLemmas.{runs, settings_are, short_leaves}
+use Rattle.xet_leader.specs.declared.leader.Job.{Job}
+use Rattle.xet_turns.specs.Ending.{EndCall, RunAnswer, RunEnds}
+use Rattle.xet_leader.specs.Led.{Led, setup_of_job}
+use Rattle.xet_turns.specs.LoopRuns.{IsFresh, RunLed}
+use Rattle.xet_leader.specs.Plans.{Answer}
+use Rattle.xet_leader.specs.Starts.{LeadStarts}
+use Rattle.xet_leader.specs.Steady.{IsFailing, IsSteady, Moment, no_loose}
+use Rattle.xet_turns.specs.Turns.{IsSteadyRun, LeadRun}
+use Rattle.xet_turns.proofs.EndTies.{IsWhole, start_whole}
+
+-- ---- want of memory
+
+pub short_fails : (g : Setup) (b : RunTold) (m : Moment) → IsWhole g b m → IsFailing g b m error.OutOfMemory
+short_fails g b m s = record {
+  slack = s.slack;
+  ties = s.ties;
+  left = short_leaves b.clients s.slack;
+  cause = tt;
+  unfailed = tt;
+  spent = λ h. absurd (let z : error.OutOfMemory ≡ error.UrlExpired = h in cc);
+  halted = λ yes. tt;
+  under = λ u. absurd u;
+  cache_tells = s.cache_tells;
+}
+
+-- a run that did nothing and wants memory
+pub unbegun : {S : Type 0} (told : S → SinkTold) (g : Setup) (b : RunTold) (es : List Event) (w : Sequential S)
+    (e : FileReconstructionError) → es ≡ [] → failing_setting g b.clients ≡ None → e ≡ error.OutOfMemory
+    → RunLed told g b (record { told = b; events = es }) w (Err e)
+unbegun told g b es w e is h memory = record {
+  ok = tt;
+  err =
+      subst (λ (x : List Event). IsFailing g b (record { told = b; events = x }) e) (sym is)
+      (subst (IsFailing g b (record { told = b; events = [] })) (sym memory)
+      (short_fails g b (record { told = b; events = [] }) (start_whole g b h)));
+}
+
+-- ---- settings
+
+-- a run whose settings can be met is lent a connection
+pub some_client : {C : Type 0} (told : C → ClientTold) (g : Setup) (cs : List C)
+    → failing_setting g (map told cs) ≡ None → 0 < length cs
+some_client told g [] h = absurd (cc)
+some_client told g (c ∷ cs) h = omega arith
+
+cond_none : (b : Bool) (x : Setting) (o : Option Setting) → cond b (Some x) o ≡ None → o ≡ None
+cond_none true x o h = absurd (let z : Some x ≡ None = h in cc)
+cond_none false x o h = h
+
+-- as the settings of a reconstruction say it
+pub settings_met : {C : Type 0} (told : C → ClientTold) (j : Job) (cs : List C)
+    → None ≡ settings.failing_setting (length cs) j.config → failing_setting (setup_of_job j) (map told cs) ≡ None
+settings_met told j cs h = sym (settings_are told j.file_hash j.byte_range j.config cs) ∙ sym h
+
+-- its fetch sizes can be met
+pub sizes_met : {C : Type 0} (told : C → ClientTold) (j : Job) (cs : List C)
+    → failing_setting (setup_of_job j) (map told cs) ≡ None → settings.failing_size j.config ≡ None
+sizes_met told j [] h = absurd (cc)
+sizes_met told j (c ∷ cs) h = cond_none _ _ (settings.failing_size j.config) h
+
+pub memory_alone : (o : Option Setting) (P : Type 0) (Q : Setting → Type 0) → o ≡ None → MatchOption o P Q → P
+memory_alone None P Q h m = m
+memory_alone (Some x) P Q h m = absurd (let z : Some x ≡ None = h in cc)
+
+-- ---- the start
+
+-- a run from its start is steady
+start_steady : {S : Type 0} (told : S → SinkTold) (j : Job) (b : RunTold) (l : Led) (v : Sequential S)
+    → b.sink ≡ told v.sink → IsFresh v → LeadStarts j l → failing_setting (setup_of_job j) b.clients ≡ None
+    → j.byte_range.start < j.byte_range.end
+    → IsSteady told (setup_of_job j) b (record { told = b; events = [] }) no_loose l v
+start_steady told j b l v sink f starts h some = record {
+  going = starts b h some;
+  writer = record {
+    sink = sink;
+    queue = f.queue;
+    kept = f.kept;
+    open_still = f.open_still;
+    expected =
+        f.expected;
+    delivered = f.delivered;
+  };
+}
+
+-- from that start
+pub begins_steady : {S : Type 0} (told : S → SinkTold) (j : Job) (b : RunTold) (es : List Event) (l : Led)
+    (v : Sequential S) → b.sink ≡ told v.sink → es ≡ [] → IsFresh v → LeadStarts j l
+    → failing_setting (setup_of_job j) b.clients ≡ None
+    → j.byte_range.start < j.byte_range.end → IsSteadyRun told (setup_of_job j) (record { told = b; events = es }) l v
+begins_steady told j b es l v sink is f starts h some = record {
+  start = b;
+  steady = subst (λ (x : List Event). IsSteady told (setup_of_job j) b (record { told = b; events = x }) no_loose l v)
+      (sym is) (start_steady told j b l v sink f starts h some);
+}
+
+loop_led : {S : Type 0} (told : S → SinkTold) (g : Setup) (b : RunTold) (m n : Moment) (l k : Led)
+    (v w : Sequential S) (answer : Answer) → IsSteady told g b m no_loose l v → LeadRun told g m n l k v w answer
+    → RunLed told g b n w answer
+loop_led told g b m n l k v w (Ok tt) s c = record {
+  ok =
+      record { led = k; steady = c.call.ok b s; finished = c.done b s };
+  err = tt;
+}
+loop_led told g b m n l k v w (Err e) s c = record { ok = tt; err = c.call.err b s }
+
+-- after the loop
+pub start_led : {S : Type 0} (told : S → SinkTold) (j : Job) (b : RunTold) (es : List Event) (n : Moment) (l k : Led)
+    (v w : Sequential S) (answer : Answer) → b.sink ≡ told v.sink → es ≡ [] → IsFresh v → LeadStarts j l
+    → failing_setting (setup_of_job j) b.clients ≡ None → j.byte_range.start < j.byte_range.end
+    → LeadRun told (setup_of_job j) (record { told = b; events = es }) n l k v w answer
+    → RunLed told (setup_of_job j) b n w answer
+start_led told j b es n l k v w answer sink is f starts h some c =
+    loop_led told (setup_of_job j) b (record { told = b; events = [] }) n l k v w answer
+    (start_steady told j b l v sink f starts h some)
+    (subst (λ (x : List Event). LeadRun told (setup_of_job j) (record { told = b; events = x }) n l k v w answer) is
+    c)
+
+-- ---- the end
+
+-- no error is recorded yet
+pub led_runs : {S : Type 0} (told : S → SinkTold) (g : Setup) (b : RunTold) (n : Moment) (w : Sequential S)
+    (answer : Answer) → RunLed told g b n w answer → IsRunning n.events
+led_runs told g b n w (Ok tt) r = r.ok.steady.going.led.running
+led_runs told g b n w (Err e) r = let f : IsFailing g b n e = r.err in runs g b n.told n.events f.slack f.ties
+
+pub led_ends : {S : Type 0} (told : S → SinkTold) (g : Setup) (b : RunTold) (m n : Moment) (v : Sequential S)
+    (led : Answer) (answer : RunAnswer) → RunLed told g b m v led → EndCall told g m n v led answer
+    → RunEnds g b n answer
+led_ends told g b m n v (Ok tt) answer r c = let o = r.ok in c.ok b o.led o.steady o.finished
+led_ends told g b m n v (Err e) answer r c = c.err b r.err

@@ -1,0 +1,92 @@
+use Rattle.std.proofs.Common.{◌∙◌, rules}
+use Rattle.xet_ties.specs.Setup.{told_of}
+use Rattle.xet_leader.specs.Led.{setup_of_job}
+use Rattle.xet_leader.specs.Steady.{Moment}
+use Rattle.xet_turns.proofs.TurnLeads.{run_done, run_falls, run_more, still_steady}
+use Rattle.xet_turns.proofs.turns.lead.Goals as goal
+
+pub turn-requires-clause-steady : goal.turn-requires-clause-steady
+turn-requires-clause-steady g c κs within =
+    let sink = g.S.Sink.told in
+    let told = told_of g.C.Client.told g.K.ChunkCache.told g.X.CancelSignal.told sink g.B.BudgetSource.told in
+    let setup = setup_of_job c.args.job in
+    let m : Moment = record {
+      told = told c.args.clients.now c.args.cache.now c.args.cancel.now c.args.writer.now.sink
+          c.args.source.now;
+      events = c.args.core.now;
+    } in
+    let n : Moment = record {
+      told = told c.lead.clients c.lead.cache c.lead.cancel c.lead.writer.sink c.lead.source;
+      events = c.lead.core;
+    } in
+    still_steady sink setup m n n c.args.leader.now c.lead.leader c.lead.leader c.args.writer.now c.lead.writer
+    c.lead.writer c.lead.invariant.0 c.requires.steady
+
+pub returns-in-Ok-true-clause-run : goal.returns-in-Ok-true-clause-run
+returns-in-Ok-true-clause-run g c =
+    let sink = g.S.Sink.told in
+    let told = told_of g.C.Client.told g.K.ChunkCache.told g.X.CancelSignal.told sink g.B.BudgetSource.told in
+    let setup = setup_of_job c.args.job in
+    let m : Moment = record {
+      told = told c.args.clients.now c.args.cache.now c.args.cancel.now c.args.writer.now.sink
+          c.args.source.now;
+      events = c.args.core.now;
+    } in
+    let n : Moment = record {
+      told = told c.lead.clients c.lead.cache c.lead.cancel c.lead.writer.sink c.lead.source;
+      events = c.lead.core;
+    } in
+    let p : Moment = record {
+      told = told c.turn.new.clients c.turn.new.cache c.turn.new.cancel c.turn.new.writer.sink
+          c.turn.new.source;
+      events = c.turn.new.core;
+    } in
+    run_done sink setup m n p c.args.leader.now c.lead.leader c.turn.new.leader c.args.writer.now c.lead.writer
+    c.turn.new.writer c.lead.invariant.0 c.in-Ok-true.field-0 (search rules) c.in-Ok-true.ensures.call
+
+pub lead-preserved : goal.lead-preserved
+lead-preserved g c =
+    let sink = g.S.Sink.told in
+    let told = told_of g.C.Client.told g.K.ChunkCache.told g.X.CancelSignal.told sink g.B.BudgetSource.told in
+    let setup = setup_of_job c.args.job in
+    let m : Moment = record {
+      told = told c.args.clients.now c.args.cache.now c.args.cancel.now c.args.writer.now.sink
+          c.args.source.now;
+      events = c.args.core.now;
+    } in
+    let n : Moment = record {
+      told = told c.lead.clients c.lead.cache c.lead.cancel c.lead.writer.sink c.lead.source;
+      events = c.lead.core;
+    } in
+    let p : Moment = record {
+      told = told c.turn.new.clients c.turn.new.cache c.turn.new.cancel c.turn.new.writer.sink
+          c.turn.new.source;
+      events = c.turn.new.core;
+    } in (
+      run_more sink setup m n p c.args.leader.now c.lead.leader c.turn.new.leader c.args.writer.now c.lead.writer
+          c.turn.new.writer c.lead.invariant.0 c.in-Ok-false.field-0 c.in-Ok-false.ensures.call,
+      c.in-Ok-false.ensures.parts ∙ c.lead.invariant.1,
+    )
+
+pub lead-smaller : goal.lead-smaller
+lead-smaller g c =
+    let sink = g.S.Sink.told in
+    let told = told_of g.C.Client.told g.K.ChunkCache.told g.X.CancelSignal.told sink g.B.BudgetSource.told in
+    let setup = setup_of_job c.args.job in
+    let m : Moment = record {
+      told = told c.args.clients.now c.args.cache.now c.args.cancel.now c.args.writer.now.sink
+          c.args.source.now;
+      events = c.args.core.now;
+    } in
+    let n : Moment = record {
+      told = told c.lead.clients c.lead.cache c.lead.cancel c.lead.writer.sink c.lead.source;
+      events = c.lead.core;
+    } in
+    let p : Moment = record {
+      told = told c.turn.new.clients c.turn.new.cache c.turn.new.cancel c.turn.new.writer.sink
+          c.turn.new.source;
+      events = c.turn.new.core;
+    } in
+    run_falls sink setup m n p c.args.leader.now c.lead.leader c.turn.new.leader c.args.writer.now c.lead.writer
+    c.turn.new.writer c.lead.invariant.0 c.in-Ok-false.field-0 (search rules) c.requires.steady
+    c.in-Ok-false.ensures.call
