@@ -1,38 +1,50 @@
 //! A cache that does one thing at each look, and keeps what it was asked.
-use crate::script::Step;
-use std::alloc::Global;
-use xet_base::{ChunkRange, MerkleHash, OutOfMemory};
+use crate::script::block;
+use std::alloc::{AllocError, Global};
+use xet_base::{ChunkRange, MerkleHash};
 use xet_outside::{BlockBytes, CacheError, ChunkCache};
 
-/// A cache of one step. Its looks and puts are kept as a text.
+/// A cache of one step, a block's text or a word. Its looks and puts are kept as a text.
 #[derive(Drop)]
-pub(crate) struct FakeCache {
-    pub(crate) step: Step,
+pub(crate) struct FakeCache<'a> {
+    pub(crate) step: &'a str,
     pub(crate) log: String,
 }
 
-/// `get x1 0..4 `, or `put x1 0..4 `: a look, or a put.
+impl<'a> FakeCache<'a> {
+    /// A cache that was asked nothing.
+    pub(crate) fn new(alloc: Global, step: &'a str) -> FakeCache<'a> {
+        FakeCache {
+            step,
+            log: String::new(alloc),
+        }
+    }
+}
+
+/// ` get x1 0..4`, or ` put x1 0..4`: a look, or a put.
 fn note(
-    alloc: Global,
     log: &mut String,
     call: &str,
     xorb: &MerkleHash,
     range: ChunkRange,
-) -> Result<(), OutOfMemory> {
+) -> Result<(), AllocError> {
     let (first, start, end) = (xorb.0[0], range.start, range.end);
-    let line = format!(in alloc; "{call} x{first} {start}..{end} ").map_err(OutOfMemory::from)?;
-    log.push_str(line.as_str())?;
-    Ok(())
+    write!(log, " {call} x{first} {start}..{end}")
 }
 
-fn copied(bytes: &BlockBytes) -> Result<Option<BlockBytes>, CacheError> {
-    match bytes.copied() {
-        Ok(entry) => Ok(Some(entry)),
-        Err(_) => Err(CacheError::OutOfMemory),
+/// What a look gives by this step.
+fn given(alloc: Global, step: &str) -> Result<Option<BlockBytes>, CacheError> {
+    match step {
+        "none" => Ok(None),
+        "no memory" => Err(CacheError::OutOfMemory),
+        text => match block(alloc, text) {
+            Some(bytes) => Ok(Some(bytes)),
+            None => Err(CacheError::Failed),
+        },
     }
 }
 
-impl ChunkCache for FakeCache {
+impl<'a> ChunkCache for FakeCache<'a> {
     ghost use Rattle.std.specs.Prelude.{◌-◌, ◌^◌, None};
     ghost use Rattle.xet_outside.specs.Told.{CacheTold};
 
@@ -45,25 +57,20 @@ impl ChunkCache for FakeCache {
         xorb: &MerkleHash,
         range: ChunkRange,
     ) -> Result<Option<BlockBytes>, CacheError> {
-        if note(alloc, &mut self.log, "get", xorb, range).is_err() {
-            return Err(CacheError::OutOfMemory);
-        }
-        match &self.step {
-            Step::Block(bytes) => copied(bytes),
-            Step::Fail => Err(CacheError::Failed),
-            Step::NoMemory => Err(CacheError::OutOfMemory),
-            _ => Ok(None),
+        match note(&mut self.log, "get", xorb, range) {
+            Ok(()) => given(alloc, self.step),
+            Err(_) => Err(CacheError::OutOfMemory),
         }
     }
 
     fn put(
         &mut self,
-        alloc: Global,
+        _alloc: Global,
         xorb: &MerkleHash,
         range: ChunkRange,
         _block: &BlockBytes,
     ) -> Result<(), CacheError> {
-        let _ = note(alloc, &mut self.log, "put", xorb, range);
+        let _ = note(&mut self.log, "put", xorb, range);
         Err(CacheError::Failed)
     }
 }

@@ -1,140 +1,290 @@
-//! Blocks of a plan with their URLs, over a connection and a cache that follow a script.
-ghost use Rattle.std.specs.Prelude.{IsTrue};
-ghost use Rattle.xet_fetch.specs.RetrieveData.{IsFetchable};
-
-use crate::fake_cache::FakeCache;
+//! What plans are made into, and those that are refused, each by the first test that it fails.
 use crate::fake_client::FakeClient;
-use crate::script::{hash, step_of, steps};
-use std::alloc::Global;
-use std::sync::Wait;
+use crate::told::{comes_to, tell_error};
+use std::alloc::{AllocError, Global};
+use std::process::Abort;
 use std::test::Fail;
-use xet_base::{FileRange, UniqueId};
-use xet_progress::ItemProgressUpdater;
-use xet_terms::{
-    FetchSettings, FileReconstructionError, TermBlock, TermBlockRetrievalURLs, XorbBlock,
-    retrieve_data, retrieve_file_term_block,
-};
+use xet_base::{ChunkRange, FileRange};
+use xet_blocks::{FileTerm, TermBlock, XorbBlock, XorbReference};
 
-/// A connection of this script.
-pub(crate) fn client(alloc: Global, script: &str) -> Result<FakeClient, Fail> {
-    Ok(FakeClient {
-        steps: steps(alloc, script)?,
-        log: String::new(alloc),
-    })
+/// For blocks of `each` range, of all ranges of an `entry`, or `both`: the query, and the plan that comes. It makes
+/// these bytes of the file, of which so many are transferred, and blocks of these sizes; or it is refused.
+const PLANS: &str = "\
+each 0..99 0; 1 10 0 1; 1: 0 4, 4 2 = 0..10, 40: unknown
+entry 0..99 0; 1 10 0 1; 1: 0 4, 4 2 = Ranges 1 1
+each 0..99 0; 1 10 0 1; 1: 0 4; 2: 4 4 = 0..10, 40: unknown
+entry 0..99 0; 1 10 0 1; 1: 0 4; 2: 4 4 = Ranges 2 0
+each 0..99 0; 1 10 0 1; 1: 0 4 3 6 = 0..10, 40: unknown
+entry 0..99 0; 1 10 0 1; 1: 0 4 3 6 = Ranges 1 0
+each 0..99 0; 1 10 0 1; 1: 0 4; 1: 4 2 = 0..10, 40: unknown
+entry 0..99 0; 1 10 0 1; 1: 0 4; 1: 4 2 = Ranges 1 0
+each 0..99 0; 1 10 0 1; 1: 0 4 4 6, 0 4 = 0..10, 40: unknown
+entry 0..99 0; 1 10 0 1; 1: 0 4 4 6, 0 4 = 0..10, 60: unknown
+each 0..99 10; 2 9 0 1; 1: 2 1 = NoXorb { term: 0 }
+entry 0..99 10; 2 9 0 1; 1: 2 1 = Ranges 1 0
+both 0..99 10; 1 9 1 3 2 9 0 1; 1: 0 2 2 4 = NoXorb { term: 1 }
+both 0..99 10; 1 9 0 1 1 9 1 3; 1: 0 2 2 4 = NoRange { term: 1 }
+both 0..99 10; 1 9 2 2 1 9 3 2; 1: 0 2 2 4 = NoRange { term: 0 }
+both 0..99 10; 1 9 0 2 1 9 2 4; 1: 0 2; 1: 2 4 = NoRange { term: 1 }
+both 0..9 6; 1 6 0 1 1 2 1 2; 1: 0 3 = 0..2, 30: unknown
+both 0..1 7; 1 6 0 1 1 2 1 2; 1: 0 3 = Offset { offset: 7, length: 6 }
+both 18446744073709551610..18446744073709551615 0; 1 3 0 1 1 3 1 2; 1: 0 3 = Position { term: 1 }
+both 10..20 2; 1 6 0 1 1 10 1 2 1 3 2 3; 1: 0 3 = Trim { excess: 7, length: 3 }
+both 10..24 2; 1 6 0 1 1 10 1 2 1 3 2 3; 1: 0 3 = 10..24, 30: 19
+both 0..1 fail = ClientError
+both 0..1 no file = FileNotFound
+both 0..1 past = none
+both 0..1 9; ; 1: 4 2 = none
+both 0..1 no memory = OutOfMemory
+both 0..9999 0; 1 37 0 4; 1: 0 4 = 0..37, 40: 37
+both 0..9999 0; 1 90 0 4 1 35 4 7; 1: 0 7 = 0..125, 70: 125
+both 0..9999 0; 1 60 0 3 1 40 5 7; 1: 0 7 = 0..100, 70: unknown
+both 0..9999 0; 1 81 1 6; 1: 0 6 = 0..81, 60: unknown
+both 0..9999 0; 1 40 0 4 1 33 2 5 1 25 4 6; 1: 0 6 = 0..98, 60: 65
+both 0..9999 0; 1 72 0 6 1 73 0 6; 1: 0 6 = 0..145, 60: 72
+both 0..9999 0; 1 31 4 7 1 29 7 9; 1: 4 9 = 0..60, 50: 60
+both 0..9999 0; 1 31 4 7; 1: 4 9 = 0..31, 50: unknown
+both 0..9999 0; 1 6 0 1; 1: 0 1 = 0..6, 10: 6
+both 0..9999 0; 1 50 2 6 1 999 3 7 1 21 6 9; 1: 2 9 = 0..1070, 70: 71
+both 0..9999 0; 1 44 0 4 1 45 3 7 1 46 6 9; 1: 0 9 = 0..135, 90: unknown
+both 0..9999 0; 1 20 0 2 1 64 0 6; 1: 0 6 = 0..84, 60: 64
+both 0..9999 0; 1 30 0 3 1 41 0 4 1 32 4 7; 1: 0 7 = 0..103, 70: 73
+both 0..9999 0; 1 40 0 4 1 21 4 6 1 33 4 7 1 18 7 9; 1: 0 9 = 0..112, 90: 91
+both 0..9999 0; 1 20 0 2 1 40 0 4 1 70 0 7; 1: 0 8 = 0..130, 80: unknown
+each 0..9999 0; 1 47 0 4 1 38 6 9; 1: 0 4 6 9 = 0..85, 70: 47 38
+entry 0..9999 0; 1 47 0 4 1 38 6 9; 1: 0 4 6 9 = 0..85, 70: 85
+each 0..9999 0; 1 47 0 4; 1: 0 4 6 9 = 0..47, 40: 47
+entry 0..9999 0; 1 47 0 4; 1: 0 4 6 9 = 0..47, 70: unknown
+";
+
+/// The same, each with its terms and blocks: of a term its bytes, its chunks, its block, its start index and its
+/// offset, and of a block its xorb, its chunks, its references and its URL.
+const WORKED: &str = "\
+both 0..29 0; 1 9 3 5 1 7 0 2 1 5 3 4 1 8 0 3; 1: 3 5, 0 6
+0..29, 80: 9 unknown
+0..9 3-5 b0 s0 o0
+9..16 0-2 b1 s0 o0
+16..21 3-4 b0 s0 o0
+21..29 0-3 b1 s0 o0
+b0 x1 3-5: 3-5=9 3-4=5 by 3 5
+b1 x1 0-6: 0-2=7 0-3=8 by 0 6
+
+each 0..11 0; 1 5 0 2 1 6 4 6; 1: a=0 2 4 6
+0..11, 40: 5 6
+0..5 0-2 b0 s0 o0
+5..11 4-6 b1 s0 o0
+b0 x1 0-2: 0-2=5 by a
+b1 x1 4-6: 4-6=6 by a
+
+entry 0..11 0; 1 5 0 2 1 6 4 6; 1: a=0 2 4 6
+0..11, 40: 11
+0..5 0-2 b0 s0 o0
+5..11 4-6 b0 s2 o0
+b0 x1 0-2 4-6: 0-2=5 4-6=6 by a
+
+both 0..22 0; 1 5 0 2 1 7 3 5 1 4 1 3 1 6 4 6; 1: a=0 6
+0..22, 60: unknown
+0..5 0-2 b0 s0 o0
+5..12 3-5 b0 s3 o0
+12..16 1-3 b0 s1 o0
+16..22 4-6 b0 s4 o0
+b0 x1 0-6: 0-2=5 1-3=4 3-5=7 4-6=6 by a
+
+each 4..13 0; 1 1 1 2 1 6 4 6 1 5 8 9; 1: a=1 2 4 6 8 9
+4..13, 40: 1 6 5
+4..5 1-2 b0 s0 o0
+5..11 4-6 b1 s0 o0
+11..13 8-9 b2 s0 o0
+b0 x1 1-2: 1-2=1 by a
+b1 x1 4-6: 4-6=6 by a
+b2 x1 8-9: 8-9=5 by a
+
+entry 4..13 0; 1 1 1 2 1 6 4 6 1 5 8 9; 1: a=1 2 4 6 8 9
+4..13, 40: 12
+4..5 1-2 b0 s0 o0
+5..11 4-6 b0 s1 o0
+11..13 8-9 b0 s3 o0
+b0 x1 1-2 4-6 8-9: 1-2=1 4-6=6 8-9=5 by a
+
+each 0..40 0; 1 5 0 2 2 7 0 3 3 8 2 5 1 8 5 8 2 5 6 8 3 7 0 2; 1: a=0 2 5 8; 2: b=0 3 6 8; 3: c=0 5
+0..40, 150: 5 7 15 8 5
+0..5 0-2 b0 s0 o0
+5..12 0-3 b1 s0 o0
+12..20 2-5 b2 s2 o0
+20..28 5-8 b3 s0 o0
+28..33 6-8 b4 s0 o0
+33..40 0-2 b2 s0 o0
+b0 x1 0-2: 0-2=5 by a
+b1 x2 0-3: 0-3=7 by b
+b2 x3 0-5: 0-2=7 2-5=8 by c
+b3 x1 5-8: 5-8=8 by a
+b4 x2 6-8: 6-8=5 by b
+
+entry 0..40 0; 1 5 0 2 2 7 0 3 3 8 2 5 1 8 5 8 2 5 6 8 3 7 0 2; 1: a=0 2 5 8; 2: b=0 3 6 8; 3: c=0 5
+0..40, 150: 13 12 15
+0..5 0-2 b0 s0 o0
+5..12 0-3 b1 s0 o0
+12..20 2-5 b2 s2 o0
+20..28 5-8 b0 s2 o0
+28..33 6-8 b1 s3 o0
+33..40 0-2 b2 s0 o0
+b0 x1 0-2 5-8: 0-2=5 5-8=8 by a
+b1 x2 0-3 6-8: 0-3=7 6-8=5 by b
+b2 x3 0-5: 0-2=7 2-5=8 by c
+
+both 18446744073709551610..18446744073709551615 1; 1 3 0 1 1 3 1 2; 1: 0 3
+18446744073709551610..18446744073709551615, 30: unknown
+18446744073709551610..18446744073709551612 0-1 b0 s0 o1
+18446744073709551612..18446744073709551615 1-2 b0 s1 o0
+b0 x1 0-3: 0-1=3 1-2=3 by 0 3
+";
+
+/// ` 0-2 4-6`: ranges.
+fn tell_ranges(text: &mut String, ranges: &[ChunkRange]) -> Result<(), AllocError> {
+    for range in ranges {
+        write!(text, " {}-{}", range.start, range.end)?;
+    }
+    Ok(())
 }
 
-/// A cache of this step.
-pub(crate) fn cache(alloc: Global, text: &str) -> Result<FakeCache, Fail> {
-    Ok(FakeCache {
-        step: step_of(alloc, text)?,
-        log: String::new(alloc),
-    })
+/// ` 0-2=5 4-6=6`: references.
+fn tell_references(text: &mut String, references: &[XorbReference]) -> Result<(), AllocError> {
+    for reference in references {
+        let (chunks, size) = (reference.term_chunks, reference.uncompressed_size);
+        write!(text, " {}-{}={size}", chunks.start, chunks.end)?;
+    }
+    Ok(())
 }
 
-/// The terms and blocks of a plan of a file's first 13 bytes, with the id 1.0.
-pub(crate) fn terms(alloc: Global, plan: &str, multirange: bool) -> Result<TermBlock, Fail> {
-    let mut client = client(alloc, plan)?;
-    let query = FileRange::new(0, 13);
-    let id = UniqueId {
-        plan: 1,
-        refresh: 0,
+/// ` 5`, or ` unknown`: a block's size.
+fn tell_size(text: &mut String, size: Option<usize>) -> Result<(), AllocError> {
+    match size {
+        Some(size) => write!(text, " {size}"),
+        None => text.push_str(" unknown"),
+    }
+}
+
+/// `0..11, 40: 5 6`: the bytes, how many are transferred, and the blocks' sizes.
+fn tell_sizes(text: &mut String, made: &TermBlock) -> Result<(), AllocError> {
+    let (range, bytes) = (made.byte_range, made.transfer_bytes);
+    write!(text, "{}..{}, {bytes}:", range.start, range.end)?;
+    for block in made.blocks.as_slice() {
+        tell_size(text, block.uncompressed_size_if_known)?;
+    }
+    Ok(())
+}
+
+/// `5..11 4-6 b1 s0 o0`: a term.
+fn tell_term(text: &mut String, term: &FileTerm) -> Result<(), AllocError> {
+    let (bytes, chunks) = (term.byte_range, term.xorb_chunk_range);
+    let (block, start) = (term.xorb_block, term.xorb_block_start_index);
+    let offset = term.offset_into_first_range;
+    write!(
+        text,
+        "\n{}..{} {}-{}",
+        bytes.start, bytes.end, chunks.start, chunks.end
+    )?;
+    write!(text, " b{block} s{start} o{offset}")
+}
+
+/// `b1 x1 4-6: 4-6=6 by a`: a block.
+fn tell_block(text: &mut String, made: &TermBlock, block: &XorbBlock) -> Result<(), AllocError> {
+    let index = block.xorb_block_index;
+    write!(text, "\nb{index} x{}", block.xorb_hash.0[0])?;
+    tell_ranges(text, block.chunk_ranges.as_slice())?;
+    text.push(':')?;
+    tell_references(text, block.references.as_slice())?;
+    match made.urls.get_retrieval_url(index) {
+        Some((_, found)) => write!(text, " by {}", found.url.as_str()),
+        None => text.push_str(" by none"),
+    }
+}
+
+/// The terms.
+fn tell_terms(text: &mut String, made: &TermBlock) -> Result<(), AllocError> {
+    for term in made.terms.as_slice() {
+        tell_term(text, term)?;
+    }
+    Ok(())
+}
+
+/// The sizes, the terms and the blocks.
+fn tell_whole(text: &mut String, made: &TermBlock) -> Result<(), AllocError> {
+    tell_sizes(text, made)?;
+    tell_terms(text, made)?;
+    for block in made.blocks.as_slice() {
+        tell_block(text, made, block)?;
+    }
+    Ok(())
+}
+
+/// How a plan is asked for and told.
+#[derive(Clone, Copy)]
+struct Asked {
+    query: FileRange,
+    multirange: bool,
+    whole: bool,
+}
+
+/// What the connection's answer is made into.
+fn tell_made(
+    text: &mut String,
+    alloc: Global,
+    client: &mut FakeClient,
+    asked: Asked,
+) -> Result<(), AllocError> {
+    match client.terms(alloc, asked.query, asked.multirange) {
+        Ok(Some(made)) if asked.whole => tell_whole(text, &made),
+        Ok(Some(made)) => tell_sizes(text, &made),
+        Ok(None) => text.push_str("none"),
+        Err(error) => tell_error(text, error),
+    }
+}
+
+/// A range of a file.
+fn range_of(text: &str) -> Result<FileRange, Fail> {
+    let (start, end) = text.split_once("..").ok_or("no range")?;
+    Ok(FileRange::new(start.parse::<u64>()?, end.parse::<u64>()?))
+}
+
+/// What a plan is made into.
+fn made(alloc: Global, row: &str, multirange: bool, whole: bool) -> Result<String, Fail> {
+    let (query, script) = row.split_once(' ').ok_or("no query")?;
+    let query = range_of(query)?;
+    let asked = Asked {
+        query,
+        multirange,
+        whole,
     };
-    let made = retrieve_file_term_block(alloc, &mut client, hash(9), query, multirange, id)?;
-    Ok(made.ok_or("no terms")?)
+    let mut text = String::new(alloc);
+    let mut client = FakeClient::new(alloc, script);
+    tell_made(&mut text, alloc, &mut client, asked)?;
+    Ok(text)
 }
 
-/// The blocks of a plan and their table, and what they are fetched with.
-#[derive(Drop)]
-pub(crate) struct Fetching {
-    pub(crate) blocks: Vec<XorbBlock>,
-    pub(crate) urls: TermBlockRetrievalURLs,
-    pub(crate) client: FakeClient,
-    pub(crate) cache: FakeCache,
-    pub(crate) settings: FetchSettings,
-}
-
-/// The blocks of this plan, over a connection of this script and a cache of this step.
-pub(crate) fn case(
-    alloc: Global,
-    plan: &str,
-    script: &str,
-    cached: &str,
-    settings: FetchSettings,
-) -> Result<Fetching, Fail> {
-    let TermBlock { blocks, urls, .. } = terms(alloc, plan, settings.multirange)?;
-    Ok(Fetching {
-        blocks: blocks.into_inner(),
-        urls,
-        client: client(alloc, script)?,
-        cache: cache(alloc, cached)?,
-        settings,
-    })
-}
-
-/// Whether the blocks have this number, and the table has it.
-fn is_fetchable(blocks: &[XorbBlock], index: usize, urls: &TermBlockRetrievalURLs) -> bool
-    ensures { IsTrue result → IsFetchable blocks.now index urls.now }
-{
-    index < blocks.len()
-        && blocks[index].xorb_block_index == index
-        && urls.get_retrieval_url(index).is_some()
-}
-
-impl Fetching {
-    /// Gets the data of the block of this number; without one the answer is `Cancelled`.
-    pub(crate) fn retrieve<R: Wait>(
-        &mut self,
-        alloc: Global,
-        rt: &R,
-        index: usize,
-        progress: Option<&ItemProgressUpdater>,
-    ) -> Result<(), FileReconstructionError> {
-        let blocks = self.blocks.as_mut_slice();
-        if !is_fetchable(blocks, index, &self.urls) {
-            return Err(FileReconstructionError::Cancelled);
-        }
-        retrieve_data(
-            alloc,
-            rt,
-            blocks,
-            index,
-            &mut self.client,
-            &mut self.urls,
-            &self.settings,
-            progress,
-            &mut self.cache,
-        )
+/// Asserts what a plan is made into, by its settings.
+fn is_made(rt: &impl Abort, alloc: Global, row: &str, whole: bool, wanted: &str) {
+    let (kind, rest) = row.split_once(' ').unwrap_or((row, ""));
+    if kind != "entry" {
+        comes_to(rt, row, made(alloc, rest, false, whole), wanted);
+    }
+    if kind != "each" {
+        comes_to(rt, row, made(alloc, rest, true, whole), wanted);
     }
 }
 
-/// The bytes that the first block keeps, and none where it keeps none.
-pub(crate) fn kept(case: &Fetching) -> &[u8] {
-    match case.blocks.as_slice() {
-        [
-            XorbBlock {
-                kept: Some(found),
-                ..
-            },
-            ..
-        ] => found.bytes.as_slice(),
-        _ => b"none",
+#[test]
+fn plans_and_the_first_tests_that_they_fail(rt: HostRuntime) {
+    for line in PLANS.lines() {
+        let (row, wanted) = line.split_once(" = ").unwrap_or((line, ""));
+        is_made(&rt, rt.alloc(), row, false, wanted);
     }
 }
 
-/// `ok`, or the error.
-pub(crate) fn answer_text(
-    alloc: Global,
-    answer: Result<(), FileReconstructionError>,
-) -> Result<String, Fail> {
-    match answer {
-        Ok(()) => Ok(String::from_str(alloc, "ok")?),
-        Err(error) => Ok(format!(in alloc; "{error:?}")?),
+#[test]
+fn worked_plans(rt: HostRuntime) {
+    for case in WORKED.trim_end().split("\n\n") {
+        let (row, wanted) = case.split_once('\n').unwrap_or((case, ""));
+        is_made(&rt, rt.alloc(), row, true, wanted);
     }
-}
-
-/// `1.0 a`: a table's id, and its first URL.
-pub(crate) fn table_text(alloc: Global, urls: &TermBlockRetrievalURLs) -> Result<String, Fail> {
-    let (id, found) = urls.get_retrieval_url(0).ok_or("no URL")?;
-    let url = found.url.as_str();
-    Ok(format!(in alloc; "{}.{} {url}", id.plan, id.refresh)?)
 }

@@ -1,134 +1,129 @@
-//! Scripts of connections and caches, read from texts.
+//! Scripts of connections and caches, read from texts. Nothing is read from another text, or where memory is refused.
 use bytes::Bytes;
 use std::alloc::Global;
-use std::collections::VecDeque;
-use std::test::Fail;
 use xet_base::{ChunkRange, HttpRange, List, MerkleHash, SharedText};
 use xet_outside::{
-    BlockBytes, FetchEntry, FetchRange, Offsets, Plan, PlanAnswer, PlanTerm, PlanXorb,
+    BlockBytes, ClientError, FetchEntry, FetchRange, Offsets, Plan, PlanAnswer, PlanTerm, PlanXorb,
 };
 
-/// What a connection, or a cache, does at one call.
-#[derive(Drop)]
-pub(crate) enum Step {
-    /// It answers this to a query.
-    Plan(PlanAnswer),
-    /// It answers these bytes for a block.
-    Block(BlockBytes),
-    /// The block's URL has expired, or the cache has nothing.
-    Expired,
-    /// It fails.
-    Fail,
-    /// It finds no memory.
-    NoMemory,
-}
-
-/// The hash of 32 bytes of this number.
+/// The hash whose first byte is this number, before zeros.
 pub(crate) fn hash(number: u8) -> MerkleHash {
-    MerkleHash([number; 32])
+    let mut bytes = [0; 32];
+    bytes[0] = number;
+    MerkleHash(bytes)
 }
 
 /// The numbers of a text.
-pub(crate) fn numbers(alloc: Global, text: &str) -> Result<Vec<u32>, Fail> {
+pub(crate) fn numbers(alloc: Global, text: &str) -> Option<Vec<u32>> {
     let mut made = Vec::new(alloc);
     for word in text.split_whitespace() {
-        made.push(word.parse::<u32>()?)?;
+        let number = word.parse::<u32>().ok()?;
+        made.push(number).ok()?;
     }
-    Ok(made)
+    Some(made)
 }
 
 /// Terms by four numbers each: the xorb, the length and the chunks.
-fn plan_terms(alloc: Global, text: &str) -> Result<List<PlanTerm>, Fail> {
+fn plan_terms(alloc: Global, numbers: &[u32]) -> Option<List<PlanTerm>> {
     let mut made = List::new(alloc);
-    for term in numbers(alloc, text)?.as_slice().chunks(4) {
+    for term in numbers.chunks(4) {
         if let [xorb, length, start, end] = term {
-            made.push(PlanTerm {
-                xorb: hash(u8::try_from(*xorb)?),
+            let term = PlanTerm {
+                xorb: hash((*xorb % 256) as u8),
                 unpacked_length: *length,
                 range: ChunkRange::new(*start, *end),
-            })?;
+            };
+            made.push(term).ok()?;
         }
     }
-    Ok(made)
+    Some(made)
 }
 
 /// An entry's ranges by two numbers each, the chunks, which have ten bytes each.
-fn fetch_ranges(alloc: Global, text: &str) -> Result<List<FetchRange>, Fail> {
+fn fetch_ranges(alloc: Global, numbers: &[u32]) -> Option<List<FetchRange>> {
     let mut made = List::new(alloc);
-    for range in numbers(alloc, text)?.as_slice().chunks(2) {
+    for range in numbers.chunks(2) {
         if let [start, end] = range {
-            let bytes = HttpRange::new(10 * u64::from(*start), 10 * u64::from(*end));
-            made.push(FetchRange {
+            let range = FetchRange {
                 chunks: ChunkRange::new(*start, *end),
-                bytes,
-            })?;
+                bytes: HttpRange::new(10 * u64::from(*start), 10 * u64::from(*end)),
+            };
+            made.push(range).ok()?;
         }
     }
-    Ok(made)
+    Some(made)
 }
 
-/// One entry: its URL, an equals sign and its ranges.
-fn fetch_entry(alloc: Global, text: &str) -> Result<FetchEntry, Fail> {
-    let (url, ranges) = text.split_once('=').ok_or("no URL")?;
-    Ok(FetchEntry {
-        url: SharedText::from_string(alloc, String::from_str(alloc, url.trim())?)?,
-        ranges: fetch_ranges(alloc, ranges)?,
+/// This text as a URL.
+fn url(alloc: Global, text: &str) -> Option<SharedText> {
+    let string = String::from_str(alloc, text).ok()?;
+    SharedText::from_string(alloc, string).ok()
+}
+
+/// One entry: its URL, an equals sign and its ranges, or the ranges alone, which are its URL too.
+fn fetch_entry(alloc: Global, text: &str) -> Option<FetchEntry> {
+    let (name, ranges) = text.split_once('=').unwrap_or((text, text));
+    let numbers = numbers(alloc, ranges)?;
+    let url = url(alloc, name.trim())?;
+    let ranges = fetch_ranges(alloc, numbers.as_slice())?;
+    Some(FetchEntry { url, ranges })
+}
+
+/// A xorb: its number, a colon, and its entries with commas between them.
+fn plan_xorb(alloc: Global, text: &str) -> Option<PlanXorb> {
+    let (number, entries) = text.split_once(':')?;
+    let xorb = hash(number.trim().parse::<u8>().ok()?);
+    let mut fetch = List::new(alloc);
+    for entry in entries.split(',') {
+        fetch.push(fetch_entry(alloc, entry)?).ok()?;
+    }
+    Some(PlanXorb { xorb, fetch })
+}
+
+/// Xorbs with semicolons between them.
+fn plan_xorbs(alloc: Global, text: &str) -> Option<List<PlanXorb>> {
+    let mut made = List::new(alloc);
+    for xorb in text.split(';') {
+        made.push(plan_xorb(alloc, xorb)?).ok()?;
+    }
+    Some(made)
+}
+
+/// A plan of this offset, these terms and these xorbs.
+fn plan_of(alloc: Global, offset: u64, terms: &[u32], xorbs: &str) -> Option<Plan> {
+    let xorbs = plan_xorbs(alloc, xorbs)?;
+    Some(Plan {
+        offset_into_first_range: offset,
+        terms: plan_terms(alloc, terms)?,
+        xorbs,
     })
 }
 
-/// The one xorb of a plan, with one entry.
-fn plan_xorbs(alloc: Global, text: &str) -> Result<List<PlanXorb>, Fail> {
-    let mut fetch = List::new(alloc);
-    fetch.push(fetch_entry(alloc, text)?)?;
-    let mut made = List::new(alloc);
-    let xorb = hash(1);
-    made.push(PlanXorb { xorb, fetch })?;
-    Ok(made)
+/// A plan by its offset, its terms and its xorbs, with semicolons between them.
+fn plan(alloc: Global, text: &str) -> Option<Plan> {
+    let (offset, rest) = text.split_once(';')?;
+    let (terms, xorbs) = rest.split_once(';')?;
+    let offset = offset.trim().parse::<u64>().ok()?;
+    plan_of(alloc, offset, numbers(alloc, terms)?.as_slice(), xorbs)
 }
 
-/// A plan by its offset, its terms, and the entry of xorb 1, with semicolons between them.
-fn plan(alloc: Global, offset: &str, rest: &str) -> Result<Step, Fail> {
-    let (terms, entry) = rest.split_once(';').ok_or("no entry")?;
-    Ok(Step::Plan(PlanAnswer::Found(Plan {
-        offset_into_first_range: offset.trim().parse::<u64>()?,
-        terms: plan_terms(alloc, terms)?,
-        xorbs: plan_xorbs(alloc, entry)?,
-    })))
-}
-
-/// Bytes of a block after a bar, before which stand its offsets.
-fn block(alloc: Global, offsets: &str, text: &str) -> Result<Step, Fail> {
-    let offsets = Offsets::from_vec(alloc, numbers(alloc, offsets)?)?;
-    let bytes = Bytes::copy_from_slice(alloc, text.trim().as_bytes())?;
-    Ok(Step::Block(BlockBytes { offsets, bytes }))
-}
-
-/// A step with an answer of its own.
-fn said(alloc: Global, text: &str) -> Result<Step, Fail> {
-    if let Some((offsets, bytes)) = text.split_once('|') {
-        return block(alloc, offsets, bytes);
-    }
-    let (offset, rest) = text.split_once(';').ok_or("no step")?;
-    plan(alloc, offset, rest)
-}
-
-/// One step.
-pub(crate) fn step_of(alloc: Global, text: &str) -> Result<Step, Fail> {
-    match text {
-        "fail" => Ok(Step::Fail),
-        "no memory" => Ok(Step::NoMemory),
-        "expired" => Ok(Step::Expired),
-        "past" => Ok(Step::Plan(PlanAnswer::PastEnd)),
-        "no file" => Ok(Step::Plan(PlanAnswer::NoFile)),
-        _ => said(alloc, text),
+/// What a connection answers to a query by this step; it fails at one that is no answer.
+pub(crate) fn answered(alloc: Global, step: &str) -> Result<PlanAnswer, ClientError> {
+    match step {
+        "no memory" => Err(ClientError::OutOfMemory),
+        "past" => Ok(PlanAnswer::PastEnd),
+        "no file" => Ok(PlanAnswer::NoFile),
+        text => match plan(alloc, text) {
+            Some(plan) => Ok(PlanAnswer::Found(plan)),
+            None => Err(ClientError::Failed),
+        },
     }
 }
 
-/// Steps with slashes between them.
-pub(crate) fn steps(alloc: Global, text: &str) -> Result<VecDeque<Step>, Fail> {
-    let mut made = VecDeque::new(alloc);
-    for word in text.split('/') {
-        made.push_back(step_of(alloc, word.trim())?)?;
-    }
-    Ok(made)
+/// A block by its offsets and, after a bar, its bytes.
+pub(crate) fn block(alloc: Global, text: &str) -> Option<BlockBytes> {
+    let (offsets, bytes) = text.split_once('|')?;
+    let offsets = Offsets::from_vec(alloc, numbers(alloc, offsets)?).ok()?;
+    let bytes = Bytes::copy_from_slice(alloc, bytes.trim().as_bytes()).ok()?;
+    Some(BlockBytes { offsets, bytes })
 }
