@@ -1,0 +1,107 @@
+//! A sink and a source over std's writers and readers that are interrupted, break, or take and give little.
+use crate::rows::comes_to;
+use crate::sinks::played;
+use std::alloc::Global;
+use std::io::{self, ErrorKind, Read, Write};
+use std::test::Fail;
+use xet_outside::Source;
+use xet_sinks::{ReadSource, WriteSink};
+
+/// Does at each call what the next letter of its script says: is interrupted at an `i`, takes or gives at most so many
+/// bytes at a digit, and breaks at any other one and after the script.
+#[derive(Drop)]
+struct Shaky<'a> {
+    script: &'a [u8],
+    calls: usize,
+}
+
+impl<'a> Shaky<'a> {
+    fn step(&mut self) -> io::Result<usize> {
+        let step = self.script.get(self.calls).copied().unwrap_or(b'.');
+        self.calls = self.calls.saturating_add(1);
+        match step {
+            b'i' => Err(ErrorKind::Interrupted.into()),
+            b'0'..=b'9' => Ok((step - b'0') as usize),
+            _ => Err(ErrorKind::BrokenPipe.into()),
+        }
+    }
+}
+
+impl<'a> Write for Shaky<'a> {
+    fn write(&mut self, piece: &[u8]) -> io::Result<usize> {
+        Ok(self.step()?.min(piece.len()))
+    }
+
+    fn flush(&mut self) -> io::Result<()> {
+        self.step()?;
+        Ok(())
+    }
+}
+
+impl<'a> Read for Shaky<'a> {
+    fn read(&mut self, into: &mut [u8]) -> io::Result<usize> {
+        let count = self.step()?.min(into.len());
+        into[..count].fill(b'x');
+        Ok(count)
+    }
+}
+
+/// Of a sink over a writer: the writer's script and the calls of the sink; what they answer and the calls below.
+const WRITES: &str = "2 | - abc => 0 2 by 1
+iiiiiiiiiiiiiiii9 | abc => 3 by 17
+iiiiiiiiiiiiiiiii9 | abc => Failed by 17
+b9 | abc => Failed by 1
+0 | abc => Failed by 1
+i | abc => Failed by 2
+0 | flush => 0 by 1
+iiiiiiiiiiiiiiii0 | flush => 0 by 17
+iiiiiiiiiiiiiiiii0 | flush => Failed by 17
+b0 | flush => Failed by 1
+i | flush => Failed by 2";
+
+/// The same of one read into two bytes.
+const READS: &str = "1 => Ok(1) x. by 1
+iiiiiiiiiiiiiiii1 => Ok(1) x. by 17
+iiiiiiiiiiiiiiiii1 => Err(SourceFault) .. by 17
+b1 => Err(SourceFault) .. by 1
+i => Err(SourceFault) .. by 2";
+
+fn written(alloc: Global, script: &str, calls: &str) -> Result<String, Fail> {
+    let mut below = Shaky {
+        script: script.as_bytes(),
+        calls: 0,
+    };
+    let told = played(alloc, calls, &mut WriteSink::new(&mut below))?;
+    Ok(format!(in alloc; "{told}by {}", below.calls)?)
+}
+
+fn read(alloc: Global, script: &str) -> Result<String, Fail> {
+    let mut below = Shaky {
+        script: script.as_bytes(),
+        calls: 0,
+    };
+    let mut into = [b'.'; 2];
+    let answer = ReadSource::new(&mut below).read(&mut into);
+    let into = str::from_utf8(&into)?;
+    Ok(format!(in alloc; "{answer:?} {into} by {}", below.calls)?)
+}
+
+#[test]
+fn an_interrupted_write_or_flush_is_made_again(rt: HostRuntime) {
+    for line in WRITES.lines() {
+        if let Some((row, wanted)) = line.split_once(" => ")
+            && let Some((script, calls)) = row.split_once(" | ")
+        {
+            comes_to(&rt, row, written(rt.alloc(), script, calls), wanted);
+        }
+    }
+}
+
+#[test]
+fn an_interrupted_read_is_made_again(rt: HostRuntime) {
+    for line in READS.lines() {
+        if let Some((row, wanted)) = line.split_once(" => ") {
+            comes_to(&rt, row, read(rt.alloc(), row), wanted);
+        }
+    }
+}
