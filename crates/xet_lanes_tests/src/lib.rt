@@ -1,16 +1,26 @@
-//! Tests of `xet_lanes`: that lanes run side by side, beside the writing, and stop one another, what a gate is told and
-//! when, and which error of a join comes first. They stand in a crate of their own, since a crate with tests is proved
-//! twice.
+//! Tests of `xet_claims`, `xet_run` and `xet_lanes`: numbers that two threads draw, the calls of a run, limits that follow
+//! the running downloads, that lanes run side by side, beside the writing, and stop one another, and what a gate is told
+//! and when. They stand in a crate of their own, since a crate with tests is proved twice.
 #![tactic(auto)]
 
 #[cfg(test)]
-mod errors;
+mod books;
+#[cfg(test)]
+mod calls;
+#[cfg(test)]
+mod claims;
+#[cfg(test)]
+mod drawn;
+#[cfg(test)]
+mod events;
 #[cfg(test)]
 mod meeting;
 #[cfg(test)]
 mod one_byte;
 #[cfg(test)]
 mod rounds;
+#[cfg(test)]
+mod rows;
 #[cfg(test)]
 mod side_by_side;
 #[cfg(test)]

@@ -5,39 +5,42 @@ ghost use Rattle.xet_lanes.specs.Fetches.{ask_of};
 
 use crate::meeting::Waiting;
 use crate::one_byte::OneByte;
-use bytes::Bytes;
 use std::alloc::Global;
 use std::marker::Brand;
 use std::sync::Wait;
 use std::sync::ledger::{Blank, Ledger};
+use std::test::Fail;
 use std::thread::Threads;
 use xet_base::{
     ChunkRange, FileRange, List, MerkleHash, OutOfMemory, SharedText, ShortList, UniqueId,
 };
-use xet_blocks::{DataSource, RetrievalUrl, TermBlockRetrievalURLs, XorbBlock};
-use xet_error::FileReconstructionError;
+use xet_blocks::{RetrievalUrl, TermBlockRetrievalURLs, XorbBlock};
 use xet_lanes::{Fetch, Gate, Joined, LaneStep, fetch_and_write};
 use xet_run::RunState;
-use xet_writers::{DataWriter, SequentialWriter};
+use xet_writers::SequentialWriter;
 
-fn one_chunk(alloc: Global) -> Result<XorbBlock, OutOfMemory> {
-    Ok(XorbBlock {
+fn one_chunk() -> XorbBlock {
+    XorbBlock {
         xorb_hash: MerkleHash([17; 32]),
         chunk_ranges: ShortList::of_one(ChunkRange::new(0, 1)),
         xorb_block_index: 0,
         references: ShortList::new(),
         uncompressed_size_if_known: None,
         kept: None,
-    })
+    }
+}
+
+/// A URL of no bytes.
+fn url(alloc: Global) -> Result<RetrievalUrl, OutOfMemory> {
+    let url = SharedText::from_string(alloc, String::new(alloc))?;
+    let ranges = ShortList::new();
+    Ok(RetrievalUrl { url, ranges })
 }
 
 /// A table with a URL of no bytes for the block.
 fn one_url(alloc: Global) -> Result<TermBlockRetrievalURLs, OutOfMemory> {
     let mut urls = List::new(alloc);
-    urls.push(RetrievalUrl {
-        url: SharedText::from_string(alloc, String::new(alloc))?,
-        ranges: ShortList::new(),
-    })?;
+    urls.push(url(alloc)?)?;
     let id = UniqueId {
         plan: 1,
         refresh: 0,
@@ -66,14 +69,13 @@ fn fetches<'a>(
     Ok(all)
 }
 
-/// One round over a run of its own.
-fn round<L: Ledger + Send + Sync, R: Threads + Wait + Sync, G: Gate + Sync>(
+/// One join of these fetches over a run of its own.
+fn join<L: Ledger + Send + Sync, R: Threads + Wait + Sync, G: Gate + Sync>(
     rt: &R,
     alloc: Global,
     blank: Blank,
     gate: &G,
-    first: u64,
-    end: u64,
+    fetches: &[Fetch<'_>],
     clients: &mut [OneByte<'_>],
     beside: bool,
     writer: &mut SequentialWriter<Waiting>,
@@ -81,25 +83,32 @@ fn round<L: Ledger + Send + Sync, R: Threads + Wait + Sync, G: Gate + Sync>(
     requires name { blank.name ≡ L.name }
     requires parts { (blank.parts ≡ L.parts) × (L.parts ≡ 2 ^ 32) }
     requires clients { 0 < length clients.old }
+    requires asks { All IsFor (map ask_of fetches.now) }
 {
     let (state, mut pass) = RunState::<L>::new(alloc, blank, MerkleHash([1; 32]))?;
-    let block = one_chunk(alloc)?;
-    let urls = one_url(alloc)?;
-    let fetches = fetches(alloc, &block, &urls, first, end)?;
     fetch_and_write(
-        rt,
-        alloc,
-        gate,
-        &state,
-        &mut pass,
-        fetches.as_slice(),
-        clients,
-        beside,
-        writer,
+        rt, alloc, gate, &state, &mut pass, fetches, clients, beside, writer,
     )
 }
 
 /// The same under a ledger of its own.
+fn own_join<R: Threads + Wait + Sync, G: Gate + Sync>(
+    rt: &R,
+    alloc: Global,
+    gate: &G,
+    fetches: &[Fetch<'_>],
+    clients: &mut [OneByte<'_>],
+    beside: bool,
+    writer: &mut SequentialWriter<Waiting>,
+) -> Result<Joined, OutOfMemory>
+    requires clients { 0 < length clients.old }
+    requires asks { All IsFor (map ask_of fetches.now) }
+{
+    let blank = Blank::new(1 << 32);
+    join::<Brand, R, G>(rt, alloc, blank, gate, fetches, clients, beside, writer)
+}
+
+/// One join of the fetches of these numbers, from the first to before the end.
 pub(crate) fn one_round<R: Threads + Wait + Sync, G: Gate + Sync>(
     rt: &R,
     alloc: Global,
@@ -112,31 +121,45 @@ pub(crate) fn one_round<R: Threads + Wait + Sync, G: Gate + Sync>(
 ) -> Result<Joined, OutOfMemory>
     requires clients { 0 < length clients.old }
 {
-    let blank = Blank::new(1 << 32);
-    round::<Brand, R, G>(rt, alloc, blank, gate, first, end, clients, beside, writer)
+    let urls = one_url(alloc)?;
+    let block = one_chunk();
+    let fetches = fetches(alloc, &block, &urls, first, end)?;
+    own_join(rt, alloc, gate, fetches.as_slice(), clients, beside, writer)
 }
 
-/// How many steps of the lanes were served.
-pub(crate) fn served(joined: &Joined) -> u64 {
-    let mut count = 0u64;
+/// The steps of each lane, `s` for a served one, and what was written.
+fn told(alloc: Global, joined: &Joined) -> Result<String, Fail> {
+    let mut told = String::new(alloc);
     for end in joined.ends.as_slice() {
-        for step in end.steps.as_slice() {
-            if matches!(step, LaneStep::Served { .. }) {
-                count = count.saturating_add(1);
-            }
-        }
+        add_steps(&mut told, end.steps.as_slice())?;
     }
-    count
+    match joined.wrote {
+        Ok(count) => write!(told, "{count}")?,
+        Err(error) => write!(told, "{error}")?,
+    }
+    Ok(told)
 }
 
-/// Gives the writer a term of these bytes.
-pub(crate) fn ready(
+/// Adds a letter for each step, and a space.
+fn add_steps(told: &mut String, steps: &[LaneStep]) -> Result<(), Fail> {
+    for step in steps {
+        told.push(match step {
+            LaneStep::Served { .. } => 's',
+            LaneStep::Expired { .. } => 'e',
+            LaneStep::Failed { .. } => 'f',
+        })?;
+    }
+    told.push(' ')?;
+    Ok(())
+}
+
+/// What a join came to.
+pub(crate) fn told_round(
     alloc: Global,
-    writer: &mut SequentialWriter<Waiting>,
-    start: u64,
-    text: &'static [u8],
-) -> Result<(), FileReconstructionError> {
-    let end = start.saturating_add(text.len() as u64);
-    let source = DataSource::Ready(Bytes::from_static(text));
-    writer.set_next_term_data_source(alloc, FileRange::new(start, end), None, source)
+    joined: Result<Joined, OutOfMemory>,
+) -> Result<String, Fail> {
+    match joined {
+        Ok(joined) => told(alloc, &joined),
+        Err(error) => Err(Fail::from(error)),
+    }
 }

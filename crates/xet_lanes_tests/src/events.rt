@@ -1,0 +1,145 @@
+//! Events of a core of a run, a letter each, and the texts of refusals.
+use crate::rows::comes_to;
+use std::alloc::{AllocError, Global};
+use std::fmt::Display;
+use std::test::Fail;
+use xet_base::{FileRange, List, MerkleHash, ShortList};
+use xet_error::FileReconstructionError;
+use xet_run::{
+    CoreRefusal, EventLog, KeptEvents, ListedPlan, PlannedBlock, PlannedTerm, RunCore, RunError,
+    ToldEvents,
+};
+
+/// Events and the answers: a dot where it is added, `n` where it is not allowed. Each kind of event is added once.
+const EVENTS: &str = "appfaawrerrffceWzwA: n.nn.nnn..n.nnnnn..
+pacxywak: .....nnn
+kpx: .nn";
+
+fn term(start: u64, end: u64) -> PlannedTerm {
+    PlannedTerm {
+        byte_range: FileRange::new(start, end),
+        block: 0,
+        start_index: 0,
+        offset: 0,
+    }
+}
+
+fn one_block(alloc: Global) -> Result<List<PlannedBlock>, AllocError> {
+    let mut blocks = Vec::new(alloc);
+    blocks.push(PlannedBlock {
+        xorb: MerkleHash([1; 32]),
+        ranges: ShortList::new(),
+    })?;
+    Ok(List::from_vec(blocks))
+}
+
+/// Twelve bytes as two terms of one block.
+fn plan(alloc: Global) -> Result<ListedPlan, AllocError> {
+    let terms = vec![in alloc; term(0, 6), term(6, 12)]?;
+    Ok(ListedPlan {
+        terms: List::from_vec(terms),
+        blocks: one_block(alloc)?,
+    })
+}
+
+/// Adds the event of this letter.
+fn add<E: EventLog>(
+    alloc: Global,
+    core: &mut RunCore<E>,
+    plan: &ListedPlan,
+    letter: char,
+) -> Result<(), CoreRefusal> {
+    match letter {
+        'p' => core.planned(alloc, FileRange::new(0, 12), plan),
+        'a' => core.admit(10),
+        'A' => core.admit(3),
+        'f' => core.fetched(0, 1, 0),
+        'c' => core.cached(1, 0),
+        'e' => core.expired(0, 1, 0),
+        'r' => core.refreshed(1),
+        'w' => core.wrote(6),
+        'W' => core.wrote(7),
+        'z' => core.wrote(0),
+        'x' => core.fail(FileReconstructionError::IoError),
+        'y' => core.fail(FileReconstructionError::UrlExpired),
+        _ => core.cancel(),
+    }
+}
+
+/// What the events of these letters are answered.
+fn answers<E: EventLog>(
+    alloc: Global,
+    core: &mut RunCore<E>,
+    plan: &ListedPlan,
+    letters: &str,
+) -> Result<String, Fail> {
+    let mut told = String::new(alloc);
+    for letter in letters.chars() {
+        let answer = match add(alloc, core, plan, letter) {
+            Ok(()) => '.',
+            Err(CoreRefusal::NotAllowed) => 'n',
+            Err(CoreRefusal::OutOfMemory) => 'm',
+        };
+        told.push(answer)?;
+    }
+    Ok(told)
+}
+
+/// The same from the first event on, over a log of this kind.
+fn played<E: EventLog>(alloc: Global, letters: &str) -> Result<String, Fail> {
+    let plan = plan(alloc)?;
+    answers(alloc, &mut RunCore::<E>::new(alloc), &plan, letters)
+}
+
+#[test]
+fn each_event_is_allowed_in_its_place(rt: HostRuntime) {
+    for line in EVENTS.lines() {
+        if let Some((letters, wanted)) = line.split_once(": ") {
+            comes_to(
+                &rt,
+                letters,
+                played::<KeptEvents>(rt.alloc(), letters),
+                wanted,
+            );
+            comes_to(
+                &rt,
+                letters,
+                played::<ToldEvents>(rt.alloc(), letters),
+                wanted,
+            );
+        }
+    }
+}
+
+/// The texts of these errors, a line each.
+fn lines<E: Display>(alloc: Global, errors: &[E]) -> Result<String, Fail> {
+    let mut text = String::new(alloc);
+    for error in errors {
+        writeln!(text, "{error}")?;
+    }
+    Ok(text)
+}
+
+#[test]
+fn refusals_print_their_names(rt: HostRuntime) {
+    let alloc = rt.alloc();
+    let core = [CoreRefusal::NotAllowed, CoreRefusal::OutOfMemory];
+    comes_to(
+        &rt,
+        "core",
+        lines(alloc, &core),
+        "NotAllowed\nOutOfMemory\n",
+    );
+    let error = FileReconstructionError::IoError;
+    let run = [
+        RunError::OutOfMemory,
+        RunError::Error(error),
+        RunError::Cancelled,
+    ];
+    comes_to(
+        &rt,
+        "run",
+        lines(alloc, &run),
+        "OutOfMemory\nError\nCancelled\n",
+    );
+}
