@@ -1,53 +1,34 @@
 //! What is cut of a file, what waits, and their hashes, which an independent program worked out.
-use crate::made::{chunk, info};
+use crate::made::info;
+use crate::rows::{comes_to, numbered, show, word};
+use bytes::Bytes;
 use std::alloc::Global;
 use std::test::Fail;
 use xet_base::{ChunkInfo, MerkleHash, OutOfMemory};
-use xet_upload::{DataAggregator, DeduplicationMetrics, FileParts, FixedCutter, next_cut};
+use xet_upload::{DataAggregator, FileParts, FixedCutter, PendingFile, RawXorbData, next_cut};
 
-/// The next cut of so many pending bytes.
-fn cut_of(
-    alloc: Global,
-    size: usize,
-    length: usize,
-    last: bool,
-) -> Result<Option<usize>, OutOfMemory> {
-    let pending = Vec::from_elem(alloc, 7u8, length)?;
-    if pending.is_empty() {
-        return Ok(None);
-    }
-    let mut cutter = FixedCutter { size };
-    Ok(next_cut(&mut cutter, pending.as_slice(), last))
-}
+/// A file that is cut into chunks of so many bytes, none of which was found: how many wait and their bytes, and the
+/// file's hash. One more is found, where it is told; then the bytes and the hash of the xorb, how many chunks wait
+/// still and their bytes, and how many chunks the file has.
+const CUTS: &str = "\
+5 |: (0, 0) dbc1b4c900ffe48d575b5da5c638040125f65db0fe3e24494b76ea986457d986 \
+0 4bf5122f344554c53bde2ebb8cd2b7e3d1600ad631c385a5d7cce23c7785459a (0, 0) 0
+5 Hello, world!|x: (3, 13) 9c1d9657cd59293907594624a7d18217d2404474880ceb3df08757d4920df2df \
+13 d370fceff3cfab43a5aa39e64cd5adaee4c2e058f6480d0224a7cd9ed5ea4d78 (0, 0) 4
+";
 
-#[test]
-fn cuts_by_size_within_the_limits(rt: HostRuntime) -> Result<(), Fail> {
-    for (size, length, last, wanted) in [
-        (5, 13, false, Some(5)),
-        (5, 3, false, None),
-        (5, 3, true, Some(3)),
-        (0, 3, false, Some(1)),
-        (200000, 131071, false, None),
-        (200000, 131072, false, Some(131072)),
-        (200000, 131073, true, Some(131072)),
-    ] {
-        assert_eq!(rt; cut_of(rt.alloc(), size, length, last)?, wanted);
-    }
-    Ok(())
-}
-
-#[test]
-fn a_cutter_cuts_behind_a_reference(rt: HostRuntime) -> Result<(), Fail> {
-    let mut cutter = FixedCutter { size: 2 };
-    let mut behind = &mut cutter;
-    assert_eq!(rt; next_cut(&mut behind, b"abc", false), Some(2));
-    assert_eq!(rt; cutter.size, 2);
-    Ok(())
-}
+/// Two files that are cut into chunks of five bytes, and merge: how many they are and their bytes; how many chunks the
+/// xorb has; of each file its number, its bytes in the xorb, its hash, and the chunks and the bytes of its terms; and
+/// how many chunks wait still.
+const MERGES: &str = "\
+3 Hello, world!|4 Hello, world!: (2, 26) 6 \
+(3, 13) 9c1d9657cd59293907594624a7d18217d2404474880ceb3df08757d4920df2df (0, 3, 13) \
+(4, 13) 9c1d9657cd59293907594624a7d18217d2404474880ceb3df08757d4920df2df (3, 6, 13) 0
+";
 
 /// Adds a chunk that was not found, where it has a byte and fits.
-fn add(alloc: Global, parts: &mut FileParts, text: &str) -> Result<(), OutOfMemory> {
-    let bytes = chunk(alloc, text)?;
+fn add(alloc: Global, parts: &mut FileParts, text: &[u8]) -> Result<(), OutOfMemory> {
+    let bytes = Bytes::from_vec(Vec::from_slice(alloc, text)?)?;
     if bytes.len() > 0 && bytes.len() <= 131072 && parts.has_room(bytes.as_slice()) {
         let info = ChunkInfo {
             hash: MerkleHash::chunk_hash(bytes.as_slice()),
@@ -58,92 +39,184 @@ fn add(alloc: Global, parts: &mut FileParts, text: &str) -> Result<(), OutOfMemo
     Ok(())
 }
 
-/// The parts of a file of three chunks, none of which was found.
-fn hello_world(alloc: Global) -> Result<FileParts, OutOfMemory> {
+/// Cuts a text into chunks of so many bytes, by a cutter behind a reference, and adds them.
+fn fill(alloc: Global, parts: &mut FileParts, size: usize, text: &str) -> Result<(), OutOfMemory> {
+    let mut cutter = FixedCutter { size };
+    let mut behind = &mut cutter;
+    let mut rest = text.as_bytes();
+    for _ in 0..text.len() {
+        if rest.is_empty() {
+            return Ok(());
+        }
+        if let Some(count) = next_cut(&mut behind, rest, true) {
+            add(alloc, parts, &rest[..count])?;
+            rest = &rest[count..];
+        }
+    }
+    Ok(())
+}
+
+fn show_hash(alloc: Global, hash: MerkleHash, told: &mut String) -> Result<(), Fail> {
+    match hash.hex(alloc) {
+        Ok(digits) => word(told, digits.as_str()),
+        Err(OutOfMemory) => show(told, &OutOfMemory),
+    }
+}
+
+fn show_xorb(alloc: Global, raw: &RawXorbData, told: &mut String) -> Result<(), Fail> {
+    show(told, &raw.num_bytes())?;
+    show_hash(alloc, raw.hash(), told)
+}
+
+/// Adds a chunk that was found, where it has bytes.
+fn find(parts: &mut FileParts, found: &str) -> Result<(), OutOfMemory> {
+    if found.is_empty() {
+        return Ok(());
+    }
+    parts.add_found(MerkleHash([1; 32]), 4, 5, info(found))
+}
+
+/// Makes a xorb of the chunks that wait.
+fn cut(alloc: Global, parts: &mut FileParts, told: &mut String) -> Result<(), Fail> {
+    match parts.cut(alloc) {
+        Ok(raw) => show_xorb(alloc, &raw, told),
+        Err(OutOfMemory) => show(told, &OutOfMemory),
+    }
+}
+
+/// Shows what waits and the hash of the file.
+fn show_parts(alloc: Global, parts: &FileParts, told: &mut String) -> Result<(), Fail> {
+    show(told, &(parts.num_chunks(), parts.num_bytes()))?;
+    show_hash(alloc, MerkleHash::file_hash(parts.infos()), told)
+}
+
+fn cut_parts(
+    alloc: Global,
+    parts: &mut FileParts,
+    found: &str,
+    told: &mut String,
+) -> Result<(), Fail> {
+    show_parts(alloc, parts, told)?;
+    find(parts, found)?;
+    cut(alloc, parts, told)?;
+    show(told, &(parts.num_chunks(), parts.num_bytes()))?;
+    show(told, &parts.infos().len())
+}
+
+/// The parts of a text, in chunks of so many bytes.
+fn parts_of(alloc: Global, size: usize, text: &str) -> Result<FileParts, OutOfMemory> {
     let mut parts = FileParts::new(alloc);
-    add(alloc, &mut parts, "Hello")?;
-    add(alloc, &mut parts, ", wor")?;
-    add(alloc, &mut parts, "ld!")?;
+    fill(alloc, &mut parts, size, text)?;
     Ok(parts)
 }
 
-/// What waits at the end of a file.
-fn waiting(file_id: u64, parts: FileParts) -> Result<DataAggregator, OutOfMemory> {
+fn cut_row(alloc: Global, row: &str, told: &mut String) -> Result<(), Fail> {
+    let (text, found) = row.split_once('|').ok_or("no chunk")?;
+    let (size, text) = numbered(text)?;
+    let mut parts = parts_of(alloc, usize::from(size), text)?;
+    cut_parts(alloc, &mut parts, found, told)
+}
+
+fn told_cut(alloc: Global, row: &str) -> Result<String, Fail> {
+    let mut told = String::new(alloc);
+    cut_row(alloc, row, &mut told)?;
+    Ok(told)
+}
+
+/// What waits at the end of a file with these parts.
+fn ended(file_id: u8, parts: FileParts) -> Result<DataAggregator, OutOfMemory> {
     let hash = MerkleHash::file_hash(parts.infos());
-    parts.into_waiting(file_id, hash, None)
+    parts.into_waiting(u64::from(file_id), hash, None)
 }
 
-#[test]
-fn no_chunks_have_hashes(rt: HostRuntime) -> Result<(), Fail> {
-    let parts = FileParts::new(rt.alloc());
-    assert_eq!(rt;
-        MerkleHash::xorb_hash(parts.infos())
-            .hex(rt.alloc())?
-            .as_str(),
-        "4bf5122f344554c53bde2ebb8cd2b7e3d1600ad631c385a5d7cce23c7785459a"
-    );
-    assert_eq!(rt;
-        MerkleHash::file_hash(parts.infos())
-            .hex(rt.alloc())?
-            .as_str(),
-        "dbc1b4c900ffe48d575b5da5c638040125f65db0fe3e24494b76ea986457d986"
-    );
-    Ok(())
+/// What waits at the end of a file.
+fn waiting(alloc: Global, file: &str) -> Result<DataAggregator, Fail> {
+    let (file_id, text) = numbered(file)?;
+    Ok(ended(file_id, parts_of(alloc, 5, text)?)?)
 }
 
-#[test]
-fn chunks_of_a_file_become_a_xorb(rt: HostRuntime) -> Result<(), Fail> {
-    let alloc = rt.alloc();
-    let mut parts = hello_world(alloc)?;
-    parts.add_found(MerkleHash([1; 32]), 4, 5, info("x"))?;
-    let raw = parts.cut(alloc)?;
-    assert_eq!(rt; raw.num_bytes(), 13);
-    assert_eq!(rt;
-        raw.hash().hex(alloc)?.as_str(),
-        "d370fceff3cfab43a5aa39e64cd5adaee4c2e058f6480d0224a7cd9ed5ea4d78"
-    );
-    assert_eq!(rt; (parts.num_chunks(), parts.num_bytes()), (0, 0));
-    assert_eq!(rt; parts.infos().len(), 4);
-    Ok(())
-}
-
-#[test]
-fn files_of_a_merge_share_a_xorb(rt: HostRuntime) -> Result<(), Fail> {
-    let alloc = rt.alloc();
-    let mut first = waiting(3, hello_world(alloc)?)?;
-    let second = waiting(4, hello_world(alloc)?)?;
+/// Merges what waits at the end of another file into what waits.
+fn merge(alloc: Global, first: &mut DataAggregator, file: &str) -> Result<(), Fail> {
+    let second = waiting(alloc, file)?;
     if first.fits_with(&second) {
         first.merge_in(alloc, second)?;
     }
-    assert_eq!(rt; (first.num_files(), first.num_bytes()), (2, 26));
-    let (raw, files) = first.finalize(alloc)?;
-    assert_eq!(rt; raw.xorb.chunks.len(), 6);
-    match files.as_slice() {
-        [_, last] => {
-            assert_eq!(rt; (last.file_id, last.bytes_in_xorb), (4, 13));
-            assert_eq!(rt;
-                last.info.hash.hex(alloc)?.as_str(),
-                "9c1d9657cd59293907594624a7d18217d2404474880ceb3df08757d4920df2df"
-            );
-            match last.info.entries.as_slice() {
-                [entry] => assert_eq!(rt; (entry.from, entry.to, entry.bytes), (3, 6, 13)),
-                _ => assert!(rt; false, "one term"),
-            }
-        }
-        _ => assert!(rt; false, "two files"),
-    }
-    assert_eq!(rt; first.num_chunks(), 0);
     Ok(())
 }
 
+fn show_file(alloc: Global, file: &PendingFile, told: &mut String) -> Result<(), Fail> {
+    show(told, &(file.file_id, file.bytes_in_xorb))?;
+    show_hash(alloc, file.info.hash, told)?;
+    for entry in file.info.entries.as_slice() {
+        show(told, &(entry.from, entry.to, entry.bytes))?;
+    }
+    Ok(())
+}
+
+fn show_files(alloc: Global, files: &[PendingFile], told: &mut String) -> Result<(), Fail> {
+    for file in files {
+        show_file(alloc, file, told)?;
+    }
+    Ok(())
+}
+
+/// Shows how many chunks the xorb has, and the files.
+fn show_pending(
+    alloc: Global,
+    raw: &RawXorbData,
+    files: &[PendingFile],
+    told: &mut String,
+) -> Result<(), Fail> {
+    show(told, &raw.xorb.chunks.len())?;
+    show_files(alloc, files, told)
+}
+
+/// Makes a xorb of what waits, and the records of its files.
+fn finalize(alloc: Global, all: &mut DataAggregator, told: &mut String) -> Result<(), Fail> {
+    match all.finalize(alloc) {
+        Ok((raw, files)) => show_pending(alloc, &raw, files.as_slice(), told),
+        Err(OutOfMemory) => show(told, &OutOfMemory),
+    }
+}
+
+fn merge_files(
+    alloc: Global,
+    first: &mut DataAggregator,
+    file: &str,
+    told: &mut String,
+) -> Result<(), Fail> {
+    merge(alloc, first, file)?;
+    show(told, &(first.num_files(), first.num_bytes()))?;
+    finalize(alloc, first, told)?;
+    show(told, &first.num_chunks())
+}
+
+fn merge_row(alloc: Global, row: &str, told: &mut String) -> Result<(), Fail> {
+    let (file, other) = row.split_once('|').ok_or("no other file")?;
+    let mut first = waiting(alloc, file)?;
+    merge_files(alloc, &mut first, other, told)
+}
+
+fn told_merged(alloc: Global, row: &str) -> Result<String, Fail> {
+    let mut told = String::new(alloc);
+    merge_row(alloc, row, &mut told)?;
+    Ok(told)
+}
+
 #[test]
-fn counts_add_up_and_stop(rt: HostRuntime) {
-    let mut counts = DeduplicationMetrics::new();
-    let mut more = DeduplicationMetrics::new();
-    more.new_bytes = 5;
-    more.total_bytes_uploaded = u64::MAX;
-    counts.merge_in(&more);
-    counts.merge_in(&more);
-    assert_eq!(rt; (counts.new_bytes, counts.total_chunks), (10, 0));
-    assert_eq!(rt; counts.total_bytes_uploaded, u64::MAX);
+fn cuts(rt: HostRuntime) {
+    for line in CUTS.lines() {
+        if let Some((row, wanted)) = line.split_once(':') {
+            comes_to(&rt, row, told_cut(rt.alloc(), row), wanted);
+        }
+    }
+}
+
+#[test]
+fn merges(rt: HostRuntime) {
+    for line in MERGES.lines() {
+        if let Some((row, wanted)) = line.split_once(':') {
+            comes_to(&rt, row, told_merged(rt.alloc(), row), wanted);
+        }
+    }
 }

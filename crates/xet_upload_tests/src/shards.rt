@@ -1,69 +1,134 @@
-//! Records in memory.
-use crate::made::{file_info, info, shard, term, xorb_info};
+//! Records in memory, of whose calls the numbered ones fail.
+use crate::made::{info, shard};
+use crate::rows::{comes_to, numbered, numbers, show, word};
 use std::alloc::Global;
 use std::test::Fail;
-use xet_base::{FileDataSequenceEntry, MerkleHash, OutOfMemory};
-use xet_shards::{MemShards, ShardError, ShardStore};
+use xet_base::{FileDataSequenceEntry, MDBFileInfo, MerkleHash, OutOfMemory};
+use xet_shards::{MemShards, ScriptShards, ShardStore};
 
-fn stored(alloc: Global) -> Result<MemShards, OutOfMemory> {
-    let mut shards = MemShards::new(alloc);
-    let first = shard(
-        alloc,
-        xorb_info(alloc, 1, "ab", "cde")?,
-        file_info(alloc, 9, term(1, 0, 2, 5))?,
-    )?;
-    let second = shard(
-        alloc,
-        xorb_info(alloc, 2, "cde", "f")?,
-        file_info(alloc, 8, term(2, 1, 2, 1))?,
-    )?;
-    for records in [first, second] {
-        if shards.add(alloc, &records).is_err() {
-            return Err(OutOfMemory);
+/// Which calls fail, and the calls: `+1 ab,cde` adds the records of a xorb and of a file with a hash that is greater by
+/// ten, `?ab,cde` finds a run: how many chunks, and the xorb, the chunks and the bytes of its term. The file records go
+/// by their hashes, all records by the number of the xorbs' and by the bytes that they count for.
+const SHARDS: &str = "\
+|+1 ab,cde;+2 cde,f;?ab,cde;?ab,f;?cde,f;?f,ab;?x,ab;?: Ok(()) Ok(()) (2, 1, 0, 2, 5) (1, 1, 0, 1, 2) \
+(1, 1, 1, 2, 3) (1, 2, 1, 2, 1) none none
+|+1 ab,cde;+2 cde,f;files;all;clear;?ab,cde;all: Ok(()) Ok(()) 11 12 (2, 368) Ok(()) none (0, 0)
+0 2 4 6 8|+1 ab,cde;+1 ab,cde;?cde;?cde;files;files;all;all;clear;all: \
+Err(Failed) Ok(()) Failed (1, 1, 1, 2, 3) Failed 11 Failed (1, 184) Err(Failed) (1, 184)
+";
+
+fn hashes(alloc: Global, words: &str) -> Result<Vec<MerkleHash>, OutOfMemory> {
+    let mut hashes = Vec::new(alloc);
+    if words.is_empty() {
+        return Ok(hashes);
+    }
+    for word in words.split(',') {
+        hashes.push(info(word).hash)?;
+    }
+    Ok(hashes)
+}
+
+fn add(
+    alloc: Global,
+    shards: &mut ScriptShards,
+    records: &str,
+    told: &mut String,
+) -> Result<(), Fail> {
+    let (byte, words) = numbered(records)?;
+    let shard = shard(alloc, byte, words)?;
+    show(told, &shards.add(alloc, &shard))
+}
+
+fn show_run(told: &mut String, count: usize, term: FileDataSequenceEntry) -> Result<(), Fail> {
+    let xorb = term.xorb.0[0];
+    show(told, &(count, xorb, term.from, term.to, term.bytes))
+}
+
+fn find(
+    alloc: Global,
+    shards: &mut ScriptShards,
+    words: &str,
+    told: &mut String,
+) -> Result<(), Fail> {
+    let hashes = hashes(alloc, words)?;
+    match shards.find(alloc, hashes.as_slice()) {
+        Ok(Some((count, term))) => show_run(told, count, term),
+        Ok(None) => word(told, "none"),
+        Err(error) => show(told, &error),
+    }
+}
+
+fn show_files(told: &mut String, files: &[MDBFileInfo]) -> Result<(), Fail> {
+    for file in files {
+        show(told, &file.hash.0[0])?;
+    }
+    Ok(())
+}
+
+fn files(alloc: Global, shards: &mut ScriptShards, told: &mut String) -> Result<(), Fail> {
+    match shards.files(alloc) {
+        Ok(files) => show_files(told, files.as_slice()),
+        Err(error) => show(told, &error),
+    }
+}
+
+fn all(alloc: Global, shards: &mut ScriptShards, told: &mut String) -> Result<(), Fail> {
+    match shards.all(alloc) {
+        Ok(all) => show(told, &(all.xorbs.len(), all.num_bytes())),
+        Err(error) => show(told, &error),
+    }
+}
+
+/// Makes a call.
+fn ask(
+    alloc: Global,
+    shards: &mut ScriptShards,
+    call: &str,
+    told: &mut String,
+) -> Result<(), Fail> {
+    if let Some(words) = call.strip_prefix('?') {
+        return find(alloc, shards, words, told);
+    }
+    if let Some(records) = call.strip_prefix('+') {
+        return add(alloc, shards, records, told);
+    }
+    match call {
+        "files" => files(alloc, shards, told),
+        "all" => all(alloc, shards, told),
+        _ => show(told, &shards.clear()),
+    }
+}
+
+fn ask_all(
+    alloc: Global,
+    shards: &mut ScriptShards,
+    calls: &str,
+    told: &mut String,
+) -> Result<(), Fail> {
+    for call in calls.split(';') {
+        ask(alloc, shards, call, told)?;
+    }
+    Ok(())
+}
+
+fn play_row(alloc: Global, row: &str, told: &mut String) -> Result<(), Fail> {
+    let (fails, calls) = row.split_once('|').ok_or("no calls")?;
+    let fails = numbers(alloc, fails)?;
+    let mut shards = ScriptShards::new(MemShards::new(alloc), fails);
+    ask_all(alloc, &mut shards, calls, told)
+}
+
+fn played(alloc: Global, row: &str) -> Result<String, Fail> {
+    let mut told = String::new(alloc);
+    play_row(alloc, row, &mut told)?;
+    Ok(told)
+}
+
+#[test]
+fn shards(rt: HostRuntime) {
+    for line in SHARDS.lines() {
+        if let Some((row, wanted)) = line.split_once(':') {
+            comes_to(&rt, row, played(rt.alloc(), row), wanted);
         }
     }
-    Ok(shards)
-}
-
-fn found(
-    alloc: Global,
-    shards: &mut MemShards,
-    first: &str,
-    second: &str,
-) -> Result<Option<(usize, FileDataSequenceEntry)>, ShardError> {
-    shards.find(alloc, &[info(first).hash, info(second).hash])
-}
-
-#[test]
-fn finds_the_longest_run_in_the_first_xorb(rt: HostRuntime) -> Result<(), Fail> {
-    let alloc = rt.alloc();
-    let mut shards = stored(alloc)?;
-    for (first, second, wanted) in [
-        ("ab", "cde", Some((2, term(1, 0, 2, 5)))),
-        ("ab", "f", Some((1, term(1, 0, 1, 2)))),
-        ("cde", "f", Some((1, term(1, 1, 2, 3)))),
-        ("f", "ab", Some((1, term(2, 1, 2, 1)))),
-        ("x", "ab", None),
-    ] {
-        assert!(rt; found(alloc, &mut shards, first, second) == Ok(wanted));
-    }
-    assert!(rt; shards.find(alloc, &[]) == Ok(None));
-    Ok(())
-}
-
-#[test]
-fn gives_its_records_and_forgets_them(rt: HostRuntime) -> Result<(), Fail> {
-    let alloc = rt.alloc();
-    let mut shards = stored(alloc)?;
-    let files = shards.files(alloc).map_err(|_| OutOfMemory)?;
-    match files.as_slice() {
-        [_, second] => assert_eq!(rt; second.hash, MerkleHash([8; 32])),
-        _ => assert!(rt; false, "two files"),
-    }
-    let all = shards.all(alloc).map_err(|_| OutOfMemory)?;
-    assert_eq!(rt; all.xorbs.len(), 2);
-    assert_eq!(rt; all.num_bytes(), 368);
-    assert!(rt; shards.clear() == Ok(()));
-    assert!(rt; found(alloc, &mut shards, "ab", "cde") == Ok(None));
-    Ok(())
 }

@@ -1,120 +1,162 @@
 //! The uploader in memory.
-use crate::made::{file_info, info, shard, term, xorb, xorb_info};
+use crate::made::{info, shard, xorb};
+use crate::rows::{comes_to, numbered, numbers, show, word};
 use std::alloc::Global;
 use std::test::Fail;
-use xet_base::{FileRange, MerkleHash, OutOfMemory};
-use xet_outside::{Client, ClientError, PlanAnswer};
+use xet_base::{FileRange, MerkleHash, OutOfMemory, ShardRecord};
+use xet_outside::{Client, Plan, PlanAnswer};
 use xet_store::{MemClient, MemStore};
 use xet_uploader::{MemUploader, Put, Uploader};
 
-fn uploader(alloc: Global, fails: &[u64]) -> Result<MemUploader, OutOfMemory> {
-    let fails = Vec::from_slice(alloc, fails)?;
-    Ok(MemUploader::new(alloc, MemStore::new(alloc), fails))
+/// Which puts fail, and the calls: `1 ab,cde` puts the xorb with this hash and these chunks, `+1 ab,cde` the records of
+/// it and of a file of all its chunks, `?ab` asks for a chunk. Each comes to the bytes that were sent, the hash of the
+/// xorb that was found, or an error. Then the log; and the bytes of the terms of the first file in the store after it.
+const UPLOADS: &str = "\
+|1 ab,cde;2 cde,f;+1 ab,cde;?cde;?f;?x: Ok(5) Ok(4) Ok(184) 1 2 none | 1 2 + | 5
+3 1|1 a,b;2 a,b;3 a,b;4 a,b;5 a,b: Ok(2) Err(Failed) Ok(2) Err(Failed) Ok(2) | 1 3 5 | no file
+|1 ab,cde;1 x,y;+1 ab,cde: Ok(5) Ok(2) Ok(184) | 1 1 + | 5
+|1 ab,_: Ok(2) | 1 | no store
+";
+
+fn show_xorbs(told: &mut String, shard: &ShardRecord) -> Result<(), Fail> {
+    for xorb in shard.xorbs.as_slice() {
+        show(told, &xorb.hash.0[0])?;
+    }
+    Ok(())
 }
 
-/// The hash of the one xorb whose record answers a query.
-fn found(
+fn query(
     alloc: Global,
     uploader: &mut MemUploader,
-    text: &str,
-) -> Result<Option<MerkleHash>, OutOfMemory> {
-    match uploader.query_shard(alloc, &info(text).hash) {
-        Ok(Some(shard)) => match shard.xorbs.as_slice() {
-            [one] => Ok(Some(one.hash)),
-            _ => Ok(None),
-        },
-        Ok(None) => Ok(None),
-        Err(_) => Err(OutOfMemory),
+    chunk: &str,
+    told: &mut String,
+) -> Result<(), Fail> {
+    match uploader.query_shard(alloc, &info(chunk).hash) {
+        Ok(Some(shard)) => show_xorbs(told, &shard),
+        Ok(None) => word(told, "none"),
+        Err(error) => show(told, &error),
     }
 }
 
-#[test]
-fn keeps_what_is_put_and_answers_queries(rt: HostRuntime) -> Result<(), Fail> {
-    let alloc = rt.alloc();
-    let mut uploader = uploader(alloc, &[])?;
-    let records = shard(
-        alloc,
-        xorb_info(alloc, 1, "ab", "cde")?,
-        file_info(alloc, 9, term(1, 0, 2, 5))?,
-    )?;
-    assert!(rt; uploader.put_xorb(alloc, &xorb(alloc, 1, "ab", "cde")?) == Ok(5));
-    assert!(rt; uploader.put_xorb(alloc, &xorb(alloc, 2, "cde", "f")?) == Ok(4));
-    assert!(rt; uploader.put_shard(alloc, &records) == Ok(184));
-    assert_eq!(rt;
-        found(alloc, &mut uploader, "cde")?,
-        Some(MerkleHash([1; 32]))
-    );
-    assert_eq!(rt;
-        found(alloc, &mut uploader, "f")?,
-        Some(MerkleHash([2; 32]))
-    );
-    assert_eq!(rt; found(alloc, &mut uploader, "x")?, None);
-    assert_eq!(rt; uploader.log().len(), 3);
-    Ok(())
+fn put_shard(
+    alloc: Global,
+    uploader: &mut MemUploader,
+    records: &str,
+    told: &mut String,
+) -> Result<(), Fail> {
+    let (byte, words) = numbered(records)?;
+    let shard = shard(alloc, byte, words)?;
+    show(told, &uploader.put_shard(alloc, &shard))
 }
 
-#[test]
-fn a_numbered_put_fails(rt: HostRuntime) -> Result<(), Fail> {
-    let alloc = rt.alloc();
-    let mut uploader = uploader(alloc, &[3, 1])?;
-    for (byte, wanted) in [
-        (1, Ok(2)),
-        (2, Err(ClientError::Failed)),
-        (3, Ok(2)),
-        (4, Err(ClientError::Failed)),
-        (5, Ok(2)),
-    ] {
-        assert!(rt; uploader.put_xorb(alloc, &xorb(alloc, byte, "a", "b")?) == wanted);
-    }
-    match uploader.log() {
-        [Put::Xorb(first), Put::Xorb(second), Put::Xorb(third)] => {
-            assert_eq!(rt; first.hash, MerkleHash([1; 32]));
-            assert_eq!(rt; second.hash, MerkleHash([3; 32]));
-            assert_eq!(rt; third.hash, MerkleHash([5; 32]));
+fn put_xorb(
+    alloc: Global,
+    uploader: &mut MemUploader,
+    chunks: &str,
+    told: &mut String,
+) -> Result<(), Fail> {
+    let (byte, words) = numbered(chunks)?;
+    let xorb = xorb(alloc, byte, words)?;
+    show(told, &uploader.put_xorb(alloc, &xorb))
+}
+
+/// Makes the calls.
+fn make(
+    alloc: Global,
+    uploader: &mut MemUploader,
+    calls: &str,
+    told: &mut String,
+) -> Result<(), Fail> {
+    for call in calls.split(';') {
+        if let Some(chunk) = call.strip_prefix('?') {
+            query(alloc, uploader, chunk, told)?;
+        } else if let Some(records) = call.strip_prefix('+') {
+            put_shard(alloc, uploader, records, told)?;
+        } else {
+            put_xorb(alloc, uploader, call, told)?;
         }
-        _ => assert!(rt; false, "three xorbs"),
     }
     Ok(())
 }
 
-#[test]
-fn the_store_after_the_log_has_the_file(rt: HostRuntime) -> Result<(), Fail> {
-    let alloc = rt.alloc();
-    let mut uploader = uploader(alloc, &[])?;
-    let records = shard(
-        alloc,
-        xorb_info(alloc, 1, "ab", "cde")?,
-        file_info(alloc, 9, term(1, 0, 2, 5))?,
-    )?;
-    assert!(rt;
-        uploader
-            .put_xorb(alloc, &xorb(alloc, 1, "ab", "cde")?)
-            .is_ok()
-    );
-    assert!(rt; uploader.put_xorb(alloc, &xorb(alloc, 1, "x", "y")?).is_ok());
-    assert!(rt; uploader.put_shard(alloc, &records).is_ok());
-    match uploader.into_store(alloc)? {
-        Some(store) => {
-            let mut client = MemClient::new(alloc, &store);
-            let plan = client.plan(alloc, &MerkleHash([9; 32]), FileRange::full());
-            match plan.map_err(|_| OutOfMemory)? {
-                PlanAnswer::Found(plan) => match plan.terms.as_slice() {
-                    [term] => assert_eq!(rt; term.unpacked_length, 5),
-                    _ => assert!(rt; false, "one term"),
-                },
-                _ => assert!(rt; false, "a plan"),
-            }
+fn show_log(told: &mut String, log: &[Put]) -> Result<(), Fail> {
+    for put in log {
+        match put {
+            Put::Xorb(xorb) => show(told, &xorb.hash.0[0])?,
+            Put::Shard(_) => word(told, "+")?,
         }
-        None => assert!(rt; false, "a store"),
     }
     Ok(())
 }
 
-#[test]
-fn no_store_where_the_log_adds_an_empty_chunk(rt: HostRuntime) -> Result<(), Fail> {
-    let alloc = rt.alloc();
-    let mut uploader = uploader(alloc, &[])?;
-    assert!(rt; uploader.put_xorb(alloc, &xorb(alloc, 1, "ab", "")?) == Ok(2));
-    assert!(rt; uploader.into_store(alloc)?.is_none());
+fn show_terms(told: &mut String, plan: &Plan) -> Result<(), Fail> {
+    for term in plan.terms.as_slice() {
+        show(told, &term.unpacked_length)?;
+    }
     Ok(())
+}
+
+fn show_file(alloc: Global, store: &MemStore, told: &mut String) -> Result<(), Fail> {
+    let mut client = MemClient::new(alloc, store);
+    match client.plan(alloc, &MerkleHash([11; 32]), FileRange::full()) {
+        Ok(PlanAnswer::Found(plan)) => show_terms(told, &plan),
+        Ok(_) => word(told, "no file"),
+        Err(error) => show(told, &error),
+    }
+}
+
+fn show_store(alloc: Global, store: &Option<MemStore>, told: &mut String) -> Result<(), Fail> {
+    match store {
+        Some(store) => show_file(alloc, store, told),
+        None => word(told, "no store"),
+    }
+}
+
+/// Makes the calls, and shows the log.
+fn play(
+    alloc: Global,
+    uploader: &mut MemUploader,
+    calls: &str,
+    told: &mut String,
+) -> Result<(), Fail> {
+    make(alloc, uploader, calls, told)?;
+    word(told, "|")?;
+    show_log(told, uploader.log())?;
+    word(told, "|")
+}
+
+/// Makes the calls, and shows what the store after them has.
+fn play_to_the_end(
+    alloc: Global,
+    mut uploader: MemUploader,
+    calls: &str,
+    told: &mut String,
+) -> Result<(), Fail> {
+    play(alloc, &mut uploader, calls, told)?;
+    match uploader.into_store(alloc) {
+        Ok(store) => show_store(alloc, &store, told),
+        Err(OutOfMemory) => show(told, &OutOfMemory),
+    }
+}
+
+fn play_row(alloc: Global, row: &str, told: &mut String) -> Result<(), Fail> {
+    let (fails, calls) = row.split_once('|').ok_or("no calls")?;
+    let fails = numbers(alloc, fails)?;
+    let uploader = MemUploader::new(alloc, MemStore::new(alloc), fails);
+    play_to_the_end(alloc, uploader, calls, told)
+}
+
+fn played(alloc: Global, row: &str) -> Result<String, Fail> {
+    let mut told = String::new(alloc);
+    play_row(alloc, row, &mut told)?;
+    Ok(told)
+}
+
+#[test]
+fn uploads(rt: HostRuntime) {
+    for line in UPLOADS.lines() {
+        if let Some((row, wanted)) = line.split_once(':') {
+            comes_to(&rt, row, played(rt.alloc(), row), wanted);
+        }
+    }
 }
