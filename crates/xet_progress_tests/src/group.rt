@@ -1,319 +1,239 @@
-//! Calls of groups and items, with their answers worked out by hand.
+//! Calls of a group and its items, with their answers worked out by hand.
+use crate::rows::{Call, call_of, comes_to, show};
 use std::alloc::Global;
-use std::process::Abort;
+use std::collections::BTreeMap;
 use std::sync::{Arc, Wait};
 use std::test::Fail;
-use xet_base::{Invalid, OutOfMemory, UniqueID};
+use xet_base::{OutOfMemory, UniqueID};
 use xet_progress::{
-    GroupProgress, GroupProgressReport, GroupState, Incomplete, ItemProgressUpdater, ProgressError,
+    GroupProgress, GroupProgressReport, ItemProgressReport, ItemProgressUpdater, ProgressError,
 };
 
-/// A call on an item, with its answer.
-#[derive(Clone, Copy, Drop)]
-enum Call {
-    Size(u64, bool),
-    TransferSize(u64),
-    Completed(u64),
-    Written(u64),
-    Transferred(u64),
-    Progress(u64),
-}
+/// Calls of a group, and of its items by their ids. Sums are the completed and all bytes, and the transferred bytes and
+/// those to be transferred.
+const GROUPS: &str = "\
+new 1;new 2;final 1 120;completed 1 0;sums;completed 1 45;sums;completed 1 76;sums;written 1 75;sums: Ok(()) Ok(()) \
+Ok(()) Ok(()) (0, 120, 0, 0) Ok(()) (45, 120, 0, 0) Err(InvalidOperation(PastTotal { total: 120, counted: 45, \
+increment: 76 })) (45, 120, 0, 0) Ok(()) (120, 120, 0, 0)
+new 1;final 1 120;transfer 1 90;transferred 1 35;sums;transfer 1 60;sums;progress 1 56;sums;progress 1 55;sums: \
+Ok(()) Ok(()) Ok(()) Ok(()) (0, 120, 35, 90) Ok(()) (0, 120, 35, 90) Err(InvalidOperation(PastTotal { total: 90, \
+counted: 35, increment: 56 })) (0, 120, 35, 90) Ok(()) (0, 120, 90, 90)
+new 1;size 1 120;sums;size 1 310;sums;final 1 300;sums;size 1 400;sums;final 1 500;sums: Ok(()) Ok(()) (0, 120, 0, \
+0) Ok(()) (0, 310, 0, 0) Ok(()) (0, 310, 0, 0) Ok(()) (0, 310, 0, 0) Ok(()) (0, 310, 0, 0)
+new 1;new 2;final 1 100;final 2 200;sums;completed 1 50;completed 2 100;sums;completed 2 101;sums: Ok(()) Ok(()) \
+Ok(()) Ok(()) (0, 300, 0, 0) Ok(()) Ok(()) (150, 300, 0, 0) Err(InvalidOperation(PastTotal { total: 200, counted: \
+100, increment: 101 })) (150, 300, 0, 0)
+new 1;new 2;size 1 18446744073709551615;size 2 1;sums;transfer 2 18446744073709551615;transfer 1 2;sums: Ok(()) \
+Ok(()) Ok(()) Err(InvalidOperation(SumTooGreat { have: 18446744073709551615, add: 1 })) (0, 18446744073709551615, 0, \
+0) Ok(()) Err(InvalidOperation(SumTooGreat { have: 18446744073709551615, add: 2 })) (0, 18446744073709551615, 0, \
+18446744073709551615)
+new 1;new 1;final 1 120;transfer 1 90;missing 1;completed 1 120;missing 1;item 1;transferred 1 90;missing 1: Ok(()) \
+Err(InvalidOperation(DuplicateId { id: UniqueID(1) })) Ok(()) Ok(()) Err(Bytes { completed: 0, total: 120 }) \
+Err(Bytes { completed: 0, total: 120 }) Ok(()) Err(Transfer { completed: 0, total: 90 }) Err(Transfer { completed: \
+0, total: 90 }) Ok(ItemProgress { id: UniqueID(1), name: Text { string: \"a.bin\" }, total_bytes: 120, \
+bytes_completed: 120, transfer_bytes: 90, transfer_bytes_completed: 0, size_finalized: true }) Ok(ItemProgressReport \
+{ item_name: Text { string: \"a.bin\" }, total_bytes: 120, bytes_completed: 120 }) 120 Ok(()) Ok(()) Ok(())
+sums;new 1;new 2;final 1 110;final 2 230;completed 2 230;items;report 2;report 9: (0, 0, 0, 0) Ok(()) Ok(()) Ok(()) \
+Ok(()) Ok(()) UniqueID(1) ItemProgressReport { item_name: Text { string: \"a.bin\" }, total_bytes: 110, \
+bytes_completed: 0 } UniqueID(2) ItemProgressReport { item_name: Text { string: \"b.bin\" }, total_bytes: 230, \
+bytes_completed: 230 } Ok(Some(ItemProgressReport { item_name: Text { string: \"b.bin\" }, total_bytes: 230, \
+bytes_completed: 230 })) Ok(None)
+new 1;final 1 110;add 50 20;add 1 32;add 18446744073709551615 0;sums: Ok(()) Ok(()) Ok(()) \
+Err(InvalidOperation(PastTotal { total: 51, counted: 20, increment: 32 })) Err(InvalidOperation(SumTooGreat { have: \
+50, add: 18446744073709551615 })) (0, 110, 20, 50)
+";
 
-type Answer = Result<(), ProgressError>;
+/// What an item says that has a group of its own.
+const ALONE: &str =
+    " Ok(ItemProgress { id: UniqueID(0), name: Text { string: \"alone\" }, total_bytes: 0, bytes_completed: 0, \
+transfer_bytes: 0, transfer_bytes_completed: 0, size_finalized: false }) Ok(ItemProgressReport { item_name: Text { \
+string: \"alone\" }, total_bytes: 0, bytes_completed: 0 }) 0";
 
-/// The bytes, completed bytes, transfer bytes and transferred bytes of a group.
-type Sums = (u64, u64, u64, u64);
-
-fn sums(report: GroupProgressReport) -> Sums {
+/// The completed and all bytes, and the transferred bytes and those to be transferred.
+pub(crate) fn sums(report: GroupProgressReport) -> (u64, u64, u64, u64) {
     (
-        report.total_bytes,
         report.total_bytes_completed,
-        report.total_transfer_bytes,
+        report.total_bytes,
         report.total_transfer_bytes_completed,
+        report.total_transfer_bytes,
     )
 }
 
-fn past(total: u64, counted: u64, increment: u64) -> Answer {
-    Err(ProgressError::InvalidOperation(Invalid::PastTotal {
-        total,
-        counted,
-        increment,
-    }))
-}
-
-fn over(have: u64, add: u64) -> Answer {
-    Err(ProgressError::InvalidOperation(Invalid::SumTooGreat { have, add }))
-}
-
-fn make(state: &mut GroupState, id: UniqueID, call: Call) -> Answer {
-    match call {
-        Call::Size(total, is_final) => state.update_item_size(id, total, is_final),
-        Call::TransferSize(total) => state.update_transfer_size(id, total),
-        Call::Completed(bytes) => state.report_bytes_completed(id, bytes),
-        Call::Written(bytes) => state.report_bytes_written(id, bytes),
-        Call::Transferred(bytes) => state.report_transfer_bytes_completed(id, bytes),
-        Call::Progress(bytes) => state.report_transfer_progress(id, bytes),
-    }
-}
-
-/// Makes a call by an updater of the item.
-fn ask<R: Wait>(
-    rt: &R,
-    group: &Arc<GroupProgress>,
-    id: UniqueID,
-    call: Call,
-) -> Result<Answer, OutOfMemory> {
-    let item = GroupProgress::updater(group, id)?;
-    Ok(match call {
-        Call::Size(total, is_final) => item.update_item_size(rt, total, is_final),
-        Call::TransferSize(total) => item.update_transfer_size(rt, total),
-        Call::Completed(bytes) => item.report_bytes_completed(rt, bytes),
-        Call::Written(bytes) => item.report_bytes_written(rt, bytes),
-        Call::Transferred(bytes) => item.report_transfer_bytes_completed(rt, bytes),
-        Call::Progress(bytes) => item.report_transfer_progress(rt, bytes),
-    })
-}
-
-/// Makes the calls of a case on a plain state, and compares answers and sums.
-fn run_plain<R: Abort>(
-    rt: &R,
-    alloc: Global,
-    rows: &[(u64, Call, Answer, Sums)],
-) -> Result<(), ProgressError> {
-    let mut state = GroupState::new(alloc);
-    state.new_item(alloc, UniqueID(1), "a.bin")?;
-    state.new_item(alloc, UniqueID(2), "b.bin")?;
-    for (id, row, answer, wanted) in rows {
-        assert_eq!(rt; make(&mut state, UniqueID(*id), *row), *answer);
-        assert_eq!(rt; sums(state.report()), *wanted);
-    }
-    Ok(())
-}
-
-/// Makes the calls of a case on a shared group, and compares answers and sums.
-fn run_shared<R: Abort + Wait>(
-    rt: &R,
-    alloc: Global,
-    rows: &[(u64, Call, Answer, Sums)],
-) -> Result<(), ProgressError> {
-    let group = GroupProgress::new(alloc)?;
-    GroupProgress::new_item(&group, rt, alloc, UniqueID(1), "a.bin")?;
-    GroupProgress::new_item(&group, rt, alloc, UniqueID(2), "b.bin")?;
-    for (id, row, answer, wanted) in rows {
-        let said = ask(rt, &group, UniqueID(*id), *row)?;
-        assert_eq!(rt; said, *answer);
-        assert_eq!(rt; sums(group.report(rt)), *wanted);
-    }
-    Ok(())
-}
-
-/// Makes the calls of a case on both.
-fn run<R: Abort + Wait>(
-    rt: &R,
-    alloc: Global,
-    rows: &[(u64, Call, Answer, Sums)],
-) -> Result<(), ProgressError> {
-    run_plain(rt, alloc, rows)?;
-    run_shared(rt, alloc, rows)
-}
-
-#[test]
-fn completed_bytes_reach_item_and_group(rt: HostRuntime) -> Result<(), ProgressError> {
-    let rows = [
-        (1, Call::Size(120, true), Ok(()), (120, 0, 0, 0)),
-        (1, Call::Completed(0), Ok(()), (120, 0, 0, 0)),
-        (1, Call::Completed(45), Ok(()), (120, 45, 0, 0)),
-        (1, Call::Completed(76), past(120, 45, 76), (120, 45, 0, 0)),
-        (1, Call::Written(75), Ok(()), (120, 120, 0, 0)),
-    ];
-    run(&rt, rt.alloc(), &rows)
-}
-
-#[test]
-fn transfer_counts_stand_apart_from_bytes(rt: HostRuntime) -> Result<(), ProgressError> {
-    let rows = [
-        (1, Call::Size(120, true), Ok(()), (120, 0, 0, 0)),
-        (1, Call::TransferSize(90), Ok(()), (120, 0, 90, 0)),
-        (1, Call::Transferred(35), Ok(()), (120, 0, 90, 35)),
-        (1, Call::TransferSize(60), Ok(()), (120, 0, 90, 35)),
-        (1, Call::Progress(56), past(90, 35, 56), (120, 0, 90, 35)),
-        (1, Call::Progress(55), Ok(()), (120, 0, 90, 90)),
-    ];
-    run(&rt, rt.alloc(), &rows)
-}
-
-#[test]
-fn final_size_is_frozen(rt: HostRuntime) -> Result<(), ProgressError> {
-    let rows = [
-        (1, Call::Size(120, false), Ok(()), (120, 0, 0, 0)),
-        (1, Call::Size(310, false), Ok(()), (310, 0, 0, 0)),
-        (1, Call::Size(300, true), Ok(()), (310, 0, 0, 0)),
-        (1, Call::Size(400, false), Ok(()), (310, 0, 0, 0)),
-        (1, Call::Size(500, true), Ok(()), (310, 0, 0, 0)),
-    ];
-    run(&rt, rt.alloc(), &rows)
-}
-
-#[test]
-fn group_sums_over_two_items(rt: HostRuntime) -> Result<(), ProgressError> {
-    let rows = [
-        (1, Call::Size(100, true), Ok(()), (100, 0, 0, 0)),
-        (2, Call::Size(200, true), Ok(()), (300, 0, 0, 0)),
-        (1, Call::Completed(50), Ok(()), (300, 50, 0, 0)),
-        (2, Call::Completed(100), Ok(()), (300, 150, 0, 0)),
-        (
-            2,
-            Call::Completed(101),
-            past(200, 100, 101),
-            (300, 150, 0, 0),
-        ),
-    ];
-    run(&rt, rt.alloc(), &rows)
-}
-
-#[test]
-fn sums_of_a_group_do_not_wrap(rt: HostRuntime) -> Result<(), ProgressError> {
-    let rows = [
-        (1, Call::Size(u64::MAX, false), Ok(()), (u64::MAX, 0, 0, 0)),
-        (
-            2,
-            Call::Size(1, false),
-            over(u64::MAX, 1),
-            (u64::MAX, 0, 0, 0),
-        ),
-        (
-            2,
-            Call::TransferSize(u64::MAX),
-            Ok(()),
-            (u64::MAX, 0, u64::MAX, 0),
-        ),
-        (
-            1,
-            Call::TransferSize(2),
-            over(u64::MAX, 2),
-            (u64::MAX, 0, u64::MAX, 0),
-        ),
-    ];
-    run(&rt, rt.alloc(), &rows)
-}
-
-/// Compares what an item says of itself.
-fn says<R: Abort + Wait>(
+/// Shows a copy of an item's report.
+fn show_report<R: Wait>(
     rt: &R,
     alloc: Global,
     item: &ItemProgressUpdater,
-    wanted: (&str, Sums, bool),
+    told: &mut String,
 ) -> Result<(), Fail> {
-    let now = item.item(rt, alloc)?;
-    let counts = (
-        now.total_bytes(),
-        now.bytes_completed(),
-        now.transfer_bytes(),
-        now.transfer_bytes_completed(),
-    );
-    assert_eq!(rt; now.name(), wanted.0);
-    assert_eq!(rt; counts, wanted.1);
-    assert_eq!(rt; now.size_finalized(), wanted.2);
-    let report = item.report(rt, alloc)?;
-    let copy = report.clone()?;
-    assert_eq!(rt; copy.item_name.as_str(), wanted.0);
-    assert_eq!(rt;
-        (copy.total_bytes, copy.bytes_completed),
-        (counts.0, counts.1)
-    );
-    assert_eq!(rt; now.report()?.total_bytes, counts.0);
-    assert_eq!(rt; item.total_bytes_completed(rt), counts.1);
-    Ok(())
-}
-
-#[test]
-fn items_say_what_they_are(rt: HostRuntime) -> Result<(), Fail> {
-    let group = GroupProgress::new(rt.alloc())?;
-    let first = GroupProgress::new_item(&group, &rt, rt.alloc(), UniqueID(1), "a.bin")?;
-    let again = GroupProgress::new_item(&group, &rt, rt.alloc(), UniqueID(1), "b.bin");
-    let id = UniqueID(1);
-    assert_eq!(rt;
-        again.err(),
-        Some(ProgressError::InvalidOperation(Invalid::DuplicateId { id }))
-    );
-    first.update_item_size(&rt, 120, true)?;
-    first.update_transfer_size(&rt, 90)?;
-    let same = GroupProgress::updater(&group, UniqueID(1))?.share()?;
-    assert_eq!(rt;
-        first.assert_complete(&rt),
-        Err(Incomplete::Bytes {
-            completed: 0,
-            total: 120
-        })
-    );
-    same.report_bytes_completed(&rt, 120)?;
-    let wanted = Err(Incomplete::Transfer {
-        completed: 0,
-        total: 90,
-    });
-    assert_eq!(rt; first.assert_complete(&rt), wanted);
-    assert_eq!(rt; first.group().assert_complete(&rt), wanted);
-    says(&rt, rt.alloc(), &first, ("a.bin", (120, 120, 90, 0), true))?;
-    same.report_transfer_bytes_completed(&rt, 90)?;
-    assert_eq!(rt; first.assert_complete(&rt), Ok(()));
-    assert_eq!(rt; group.assert_complete(&rt), Ok(()));
-    let alone = ItemProgressUpdater::new_standalone(rt.alloc(), "alone")?;
-    assert_eq!(rt; alone.item(&rt, rt.alloc())?.id(), UniqueID(0));
-    says(&rt, rt.alloc(), &alone, ("alone", (0, 0, 0, 0), false))
-}
-
-#[test]
-fn groups_report_their_items(rt: HostRuntime) -> Result<(), Fail> {
-    let group = GroupProgress::new(rt.alloc())?;
-    assert_eq!(rt; group.report(&rt), GroupProgressReport::default());
-    let first = GroupProgress::new_item(&group, &rt, rt.alloc(), UniqueID(1), "a.bin")?;
-    let second = GroupProgress::new_item(&group, &rt, rt.alloc(), UniqueID(2), "b.bin")?;
-    first.update_item_size(&rt, 110, true)?;
-    second.update_item_size(&rt, 230, true)?;
-    second.report_bytes_completed(&rt, 230)?;
-    let reports = group.item_reports(&rt, rt.alloc())?;
-    assert_eq!(rt; reports.len(), 2);
-    for (id, report) in reports.iter() {
-        let wanted = if *id == UniqueID(1) {
-            ("a.bin", 110, 0)
-        } else {
-            ("b.bin", 230, 230)
-        };
-        let shown = (
-            report.item_name.as_str(),
-            report.total_bytes,
-            report.bytes_completed,
-        );
-        assert_eq!(rt; shown, wanted);
+    match item.report(rt, alloc) {
+        Ok(report) => show(told, &report.clone()),
+        Err(OutOfMemory) => show(told, &OutOfMemory),
     }
-    let report = group.item_report(&rt, UniqueID(2))?.ok_or("none")?;
-    assert_eq!(rt; report.bytes_completed, 230);
-    assert!(rt; group.item_report(&rt, UniqueID(9))?.is_none());
-    group.add_transfer(&rt, 50, 20)?;
-    assert_eq!(rt; group.add_transfer(&rt, 1, 32), past(51, 20, 32));
-    assert_eq!(rt; group.add_transfer(&rt, u64::MAX, 0), over(50, u64::MAX));
-    assert_eq!(rt; sums(group.report(&rt)), (340, 230, 50, 20));
+}
+
+/// Shows all that an item says.
+fn show_item<R: Wait>(
+    rt: &R,
+    alloc: Global,
+    item: &ItemProgressUpdater,
+    told: &mut String,
+) -> Result<(), Fail> {
+    show(told, &item.item(rt, alloc))?;
+    show_report(rt, alloc, item, told)?;
+    show(told, &item.total_bytes_completed(rt))
+}
+
+/// Makes a call of an item.
+fn report_to<R: Wait>(rt: &R, item: &ItemProgressUpdater, call: Call) -> Result<(), ProgressError> {
+    let bytes = call.numbers[1];
+    match call.word {
+        "size" => item.update_item_size(rt, bytes, false),
+        "final" => item.update_item_size(rt, bytes, true),
+        "transfer" => item.update_transfer_size(rt, bytes),
+        "completed" => item.report_bytes_completed(rt, bytes),
+        "written" => item.report_bytes_written(rt, bytes),
+        "transferred" => item.report_transfer_bytes_completed(rt, bytes),
+        _ => item.report_transfer_progress(rt, bytes),
+    }
+}
+
+/// Makes a call of an item, and shows its answer.
+fn ask_item<R: Wait>(
+    rt: &R,
+    alloc: Global,
+    item: &ItemProgressUpdater,
+    call: Call,
+    told: &mut String,
+) -> Result<(), Fail> {
+    match call.word {
+        "item" => show_item(rt, alloc, item, told),
+        "missing" => {
+            show(told, &item.assert_complete(rt))?;
+            show(told, &item.group().assert_complete(rt))
+        }
+        _ => show(told, &report_to(rt, item, call)),
+    }
+}
+
+fn show_reports(
+    reports: &BTreeMap<UniqueID, ItemProgressReport>,
+    told: &mut String,
+) -> Result<(), Fail> {
+    for (id, report) in reports.iter() {
+        show(told, id)?;
+        show(told, report)?;
+    }
     Ok(())
 }
 
-#[test]
-fn plain_states_know_their_items(rt: HostRuntime) -> Result<(), Fail> {
-    let mut state = GroupState::new(rt.alloc());
-    let id = UniqueID(3);
-    let unknown = ProgressError::InvalidOperation(Invalid::UnknownItem { id });
-    assert_eq!(rt; state.total_bytes_completed(id), Err(unknown));
-    assert_eq!(rt; state.assert_item_complete(id), Err(unknown));
-    assert_eq!(rt; state.item(id).err(), Some(unknown));
-    assert_eq!(rt; make(&mut state, id, Call::Completed(1)), Err(unknown));
-    assert!(rt; state.item_report(id)?.is_none());
-    state.new_item(rt.alloc(), id, "c.bin")?;
-    state.update_item_size(id, 7, false)?;
-    state.report_bytes_completed(id, 7)?;
-    assert_eq!(rt; state.total_bytes_completed(id), Ok(7));
-    assert_eq!(rt; state.assert_item_complete(id), Ok(Ok(())));
-    assert_eq!(rt; state.item(id)?.total_bytes(), 7);
-    assert_eq!(rt; state.item_reports(rt.alloc())?.len(), 1);
-    assert_eq!(rt; state.add_transfer(5, 5), Ok(()));
-    assert_eq!(rt; state.assert_complete(), Ok(()));
+fn show_items<R: Wait>(
+    rt: &R,
+    alloc: Global,
+    group: &GroupProgress,
+    told: &mut String,
+) -> Result<(), Fail> {
+    match group.item_reports(rt, alloc) {
+        Ok(reports) => show_reports(&reports, told),
+        Err(OutOfMemory) => show(told, &OutOfMemory),
+    }
+}
+
+/// Adds an item, and forgets its updater.
+fn add_item<R: Wait>(
+    rt: &R,
+    alloc: Global,
+    group: &Arc<GroupProgress>,
+    id: UniqueID,
+) -> Result<(), ProgressError> {
+    let name = if id == UniqueID(1) { "a.bin" } else { "b.bin" };
+    match GroupProgress::new_item(group, rt, alloc, id, name) {
+        Ok(_) => Ok(()),
+        Err(error) => Err(error),
+    }
+}
+
+/// An updater that is made of another one of the item.
+fn updater(group: &Arc<GroupProgress>, id: UniqueID) -> Result<ItemProgressUpdater, OutOfMemory> {
+    match GroupProgress::updater(group, id) {
+        Ok(item) => item.share(),
+        Err(error) => Err(error),
+    }
+}
+
+/// Makes a call, and shows its answer.
+fn ask<R: Wait>(
+    rt: &R,
+    alloc: Global,
+    group: &Arc<GroupProgress>,
+    call: Call,
+    told: &mut String,
+) -> Result<(), Fail> {
+    let [first, second, _] = call.numbers;
+    let id = UniqueID(first);
+    match call.word {
+        "new" => show(told, &add_item(rt, alloc, group, id)),
+        "sums" => show(told, &sums(group.report(rt))),
+        "items" => show_items(rt, alloc, group, told),
+        "report" => show(told, &group.item_report(rt, id)),
+        "add" => show(told, &group.add_transfer(rt, first, second)),
+        _ => match updater(group, id) {
+            Ok(item) => ask_item(rt, alloc, &item, call, told),
+            Err(OutOfMemory) => show(told, &OutOfMemory),
+        },
+    }
+}
+
+fn ask_all<R: Wait>(
+    rt: &R,
+    alloc: Global,
+    group: &Arc<GroupProgress>,
+    calls: &str,
+    told: &mut String,
+) -> Result<(), Fail> {
+    for call in calls.split(';') {
+        ask(rt, alloc, group, call_of(call)?, told)?;
+    }
     Ok(())
+}
+
+fn told_of<R: Wait>(
+    rt: &R,
+    alloc: Global,
+    group: &Arc<GroupProgress>,
+    calls: &str,
+) -> Result<String, Fail> {
+    let mut told = String::new(alloc);
+    ask_all(rt, alloc, group, calls, &mut told)?;
+    Ok(told)
+}
+
+fn told_group<R: Wait>(rt: &R, alloc: Global, calls: &str) -> Result<String, Fail> {
+    match GroupProgress::new(alloc) {
+        Ok(group) => told_of(rt, alloc, &group, calls),
+        Err(OutOfMemory) => Err("no memory".into()),
+    }
+}
+
+fn told_item<R: Wait>(rt: &R, alloc: Global, item: &ItemProgressUpdater) -> Result<String, Fail> {
+    let mut told = String::new(alloc);
+    show_item(rt, alloc, item, &mut told)?;
+    Ok(told)
+}
+
+fn told_alone<R: Wait>(rt: &R, alloc: Global) -> Result<String, Fail> {
+    match ItemProgressUpdater::new_standalone(alloc, "alone") {
+        Ok(item) => told_item(rt, alloc, &item),
+        Err(OutOfMemory) => Err("no memory".into()),
+    }
+}
+
+#[test]
+fn groups(rt: HostRuntime) {
+    for line in GROUPS.lines() {
+        if let Some((row, wanted)) = line.split_once(':') {
+            comes_to(&rt, row, told_group(&rt, rt.alloc(), row), wanted);
+        }
+    }
+    comes_to(&rt, "alone", told_alone(&rt, rt.alloc()), ALONE);
 }

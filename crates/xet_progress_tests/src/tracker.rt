@@ -1,459 +1,360 @@
-//! Calls of the completion tracker, with their replies worked out by hand, each on a plain state and on a shared one.
+//! Calls of the completion tracker that users share, with their replies worked out by hand.
 ghost use Rattle.std.specs.Prelude.{◌≡◌, ◌^◌};
 
-use crate::rows::{Ask, dependency, hash, step};
+use crate::group::sums;
+use crate::rows::{Call, call_of, comes_to, show};
 use std::alloc::Global;
 use std::marker::Brand;
 use std::process::Abort;
 use std::sync::ledger::{Blank, Ledger};
 use std::sync::{Arc, Wait};
-use xet_base::{Invalid, OutOfMemory, UniqueID};
+use std::test::Fail;
+use xet_base::{MerkleHash, OutOfMemory, UniqueID};
 use xet_progress::{
-    CompletionTracker, GroupProgress, GroupProgressReport, Incomplete, ItemProgressUpdater,
-    ProgressError, TrackerPass, TrackerReply, TrackerState,
+    CompletionTracker, FileXorbDependency, GroupProgress, ProgressError, TrackerCall, TrackerPass,
+    TrackerReply,
 };
 
-/// A call and its reply.
-type Row = (Ask, TrackerReply);
+/// How many bytes to be transferred the group has before; the calls by one pass, and those by another. `grower` is a
+/// file that grows, a xorb goes by the byte of its hash, and dependencies in one list have a `+` between them. Then the
+/// replies; the group's completed and all bytes, its transferred bytes and those to be transferred; the parts and the
+/// calls of both passes, and whether the replies were kept.
+const TRACKERS: &str = "\
+0|file 110;file 60;status;complete;ext 0 1 110;status;complete|dep 1 2 60;status;done 2;xorb 2 60;done \
+2;status;complete;missing: FileId(0) FileId(1) Sums { completed: 0, total: 170 } Flag(false) Done Sums { completed: \
+110, total: 170 } Flag(false) Done Sums { completed: 110, total: 170 } Refused(UnknownXorb { hash: MerkleHash([2, 2, \
+2, 2, 2, 2, 2, 2, 2, 2, 2, 2, 2, 2, 2, 2, 2, 2, 2, 2, 2, 2, 2, 2, 2, 2, 2, 2, 2, 2, 2, 2]) }) Flag(true) Done Sums { \
+completed: 170, total: 170 } Flag(true) Done (170, 170, 60, 60) (4294967296, 15, true)
+0|file 70;xorb 9 900;done 9;status|dep 0 9 70;status;complete;missing: FileId(0) Flag(true) Done Sums { completed: \
+0, total: 70 } Done Sums { completed: 70, total: 70 } Flag(true) Done (70, 70, 900, 900) (4294967296, 8, true)
+0|file 220;file 310;xorb 1 900;dep 0 1 120+ext 1 1 210;status;done 1;status;xorb 2 800|ext 0 2 100;status;dep 1 2 \
+100;status;complete;missing;done 2;status;missing: FileId(0) FileId(1) Flag(true) Done Sums { completed: 210, total: \
+530 } Done Sums { completed: 330, total: 530 } Flag(true) Done Sums { completed: 430, total: 530 } Done Sums { \
+completed: 430, total: 530 } Flag(false) Unfinished(File { id: 1, completed: 210, total: 310 }) Done Sums { \
+completed: 530, total: 530 } Done (530, 530, 1700, 1700) (4294967296, 17, true)
+0|file 100;file 100;xorb 1 200|dep 0 1 100+dep 1 1 100;progress 1 50;status: FileId(0) FileId(1) Flag(true) Done \
+Done Sums { completed: 50, total: 200 } (50, 200, 50, 200) (4294967296, 6, true)
+0|file 110;xorb 5 1000;xorb 5 1000;xorb 5 900;done 5;progress 5 1|background 5 1;done 5;status;dep 0 5 \
+110;status;missing: FileId(0) Flag(true) Flag(false) Refused(OtherSize { registered: 1000, given: 900 }) Done \
+Refused(XorbCompleted { hash: MerkleHash([5, 5, 5, 5, 5, 5, 5, 5, 5, 5, 5, 5, 5, 5, 5, 5, 5, 5, 5, 5, 5, 5, 5, 5, 5, \
+5, 5, 5, 5, 5, 5, 5]) }) Done Done Sums { completed: 0, total: 110 } Done Sums { completed: 110, total: 110 } Done \
+(110, 110, 1000, 1000) (4294967296, 12, true)
+0|grower;status;xorb 1 500;xorb 2 600;grow 0 210;dep 0 1 210;done 1|status;grow 0 320;dep 0 2 320;status;done \
+2;status;missing: FileId(0) Sums { completed: 0, total: 0 } Flag(true) Flag(true) Done Done Done Sums { completed: \
+210, total: 210 } Done Done Sums { completed: 210, total: 530 } Done Sums { completed: 530, total: 530 } Done (530, \
+530, 1100, 1100) (4294967296, 14, true)
+0|file 110;grow 0 777;grow 1 1;status;ext 0 1 111|ext 0 1 60+dep 0 2 51;ext 0 1 60+dep 4 2 51;status;ext 0 1 \
+110;complete;missing: FileId(0) Done Refused(UnknownFile { id: 1 }) Sums { completed: 0, total: 110 } \
+Refused(PastTotal { total: 110, counted: 0, increment: 111 }) Refused(PastTotal { total: 110, counted: 60, \
+increment: 51 }) Refused(UnknownFile { id: 4 }) Sums { completed: 0, total: 110 } Done Flag(true) Done (110, 110, 0, \
+0) (4294967296, 11, true)
+0|grower;xorb 7 1000;grow 0 400;dep 0 7 400;progress 7 430;status|grow 0 200;ext 0 8 200;status;done \
+7;status;missing: FileId(0) Flag(true) Done Done Done Sums { completed: 172, total: 400 } Done Done Sums { \
+completed: 372, total: 600 } Done Sums { completed: 600, total: 600 } Done (600, 600, 1000, 1000) (4294967296, 12, \
+true)
+0|file 100;xorb 7 3;dep 0 7 100;progress 7 1;status|background 7 1;status;progress 7 2;done 7;status: FileId(0) \
+Flag(true) Done Done Sums { completed: 33, total: 100 } Done Sums { completed: 66, total: 100 } Refused(PastTotal { \
+total: 3, counted: 2, increment: 2 }) Done Sums { completed: 100, total: 100 } (100, 100, 3, 3) (4294967296, 10, true)
+0|file 18446744073709551615;file 1;grower;grow 1 1;xorb 1 18446744073709551615|xorb 2 1;dep 0 1 \
+18446744073709551615;progress 1 18446744073709551614;status;missing: FileId(0) Refused(SumTooGreat { have: \
+18446744073709551615, add: 1 }) FileId(1) Refused(SumTooGreat { have: 18446744073709551615, add: 1 }) Flag(true) \
+Refused(SumTooGreat { have: 18446744073709551615, add: 1 }) Done Done Sums { completed: 18446744073709551614, total: \
+18446744073709551615 } Unfinished(File { id: 0, completed: 18446744073709551614, total: 18446744073709551615 }) \
+(18446744073709551614, 18446744073709551615, 18446744073709551614, 18446744073709551615) (4294967296, 10, true)
+0|file 0;dep 0 6 0+dep 0 4 0;ext 0 1 0;xorb 3 0|complete;missing;progress 3 0;done 3;missing: FileId(0) Done Done \
+Flag(true) Flag(true) Unfinished(Xorb { hash: MerkleHash([3, 3, 3, 3, 3, 3, 3, 3, 3, 3, 3, 3, 3, 3, 3, 3, 3, 3, 3, \
+3, 3, 3, 3, 3, 3, 3, 3, 3, 3, 3, 3, 3]) }) Done Done Unfinished(Xorb { hash: MerkleHash([4, 4, 4, 4, 4, 4, 4, 4, 4, \
+4, 4, 4, 4, 4, 4, 4, 4, 4, 4, 4, 4, 4, 4, 4, 4, 4, 4, 4, 4, 4, 4, 4]) }) (0, 0, 0, 0) (4294967296, 9, true)
+18446744073709551608|file 9;xorb 1 8;xorb 2 7;dep 0 1 9|progress 1 4;done 2;done 1;status: FileId(0) Flag(true) \
+Flag(true) Done Done Done Done Sums { completed: 9, total: 9 } (9, 9, 7, 18446744073709551615) (4294967296, 8, true)
+";
 
-/// What the group of a case says afterwards: bytes, completed, transfer, transferred.
-type Sums = (u64, u64, u64, u64);
-
-const DONE: TrackerReply = TrackerReply::Done;
-
-const NEW: TrackerReply = TrackerReply::Flag(true);
-
-fn id(id: u64) -> TrackerReply {
-    TrackerReply::FileId(id)
-}
-
-fn flag(flag: bool) -> TrackerReply {
-    TrackerReply::Flag(flag)
-}
-
-fn sums(completed: u64, total: u64) -> TrackerReply {
-    TrackerReply::Sums { completed, total }
-}
-
-fn past(total: u64, counted: u64, increment: u64) -> TrackerReply {
-    TrackerReply::Refused(Invalid::PastTotal {
-        total,
-        counted,
-        increment,
-    })
-}
-
-fn refused(why: Invalid) -> TrackerReply {
-    TrackerReply::Refused(why)
+fn hash(xorb: u64) -> MerkleHash {
+    MerkleHash([xorb.min(255) as u8; 32])
 }
 
 fn done_reply(answer: Result<(), ProgressError>) -> Result<TrackerReply, OutOfMemory> {
     match answer {
-        Ok(()) => Ok(DONE),
-        Err(ProgressError::InvalidOperation(why)) => Ok(refused(why)),
+        Ok(()) => Ok(TrackerReply::Done),
+        Err(ProgressError::InvalidOperation(why)) => Ok(TrackerReply::Refused(why)),
         Err(ProgressError::OutOfMemory) => Err(OutOfMemory),
     }
 }
 
 fn id_reply(answer: Result<u64, ProgressError>) -> Result<TrackerReply, OutOfMemory> {
     match answer {
-        Ok(number) => Ok(id(number)),
-        Err(ProgressError::InvalidOperation(why)) => Ok(refused(why)),
+        Ok(id) => Ok(TrackerReply::FileId(id)),
+        Err(ProgressError::InvalidOperation(why)) => Ok(TrackerReply::Refused(why)),
         Err(ProgressError::OutOfMemory) => Err(OutOfMemory),
     }
 }
 
 fn flag_reply(answer: Result<bool, ProgressError>) -> Result<TrackerReply, OutOfMemory> {
     match answer {
-        Ok(is_new) => Ok(flag(is_new)),
-        Err(ProgressError::InvalidOperation(why)) => Ok(refused(why)),
+        Ok(flag) => Ok(TrackerReply::Flag(flag)),
+        Err(ProgressError::InvalidOperation(why)) => Ok(TrackerReply::Refused(why)),
         Err(ProgressError::OutOfMemory) => Err(OutOfMemory),
     }
 }
 
-/// Makes a call on a shared tracker, whose files are the items 1, 2 and so on of the group.
-fn asked<L: Ledger, R: Wait>(
+/// Registers a file, whose item is a new one of the group.
+fn add_file<L: Ledger, R: Wait>(
     rt: &R,
     alloc: Global,
     tracker: &CompletionTracker<L>,
     pass: &mut TrackerPass<L>,
     group: &Arc<GroupProgress>,
-    ask: Ask,
-) -> Result<TrackerReply, OutOfMemory>
-    ensures { pass.new.parts ≡ pass.old.parts }
-{
-    match ask {
-        Ask::File(size) => {
-            let item = new_item(rt, alloc, group)?;
-            id_reply(tracker.register_new_file(rt, alloc, pass, item, size))
-        }
-        Ask::Grow(file, by) => done_reply(tracker.increment_file_size(rt, alloc, pass, file, by)),
-        Ask::Xorb(xorb, size) => {
-            flag_reply(tracker.register_new_xorb(rt, alloc, pass, hash(xorb), size))
-        }
-        Ask::Part(part) => {
-            done_reply(tracker.register_dependencies(rt, alloc, pass, &[dependency(part)]))
-        }
-        Ask::Parts(part, other) => {
-            let list = [dependency(part), dependency(other)];
-            done_reply(tracker.register_dependencies(rt, alloc, pass, &list))
-        }
-        Ask::Done(xorb) => {
-            done_reply(tracker.register_xorb_upload_completion(rt, alloc, pass, hash(xorb)))
-        }
-        Ask::Sent(xorb, by) => {
-            done_reply(tracker.register_xorb_upload_progress(rt, alloc, pass, hash(xorb), by))
-        }
-        Ask::Background(xorb, by) => {
-            let answer = tracker.register_xorb_upload_progress_background(
-                rt,
-                alloc,
-                pass,
-                hash(xorb),
-                by,
-            );
-            done_reply(answer)
-        }
-        Ask::Status => {
-            let (completed, total) = tracker.status(rt, alloc, pass)?;
-            Ok(sums(completed, total))
-        }
-        Ask::Complete => Ok(flag(tracker.is_complete(rt, alloc, pass)?)),
-        Ask::Whole => match tracker.assert_complete(rt, alloc, pass)? {
-            Ok(()) => Ok(DONE),
-            Err(what) => Ok(TrackerReply::Unfinished(what)),
-        },
+    size: Option<u64>,
+) -> Result<TrackerReply, OutOfMemory> {
+    let id = UniqueID(pass.calls());
+    match GroupProgress::new_item(group, rt, alloc, id, "file") {
+        Ok(item) => id_reply(tracker.register_new_file(rt, alloc, pass, item, size)),
+        Err(error) => id_reply(Err(error)),
     }
 }
 
-/// A new item of a group, by the next id that it doesn't have.
-fn new_item<R: Wait>(
+/// Asks what is missing.
+fn look<L: Ledger, R: Wait>(
     rt: &R,
     alloc: Global,
-    group: &Arc<GroupProgress>,
-) -> Result<ItemProgressUpdater, OutOfMemory> {
-    for id in 0..9 {
-        match GroupProgress::new_item(group, rt, alloc, UniqueID(id), "file") {
-            Ok(item) => return Ok(item),
-            Err(ProgressError::OutOfMemory) => return Err(OutOfMemory),
-            Err(ProgressError::InvalidOperation(_)) => {}
-        }
+    tracker: &CompletionTracker<L>,
+    pass: &mut TrackerPass<L>,
+) -> Result<TrackerReply, OutOfMemory> {
+    match tracker.assert_complete(rt, alloc, pass) {
+        Ok(Ok(())) => Ok(TrackerReply::Done),
+        Ok(Err(what)) => Ok(TrackerReply::Unfinished(what)),
+        Err(error) => Err(error),
     }
-    Err(OutOfMemory)
 }
 
-/// Makes calls on a shared tracker, and compares the replies.
-fn ask_all<L: Ledger, R: Abort + Wait>(
+/// Asks what is completed.
+fn status<L: Ledger, R: Wait>(
+    rt: &R,
+    alloc: Global,
+    tracker: &CompletionTracker<L>,
+    pass: &mut TrackerPass<L>,
+) -> Result<TrackerReply, OutOfMemory> {
+    match tracker.status(rt, alloc, pass) {
+        Ok((completed, total)) => Ok(TrackerReply::Sums { completed, total }),
+        Err(error) => Err(error),
+    }
+}
+
+/// Asks whether all is completed.
+fn is_complete<L: Ledger, R: Wait>(
+    rt: &R,
+    alloc: Global,
+    tracker: &CompletionTracker<L>,
+    pass: &mut TrackerPass<L>,
+) -> Result<TrackerReply, OutOfMemory> {
+    match tracker.is_complete(rt, alloc, pass) {
+        Ok(complete) => Ok(TrackerReply::Flag(complete)),
+        Err(error) => Err(error),
+    }
+}
+
+/// Makes a call that has no list.
+fn ask<L: Ledger, R: Wait>(
     rt: &R,
     alloc: Global,
     tracker: &CompletionTracker<L>,
     pass: &mut TrackerPass<L>,
     group: &Arc<GroupProgress>,
-    rows: &[Row],
-) -> Result<(), OutOfMemory>
-    ensures { pass.new.parts ≡ pass.old.parts }
-{
-    for (row, reply) in rows {
-        let said = asked(rt, alloc, tracker, pass, group, *row)?;
-        assert_eq!(rt; said, *reply);
+    call: Call,
+) -> Result<TrackerReply, OutOfMemory> {
+    let [first, bytes, _] = call.numbers;
+    let xorb = hash(first);
+    match call.word {
+        "file" => add_file(rt, alloc, tracker, pass, group, Some(first)),
+        "grower" => add_file(rt, alloc, tracker, pass, group, None),
+        "grow" => done_reply(tracker.increment_file_size(rt, alloc, pass, first, bytes)),
+        "xorb" => flag_reply(tracker.register_new_xorb(rt, alloc, pass, xorb, bytes)),
+        "done" => done_reply(tracker.register_xorb_upload_completion(rt, alloc, pass, xorb)),
+        "progress" => {
+            done_reply(tracker.register_xorb_upload_progress(rt, alloc, pass, xorb, bytes))
+        }
+        "background" => done_reply(tracker.register_xorb_upload_progress_background(
+            rt, alloc, pass, xorb, bytes,
+        )),
+        "status" => status(rt, alloc, tracker, pass),
+        "complete" => is_complete(rt, alloc, tracker, pass),
+        _ => look(rt, alloc, tracker, pass),
+    }
+}
+
+/// A dependency on a xorb.
+fn dependency(text: &str) -> Result<FileXorbDependency, Fail> {
+    let call = call_of(text)?;
+    let [file_id, xorb, n_bytes] = call.numbers;
+    Ok(FileXorbDependency {
+        file_id,
+        xorb_hash: hash(xorb),
+        n_bytes,
+        is_external: call.word == "ext",
+    })
+}
+
+fn dependencies(alloc: Global, text: &str) -> Result<Vec<FileXorbDependency>, Fail> {
+    let mut list = Vec::new(alloc);
+    for part in text.split('+') {
+        list.push(dependency(part)?)?;
+    }
+    Ok(list)
+}
+
+/// Makes a call, and shows its reply.
+fn ask_one<L: Ledger, R: Wait>(
+    rt: &R,
+    alloc: Global,
+    tracker: &CompletionTracker<L>,
+    pass: &mut TrackerPass<L>,
+    group: &Arc<GroupProgress>,
+    text: &str,
+    told: &mut String,
+) -> Result<(), Fail> {
+    if text.starts_with("dep") || text.starts_with("ext") {
+        let list = dependencies(alloc, text)?;
+        let answer = tracker.register_dependencies(rt, alloc, pass, list.as_slice());
+        return show(told, &done_reply(answer)?);
+    }
+    show(told, &ask(rt, alloc, tracker, pass, group, call_of(text)?)?)
+}
+
+fn ask_all<L: Ledger, R: Wait>(
+    rt: &R,
+    alloc: Global,
+    tracker: &CompletionTracker<L>,
+    pass: &mut TrackerPass<L>,
+    group: &Arc<GroupProgress>,
+    calls: &str,
+    told: &mut String,
+) -> Result<(), Fail> {
+    for call in calls.split(';') {
+        ask_one(rt, alloc, tracker, pass, group, call, told)?;
     }
     Ok(())
 }
 
-/// Makes the calls of a case on a shared tracker, the second half by a second pass, and compares replies, the number of
-/// calls, the kept history, and the group afterwards.
-fn shared<L: Ledger, R: Abort + Wait>(
+/// Makes the calls of one pass, and those of another.
+fn ask_both<L: Ledger, R: Wait>(
+    rt: &R,
+    alloc: Global,
+    tracker: &CompletionTracker<L>,
+    passes: (&mut TrackerPass<L>, &mut TrackerPass<L>),
+    group: &Arc<GroupProgress>,
+    calls: &str,
+    told: &mut String,
+) -> Result<(), Fail> {
+    let (calls, others) = calls.split_once('|').ok_or("no other calls")?;
+    ask_all(rt, alloc, tracker, passes.0, group, calls, told)?;
+    ask_all(rt, alloc, tracker, passes.1, group, others, told)
+}
+
+fn show_replies(history: &[TrackerCall], told: &mut String) -> Result<(), Fail> {
+    for call in history {
+        show(told, &call.reply)?;
+    }
+    Ok(())
+}
+
+/// Whether these are the kept replies.
+fn is_kept(alloc: Global, history: &[TrackerCall], replies: &str) -> Result<bool, Fail> {
+    let mut kept = String::new(alloc);
+    show_replies(history, &mut kept)?;
+    Ok(kept.as_str() == replies)
+}
+
+/// Shows the sums of the group, what the passes count, and whether the replies were kept.
+fn show_end<R: Wait>(
+    rt: &R,
+    alloc: Global,
+    group: &GroupProgress,
+    counts: (u64, u64),
+    history: &[TrackerCall],
+    told: &mut String,
+) -> Result<(), Fail> {
+    let kept = is_kept(alloc, history, told.as_str())?;
+    show(told, &sums(group.report(rt)))?;
+    show(told, &(counts.0, counts.1, kept))
+}
+
+/// Makes the calls by two passes, and gathers and closes these.
+fn ended<L: Ledger, R: Wait>(
+    rt: &R,
+    alloc: Global,
+    tracker: CompletionTracker<L>,
+    mut pass: TrackerPass<L>,
+    group: &Arc<GroupProgress>,
+    calls: &str,
+    told: &mut String,
+) -> Result<(), Fail>
+    requires { pass.parts ≡ 2 ^ 32 }
+{
+    let mut other = pass.split(1);
+    ask_both(
+        rt,
+        alloc,
+        &tracker,
+        (&mut pass, &mut other),
+        group,
+        calls,
+        told,
+    )?;
+    pass.gather(other);
+    let counts = (pass.parts(), pass.calls());
+    let history = tracker.close(pass);
+    show_end(rt, alloc, group, counts, history.as_slice(), told)
+}
+
+/// Makes the calls on a tracker of a group that has so many bytes to transfer already. The calls are no `&str`, since a
+/// call that picks a ledger has none.
+fn tracked<L: Ledger, R: Abort + Wait>(
     rt: &R,
     alloc: Global,
     blank: Blank,
-    rows: &[Row],
-    wanted: GroupProgressReport,
+    before: u64,
+    calls: &String,
+    told: &mut String,
 ) -> Result<(), OutOfMemory>
     requires name { blank.name ≡ L.name }
     requires parts { blank.parts ≡ L.parts }
     requires all { L.parts ≡ 2 ^ 32 }
 {
     let group = GroupProgress::new(alloc)?;
-    let (tracker, mut pass) = GroupProgress::new_completion_tracker::<L>(&group, alloc, blank)?;
-    let mut other = pass.split(1);
-    let half = rows.len() / 2;
-    ask_all(rt, alloc, &tracker, &mut pass, &group, &rows[..half])?;
-    ask_all(rt, alloc, &tracker, &mut other, &group, &rows[half..])?;
-    assert_eq!(rt; group.report(rt), wanted);
-    pass.gather(other);
-    assert_eq!(rt; pass.parts(), 4_294_967_296);
-    assert_eq!(rt; pass.calls(), rows.len() as u64);
-    let history = tracker.close(pass);
-    assert_eq!(rt; history.len(), rows.len());
-    for (call, (_, reply)) in history.as_slice().iter().zip(rows) {
-        assert_eq!(rt; call.reply, *reply);
+    assert!(rt; group.add_transfer(rt, before, 0).is_ok(), "{before}");
+    let (tracker, pass) = GroupProgress::new_completion_tracker::<L>(&group, alloc, blank)?;
+    match ended(rt, alloc, tracker, pass, &group, calls.as_str(), told) {
+        Ok(()) => Ok(()),
+        Err(_) => panic!(rt; "{calls}"),
     }
-    Ok(())
 }
 
-/// Makes the calls of a case on a plain state and on a shared tracker.
-fn run<R: Abort + Wait>(
+/// The same, of a tracker with a name of its own.
+fn of_own_tracker<R: Abort + Wait>(
     rt: &R,
     alloc: Global,
-    rows: &[Row],
-    wanted: Sums,
+    before: u64,
+    calls: &String,
+    told: &mut String,
 ) -> Result<(), OutOfMemory> {
-    let mut state = TrackerState::new(alloc);
-    for (row, reply) in rows {
-        let said = state.step(alloc, &step(alloc, *row)?)?;
-        assert_eq!(rt; said, *reply);
+    tracked::<Brand, R>(rt, alloc, Blank::new(1 << 32), before, calls, told)
+}
+
+/// Makes the calls of a row.
+fn told_tracker<R: Abort + Wait>(rt: &R, alloc: Global, row: &str) -> Result<String, Fail> {
+    let (before, calls) = row.split_once('|').ok_or("no calls")?;
+    let before = before.parse::<u64>()?;
+    let calls = String::from_str(alloc, calls)?;
+    let mut told = String::new(alloc);
+    of_own_tracker(rt, alloc, before, &calls, &mut told)?;
+    Ok(told)
+}
+
+#[test]
+fn trackers(rt: HostRuntime) {
+    for line in TRACKERS.lines() {
+        if let Some((row, wanted)) = line.split_once(':') {
+            comes_to(&rt, row, told_tracker(&rt, rt.alloc(), row), wanted);
+        }
     }
-    let wanted = GroupProgressReport {
-        total_bytes: wanted.0,
-        total_bytes_completed: wanted.1,
-        total_transfer_bytes: wanted.2,
-        total_transfer_bytes_completed: wanted.3,
-    };
-    shared::<Brand, R>(rt, alloc, Blank::new(1 << 32), rows, wanted)
-}
-
-#[test]
-fn external_part_counts_at_once_and_uploaded_part_at_completion(
-    rt: HostRuntime,
-) -> Result<(), OutOfMemory> {
-    let rows = [
-        (Ask::File(Some(110)), id(0)),
-        (Ask::File(Some(60)), id(1)),
-        (Ask::Status, sums(0, 170)),
-        (Ask::Complete, flag(false)),
-        (Ask::Part((0, 1, 110, true)), DONE),
-        (Ask::Status, sums(110, 170)),
-        (Ask::Complete, flag(false)),
-        (Ask::Part((1, 2, 60, false)), DONE),
-        (Ask::Status, sums(110, 170)),
-        (
-            Ask::Done(2),
-            refused(Invalid::UnknownXorb { hash: hash(2) }),
-        ),
-        (Ask::Xorb(2, 60), NEW),
-        (Ask::Done(2), DONE),
-        (Ask::Status, sums(170, 170)),
-        (Ask::Complete, flag(true)),
-        (Ask::Whole, DONE),
-    ];
-    run(&rt, rt.alloc(), &rows, (170, 170, 60, 60))
-}
-
-#[test]
-fn part_on_a_completed_xorb_counts_at_once(rt: HostRuntime) -> Result<(), OutOfMemory> {
-    let rows = [
-        (Ask::File(Some(70)), id(0)),
-        (Ask::Xorb(9, 900), NEW),
-        (Ask::Done(9), DONE),
-        (Ask::Status, sums(0, 70)),
-        (Ask::Part((0, 9, 70, false)), DONE),
-        (Ask::Status, sums(70, 70)),
-        (Ask::Complete, flag(true)),
-        (Ask::Whole, DONE),
-    ];
-    run(&rt, rt.alloc(), &rows, (70, 70, 900, 900))
-}
-
-#[test]
-fn two_files_share_a_xorb_in_two_ways(rt: HostRuntime) -> Result<(), OutOfMemory> {
-    let rows = [
-        (Ask::File(Some(220)), id(0)),
-        (Ask::File(Some(310)), id(1)),
-        (Ask::Xorb(1, 900), NEW),
-        (Ask::Parts((0, 1, 120, false), (1, 1, 210, true)), DONE),
-        (Ask::Status, sums(210, 530)),
-        (Ask::Done(1), DONE),
-        (Ask::Status, sums(330, 530)),
-        (Ask::Xorb(2, 800), NEW),
-        (Ask::Part((0, 2, 100, true)), DONE),
-        (Ask::Status, sums(430, 530)),
-        (Ask::Part((1, 2, 100, false)), DONE),
-        (Ask::Status, sums(430, 530)),
-        (Ask::Complete, flag(false)),
-        (
-            Ask::Whole,
-            TrackerReply::Unfinished(Incomplete::File {
-                id: 1,
-                completed: 210,
-                total: 310,
-            }),
-        ),
-        (Ask::Done(2), DONE),
-        (Ask::Status, sums(530, 530)),
-        (Ask::Whole, DONE),
-    ];
-    run(&rt, rt.alloc(), &rows, (530, 530, 1700, 1700))
-}
-
-#[test]
-fn shared_xorb_counts_for_both_files(rt: HostRuntime) -> Result<(), OutOfMemory> {
-    let rows = [
-        (Ask::File(Some(100)), id(0)),
-        (Ask::File(Some(100)), id(1)),
-        (Ask::Xorb(1, 200), NEW),
-        (Ask::Parts((0, 1, 100, false), (1, 1, 100, false)), DONE),
-        (Ask::Sent(1, 50), DONE),
-        (Ask::Status, sums(50, 200)),
-    ];
-    run(&rt, rt.alloc(), &rows, (200, 50, 200, 50))
-}
-
-#[test]
-fn completed_xorb_refuses_what_contradicts_it(rt: HostRuntime) -> Result<(), OutOfMemory> {
-    let registered = 1000;
-    let given = 900;
-    let rows = [
-        (Ask::File(Some(110)), id(0)),
-        (Ask::Xorb(5, 1000), NEW),
-        (Ask::Xorb(5, 1000), flag(false)),
-        (
-            Ask::Xorb(5, 900),
-            refused(Invalid::OtherSize { registered, given }),
-        ),
-        (Ask::Done(5), DONE),
-        (
-            Ask::Sent(5, 1),
-            refused(Invalid::XorbCompleted { hash: hash(5) }),
-        ),
-        (Ask::Background(5, 1), DONE),
-        (Ask::Done(5), DONE),
-        (Ask::Status, sums(0, 110)),
-        (Ask::Part((0, 5, 110, false)), DONE),
-        (Ask::Status, sums(110, 110)),
-        (Ask::Whole, DONE),
-    ];
-    run(&rt, rt.alloc(), &rows, (110, 110, 1000, 1000))
-}
-
-#[test]
-fn growing_file_waits_for_two_uploads(rt: HostRuntime) -> Result<(), OutOfMemory> {
-    let rows = [
-        (Ask::File(None), id(0)),
-        (Ask::Status, sums(0, 0)),
-        (Ask::Xorb(1, 500), NEW),
-        (Ask::Xorb(2, 600), NEW),
-        (Ask::Grow(0, 210), DONE),
-        (Ask::Part((0, 1, 210, false)), DONE),
-        (Ask::Done(1), DONE),
-        (Ask::Status, sums(210, 210)),
-        (Ask::Grow(0, 320), DONE),
-        (Ask::Part((0, 2, 320, false)), DONE),
-        (Ask::Status, sums(210, 530)),
-        (Ask::Done(2), DONE),
-        (Ask::Status, sums(530, 530)),
-        (Ask::Whole, DONE),
-    ];
-    run(&rt, rt.alloc(), &rows, (530, 530, 1100, 1100))
-}
-
-#[test]
-fn fixed_size_ignores_growth(rt: HostRuntime) -> Result<(), OutOfMemory> {
-    let rows = [
-        (Ask::File(Some(110)), id(0)),
-        (Ask::Grow(0, 777), DONE),
-        (Ask::Grow(1, 1), refused(Invalid::UnknownFile { id: 1 })),
-        (Ask::Status, sums(0, 110)),
-        (Ask::Part((0, 1, 111, true)), past(110, 0, 111)),
-        (
-            Ask::Parts((0, 1, 60, true), (0, 2, 51, false)),
-            past(110, 60, 51),
-        ),
-        (
-            Ask::Parts((0, 1, 60, true), (4, 2, 51, false)),
-            refused(Invalid::UnknownFile { id: 4 }),
-        ),
-        (Ask::Status, sums(0, 110)),
-        (Ask::Part((0, 1, 110, true)), DONE),
-        (Ask::Complete, flag(true)),
-        (Ask::Whole, DONE),
-    ];
-    run(&rt, rt.alloc(), &rows, (110, 110, 0, 0))
-}
-
-#[test]
-fn part_of_an_upload_counts_by_its_share(rt: HostRuntime) -> Result<(), OutOfMemory> {
-    let rows = [
-        (Ask::File(None), id(0)),
-        (Ask::Xorb(7, 1000), NEW),
-        (Ask::Grow(0, 400), DONE),
-        (Ask::Part((0, 7, 400, false)), DONE),
-        (Ask::Sent(7, 430), DONE),
-        (Ask::Status, sums(172, 400)),
-        (Ask::Grow(0, 200), DONE),
-        (Ask::Part((0, 8, 200, true)), DONE),
-        (Ask::Status, sums(372, 600)),
-        (Ask::Done(7), DONE),
-        (Ask::Status, sums(600, 600)),
-        (Ask::Whole, DONE),
-    ];
-    run(&rt, rt.alloc(), &rows, (600, 600, 1000, 1000))
-}
-
-#[test]
-fn progress_counts_in_thirds(rt: HostRuntime) -> Result<(), OutOfMemory> {
-    let rows = [
-        (Ask::File(Some(100)), id(0)),
-        (Ask::Xorb(7, 3), NEW),
-        (Ask::Part((0, 7, 100, false)), DONE),
-        (Ask::Sent(7, 1), DONE),
-        (Ask::Status, sums(33, 100)),
-        (Ask::Background(7, 1), DONE),
-        (Ask::Status, sums(66, 100)),
-        (Ask::Sent(7, 2), past(3, 2, 2)),
-        (Ask::Done(7), DONE),
-        (Ask::Status, sums(100, 100)),
-    ];
-    run(&rt, rt.alloc(), &rows, (100, 100, 3, 3))
-}
-
-#[test]
-fn sums_do_not_wrap(rt: HostRuntime) -> Result<(), OutOfMemory> {
-    let have = u64::MAX;
-    let add = 1;
-    let rows = [
-        (Ask::File(Some(u64::MAX)), id(0)),
-        (
-            Ask::File(Some(1)),
-            refused(Invalid::SumTooGreat { have, add }),
-        ),
-        (Ask::File(None), id(1)),
-        (Ask::Grow(1, 1), refused(Invalid::SumTooGreat { have, add })),
-        (Ask::Xorb(1, u64::MAX), NEW),
-        (Ask::Xorb(2, 1), refused(Invalid::SumTooGreat { have, add })),
-        (Ask::Part((0, 1, u64::MAX, false)), DONE),
-        (Ask::Sent(1, u64::MAX - 1), DONE),
-        (Ask::Status, sums(u64::MAX - 1, u64::MAX)),
-        (
-            Ask::Whole,
-            TrackerReply::Unfinished(Incomplete::File {
-                id: 0,
-                completed: u64::MAX - 1,
-                total: u64::MAX,
-            }),
-        ),
-    ];
-    run(
-        &rt,
-        rt.alloc(),
-        &rows,
-        (u64::MAX, u64::MAX - 1, u64::MAX, u64::MAX - 1),
-    )
-}
-
-#[test]
-fn xorbs_are_missing_by_their_hash(rt: HostRuntime) -> Result<(), OutOfMemory> {
-    let first = TrackerReply::Unfinished(Incomplete::Xorb { hash: hash(3) });
-    let second = TrackerReply::Unfinished(Incomplete::Xorb { hash: hash(4) });
-    let rows = [
-        (Ask::File(Some(0)), id(0)),
-        (Ask::Parts((0, 6, 0, false), (0, 4, 0, false)), DONE),
-        (Ask::Part((0, 1, 0, true)), DONE),
-        (Ask::Xorb(3, 0), NEW),
-        (Ask::Complete, flag(true)),
-        (Ask::Whole, first),
-        (Ask::Sent(3, 0), DONE),
-        (Ask::Done(3), DONE),
-        (Ask::Whole, second),
-    ];
-    run(&rt, rt.alloc(), &rows, (0, 0, 0, 0))
 }
