@@ -1,14 +1,13 @@
-//! Calls of a writer as rows of a table, and a sink that counts its writes.
-ghost use Rattle.std.specs.Prelude.{◌≡◌};
-
+//! Calls of a writer as texts.
 use bytes::Bytes;
 use std::alloc::Global;
+use std::fmt::Display;
+use std::process::Abort;
+use std::test::Fail;
 use xet_base::FileRange;
 use xet_blocks::DataSource;
-use xet_error::Result;
-use xet_outside::{Sink, SinkError};
-use xet_run::Admission;
-use xet_sinks::VecSink;
+use xet_error::FileReconstructionError;
+use xet_run::{Admission, Budget};
 use xet_writers::DataWriter;
 
 /// One call of a writer.
@@ -16,6 +15,8 @@ use xet_writers::DataWriter;
 pub(crate) enum Call {
     /// A term whose bytes are there.
     Ready(u64, u64, &'static [u8]),
+    /// The same with an admission of as many bytes.
+    Admitted(u64, u64, &'static [u8]),
     /// A term whose bytes are wanted.
     Wanted(u64, u64),
     /// Bytes for a wanted term.
@@ -24,179 +25,126 @@ pub(crate) enum Call {
     Finish,
 }
 
-/// Makes one call. One that answers no number answers 0.
-pub(crate) fn make<W: DataWriter>(alloc: Global, writer: &mut W, call: Call) -> Result<u64> {
+/// An admission of so many bytes.
+fn admission(length: u64) -> Option<Admission> {
+    Budget::new().admit(length, length)
+}
+
+/// A call that answers no number answers 0.
+fn done(answer: xet_error::Result<()>) -> xet_error::Result<u64> {
+    match answer {
+        Ok(()) => Ok(0),
+        Err(error) => Err(error),
+    }
+}
+
+/// Makes one call.
+pub(crate) fn make<W: DataWriter>(
+    alloc: Global,
+    writer: &mut W,
+    call: Call,
+) -> xet_error::Result<u64> {
     match call {
         Call::Ready(start, end, text) => {
             let source = DataSource::Ready(Bytes::from_static(text));
-            writer.set_next_term_data_source(alloc, FileRange::new(start, end), None, source)?;
-            Ok(0)
+            let range = FileRange::new(start, end);
+            done(writer.set_next_term_data_source(alloc, range, None, source))
+        }
+        Call::Admitted(start, end, text) => {
+            let source = DataSource::Ready(Bytes::from_static(text));
+            let (range, length) = (FileRange::new(start, end), text.len() as u64);
+            done(writer.set_next_term_data_source(alloc, range, admission(length), source))
         }
         Call::Wanted(start, end) => {
-            let source = DataSource::Wanted(0);
-            writer.set_next_term_data_source(alloc, FileRange::new(start, end), None, source)?;
-            Ok(0)
+            let (range, source) = (FileRange::new(start, end), DataSource::Wanted(0));
+            done(writer.set_next_term_data_source(alloc, range, None, source))
         }
-        Call::Supply(start, text) => {
-            writer.supply(alloc, start, Bytes::from_static(text))?;
-            Ok(0)
-        }
+        Call::Supply(start, text) => done(writer.supply(alloc, start, Bytes::from_static(text))),
         Call::Finish => writer.finish(alloc),
     }
 }
 
-/// Takes a term with an admission of its length.
-pub(crate) fn admitted<W: DataWriter>(
-    alloc: Global,
-    writer: &mut W,
-    start: u64,
-    admission: Option<Admission>,
-    text: &'static [u8],
-) -> Result<()> {
-    let end = start.saturating_add(text.len() as u64);
-    let source = DataSource::Ready(Bytes::from_static(text));
-    writer.set_next_term_data_source(alloc, FileRange::new(start, end), admission, source)
+/// A half-open range, with a hyphen between its ends.
+fn range_of(text: &str) -> Result<(u64, u64), Fail> {
+    let (start, end) = text.split_once('-').ok_or("no range")?;
+    Ok((start.parse::<u64>()?, end.parse::<u64>()?))
 }
 
-/// How many pieces are empty.
-fn empty_ones(pieces: &[Bytes]) -> usize {
-    let mut count = 0usize;
-    for piece in pieces {
-        if piece.is_empty() {
-            count = count.saturating_add(1);
-        }
+fn ready(range: &str, bytes: &'static str) -> Result<Call, Fail> {
+    let (start, end) = range_of(range)?;
+    Ok(Call::Ready(start, end, bytes.as_bytes()))
+}
+
+fn admitted(range: &str, bytes: &'static str) -> Result<Call, Fail> {
+    let (start, end) = range_of(range)?;
+    Ok(Call::Admitted(start, end, bytes.as_bytes()))
+}
+
+fn wanted(range: &str) -> Result<Call, Fail> {
+    let (start, end) = range_of(range)?;
+    Ok(Call::Wanted(start, end))
+}
+
+fn supply(start: &str, bytes: &'static str) -> Result<Call, Fail> {
+    Ok(Call::Supply(start.parse::<u64>()?, bytes.as_bytes()))
+}
+
+/// One call: `0-5:Hello` a term with its bytes, `0-5=Hello` one that has an admission, `0-5` a wanted one, `0+Hello`
+/// bytes for it, and `finish`.
+pub(crate) fn call_of(text: &'static str) -> Result<Call, Fail> {
+    if text == "finish" {
+        return Ok(Call::Finish);
     }
-    count
-}
-
-/// Counts the pieces and the taken bytes of its first writes, the empty pieces of all, and its flushes.
-#[derive(Drop)]
-pub(crate) struct Counting<S> {
-    pub(crate) inner: S,
-    pub(crate) flushes: usize,
-    pub(crate) count: usize,
-    pub(crate) empty: usize,
-    pub(crate) calls: [(usize, usize); 6],
-}
-
-impl<S> Counting<S> {
-    pub(crate) fn new(inner: S) -> Counting<S> {
-        Counting {
-            inner,
-            flushes: 0,
-            count: 0,
-            empty: 0,
-            calls: [(0, 0); 6],
-        }
+    if let Some((range, bytes)) = text.split_once(':') {
+        return ready(range, bytes);
     }
-
-    fn note(&mut self, pieces: usize, taken: usize)
-        ensures { self.new.inner ≡ self.old.inner }
-    {
-        if self.count < 6 {
-            self.calls[self.count] = (pieces, taken);
-            self.count += 1;
-        }
+    if let Some((range, bytes)) = text.split_once('=') {
+        return admitted(range, bytes);
+    }
+    match text.split_once('+') {
+        Some((start, bytes)) => supply(start, bytes),
+        None => wanted(text),
     }
 }
 
-impl<S: Sink> Sink for Counting<S> {
-    ghost told = { λ s. S.told s.inner };
-
-    fn write(&mut self, piece: &[u8]) -> std::result::Result<usize, SinkError> {
-        let answer = self.inner.write(piece);
-        if piece.is_empty() {
-            self.empty = self.empty.saturating_add(1);
-        }
-        self.note(1, answer.unwrap_or(0));
-        answer
-    }
-
-    fn flush(&mut self) -> std::result::Result<(), SinkError> {
-        self.flushes = self.flushes.saturating_add(1);
-        self.inner.flush()
-    }
-
-    fn write_vectored(&mut self, pieces: &[Bytes]) -> std::result::Result<usize, SinkError> {
-        let answer = self.inner.write_vectored(pieces);
-        self.empty = self.empty.saturating_add(empty_ones(pieces));
-        self.note(pieces.len(), answer.unwrap_or(0));
-        answer
+/// Shows an error: the failed test with its numbers, or its name.
+fn show_error(told: &mut String, error: FileReconstructionError) -> Result<(), Fail> {
+    match error {
+        FileReconstructionError::InternalWriterError(fault) => Ok(write!(told, "{fault:?}")?),
+        error => Ok(write!(told, "{error:?}")?),
     }
 }
 
-/// A sink whose flush fails.
-#[derive(Drop)]
-pub(crate) struct Unflushed {
-    faults: u64,
-}
-
-impl Unflushed {
-    pub(crate) fn new() -> Unflushed {
-        Unflushed { faults: 0 }
+/// Shows an answer.
+pub(crate) fn show(told: &mut String, answer: xet_error::Result<u64>) -> Result<(), Fail> {
+    match answer {
+        Ok(count) => put(told, count),
+        Err(error) => show_error(told, error),
     }
 }
 
-impl Sink for Unflushed {
-    ghost use Rattle.std.specs.Prelude.{None, []};
-
-    ghost told = { λ s. record { took = None; flushed = None; faults = s.faults; link = [] } };
-
-    fn write(&mut self, piece: &[u8]) -> std::result::Result<usize, SinkError> {
-        Ok(piece.len())
-    }
-
-    fn flush(&mut self) -> std::result::Result<(), SinkError> {
-        self.faults = self.faults.saturating_add(1);
-        Err(SinkError::Failed)
-    }
+/// Shows a value.
+pub(crate) fn put<T: Display + Drop>(told: &mut String, value: T) -> Result<(), Fail> {
+    Ok(write!(told, "{value}")?)
 }
 
-/// A sink that finds no memory at one of its writes, the one with this number.
-#[derive(Drop)]
-pub(crate) struct Refusing {
-    pub(crate) inner: VecSink,
-    calls: u64,
-    refused: u64,
+/// Shows two numbers behind a space, with a mark between them.
+pub(crate) fn put_two(
+    told: &mut String,
+    first: usize,
+    mark: char,
+    second: usize,
+) -> Result<(), Fail> {
+    put(told, ' ')?;
+    put(told, first)?;
+    put(told, mark)?;
+    put(told, second)
 }
 
-impl Refusing {
-    pub(crate) fn new(alloc: Global, refused: u64) -> Refusing {
-        Refusing {
-            inner: VecSink::new(alloc),
-            calls: 0,
-            refused,
-        }
-    }
-
-    /// Whether this write finds no memory.
-    fn is_refused(&mut self) -> bool
-        ensures { self.new.inner ≡ self.old.inner }
-    {
-        let call = self.calls;
-        self.calls = self.calls.saturating_add(1);
-        call == self.refused
-    }
-}
-
-impl Sink for Refusing {
-    ghost told = { λ s. ⟦<VecSink as Sink>⟧.told s.inner };
-
-    fn write(&mut self, piece: &[u8]) -> std::result::Result<usize, SinkError> {
-        if self.is_refused() {
-            return Err(SinkError::OutOfMemory);
-        }
-        self.inner.write(piece)
-    }
-
-    fn flush(&mut self) -> std::result::Result<(), SinkError> {
-        self.inner.flush()
-    }
-
-    fn write_vectored(&mut self, pieces: &[Bytes]) -> std::result::Result<usize, SinkError> {
-        if self.is_refused() {
-            return Err(SinkError::OutOfMemory);
-        }
-        self.inner.write_vectored(pieces)
+/// Asserts what a row comes to.
+pub(crate) fn comes_to(rt: &impl Abort, row: &str, told: Result<String, Fail>, wanted: &str) {
+    match told {
+        Ok(told) => assert!(rt; told.as_str() == wanted, "{row}: {told}"),
+        Err(_) => panic!(rt; "{row}"),
     }
 }

@@ -3,16 +3,14 @@
 #![tactic(auto)]
 
 #[cfg(test)]
+mod by_completion;
+#[cfg(test)]
 mod calls;
 #[cfg(test)]
-mod failing;
+mod in_order;
 #[cfg(test)]
 mod over_std;
 #[cfg(test)]
-mod rows;
-#[cfg(test)]
 mod scripts;
 #[cfg(test)]
-mod sequential;
-#[cfg(test)]
-mod unordered;
+mod sinks;

@@ -1,140 +1,127 @@
-//! Calls of a writer, and what they come to, as texts.
-use crate::calls::{Call, Counting, make};
+//! Scripts of calls of the writer in order, and what they come to.
+use crate::calls::{Call, call_of, make, put, show};
 use std::alloc::Global;
 use std::test::Fail;
-use xet_error::FileReconstructionError;
 use xet_outside::Sink;
-use xet_sinks::{ScriptSink, SinkStep};
-use xet_writers::{CompletedTerm, DataWriter, SequentialWriter, UnorderedWriter};
+use xet_writers::SequentialWriter;
 
-/// A half-open range, with a hyphen between its ends.
-fn range_of(text: &str) -> Result<(u64, u64), Fail> {
-    let (start, end) = text.split_once('-').ok_or("no range")?;
-    Ok((start.parse::<u64>()?, end.parse::<u64>()?))
-}
+/// Five terms one after another, each with an admission and an empty one among them.
+const TEXTS: &str = "0-5=Hello;5-5=;5-6=-;6-11=World;11-12=!";
 
-/// A term whose bytes stand after a colon.
-fn ready(range: &str, bytes: &'static str) -> Result<Call, Fail> {
-    let (start, end) = range_of(range)?;
-    Ok(Call::Ready(start, end, bytes.as_bytes()))
-}
-
-/// A term whose bytes are wanted.
-fn wanted(range: &str) -> Result<Call, Fail> {
-    let (start, end) = range_of(range)?;
-    Ok(Call::Wanted(start, end))
-}
-
-/// One call: `0-5:Hello` a term with its bytes, `0-5` a wanted one, `0+Hello` bytes for it, and `finish`.
-fn call_of(text: &'static str) -> Result<Call, Fail> {
-    if text == "finish" {
-        return Ok(Call::Finish);
+/// The last digit of a number.
+fn digit_of(number: u64) -> &'static [u8] {
+    match number % 10 {
+        0 => b"0",
+        1 => b"1",
+        2 => b"2",
+        3 => b"3",
+        4 => b"4",
+        5 => b"5",
+        6 => b"6",
+        7 => b"7",
+        8 => b"8",
+        _ => b"9",
     }
-    if let Some((range, bytes)) = text.split_once(':') {
-        return ready(range, bytes);
-    }
-    if let Some((start, bytes)) = text.split_once('+') {
-        return Ok(Call::Supply(start.parse::<u64>()?, bytes.as_bytes()));
-    }
-    wanted(text)
 }
 
-/// Shows an answer: its number, the failed test with its numbers, or the error.
-fn show(text: &mut String, answer: xet_error::Result<u64>) -> Result<(), Fail> {
-    match answer {
-        Ok(count) => write!(text, "{count}")?,
-        Err(FileReconstructionError::InternalWriterError(fault)) => write!(text, "{fault:?}")?,
-        Err(error) => write!(text, "{error:?}")?,
+/// Takes so many terms of one digit, each with an admission.
+fn take_digits<S: Sink>(
+    alloc: Global,
+    writer: &mut SequentialWriter<S>,
+    count: u64,
+) -> xet_error::Result<u64> {
+    for number in 0..count {
+        let call = Call::Admitted(number, number + 1, digit_of(number));
+        make(alloc, writer, call)?;
+    }
+    Ok(0)
+}
+
+/// Takes so many terms of one digit, each with an empty one behind it.
+fn take_pairs<S: Sink>(
+    alloc: Global,
+    writer: &mut SequentialWriter<S>,
+    count: u64,
+) -> xet_error::Result<u64> {
+    for number in 0..count {
+        make(
+            alloc,
+            writer,
+            Call::Ready(number, number + 1, digit_of(number)),
+        )?;
+        make(alloc, writer, Call::Ready(number + 1, number + 1, b""))?;
+    }
+    Ok(0)
+}
+
+/// Takes the five terms.
+fn take_texts<S: Sink>(alloc: Global, writer: &mut SequentialWriter<S>) -> Result<(), Fail> {
+    for word in TEXTS.split(';') {
+        make(alloc, writer, call_of(word)?)?;
     }
     Ok(())
 }
 
-/// Makes the calls, `write` being `write_ready`, and shows their answers.
+/// Shows the length of each admission that came back.
+fn show_released<S>(writer: &mut SequentialWriter<S>, told: &mut String) -> Result<(), Fail> {
+    for _ in 0..200 {
+        let Some(admission) = writer.take_released() else {
+            return Ok(());
+        };
+        put(told, admission.length)?;
+    }
+    Ok(())
+}
+
+/// Makes the call of a word, and shows its answer: `write` is `write_ready`, and `back` the admissions that came back;
+/// `texts` takes the five terms, `*30` thirty digits, and `~30` these with empty terms between them.
+fn turn<S: Sink>(
+    alloc: Global,
+    writer: &mut SequentialWriter<S>,
+    word: &'static str,
+    told: &mut String,
+) -> Result<(), Fail> {
+    if word == "write" {
+        return show(told, writer.write_ready(alloc));
+    }
+    if word == "back" {
+        return show_released(writer, told);
+    }
+    if word == "texts" {
+        return take_texts(alloc, writer);
+    }
+    if let Some(count) = word.strip_prefix('*') {
+        return show(told, take_digits(alloc, writer, count.parse::<u64>()?));
+    }
+    if let Some(count) = word.strip_prefix('~') {
+        return show(told, take_pairs(alloc, writer, count.parse::<u64>()?));
+    }
+    show(told, make(alloc, writer, call_of(word)?))
+}
+
 fn play<S: Sink>(
     alloc: Global,
     writer: &mut SequentialWriter<S>,
     script: &'static str,
-) -> Result<String, Fail> {
-    let mut text = String::new(alloc);
+    told: &mut String,
+) -> Result<(), Fail> {
     for word in script.split(';') {
-        if word == "write" {
-            show(&mut text, writer.write_ready(alloc))?;
-        } else {
-            show(&mut text, make(alloc, writer, call_of(word)?))?;
-        }
-        text.push(';')?;
+        turn(alloc, writer, word, told)?;
+        told.push(';')?;
     }
-    Ok(text)
-}
-
-/// Shows the bytes that a sink took, the pieces and the bytes of its writes, its flushes, and its empty pieces.
-fn show_sink(text: &mut String, sink: &Counting<ScriptSink>) -> Result<(), Fail> {
-    text.push_str(str::from_utf8(sink.inner.taken())?)?;
-    for (pieces, taken) in sink.calls {
-        if pieces > 0 {
-            write!(text, " {pieces}x{taken}")?;
-        }
-    }
-    write!(text, " {} {}", sink.flushes, sink.empty)?;
     Ok(())
 }
 
-/// Plays the calls over a sink each of whose writes takes at most so many bytes, or fails where these are none.
-pub(crate) fn in_order(
+/// Plays the calls by a writer over this sink, and shows their answers.
+pub(crate) fn played<S: Sink>(
     alloc: Global,
+    sink: &mut S,
     use_vectorized: bool,
-    most: usize,
     script: &'static str,
-) -> Result<String, Fail> {
-    let step = if most == 0 {
-        SinkStep::Fail
-    } else {
-        SinkStep::Take(most)
-    };
-    let sink = Counting::new(ScriptSink::new(alloc, vec![in alloc; step; 12]?));
+    told: &mut String,
+) -> Result<(), Fail> {
     let mut writer = SequentialWriter::new(alloc, sink, use_vectorized);
-    let mut text = play(alloc, &mut writer, script)?;
-    show_sink(&mut text, &writer.into_inner())?;
-    Ok(text)
-}
-
-/// Shows a completed term, which has no admission.
-fn show_term(text: &mut String, term: Option<CompletedTerm>) -> Result<(), Fail> {
-    let Some(term) = term else {
-        text.push_str("none")?;
-        return Ok(());
-    };
-    write!(text, "{}-{}:", term.byte_range.start, term.byte_range.end)?;
-    text.push_str(str::from_utf8(term.bytes.as_slice())?)?;
-    if term.admission.is_some() {
-        text.push('!')?;
-    }
+    play(alloc, &mut writer, script, told)?;
+    let _sink = writer.into_inner();
     Ok(())
-}
-
-/// Shows how many terms are wanted, and their bytes, by each call that answers it.
-fn show_waiting(text: &mut String, writer: &UnorderedWriter) -> Result<(), Fail> {
-    let progress = writer.progress();
-    let (terms, bytes) = (writer.terms_in_progress(), writer.bytes_in_progress());
-    write!(text, " {terms}/{bytes}")?;
-    if progress.terms_in_progress != terms || progress.bytes_in_progress != bytes {
-        text.push('!')?;
-    }
-    Ok(())
-}
-
-/// Plays the calls of the writer by completion, `take` being the next completed term.
-pub(crate) fn by_completion(alloc: Global, script: &'static str) -> Result<String, Fail> {
-    let mut text = String::new(alloc);
-    let mut writer = UnorderedWriter::new(alloc);
-    for word in script.split(';') {
-        if word == "take" {
-            show_term(&mut text, writer.take())?;
-        } else {
-            show(&mut text, make(alloc, &mut writer, call_of(word)?))?;
-            show_waiting(&mut text, &writer)?;
-        }
-        text.push(';')?;
-    }
-    Ok(text)
 }

@@ -1,0 +1,150 @@
+//! A sink by a script that watches its calls, and one whose flush fails.
+ghost use Rattle.std.specs.Prelude.{◌≡◌};
+
+use crate::calls::{put, put_two};
+use bytes::Bytes;
+use std::alloc::Global;
+use std::test::Fail;
+use xet_outside::{Sink, SinkError};
+use xet_sinks::{ScriptSink, SinkStep};
+
+/// Shows the pieces and the taken bytes of its first writes, its flushes, and the empty pieces of all writes. One write
+/// finds no memory, the one with this number.
+#[derive(Drop)]
+pub(crate) struct Watched {
+    inner: ScriptSink,
+    refused: usize,
+    flushes: usize,
+    count: usize,
+    empty: usize,
+    calls: [(usize, usize); 6],
+}
+
+/// How many pieces are empty.
+fn empty_ones(pieces: &[Bytes]) -> usize {
+    let mut count = 0usize;
+    for piece in pieces {
+        if piece.is_empty() {
+            count = count.saturating_add(1);
+        }
+    }
+    count
+}
+
+/// What a write does by a word: it takes so many bytes at most, `F` fails, and `A5` fails after so many.
+fn step_of(word: &str) -> Result<SinkStep, Fail> {
+    if word == "F" {
+        return Ok(SinkStep::Fail);
+    }
+    match word.strip_prefix('A') {
+        Some(count) => Ok(SinkStep::FailAfter(count.parse::<usize>()?)),
+        None => Ok(SinkStep::Take(word.parse::<usize>()?)),
+    }
+}
+
+/// The steps of a text, up to a word `M`.
+fn steps_of(alloc: Global, text: &str) -> Result<Vec<SinkStep>, Fail> {
+    let mut steps = Vec::new(alloc);
+    for word in text.split_whitespace() {
+        if word == "M" {
+            return Ok(steps);
+        }
+        steps.push(step_of(word)?)?;
+    }
+    Ok(steps)
+}
+
+/// A sink whose writes follow these steps, and then take all. At `M`, which is the last of them, it finds no memory.
+pub(crate) fn sink_of(alloc: Global, text: &str) -> Result<Watched, Fail> {
+    let steps = steps_of(alloc, text)?;
+    let refused = if text.ends_with('M') {
+        steps.len()
+    } else {
+        usize::MAX
+    };
+    Ok(Watched {
+        inner: ScriptSink::new(alloc, steps),
+        refused,
+        flushes: 0,
+        count: 0,
+        empty: 0,
+        calls: [(0, 0); 6],
+    })
+}
+
+impl Watched {
+    /// Notes a write of so many pieces, of which so many are empty, and how much was taken.
+    fn note(&mut self, pieces: usize, empty: usize, taken: usize)
+        ensures { self.new.inner ≡ self.old.inner }
+    {
+        if self.count < 6 {
+            self.calls[self.count] = (pieces, taken);
+        }
+        self.count = self.count.saturating_add(1);
+        self.empty = self.empty.saturating_add(empty);
+    }
+
+    /// Shows the taken bytes and what was noted.
+    pub(crate) fn show(&self, told: &mut String) -> Result<(), Fail> {
+        put(told, str::from_utf8(self.inner.taken())?)?;
+        for (pieces, taken) in self.calls {
+            if pieces > 0 {
+                put_two(told, pieces, 'x', taken)?;
+            }
+        }
+        put_two(told, self.flushes, ' ', self.empty)
+    }
+}
+
+impl Sink for Watched {
+    ghost told = { λ s. ⟦<ScriptSink as Sink>⟧.told s.inner };
+
+    fn write(&mut self, piece: &[u8]) -> Result<usize, SinkError> {
+        let empty = if piece.is_empty() { 1 } else { 0 };
+        if self.count == self.refused {
+            self.note(1, empty, 0);
+            return Err(SinkError::OutOfMemory);
+        }
+        let answer = self.inner.write(piece);
+        self.note(1, empty, answer.unwrap_or(0));
+        answer
+    }
+
+    fn flush(&mut self) -> Result<(), SinkError> {
+        self.flushes = self.flushes.saturating_add(1);
+        self.inner.flush()
+    }
+
+    fn write_vectored(&mut self, pieces: &[Bytes]) -> Result<usize, SinkError> {
+        let empty = empty_ones(pieces);
+        if self.count == self.refused {
+            self.note(pieces.len(), empty, 0);
+            return Err(SinkError::OutOfMemory);
+        }
+        let answer = self.inner.write_vectored(pieces);
+        self.note(pieces.len(), empty, answer.unwrap_or(0));
+        answer
+    }
+}
+
+/// A sink whose flush fails.
+#[derive(Drop)]
+pub(crate) struct Unflushed {
+    /// How often it was flushed.
+    pub(crate) faults: u64,
+}
+
+impl Sink for Unflushed {
+    ghost use Rattle.std.specs.Prelude.{None, []};
+
+    ghost told = { λ s. record { took = None; flushed = None; faults = s.faults; link = [] } };
+
+    fn write(&mut self, piece: &[u8]) -> Result<usize, SinkError> {
+        Ok(piece.len())
+    }
+
+    fn flush(&mut self) -> Result<(), SinkError> {
+        self.faults = self.faults.saturating_add(1);
+        Err(SinkError::Failed)
+    }
+}
