@@ -1,0 +1,43 @@
+-- The commands: the words that spell each, and what the top call says of it.
+use Rattle.std.specs.Prelude.{ℕ, ◌≡◌, cond, List, [], ◌∷◌, Option, Some, None, option_map, codes}
+use Rattle.std.specs.Str.{bytes_eq}
+use Rattle.xet_room.specs.declared.status.Status.{Status}
+use Rattle.xet_room.specs.declared.status.Status.TheVariants.{Done, BadWords}
+use Rattle.xet_commands.specs.declared.commands.Command.{Command}
+use Rattle.xet_commands.specs.declared.commands.Command.TheVariants as command
+use Rattle.xet_room.specs.Ends.{Told}
+use Rattle.xet_get_command.specs.GetWords.{wanted_of}
+use Rattle.xet_room.specs.Outcome.{IsFlushed, IsReadUnfailed, IsUnfailed, TextOutcome}
+use Rattle.xet_room.specs.Texts.{line, number_of}
+use Rattle.xet_commands.specs.Texts.{help_text, version_text}
+use Rattle.xet_get_command.specs.Get.{GetOutcome}
+use Rattle.xet_track_command.specs.Track.{TrackOutcome}
+
+-- the command of one word
+abbrev pub command_of_one : List ℕ → Option Command
+command_of_one w =
+    cond (bytes_eq w (codes "--help")) (Some command.Help) (cond (bytes_eq w (codes "--version")) (Some command.Version)
+    (cond (bytes_eq w (codes "track")) (Some command.Track) None))
+
+-- `--help`, `--version` or `track` alone, or `get` with its words
+abbrev pub command_of : List (List ℕ) → Option Command
+command_of [] = None
+command_of (w ∷ []) = command_of_one w
+command_of (w ∷ v ∷ vs) = cond (bytes_eq w (codes "get")) (option_map command.Get (wanted_of (v ∷ vs))) None
+
+-- any words, by the command that they spell
+abbrev pub Outcome : ℕ → Option Command → Told → Told → Status → Type 0
+Outcome limit (Some (command.Get wanted)) before after status = GetOutcome limit wanted before after status
+Outcome limit (Some command.Track) before after status = TrackOutcome limit before after status
+Outcome limit (Some command.Help) before after status = TextOutcome help_text Done before after status
+Outcome limit (Some command.Version) before after status = TextOutcome version_text Done before after status
+Outcome limit None before after status = TextOutcome (line BadWords) BadWords before after status
+
+-- the status behind the number that the program answers
+pub record Answers (limit : ℕ) (words : List (List ℕ)) (before after : Told) (number : ℕ) : Type 0 where
+  pub status : Status
+  pub number_is : number ≡ number_of status
+  pub outcome : Outcome limit (command_of words) before after status
+  pub flushed : IsFlushed status after.sink
+  pub unfailed : IsUnfailed status before.sink after.sink
+  pub read : IsReadUnfailed status before.source after.source

@@ -1,0 +1,82 @@
+//! The commands: the words of each, and what it does. Each has a crate of its own below.
+ghost use Rattle.std.specs.Prelude.{◌≡◌, length, map, string_bytes};
+ghost use Rattle.xet_room.specs.Ends.{input_limit};
+ghost use Rattle.xet_room.specs.Outcome.{IsFlushed, IsReadUnfailed, IsUnfailed};
+ghost use Rattle.xet_commands.specs.Commands.{Outcome, command_of, command_of_one};
+
+use crate::texts::{HELP, VERSION};
+use std::alloc::Global;
+use std::sync::Wait;
+use std::thread::Threads;
+use xet_get_command::{Wanted, get, read_wanted};
+use xet_room::{Status, print_text, say};
+use xet_store::{Sink, Source, Tap};
+use xet_track_command::track;
+
+/// What the words ask for.
+#[derive(Clone, Copy, PartialEq, Eq, Debug)]
+pub enum Command {
+    /// `--help`
+    Help,
+    /// `--version`
+    Version,
+    /// `get` with its words.
+    Get(Wanted),
+    /// `track`
+    Track,
+}
+
+// The command of one word.
+fn read_one(word: &str) -> Option<Command>
+    ensures { result ≡ command_of_one word.now }
+{
+    match word {
+        "--help" => Some(Command::Help),
+        "--version" => Some(Command::Version),
+        "track" => Some(Command::Track),
+        _ => None,
+    }
+}
+
+/// The command that the words spell, or none where they don't read.
+pub fn read_words(words: &[String]) -> Option<Command>
+    ensures { result ≡ command_of (map string_bytes words.now) }
+{
+    match words {
+        [] => None,
+        [word] => read_one(word.as_str()),
+        [word, rest @ ..] => {
+            if word.as_str() != "get" {
+                return None;
+            }
+            let wanted = read_wanted(rest)?;
+            Some(Command::Get(wanted))
+        }
+    }
+}
+
+/// Does what the words ask for.
+pub fn run_words<R: Threads + Wait + Sync, I: Source, O: Sink, T: Tap + Send>(
+    rt: &R,
+    alloc: Global,
+    words: &[String],
+    input: &mut I,
+    out: &mut O,
+    taps: &mut Vec<T>,
+) -> Status
+    requires { length taps.old.items ≡ 64 }
+    ensures outcome { Outcome input_limit (command_of (map string_bytes words.now))
+        (record { source = I.told input.old; sink = O.told out.old; taps = map T.told taps.old.items })
+        (record { source = I.told input.new; sink = O.told out.new; taps = map T.told taps.new.items }) result }
+    ensures flushed { IsFlushed result (O.told out.new) }
+    ensures unfailed { IsUnfailed result (O.told out.old) (O.told out.new) }
+    ensures read { IsReadUnfailed result (I.told input.old) (I.told input.new) }
+{
+    match read_words(words) {
+        Some(Command::Get(wanted)) => get(rt, alloc, wanted, input, out, taps),
+        Some(Command::Track) => track(alloc, input, out),
+        Some(Command::Help) => print_text(out, Status::Done, HELP),
+        Some(Command::Version) => print_text(out, Status::Done, VERSION),
+        None => say(out, Status::BadWords),
+    }
+}

@@ -1,0 +1,5 @@
+//! Tests of `xet_commands`.
+#![tactic(auto)]
+
+#[cfg(test)]
+mod tap_tests;

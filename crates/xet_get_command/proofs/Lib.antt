@@ -1,0 +1,7 @@
+mod GetOutcomes
+mod HonestRefreshes
+mod OptionWords
+mod PrintedDigits
+mod TapLanes
+mod TapMoves
+mod TapRuns

@@ -1,0 +1,10 @@
+use Rattle.std.proofs.Common.{refl}
+use Rattle.xet_store.proofs.CallerLemmas.{given_none, honest_none}
+use Rattle.xet_get_command.proofs.tapped_client.TappedClient.new.Goals as goal
+
+pub invariant_of-result : goal.invariant_of-result
+invariant_of-result g c = record {
+  given = rw c.of-start.ensures (given_none (g.T.Tap.told c.args.tap) c.new.result c.new.ensures);
+  plans = honest_none c.args.inner.store.now c.new.result c.new.ensures;
+  unexpired = rw c.new.ensures refl;
+}

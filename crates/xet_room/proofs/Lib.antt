@@ -1,0 +1,4 @@
+pub mod CallerLemmas
+mod GetNumbers
+pub mod TwoTexts
+pub mod WholeInputs

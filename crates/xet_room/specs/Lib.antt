@@ -1,0 +1,6 @@
+pub mod Ends
+pub mod LaterFlushes
+pub mod Numbers
+pub mod Outcome
+pub mod Reading
+pub mod Texts

@@ -1,9 +1,0 @@
-mod GetNumbers
-mod GetOutcomes
-mod HonestRefreshes
-mod OptionWords
-mod PrintedDigits
-mod TapLanes
-mod TapMoves
-mod TapRuns
-mod TrackOutcomes

@@ -1,8 +1,0 @@
-use Rattle.std.proofs.Common.{◌∙◌, sym}
-use Rattle.xet_tool.proofs.GetNumbers.{number_of_text-parsed}
-use Rattle.xet_tool.proofs.commands.get.numbers.number.Goals as goal
-
-pub returns : goal.returns
-returns c =
-    c.ok.ensures.value
-    ∙ number_of_text-parsed c.args.text.now c.parse.result c.parse.ensures.value.0 c.if-text-gt20.false (sym c.is_digits.ensures ∙ c.if-not-is_digits.false)
