@@ -276,7 +276,7 @@ impl<U: Uploader, R: ShardStore> FileUploadSession<U, R> {
         &mut self,
         rt: &W,
         alloc: Global,
-        raw: RawXorbData,
+        raw: &RawXorbData,
         files: List<PendingFile>,
         now: u64,
     ) -> Result<(), DataError>
@@ -285,16 +285,16 @@ impl<U: Uploader, R: ShardStore> FileUploadSession<U, R> {
         requires unfailed { self.old.failed ≡ None }
         requires space { vec_len self.old.finished + length files ≤ vec_capacity self.old.finished }
         requires named { self.old.finalized ≡ false
-            → All (Contains (self.old.listed.hashes.items ++ raw.xorb.hash ∷ []))
+            → All (Contains (self.old.listed.hashes.items ++ raw.now.xorb.hash ∷ []))
             (names_of (map (λ p. p.info) files)) }
-        requires describes { Describes raw.xorb_info raw.xorb }
+        requires describes { Describes raw.now.xorb_info raw.now.xorb }
         ensures call { PutFinished (told_by U.told R.told self.old) (told_by U.told R.told self.new)
-            raw.xorb (map (λ p. p.info) files) now result }
+            raw.now.xorb (map (λ p. p.info) files) now result }
         ensures tracked { PutCounted (told_by U.told R.told self.old) (told_by U.told R.told self.new)
-            self.old.files.tracker self.new.files.tracker raw.xorb.hash result }
+            self.old.files.tracker self.new.files.tracker raw.now.xorb.hash result }
         ensures group { KeepsGroup self.old self.new }
     {
-        self.put_raw(rt, alloc, &raw)?;
+        self.put_raw(rt, alloc, raw)?;
         self.finish_files(files);
         self.files.complete(rt, &raw.xorb.hash)?;
         self.add_record(alloc, &raw.xorb_info, now)
@@ -327,7 +327,7 @@ impl<U: Uploader, R: ShardStore> FileUploadSession<U, R> {
             .files
             .register_cut(rt, alloc, &raw, files.as_slice(), &self.registered);
         if self.is_new(chunks, &raw.xorb.hash) {
-            self.put_finished(rt, alloc, raw, files, now)?;
+            self.put_finished(rt, alloc, &raw, files, now)?;
             return Ok(noted?);
         }
         self.finish_files(files);
@@ -453,16 +453,17 @@ impl<U: Uploader, R: ShardStore> FileUploadSession<U, R> {
         &mut self,
         rt: &W,
         alloc: Global,
-        raw: RawXorbData,
+        raw: &RawXorbData,
         now: u64,
     ) -> Result<(), DataError>
         requires room { vec_len self.old.listed.hashes < vec_capacity self.old.listed.hashes }
         requires noted { vec_len self.old.registered.hashes < vec_capacity self.old.registered.hashes }
         requires unfailed { self.old.failed ≡ None }
-        requires describes { Describes raw.xorb_info raw.xorb }
-        ensures call { PutGiven (told_by U.told R.told self.old) (told_by U.told R.told self.new) raw.xorb now result }
+        requires describes { Describes raw.now.xorb_info raw.now.xorb }
+        ensures call { PutGiven (told_by U.told R.told self.old) (told_by U.told R.told self.new)
+            raw.now.xorb now result }
         ensures tracked { PutCounted (told_by U.told R.told self.old) (told_by U.told R.told self.new)
-            self.old.files.tracker self.new.files.tracker raw.xorb.hash result }
+            self.old.files.tracker self.new.files.tracker raw.now.xorb.hash result }
         ensures group { KeepsGroup self.old self.new }
     {
         self.put_finished(rt, alloc, raw, List::new(alloc), now)
@@ -519,20 +520,20 @@ impl<U: Uploader, R: ShardStore> FileUploadSession<U, R> {
         &mut self,
         rt: &W,
         alloc: Global,
-        raw: RawXorbData,
+        raw: &RawXorbData,
         now: u64,
     ) -> Result<bool, DataError>
         requires room { vec_len self.old.listed.hashes < vec_capacity self.old.listed.hashes }
         requires noted { vec_len self.old.registered.hashes < vec_capacity self.old.registered.hashes }
         requires first { self.old.finalized ≡ false }
-        requires unfailed { (Contains self.old.registered.hashes.items raw.xorb.hash → ⊥)
-            → 0 < length raw.xorb.chunks → self.old.failed ≡ None }
-        requires describes { Describes raw.xorb_info raw.xorb }
+        requires unfailed { (Contains self.old.registered.hashes.items raw.now.xorb.hash → ⊥)
+            → 0 < length raw.now.xorb.chunks → self.old.failed ≡ None }
+        requires describes { Describes raw.now.xorb_info raw.now.xorb }
         ensures call { Registers (told_by U.told R.told self.old) (told_by U.told R.told self.new)
-            raw.xorb now result }
+            raw.now.xorb now result }
         ensures why { IfErr result (PutsFail (told_by U.told R.told self.old) (told_by U.told R.told self.new)) }
         ensures tracked { GivenCounted (told_by U.told R.told self.old) (told_by U.told R.told self.new)
-            self.old.files.tracker self.new.files.tracker raw.xorb result }
+            self.old.files.tracker self.new.files.tracker raw.now.xorb result }
         ensures group { KeepsGroup self.old self.new }
     {
         if self.registered.contains(&raw.xorb.hash) {
@@ -581,7 +582,7 @@ impl<U: Uploader, R: ShardStore> FileUploadSession<U, R> {
         }
         self.make_room()?;
         self.track_xorb(rt, alloc, &raw, file_dependencies)?;
-        self.put_new(rt, alloc, raw, now)
+        self.put_new(rt, alloc, &raw, now)
     }
 
     /// Tells the tracker what files have in xorbs: all of it or nothing.

@@ -1,5 +1,6 @@
-use Rattle.std.proofs.Common.{refl, rules, ◌≡◌, ◌∙◌}
+use Rattle.std.proofs.Common.{refl, ◌≡◌, ◌∙◌}
 use Rattle.std.specs.Prelude.{Err, Ok}
+use Rattle.xet_base.proofs.Residuals.{err-of}
 use Rattle.xet_session.proofs.Learned.{backs-learned, learn-none, learned-all, loop-no, loop-stopped, loop-yes}
 use Rattle.xet_session.proofs.Tests.{has-listed}
 use Rattle.xet_session.proofs.deduplication_interface.ask_each.Goals as goal
@@ -10,7 +11,7 @@ loop-chunk-init g c = (learn-none _, refl, (refl, refl))
 
 pub returns-in_err-ask : goal.returns-in_err-ask
 returns-in_err-ask g c =
-    let e : c.from_residual.result ≡ Err c.in_err-ask.field-0.0 = search rules in
+    let e : c.from_residual.result ≡ Err c.in_err-ask.field-0.0 = err-of _ _ c.from_residual.ensures in
     let call = loop-stopped _ _ _ c.args.chunks.now c.loop-chunk.chunk-index _ _ c.loop-chunk-test.true refl _ c.loop-chunk.invariant.0 _ (rw c.in_err-ask.was at c.ask.ensures.call) in
     rw e (record { learns = call; backs = backs-learned _ _ _ _ call (has-listed _ c.args.session.now.lists); untold = c.ask.ensures.untold ∙ c.loop-chunk.invariant.1; group = (c.ask.ensures.group.0 ∙ c.loop-chunk.invariant.2.0, c.ask.ensures.group.1 ∙ c.loop-chunk.invariant.2.1) })
 

@@ -1,5 +1,6 @@
-use Rattle.std.proofs.Common.{arith, refl, rules, ◌≡◌}
+use Rattle.std.proofs.Common.{arith, refl, ◌≡◌}
 use Rattle.std.specs.Prelude.{Err}
+use Rattle.xet_base.proofs.Residuals.{err-of}
 use Rattle.xet_session.proofs.CutTracking.{notes-empty, notes-none, notes-parts}
 use Rattle.xet_session.proofs.file_tracker.FileTracker.register_cut.Goals as goal
 
@@ -8,12 +9,13 @@ returns-then-len-eq0 g c = notes-empty _ _ _ _ _ (omega arith) refl
 
 pub returns-in_err-dependencies : goal.returns-in_err-dependencies
 returns-in_err-dependencies g c =
-    let e : c.from_residual.result ≡ Err c.in_err-dependencies.field-0.0 = search rules in
+    let e : c.from_residual.result ≡ Err c.in_err-dependencies.field-0.0 = err-of _ _ c.from_residual.ensures in
     rw e (notes-none _ _ _ _ _ refl)
 
 pub returns-in_err-note_xorb : goal.returns-in_err-note_xorb
 returns-in_err-note_xorb g c =
-    let e : c.from_residual-in_err-note_xorb.result ≡ Err c.in_err-note_xorb.field-0.0 = search rules in
+    let e : c.from_residual-in_err-note_xorb.result ≡ Err c.in_err-note_xorb.field-0.0 =
+    err-of _ _ c.from_residual-in_err-note_xorb.ensures in
     rw e (notes-none _ _ _ _ _ c.in_err-note_xorb.ensures.err)
 
 pub returns : goal.returns

@@ -1,7 +1,8 @@
-use Rattle.std.proofs.Common.{List, ap, rules, ◌≡◌, ◌∙◌}
+use Rattle.std.proofs.Common.{List, ap, ◌≡◌, ◌∙◌}
 use Rattle.xet_base.specs.declared.merklehash.MerkleHash.{MerkleHash}
 use Rattle.xet_session.specs.Telling.{told_by}
 use Rattle.std.specs.Prelude.{Err, Ok}
+use Rattle.xet_base.proofs.Residuals.{err-of}
 use Rattle.xet_session.proofs.Ends.{backs-kept, backs-same}
 use Rattle.xet_session.proofs.Queries.{queries-err, queries-none, queries-some}
 use Rattle.xet_session.proofs.Tests.{has-listed}
@@ -9,7 +10,8 @@ use Rattle.xet_session.proofs.session.FileUploadSession.chunk_hash_dedup_query.G
 
 pub returns-in_err-search : goal.returns-in_err-search
 returns-in_err-search g c =
-    let e : c.from_residual-in_err-search.result ≡ Err c.in_err-search.field-0.0 = search rules in
+    let e : c.from_residual-in_err-search.result ≡ Err c.in_err-search.field-0.0 =
+    err-of _ _ c.from_residual-in_err-search.ensures in
     let call = queries-err _ _ _ (rw c.in_ok-reserve.ensures.same at c.search.ensures.same) _ (rw c.in_err-search.was at c.search.ensures.searches) in
     rw e (record { call = call; order = (rw c.in_err-search.was at c.search.ensures.searches).order; backs = backs-kept _ _ (has-listed _ c.args.self.now.lists) call.keeps call.listed; untold = c.search.ensures.untold; group = c.search.ensures.group })
 

@@ -1,7 +1,8 @@
-use Rattle.std.proofs.Common.{ap, refl, rules, ◌∙◌, ◌≡◌}
+use Rattle.std.proofs.Common.{ap, refl, ◌∙◌, ◌≡◌}
 use Rattle.std.specs.Prelude.{Err}
 use Rattle.xet_upload.specs.declared.data_error.DataError.TheVariants as data_error
 use Rattle.xet_session.specs.Sessions.{SessionTold}
+use Rattle.xet_base.proofs.Residuals.{err-of}
 use Rattle.xet_session.proofs.CutTracking.{cut-counted, cut-noted, cut-stopped, cut-unnoted, cut-untold}
 use Rattle.xet_session.proofs.Cuts.{cut-failed, cut-put, cut-same, cut-still, names-cut, names-still, put-unnoted}
 use Rattle.xet_session.proofs.Tests.{has-listed}
@@ -13,7 +14,7 @@ returns-in-Some g c =
 
 pub returns-in_err-raw : goal.returns-in_err-raw
 returns-in_err-raw g c =
-    let e : c.from_residual.result ≡ Err c.in_err-raw.field-0.0 = search rules in
+    let e : c.from_residual.result ≡ Err c.in_err-raw.field-0.0 = err-of _ _ c.from_residual.ensures in
     let took = rw c.in_err-raw.was at c.take_waiting.ensures.taken in
     rw e (record {
       call = cut-same _ _ _ _ c.in_default.is took;
@@ -23,7 +24,8 @@ returns-in_err-raw g c =
 
 pub returns-in_err-put_finished : goal.returns-in_err-put_finished
 returns-in_err-put_finished g c =
-    let e : c.from_residual-in_err-put_finished.result ≡ Err c.in_err-put_finished.field-0.0 = search rules in
+    let e : c.from_residual-in_err-put_finished.result ≡ Err c.in_err-put_finished.field-0.0 =
+    err-of _ _ c.from_residual-in_err-put_finished.ensures in
     let took = rw c.in_ok-raw.was at c.take_waiting.ensures.taken in
     let put = rw c.in_err-put_finished.was at c.put_finished.ensures.call in
     rw e (record {
@@ -34,7 +36,8 @@ returns-in_err-put_finished g c =
 
 pub returns-in_err-noted : goal.returns-in_err-noted
 returns-in_err-noted g c =
-    let e : c.from_residual-in_err-noted.result ≡ Err data_error.OutOfMemory = search rules in
+    let e : c.from_residual-in_err-noted.result ≡ Err data_error.OutOfMemory =
+    err-of _ _ c.from_residual-in_err-noted.ensures in
     let took = rw c.in_ok-raw.was at c.take_waiting.ensures.taken in
     let put = put-unnoted _ _ _ _ _ _ (rw c.in_ok-put_finished.was at c.put_finished.ensures.call) in
     rw e (record {

@@ -1,13 +1,14 @@
-use Rattle.std.proofs.Common.{ap, refl, rules, ◌∙◌, ◌≡◌}
+use Rattle.std.proofs.Common.{ap, refl, ◌∙◌, ◌≡◌}
 use Rattle.std.specs.Prelude.{Err}
 use Rattle.xet_session.specs.Sessions.{SessionTold}
+use Rattle.xet_base.proofs.Residuals.{err-of}
 use Rattle.xet_session.proofs.CutTracking.{file-waits, file-waits-ok}
 use Rattle.xet_session.proofs.Completions.{names-after, took-after, took-uncut}
 use Rattle.xet_session.proofs.session.FileUploadSession.cut_waiting.Goals as goal
 
 pub returns-in_err-cut : goal.returns-in_err-cut
 returns-in_err-cut g c =
-    let e : c.from_residual.result ≡ Err c.in_err-cut.field-0.0 = search rules in
+    let e : c.from_residual.result ≡ Err c.in_err-cut.field-0.0 = err-of _ _ c.from_residual.ensures in
     rw e (record {
       call = took-uncut _ _ _ _ _ c.requires.passes c.requires.larger (rw c.in_err-cut.was at c.cut.ensures.call);
       tracks = file-waits _ _ _ _ _ _ c.requires.passes _ c.requires.larger refl (rw c.in_err-cut.was at c.cut.ensures.tracks);

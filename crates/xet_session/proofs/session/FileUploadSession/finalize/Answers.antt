@@ -1,6 +1,7 @@
-use Rattle.std.proofs.Common.{ap, refl, rules, ◌∙◌, ◌≡◌}
+use Rattle.std.proofs.Common.{ap, refl, ◌∙◌, ◌≡◌}
 use Rattle.std.specs.Prelude.{Err}
 use Rattle.xet_session.specs.Sessions.{SessionTold}
+use Rattle.xet_base.proofs.Residuals.{err-of}
 use Rattle.xet_session.proofs.CutTracking.{cut-untold, ends-tracked, ends-untracked, first-end}
 use Rattle.xet_session.proofs.Ends.{backs-finalized, finalizes-added, finalizes-again, finalizes-cut, finalizes-put, finalizes-unput}
 use Rattle.xet_session.proofs.Tests.{has-listed}
@@ -13,13 +14,14 @@ returns-then-self g c =
 
 pub returns-in_err-cut : goal.returns-in_err-cut
 returns-in_err-cut g c =
-    let e : c.from_residual.result ≡ Err c.in_err-cut.field-0.0 = search rules in
+    let e : c.from_residual.result ≡ Err c.in_err-cut.field-0.0 = err-of _ _ c.from_residual.ensures in
     let call = finalizes-cut _ _ _ c.if-self.false _ (rw c.in_err-cut.was at c.cut.ensures.call) in
     rw e (record { call = call; tracks = ends-untracked _ _ _ _ _ (rw c.in_err-cut.was at c.cut.ensures.tracks); untold = λ q. first-end _ c.if-self.false q; group = c.cut.ensures.group; counts = tt; backs = backs-finalized _ _ _ _ (has-listed _ c.args.self.now.lists) call })
 
 pub returns-in_err-add_finished : goal.returns-in_err-add_finished
 returns-in_err-add_finished g c =
-    let e : c.from_residual-in_err-add_finished.result ≡ Err c.in_err-add_finished.field-0.0 = search rules in
+    let e : c.from_residual-in_err-add_finished.result ≡ Err c.in_err-add_finished.field-0.0 =
+    err-of _ _ c.from_residual-in_err-add_finished.ensures in
     let call = finalizes-added _ _ _ c.if-self.false _ _ (rw c.in_ok-cut.was at c.cut.ensures.call) _ (rw c.in_err-add_finished.was at c.add_finished.ensures.call) in
     let put = ap (λ (t : SessionTold). t.registered) c.add_finished.ensures.call.same in
     rw e (record {
@@ -33,7 +35,8 @@ returns-in_err-add_finished g c =
 
 pub returns-in_err-bytes : goal.returns-in_err-bytes
 returns-in_err-bytes g c =
-    let e : c.from_residual-in_err-bytes.result ≡ Err c.in_err-bytes.field-0.0 = search rules in
+    let e : c.from_residual-in_err-bytes.result ≡ Err c.in_err-bytes.field-0.0 =
+    err-of _ _ c.from_residual-in_err-bytes.ensures in
     let call = finalizes-unput _ _ _ c.if-self.false _ _ (rw c.in_ok-cut.was at c.cut.ensures.call) _ (rw c.in_ok-add_finished.was at c.add_finished.ensures.call) _ _ (rw c.in_err-bytes.was at c.put_records.ensures.call) in
     let put = ap (λ (t : SessionTold). t.registered) c.put_records.ensures.call.same ∙ ap (λ (t : SessionTold). t.registered) c.add_finished.ensures.call.same in
     rw e (record {

@@ -1,6 +1,7 @@
-use Rattle.std.proofs.Common.{ap, rules, ◌∙◌, ◌≡◌}
+use Rattle.std.proofs.Common.{ap, ◌∙◌, ◌≡◌}
 use Rattle.std.specs.Prelude.{Err}
 use Rattle.xet_session.specs.Sessions.{SessionTold}
+use Rattle.xet_base.proofs.Residuals.{err-of}
 use Rattle.xet_session.proofs.CutTracking.{tracks-err, tracks-later}
 use Rattle.xet_session.proofs.Ends.{backs-finalized, listed-counted, listed-err, listed-files, listed-ok, retold}
 use Rattle.xet_session.proofs.Tests.{has-listed}
@@ -8,13 +9,14 @@ use Rattle.xet_session.proofs.session.FileUploadSession.finalize_with_file_info.
 
 pub returns-in_err-metrics : goal.returns-in_err-metrics
 returns-in_err-metrics g c =
-    let e : c.from_residual.result ≡ Err c.in_err-metrics.field-0.0 = search rules in
+    let e : c.from_residual.result ≡ Err c.in_err-metrics.field-0.0 = err-of _ _ c.from_residual.ensures in
     let call = retold _ _ _ _ (rw c.in_err-metrics.was at c.finalize.ensures.call) in
     rw e (record { call = call; tracks = tracks-err _ _ _ _ _ (rw c.in_err-metrics.was at c.finalize.ensures.tracks); untold = c.finalize.ensures.untold; group = c.finalize.ensures.group; counts = tt; files = tt; backs = backs-finalized _ _ _ _ (has-listed _ c.args.self.now.lists) call })
 
 pub returns-in_err-files : goal.returns-in_err-files
 returns-in_err-files g c =
-    let e : c.from_residual-in_err-files.result ≡ Err c.in_err-files.field-0.0 = search rules in
+    let e : c.from_residual-in_err-files.result ≡ Err c.in_err-files.field-0.0 =
+    err-of _ _ c.from_residual-in_err-files.ensures in
     let call = listed-err _ _ _ _ _ (rw c.in_ok-metrics.was at c.finalize.ensures.call) c.list_files.ensures.same _ c.list_files.ensures.files _ c.in_err-files.was in
     let put = ap (λ (t : SessionTold). t.registered) c.list_files.ensures.same in
     rw e (record {

@@ -1,6 +1,7 @@
-use Rattle.std.proofs.Common.{arith, inl, refl, rules, ◌≡◌}
+use Rattle.std.proofs.Common.{arith, inl, refl, ◌≡◌}
 use Rattle.std.specs.Prelude.{Err, None}
 use Rattle.xet_upload.specs.declared.data_error.DataError.TheVariants as data_error
+use Rattle.xet_base.proofs.Residuals.{err-of}
 use Rattle.xet_session.proofs.Cuts.{registers-again, registers-empty, registers-err, registers-put, registers-refused}
 use Rattle.xet_session.proofs.Tracking.{given-again, given-counted, given-empty, given-failed, given-uncounted}
 use Rattle.xet_session.proofs.session.FileUploadSession.put_new.Goals as goal
@@ -12,7 +13,7 @@ returns-then-contains g c =
 
 pub returns-in_err-complete : goal.returns-in_err-complete
 returns-in_err-complete g c =
-    let e : c.from_residual.result ≡ Err data_error.OutOfMemory = search rules in
+    let e : c.from_residual.result ≡ Err data_error.OutOfMemory = err-of _ _ c.from_residual.ensures in
     let fresh = c.contains.ensures.no c.if-contains.false in
     rw e (record {
       call = registers-refused _ _ _ c.requires.first data_error.OutOfMemory None (inl refl) c.requires.unfailed;
@@ -33,7 +34,8 @@ returns-then-len-eq0 g c =
 
 pub returns-in_err-put_given : goal.returns-in_err-put_given
 returns-in_err-put_given g c =
-    let e : c.from_residual-in_err-put_given.result ≡ Err c.in_err-put_given.field-0.0 = search rules in
+    let e : c.from_residual-in_err-put_given.result ≡ Err c.in_err-put_given.field-0.0 =
+    err-of _ _ c.from_residual-in_err-put_given.ensures in
     let fresh = c.contains.ensures.no c.if-contains.false in
     let put = rw c.in_err-put_given.was at c.put_given.ensures.call in
     rw e (record {

@@ -1,8 +1,9 @@
-use Rattle.std.proofs.Common.{ap, inl, refl, rules, subst, sym, ◌∙◌, ◌≡◌}
+use Rattle.std.proofs.Common.{ap, inl, refl, subst, sym, ◌∙◌, ◌≡◌}
 use Rattle.std.specs.Prelude.{Contains, Err, List, None}
 use Rattle.xet_base.specs.declared.merklehash.MerkleHash.{MerkleHash}
 use Rattle.xet_upload.specs.declared.data_error.DataError.TheVariants as data_error
 use Rattle.xet_session.specs.Sessions.{SessionTold}
+use Rattle.xet_base.proofs.Residuals.{err-of}
 use Rattle.xet_session.proofs.Cuts.{registers-finalized, registers-kept, registers-refused}
 use Rattle.xet_session.proofs.Ends.{backs-kept}
 use Rattle.xet_session.proofs.Tests.{has-listed}
@@ -22,13 +23,14 @@ returns-in-Some g c =
 
 pub returns-in_err-make_room : goal.returns-in_err-make_room
 returns-in_err-make_room g c =
-    let e : c.from_residual.result ≡ Err data_error.OutOfMemory = search rules in
+    let e : c.from_residual.result ≡ Err data_error.OutOfMemory = err-of _ _ c.from_residual.ensures in
     let call = registers-refused _ _ _ c.if-self.false data_error.OutOfMemory None (inl refl) (c.kept_failure.ensures.none c.in_default.is) in
     rw (e, c.make_room.ensures.same, c.make_room.ensures.untold) (record { call = call; tracks = told-unmade _ _ _ _; group = c.make_room.ensures.group; backs = backs-kept _ _ (has-listed _ c.args.self.now.lists) call.keeps call.listed })
 
 pub returns-in_err-track_xorb : goal.returns-in_err-track_xorb
 returns-in_err-track_xorb g c =
-    let e : c.from_residual-in_err-track_xorb.result ≡ Err c.in_err-track_xorb.field-0.0 = search rules in
+    let e : c.from_residual-in_err-track_xorb.result ≡ Err c.in_err-track_xorb.field-0.0 =
+    err-of _ _ c.from_residual-in_err-track_xorb.ensures in
     let sound = c.kept_failure.ensures.none c.in_default.is in
     let tracks = rw (c.in_err-track_xorb.was, ap (λ (t : SessionTold). t.registered) c.make_room.ensures.same, c.make_room.ensures.untold) at c.track_xorb.ensures.tracks in
     let call = registers-refused _ _ _ c.if-self.false _ _ tracks.err sound in
