@@ -23,7 +23,7 @@ use Rattle.xet_session.specs.Completions.{CutsFile, CutsWaiting, Joins, TakesFil
 use Rattle.xet_session.specs.Sessions.{HasListed, SessionTold, known_of, log_of, waiting_names}
 use Rattle.xet_session.specs.Sounds.{XorbsAgree}
 use Rattle.xet_session.proofs.CallerLemmas.{keeps-both, keeps-refl, ordered-grown}
-use Rattle.xet_clean.specs.Cleaners.{Cleaner, CleanerStands, Completes, Counts, CountsChunks, CutsChunks, Finishes, IsFed, IsFirstUnlisted, cleaned_file, pointer_to, recorded_sha256, unknown_xorb}
+use Rattle.xet_clean.specs.Cleaners.{Cleaner, CleanerStands, Completes, Counts, CountsChunks, CutsChunks, EndRefused, Finishes, IsFed, IsFirstUnlisted, cleaned_file, pointer_to, recorded_sha256, unknown_xorb}
 use Rattle.xet_clean.specs.Cleanings.{AreNamed, ChunkFails, CleanFails, Leaves, NoFault, term_names}
 use Rattle.xet_clean.specs.Made.{IsMadeOf, IsPickedFrom}
 use Rattle.xet_clean.specs.Premises.{IsOpen, IsSteady, NoClash, waiting_xorb, with_xorbs}
@@ -344,6 +344,12 @@ module _ (b n : SessionTold) (c : Cleaner) (listed : HasListed b) where
     );
     why = inr (inl (h, first, refl));
   }
+
+  -- it is refused, and nothing was cut
+  pub finishes-refused : (e : DataError) → n ≡ b → EndRefused b c e → Finishes b n c (Err e)
+  finishes-refused e same (inl r) = rw r.1 (finishes-finalized same r.0)
+  finishes-refused e same (inr (inl r)) = finishes-kept e same r.0 r.1
+  finishes-refused e same (inr (inr (fin, none, h, first, is))) = rw is (finishes-unknown h same fin none first)
 
   -- no xorb of them is missing
   pub none-missing : AreNamed b.listed c.parts.terms → (h : MerkleHash) → IsFirstUnlisted b.listed c.parts.terms h → ⊥

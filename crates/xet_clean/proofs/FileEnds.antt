@@ -19,7 +19,7 @@ use Rattle.xet_upload.specs.declared.waiting.WaitingFile.{WaitingFile}
 use Rattle.xet_session.specs.Completions.{TakesFile}
 use Rattle.xet_session.specs.Sessions.{SessionTold}
 use Rattle.xet_session.specs.Trackings.{TracksFile}
-use Rattle.xet_clean.specs.Cleaners.{Cleaner, CleanerStands, CutsChunks, IsEndError, cleaned_file, recorded_sha256}
+use Rattle.xet_clean.specs.Cleaners.{Cleaner, CleanerStands, CutsChunks, EndRefused, IsEndError, cleaned_file, recorded_sha256}
 use Rattle.xet_clean.specs.Cleanings.{CleanFails}
 use Rattle.xet_clean.specs.FileCalls.{IsLate, IsPartOf, RefusedOf, RefusesFor, TellsOf}
 use Rattle.xet_clean.specs.Records.{WaitsFor}
@@ -27,6 +27,12 @@ use Rattle.xet_clean.specs.SessionCalls.{Calls, CutsAndTakes, EndsFile, IsSame, 
 use Rattle.xet_clean.proofs.Completing.{file-waits}
 use Rattle.xet_clean.proofs.FileCalls.{end-refused}
 use Rattle.xet_clean.proofs.SessionCalls.{calls-none}
+
+-- the end was refused, with nothing cut
+pub end-early : (b : SessionTold) (c : Cleaner) (e : DataError) → EndRefused b c e → IsEndError b c e
+end-early b c e (inl r) = inl (r.1, r.0)
+end-early b c e (inr (inl r)) = inr (inl r.1)
+end-early b c e (inr (inr (fin, none, h, first, is))) = inr (inr (h, first, is))
 
 -- a chunk of the bytes that waited was refused
 pub end-uncut : (K : TrackerStep → Type 0) (b : SessionTold) (c : Cleaner) (before after : List TrackerStep)

@@ -213,6 +213,19 @@ abbrev pub IsEndError : SessionTold → Cleaner → DataError → Type 0
 IsEndError b c e = IsLate b.finalized e ⊎ (c.failed ≡ Some e)
     ⊎ ((h : MerkleHash) × IsFirstUnlisted b.listed c.parts.terms h × (e ≡ unknown_xorb h))
 
+-- why the end of a file is refused, with nothing cut: the first of three
+abbrev pub EndRefused : SessionTold → Cleaner → DataError → Type 0
+EndRefused b c e = ((b.finalized ≡ true) × (e ≡ finalized_error))
+    ⊎ ((b.finalized ≡ false) × (c.failed ≡ Some e))
+    ⊎ ((b.finalized ≡ false) × (c.failed ≡ None) × (h : MerkleHash) × IsFirstUnlisted b.listed c.parts.terms h
+    × (e ≡ unknown_xorb h))
+
+-- none of the three
+pub record EndPasses (b : SessionTold) (c : Cleaner) : Type 0 where
+  pub unfinalized : b.finalized ≡ false
+  pub unfailed : c.failed ≡ None
+  pub named : AreNamed b.listed c.parts.terms
+
 -- the file that a cleaner ends, of these bytes and with this hash
 abbrev pub cleaned_file : Cleaner → MerkleHash → List ℕ → CleanedFile
 cleaned_file c hash bytes = record { hash = hash; sha256 = recorded_sha256 c.policy bytes; bytes = bytes }

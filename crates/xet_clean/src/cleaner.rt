@@ -3,9 +3,11 @@ ghost use Rattle.std.specs.Prelude.{◌≡◌, ◌+◌, ◌++◌, ◌∷◌, ◌
 ghost use Rattle.std.specs.Prelude.{OnErr, OnOk, false, length, true};
 ghost use Rattle.sha2.specs.Hashers.{Holds256};
 ghost use Rattle.xet_upload.specs.declared.sha256_policy.Sha256Policy.TheVariants.{Compute};
+ghost use Rattle.xet_session.specs.Sessions.{HasListed};
 ghost use Rattle.xet_session.specs.Telling.{KeepsGroup, told_by};
 ghost use Rattle.xet_session.specs.Trackings.{StartsFile};
-ghost use Rattle.xet_clean.specs.Cleaners.{AddsData, Completes, CountsChunks, CutsChunks, FeedsSo, Finishes};
+ghost use Rattle.xet_clean.specs.Cleaners.{AddsData, Completes, CountsChunks, CutsChunks, EndPasses, EndRefused};
+ghost use Rattle.xet_clean.specs.Cleaners.{FeedsSo, Finishes};
 ghost use Rattle.xet_clean.specs.Cleaners.{IsEndError, IsNewCleaner, IsOwnError, NextChunk, PassesTotal, TakesIn};
 ghost use Rattle.xet_clean.specs.Cleaners.{chunk_counts, past_total, started};
 ghost use Rattle.xet_clean.specs.Cleanings.{AreNamed, ChunkFails, Cleans, Leaves, TrackFails};
@@ -363,6 +365,27 @@ impl<T: Cutter> SingleFileCleaner<T> {
         Ok((info, self.counts))
     }
 
+    // Why the file can't be ended in a session: the session is finalized, a call failed, or a xorb isn't listed.
+    fn refused<U: Uploader, R: ShardStore>(
+        &self,
+        session: &FileUploadSession<U, R>,
+    ) -> Option<DataError>
+        ensures some { IfSome result (EndRefused (told_by U.told R.told session.now) (cleaner_of self.now)) }
+        ensures none { result ≡ None → EndPasses (told_by U.told R.told session.now) (cleaner_of self.now) }
+        ensures listed { HasListed (told_by U.told R.told session.now) }
+    {
+        if session.is_finalized() {
+            return Some(DataError::InvalidOperation(Invalid::Finalized));
+        }
+        if let Some(error) = self.failed {
+            return Some(error);
+        }
+        match first_unlisted(session, &self.parts) {
+            None => None,
+            Some(hash) => Some(DataError::InvalidOperation(Invalid::UnknownXorb { hash })),
+        }
+    }
+
     /// Ends the file: the bytes that wait are cut, and its record waits in the session with its data, or is finished.
     /// It answers the pointer record of the file, and the counts of its chunks. `now` is a moment in seconds.
     ///
@@ -391,14 +414,8 @@ impl<T: Cutter> SingleFileCleaner<T> {
             (cleaner_of self) now session.old.files.tracker session.new.files.tracker result }
         ensures group { KeepsGroup session.old session.new }
     {
-        if session.is_finalized() {
-            return Err(DataError::InvalidOperation(Invalid::Finalized));
-        }
-        if let Some(error) = self.failed {
+        if let Some(error) = self.refused(session) {
             return Err(error);
-        }
-        if let Some(hash) = first_unlisted(session, &self.parts) {
-            return Err(DataError::InvalidOperation(Invalid::UnknownXorb { hash }));
         }
         let mut cleaner = self;
         cleaner.cut_chunks(session, rt, alloc, true, now)?;

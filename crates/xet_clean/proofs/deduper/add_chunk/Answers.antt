@@ -1,6 +1,7 @@
-use Rattle.std.proofs.Common.{rules, false, ◌≡◌}
+use Rattle.std.proofs.Common.{false, ◌≡◌}
 use Rattle.std.specs.Prelude.{Err, Ok}
 use Rattle.xet_session.specs.Telling.{told_by}
+use Rattle.xet_base.proofs.Residuals.{err-of}
 use Rattle.xet_clean.proofs.Cleaning.{chunk-later, found-adds, leaves-both, new-adds}
 use Rattle.xet_clean.proofs.SessionCalls.{calls-both, group-both}
 use Rattle.xet_clean.proofs.FileCalls.{tells-both, tells-err, tells-late, tells-ok}
@@ -8,7 +9,8 @@ use Rattle.xet_clean.proofs.deduper.add_chunk.Goals as goal
 
 pub returns-in_err-add_new-in-None : goal.returns-in_err-add_new-in-None
 returns-in_err-add_new-in-None g c =
-    let e : c.from_residual-in_err-add_new-in-None.result ≡ Err c.in_err-add_new-in-None.field-0.0 = search rules in
+    let e : c.from_residual-in_err-add_new-in-None.result ≡ Err c.in_err-add_new-in-None.field-0.0 =
+    err-of _ _ c.from_residual-in_err-add_new-in-None.ensures in
     let was : c.find_chunk.result ≡ Ok c.in_ok-entry.field-0 = c.in_ok-entry.was in
     rw e (record {
       leaves = leaves-both _ _ _ c.find_chunk.ensures.leaves c.add_new.ensures.leaves;

@@ -1,14 +1,15 @@
-use Rattle.std.proofs.Common.{refl, rules, ◌≡◌}
+use Rattle.std.proofs.Common.{refl, ◌≡◌}
 use Rattle.std.specs.Prelude.{Err}
 use Rattle.xet_upload.specs.declared.data_error.DataError.TheVariants as data_error
 use Rattle.xet_session.specs.Telling.{told_by}
+use Rattle.xet_base.proofs.Residuals.{err-of}
 use Rattle.xet_clean.proofs.Cleaning.{chunk-memory, more-cleans}
 use Rattle.xet_clean.proofs.FileCalls.{tells-both, tells-err, tells-memory, tells-ok}
 use Rattle.xet_clean.proofs.deduper.add_new.Goals as goal
 
 pub returns-in_err-make_room : goal.returns-in_err-make_room
 returns-in_err-make_room g c =
-    let e : c.from_residual.result ≡ Err c.in_err-make_room.field-0.0 = search rules in
+    let e : c.from_residual.result ≡ Err c.in_err-make_room.field-0.0 = err-of _ _ c.from_residual.ensures in
     rw e (record {
       leaves = c.make_room.ensures.leaves;
       cleans = tt;
@@ -21,7 +22,8 @@ returns-in_err-make_room g c =
 
 pub returns-in_err-add_own : goal.returns-in_err-add_own
 returns-in_err-add_own g c =
-    let e : c.from_residual-in_err-add_own.result ≡ Err data_error.OutOfMemory = search rules in
+    let e : c.from_residual-in_err-add_own.result ≡ Err data_error.OutOfMemory =
+    err-of _ _ c.from_residual-in_err-add_own.ensures in
     rw e (record {
       leaves = c.make_room.ensures.leaves;
       cleans = tt;

@@ -1,8 +1,9 @@
-use Rattle.std.proofs.Common.{refl, rules, ap, ◌≡◌}
+use Rattle.std.proofs.Common.{refl, ap, ◌≡◌}
 use Rattle.std.specs.Prelude.{Err}
 use Rattle.xet_upload.specs.FileDatas.{Parts}
 use Rattle.xet_upload.specs.declared.data_error.DataError.TheVariants as data_error
 use Rattle.xet_session.specs.Telling.{told_by}
+use Rattle.xet_base.proofs.Residuals.{err-of}
 use Rattle.xet_clean.proofs.Cleaning.{chunk-memory, cut-cleans, leaves-refl, registers-fails, registers-leaves}
 use Rattle.xet_clean.proofs.SessionCalls.{calls-none, calls-xorb}
 use Rattle.xet_clean.proofs.FileCalls.{tells-err, tells-memory, tells-ok, xorb-tells, xorb-tells-err}
@@ -10,7 +11,7 @@ use Rattle.xet_clean.proofs.deduper.cut_own.Goals as goal
 
 pub returns-in_err-raw : goal.returns-in_err-raw
 returns-in_err-raw g c =
-    let e : c.from_residual.result ≡ Err data_error.OutOfMemory = search rules in
+    let e : c.from_residual.result ≡ Err data_error.OutOfMemory = err-of _ _ c.from_residual.ensures in
     rw e (record {
       leaves = leaves-refl _ _ refl;
       cleans = tt;
@@ -26,7 +27,7 @@ returns-in_err-raw g c =
 pub returns-in_err-register_new_xorb : goal.returns-in_err-register_new_xorb
 returns-in_err-register_new_xorb g c =
     let e : c.from_residual-in_err-register_new_xorb.result ≡ Err c.in_err-register_new_xorb.field-0.0 =
-    search rules in
+    err-of _ _ c.from_residual-in_err-register_new_xorb.ensures in
     let call = rw c.in_err-register_new_xorb.was at c.register_new_xorb.ensures.call in
     rw e (record {
       leaves = registers-leaves _ _ _ _ _ call c.register_new_xorb.ensures.backs;

@@ -1,8 +1,9 @@
-use Rattle.std.proofs.Common.{refl, rules, arith, length, take, [], ◌++◌, ◌≡◌, ◌-◌, ◌<◌, ◌≤◌}
+use Rattle.std.proofs.Common.{refl, arith, length, take, [], ◌++◌, ◌≡◌, ◌-◌, ◌<◌, ◌≤◌}
 use Rattle.std.specs.Prelude.{Err}
 use Rattle.std.proofs.lemmas.List.{length-take}
 use Rattle.xet_upload.specs.declared.data_error.DataError.TheVariants as data_error
 use Rattle.xet_clean.specs.Showing.{cleaner_of}
+use Rattle.xet_base.proofs.Residuals.{err-of}
 use Rattle.xet_clean.proofs.FileCalls.{tells-both, tells-none}
 use Rattle.xet_clean.proofs.SessionCalls.{calls-both, calls-none, group-both}
 use Rattle.xet_clean.proofs.UploadCalls.{ended-valid, io-valid, own-late, piece-refused, piece-tells, tells-any, tells-stopped}
@@ -40,7 +41,7 @@ pieces-preserved g c =
 
 pub returns-in_err-count : goal.returns-in_err-count
 returns-in_err-count g c =
-    let e : c.from_residual.result ≡ Err data_error.IOError = search rules in
+    let e : c.from_residual.result ≡ Err data_error.IOError = err-of _ _ c.from_residual.ensures in
     let xs = c.pieces.invariant.bytes in
     let most : length xs ≤ c.args.total = omega arith in
     rw e (record {
@@ -69,7 +70,8 @@ returns-then-count-eq0 g c =
 
 pub returns-in_err-add_data : goal.returns-in_err-add_data
 returns-in_err-add_data g c =
-    let e : c.from_residual-in_err-add_data.result ≡ Err c.in_err-add_data.field-0.0 = search rules in
+    let e : c.from_residual-in_err-add_data.result ≡ Err c.in_err-add_data.field-0.0 =
+    err-of _ _ c.from_residual-in_err-add_data.ensures in
     let xs = c.pieces.invariant.bytes in
     let into = c.read.new.into in
     let len : length into ≡ length (take c.min-room.result c.pieces.buffer) = c.read.auto.into in

@@ -1,6 +1,7 @@
-use Rattle.std.proofs.Common.{refl, rules, ap, inl, inr, sym, ◌≡◌, ◌∙◌}
+use Rattle.std.proofs.Common.{refl, ap, inl, inr, sym, ◌≡◌, ◌∙◌}
 use Rattle.std.specs.Prelude.{Err, Ok}
 use Rattle.xet_session.specs.Sessions.{SessionTold}
+use Rattle.xet_base.proofs.Residuals.{err-of}
 use Rattle.xet_clean.proofs.FileCalls.{tells-both, tells-err, tells-ok, tells-own, tells-wider}
 use Rattle.xet_clean.proofs.UploadAlone.{alone-ended, alone-from, alone-stopped}
 use Rattle.xet_clean.proofs.SessionCalls.{calls-none}
@@ -10,19 +11,21 @@ use Rattle.xet_clean.proofs.uploads.upload_file.Goals as goal
 
 pub returns-in_err-_id-clause-call : goal.returns-in_err-_id-clause-call
 returns-in_err-_id-clause-call g c =
-    let e : c.from_residual.result ≡ Err c.in_err-_id.field-0.0 = search rules in
+    let e : c.from_residual.result ≡ Err c.in_err-_id.field-0.0 = err-of _ _ c.from_residual.ensures in
     rw e (alone-stopped _ _ _ _ _ _ (file-unstarted _ _ _ _ _ _ _ _ _ _ c.start_clean.ensures.same refl
     (rw c.in_err-_id.was at c.start_clean.ensures.starts)) (calls-none _ _ _ c.start_clean.ensures.same))
 
 pub returns-in_err-pour-clause-call : goal.returns-in_err-pour-clause-call
 returns-in_err-pour-clause-call g c =
-    let e : c.from_residual-in_err-pour.result ≡ Err c.in_err-pour.field-0.0 = search rules in
+    let e : c.from_residual-in_err-pour.result ≡ Err c.in_err-pour.field-0.0 =
+    err-of _ _ c.from_residual-in_err-pour.ensures in
     rw e (alone-from _ _ _ _ _ _ _ c.start_clean.ensures.same (alone-stopped _ _ _ _ _ _
     (file-unfed _ _ _ _ _ _ _ c.in_err-pour.ensures.call) c.pour.ensures.calls))
 
 pub returns-in_err-info-clause-call : goal.returns-in_err-info-clause-call
 returns-in_err-info-clause-call g c =
-    let e : c.from_residual-in_err-info.result ≡ Err c.in_err-info.field-0.0 = search rules in
+    let e : c.from_residual-in_err-info.result ≡ Err c.in_err-info.field-0.0 =
+    err-of _ _ c.from_residual-in_err-info.ensures in
     rw e (alone-from _ _ _ _ _ _ _ c.start_clean.ensures.same (alone-ended _ _ _ _ _ _ _ _ tt
     c.in_ok-_id.ensures.cleaner c.in_ok-pour.ensures.call c.pour.ensures.calls _ _ (Err c.in_err-info.field-0.0)
     c.in_err-info.ensures.ends c.in_err-info.ensures.so))
@@ -37,13 +40,14 @@ returns-clause-call g c =
 
 pub returns-in_err-_id-clause-tells : goal.returns-in_err-_id-clause-tells
 returns-in_err-_id-clause-tells g c = λ h.
-    let e : c.from_residual.result ≡ Err c.in_err-_id.field-0.0 = search rules in
+    let e : c.from_residual.result ≡ Err c.in_err-_id.field-0.0 = err-of _ _ c.from_residual.ensures in
     rw e (tells-err _ _ _ _ _ (start-tells _ _ _ _ _ _ _ _ (λ e l. inl l) (λ e i q. inr (inl (i, q)))
     (rw c.in_err-_id.was at c.start_clean.ensures.starts)))
 
 pub returns-in_err-pour-clause-tells : goal.returns-in_err-pour-clause-tells
 returns-in_err-pour-clause-tells g c = λ h.
-    let e : c.from_residual-in_err-pour.result ≡ Err c.in_err-pour.field-0.0 = search rules in
+    let e : c.from_residual-in_err-pour.result ≡ Err c.in_err-pour.field-0.0 =
+    err-of _ _ c.from_residual-in_err-pour.ensures in
     let fin = ap (λ (z : SessionTold). z.finalized) c.start_clean.ensures.same in
     rw e (tells-both _ _ _ _ _ _ (start-tells _ _ _ _ _ _ _ _ (λ e l. inl l) (λ e i q. inr (inl (i, q)))
     (rw c.in_ok-_id.was at c.start_clean.ensures.starts)) _ (tells-own _ _ _ _ _ _ (λ e l. inl (l.0, sym fin ∙ l.1))
@@ -51,7 +55,8 @@ returns-in_err-pour-clause-tells g c = λ h.
 
 pub returns-in_err-info-clause-tells : goal.returns-in_err-info-clause-tells
 returns-in_err-info-clause-tells g c = λ h.
-    let e : c.from_residual-in_err-info.result ≡ Err c.in_err-info.field-0.0 = search rules in
+    let e : c.from_residual-in_err-info.result ≡ Err c.in_err-info.field-0.0 =
+    err-of _ _ c.from_residual-in_err-info.ensures in
     rw e (tells-err _ _ _ _ _ (file-tells _ _ _ _ _ _ _ _ _ _ c.start_clean.ensures.same h
     (rw c.in_ok-_id.was at c.start_clean.ensures.starts) tt (rw c.in_ok-pour.was at c.pour.ensures.tells)
     c.in_ok-_id.ensures.cleaner c.in_ok-pour.ensures.call c.in_err-info.ensures.ends c.in_err-info.ensures.refused
@@ -99,3 +104,20 @@ pub returns-clause-begun : goal.returns-clause-begun
 returns-clause-begun g c = file-sizes _ _ _ _ _ _ _ _ _ _ tt _ _ _ _ c.finish.result
     (rw c.in_ok-_id.was at c.start_clean.ensures.starts) (rw c.in_ok-pour.was at c.pour.ensures.tells)
     c.finish.ensures.so
+
+pub returns-in_err-_id-clause-group : goal.returns-in_err-_id-clause-group
+returns-in_err-_id-clause-group g c = c.start_clean.ensures.group
+
+-- ---- the file is as it was, but for its source
+
+pub returns-in_err-_id-clause-same : goal.returns-in_err-_id-clause-same
+returns-in_err-_id-clause-same g c = refl
+
+pub returns-in_err-pour-clause-same : goal.returns-in_err-pour-clause-same
+returns-in_err-pour-clause-same g c = refl
+
+pub returns-in_err-info-clause-same : goal.returns-in_err-info-clause-same
+returns-in_err-info-clause-same g c = refl
+
+pub returns-clause-same : goal.returns-clause-same
+returns-clause-same g c = refl

@@ -1,8 +1,9 @@
-use Rattle.std.proofs.Common.{refl, rules, ap, inl, inr, ◌≡◌, ◌∙◌}
+use Rattle.std.proofs.Common.{refl, ap, inl, inr, ◌≡◌, ◌∙◌}
 use Rattle.std.specs.Prelude.{Err}
 use Rattle.xet_base.specs.Digests.{file_hash_of}
 use Rattle.xet_upload.specs.declared.data_error.DataError.TheVariants as data_error
 use Rattle.xet_clean.specs.Showing.{cleaner_of}
+use Rattle.xet_base.proofs.Residuals.{err-of}
 use Rattle.xet_clean.proofs.Completing.{completes-err, completes-none, completes-ok, data-named}
 use Rattle.xet_clean.proofs.FileEnds.{took-err, took-ok}
 use Rattle.xet_clean.proofs.SessionCalls.{group-both}
@@ -10,7 +11,7 @@ use Rattle.xet_clean.proofs.cleaner.SingleFileCleaner.complete.Goals as goal
 
 pub returns-in_err-info : goal.returns-in_err-info
 returns-in_err-info g c =
-    let e : c.from_residual.result ≡ Err data_error.OutOfMemory = search rules in
+    let e : c.from_residual.result ≡ Err data_error.OutOfMemory = err-of _ _ c.from_residual.ensures in
     rw e (record {
       call = completes-none _ _ c.requires.ended _ (c.file_hash-hash.ensures
           ∙ ap file_hash_of c.infos.ensures) _ c.recorded_sha256-sha256.ensures _ _ refl refl;
@@ -21,7 +22,8 @@ returns-in_err-info g c =
 
 pub returns-in_err-file_data : goal.returns-in_err-file_data
 returns-in_err-file_data g c =
-    let e : c.from_residual-in_err-file_data.result ≡ Err data_error.OutOfMemory = search rules in
+    let e : c.from_residual-in_err-file_data.result ≡ Err data_error.OutOfMemory =
+    err-of _ _ c.from_residual-in_err-file_data.ensures in
     rw e (record {
       call = completes-none _ _ c.requires.ended _ (c.file_hash-hash.ensures
           ∙ ap file_hash_of c.infos.ensures) _ c.recorded_sha256-sha256.ensures _ _ refl refl;
@@ -33,7 +35,8 @@ returns-in_err-file_data g c =
 pub returns-in_err-register_single_file_clean_completion : goal.returns-in_err-register_single_file_clean_completion
 returns-in_err-register_single_file_clean_completion g c =
     let e : c.from_residual-in_err-register_single_file_clean_completion.result ≡ Err
-    c.in_err-register_single_file_clean_completion.field-0.0 = search rules in
+    c.in_err-register_single_file_clean_completion.field-0.0 =
+    err-of _ _ c.from_residual-in_err-register_single_file_clean_completion.ensures in
     let was = c.in_err-register_single_file_clean_completion.was in
     rw e (record {
       call = completes-err _ _ c.requires.ended _ (c.file_hash-hash.ensures

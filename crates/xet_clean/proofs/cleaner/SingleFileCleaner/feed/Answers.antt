@@ -1,13 +1,14 @@
-use Rattle.std.proofs.Common.{refl, rules, ap, inl, sym, ◌≡◌, ◌∙◌}
+use Rattle.std.proofs.Common.{refl, ap, inl, inr, sym, ◌≡◌, ◌∙◌}
 use Rattle.std.specs.Prelude.{Err}
 use Rattle.xet_upload.specs.declared.data_error.DataError.TheVariants as data_error
 use Rattle.xet_session.specs.Sessions.{SessionTold}
 use Rattle.xet_session.specs.Telling.{told_by}
 use Rattle.xet_clean.specs.Cleaners.{Cleaner}
+use Rattle.xet_base.proofs.Residuals.{err-of}
 use Rattle.xet_clean.proofs.Cleaning.{chunk-memory, chunk-tracks, leaves-refl}
 use Rattle.xet_clean.proofs.SessionCalls.{calls-moved, calls-none, group-both}
 use Rattle.xet_clean.proofs.FileCalls.{grows-first, part-for, tells-both, tells-err, tells-late, tells-memory, tells-none, tells-own, tells-wider}
-use Rattle.xet_clean.proofs.Feeding.{feeds-failed, feeds-finalized, feeds-grown}
+use Rattle.xet_clean.proofs.Feeding.{feeds-failed, feeds-finalized, feeds-grown, feeds-kept, feeds-past}
 use Rattle.xet_clean.proofs.cleaner.SingleFileCleaner.feed.Goals as goal
 
 pub returns-then-is_finalized : goal.returns-then-is_finalized
@@ -24,7 +25,7 @@ returns-then-is_finalized g c = record {
 
 pub returns-in_err-grow : goal.returns-in_err-grow
 returns-in_err-grow g c =
-    let e : c.from_residual.result ≡ Err c.in_err-grow.field-0.0 = search rules in
+    let e : c.from_residual.result ≡ Err c.in_err-grow.field-0.0 = err-of _ _ c.from_residual.ensures in
     rw e (record {
       feeds = feeds-failed _ _ _ _ _ _ (leaves-refl _ _ c.grow.ensures.same) refl
           (sym c.is_finalized.ensures.is ∙ c.if-is_finalized.false) c.in_default.is
@@ -41,7 +42,8 @@ returns-in_err-grow g c =
 
 pub returns-in_err-take_in : goal.returns-in_err-take_in
 returns-in_err-take_in g c =
-    let e : c.from_residual-in_err-take_in.result ≡ Err data_error.OutOfMemory = search rules in
+    let e : c.from_residual-in_err-take_in.result ≡ Err data_error.OutOfMemory =
+    err-of _ _ c.from_residual-in_err-take_in.ensures in
     rw e (record {
       feeds = feeds-failed _ _ _ _ _ _ (leaves-refl _ _ c.grow.ensures.same)
           (ap (λ (z : Cleaner). z.failed) c.in_err-take_in.ensures.err)
@@ -78,3 +80,24 @@ returns g c = record {
 
 pub take_in-requires : goal.take_in-requires
 take_in-requires g c = c.past_total.ensures.fits c.in_default-past_total.is
+
+pub returns-in-Some : goal.returns-in-Some
+returns-in-Some g c = record {
+  feeds = feeds-kept _ _ _ _ _ _ refl refl (sym c.is_finalized.ensures.is ∙ c.if-is_finalized.false) c.in-Some.is;
+  tells = tells-none _ _ _ _ _ refl (λ why q. inl (inr (inl c.in-Some.is)));
+  grows = tt;
+  calls = calls-none _ _ _ refl;
+  group = (refl, refl);
+}
+
+pub returns-in-Some-past_total : goal.returns-in-Some-past_total
+returns-in-Some-past_total g c =
+    let past = c.in-Some-past_total.ensures.some in
+    record {
+      feeds = feeds-past _ _ _ _ _ _ refl refl (sym c.is_finalized.ensures.is ∙ c.if-is_finalized.false)
+          c.in_default.is past.0 past.1;
+      tells = tells-none _ _ _ _ _ refl (λ why q. inl (inr (inr (past.1, past.0))));
+      grows = tt;
+      calls = calls-none _ _ _ refl;
+      group = (refl, refl);
+    }
