@@ -3,16 +3,30 @@
 #![tactic(auto)]
 
 #[cfg(test)]
-mod beside;
+mod cache;
 #[cfg(test)]
-mod fakes;
+mod connection;
+#[cfg(test)]
+mod crowd;
 #[cfg(test)]
 mod faults;
+#[cfg(test)]
+mod files;
 #[cfg(test)]
 mod lies;
 #[cfg(test)]
 mod meter;
 #[cfg(test)]
+mod output;
+#[cfg(test)]
+mod played;
+#[cfg(test)]
+mod reports;
+#[cfg(test)]
 mod row;
 #[cfg(test)]
 mod runs;
+#[cfg(test)]
+mod said;
+#[cfg(test)]
+mod signal;

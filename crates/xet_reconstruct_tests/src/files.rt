@@ -1,0 +1,79 @@
+//! What a file holds after a run into it.
+use crate::played::{comes_to, tell_answer};
+use std::alloc::Global;
+use std::sync::Wait;
+use std::test::Fail;
+use std::thread::Threads;
+use xet_base::FileRange;
+use xet_blocks::Steady;
+use xet_error::Result;
+use xet_outside::{NeverCancel, NoCache};
+use xet_reconstruct::FileReconstructor;
+use xet_sinks::MemFile;
+use xet_store::worked::{FILE_OF_ALL, worked_store};
+use xet_store::{MemClient, MemStore};
+
+/// What a run of the bytes 3 to 9 into this file answers.
+fn written<R: Threads + Wait + Sync>(
+    rt: &R,
+    alloc: Global,
+    store: &MemStore,
+    file: &mut MemFile,
+    write_offset: Option<u64>,
+    truncate_file: bool,
+) -> Result<u64> {
+    FileReconstructor::new(FILE_OF_ALL, Steady { size: 0 })
+        .with_byte_range(FileRange::new(3, 9))
+        .reconstruct_to_file(
+            rt,
+            alloc,
+            &mut [MemClient::new(alloc, store)],
+            &mut NoCache,
+            &mut NeverCancel,
+            file,
+            write_offset,
+            truncate_file,
+        )
+}
+
+fn told(alloc: Global, answer: Result<u64>, content: &[u8]) -> std::result::Result<String, Fail> {
+    let mut text = String::new(alloc);
+    tell_answer(&mut text, answer, content)?;
+    Ok(text)
+}
+
+fn into<R: Threads + Wait + Sync>(
+    rt: &R,
+    alloc: Global,
+    file: &mut MemFile,
+    write_offset: Option<u64>,
+    truncate_file: bool,
+) -> std::result::Result<String, Fail> {
+    let store = worked_store(alloc)?;
+    let answer = written(rt, alloc, &store, file, write_offset, truncate_file);
+    told(alloc, answer, file.content())
+}
+
+/// The same of a file that held `zzzz`.
+fn held<R: Threads + Wait + Sync>(
+    rt: &R,
+    alloc: Global,
+    write_offset: Option<u64>,
+    truncate_file: bool,
+) -> std::result::Result<String, Fail> {
+    let content = b"zzzz".to_vec(alloc)?;
+    let mut file = MemFile::new(alloc, content);
+    into(rt, alloc, &mut file, write_offset, truncate_file)
+}
+
+#[test]
+fn bytes_stand_at_their_place(rt: HostRuntime) {
+    for (write_offset, truncate_file, content) in [
+        (None, false, "6 'zzzlo, wo'"),
+        (Some(0), true, "6 'lo, wo'"),
+        (Some(6), false, "6 'zzzz\0\0lo, wo'"),
+    ] {
+        let told = held(&rt, rt.alloc(), write_offset, truncate_file);
+        comes_to(&rt, "bytes 3 to 9", told, content);
+    }
+}

@@ -1,0 +1,332 @@
+//! Runs of rows over the worked store, and what is told of them.
+ghost use Rattle.std.specs.Prelude.{◌≤◌};
+
+use crate::cache::Cache;
+use crate::connection::Connection;
+use crate::crowd::Crowd;
+use crate::meter::Meter;
+use crate::output::Output;
+use crate::row::{Row, cut};
+use crate::signal::Signal;
+use std::alloc::{AllocError, Global};
+use std::process::Abort;
+use std::sync::{Arc, Wait};
+use std::test::Fail;
+use std::thread::Threads;
+use xet_base::OutOfMemory;
+use xet_blocks::Steady;
+use xet_error::{FileReconstructionError, Result};
+use xet_progress::ItemProgressUpdater;
+use xet_reconstruct::FileReconstructor;
+use xet_run::{BookView, BudgetBook, BudgetSettings, FixedBudget, RunCore};
+use xet_store::MemStore;
+use xet_store::worked::worked_store;
+
+/// A view of a book with one download, of this limit.
+fn book<R: Wait>(
+    rt: &R,
+    alloc: Global,
+    per_file: u64,
+) -> std::result::Result<BookView, OutOfMemory> {
+    let settings = BudgetSettings {
+        base: 0,
+        per_file,
+        limit: u64::MAX,
+    };
+    let book = BudgetBook::new(alloc, settings)?;
+    book.start(rt);
+    Ok(BookView::new(Arc::new(alloc, book)?))
+}
+
+/// The reconstruction of a row, which reports to nobody and has the limit of its settings.
+fn plain(row: Row<'_>) -> FileReconstructor<Steady> {
+    let size = row.number("ahead", 0);
+    FileReconstructor::new(row.file(), Steady { size })
+        .with_byte_range(row.range())
+        .with_config(&row.config())
+}
+
+/// The reconstruction of a row, which reports to the updater.
+fn wanted<R: Wait>(
+    rt: &R,
+    alloc: Global,
+    row: Row<'_>,
+    updater: Option<&ItemProgressUpdater>,
+) -> std::result::Result<FileReconstructor<Steady>, OutOfMemory> {
+    match updater {
+        Some(updater) => {
+            let shared = updater.share()?;
+            Ok(plain(row).with_progress_updater(shared))
+        }
+        None if row.has("book") => {
+            let view = book(rt, alloc, row.number("book", 0))?;
+            Ok(plain(row).with_budget_book(view))
+        }
+        None => Ok(plain(row)),
+    }
+}
+
+/// The connections of a row, which has three at most, and behind them others.
+fn connections<'a>(
+    alloc: Global,
+    row: Row<'a>,
+    store: &'a MemStore,
+    meter: &'a Meter<'a>,
+) -> [Connection<'a>; 3] {
+    let lanes = row.find("lanes").unwrap_or("");
+    let (first, others) = cut(lanes, ",");
+    let (second, third) = cut(others, ",");
+    [
+        Connection::new(alloc, row, first, store, meter),
+        Connection::new(alloc, row, second, store, meter),
+        Connection::new(alloc, row, third, store, meter),
+    ]
+}
+
+/// How many connections a row has.
+fn count(row: Row<'_>) -> usize
+    ensures { result ≤ 3 }
+{
+    row.find("lanes").unwrap_or("").split(',').count().min(3)
+}
+
+/// What a run by a gate answers.
+fn gated<R: Threads + Wait + Sync>(
+    rt: &R,
+    alloc: Global,
+    row: Row<'_>,
+    wanted: FileReconstructor<Steady>,
+    clients: &mut [Connection<'_>],
+    cache: &mut Cache,
+    output: &mut Output<'_>,
+) -> Result<u64> {
+    let gate = output.crowd;
+    let limit = row.config().download_buffer_size;
+    let mut core = RunCore::new(alloc);
+    let mut signal = Signal::new(row);
+    let mut budget = FixedBudget { limit };
+    wanted.run(
+        rt,
+        alloc,
+        &mut core,
+        &mut budget,
+        gate,
+        clients,
+        cache,
+        &mut signal,
+        output,
+    )
+}
+
+/// What a run answers.
+fn answered<R: Threads + Wait + Sync>(
+    rt: &R,
+    alloc: Global,
+    row: Row<'_>,
+    wanted: FileReconstructor<Steady>,
+    clients: &mut [Connection<'_>],
+    cache: &mut Cache,
+    output: &mut Output<'_>,
+) -> Result<u64> {
+    if row.has("meet") {
+        return gated(rt, alloc, row, wanted, clients, cache, output);
+    }
+    let mut signal = Signal::new(row);
+    wanted.reconstruct_to_writer(rt, alloc, clients, cache, &mut signal, output)
+}
+
+/// Adds how many bytes there are, or the error, of a failed test that test.
+fn tell_count(text: &mut String, answer: Result<u64>) -> std::result::Result<(), AllocError> {
+    match answer {
+        Ok(count) => write!(text, "{count}"),
+        Err(FileReconstructionError::CorruptedReconstruction(test)) => write!(text, "{test:?}"),
+        Err(error) => write!(text, "{error:?}"),
+    }
+}
+
+/// Adds `ANSWER 'BYTES'`.
+pub(crate) fn tell_answer(
+    text: &mut String,
+    answer: Result<u64>,
+    bytes: &[u8],
+) -> std::result::Result<(), Fail> {
+    tell_count(text, answer)?;
+    let bytes = str::from_utf8(bytes)?;
+    Ok(write!(text, " '{bytes}'")?)
+}
+
+/// Adds whether a crowd met, and how many blocks each connection was asked for.
+fn tell_crowd(
+    text: &mut String,
+    crowd: &Crowd,
+    clients: &[Connection<'_>; 3],
+) -> std::result::Result<(), AllocError> {
+    let [first, second, third] = clients;
+    let met = if crowd.met() { "met" } else { "alone" };
+    let (first, second, third) = (first.blocks, second.blocks, third.blocks);
+    write!(text, " {met} {first} {second} {third}")
+}
+
+/// Adds whether a meter stood at most at its most, and what it stands at.
+fn tell_meter(text: &mut String, meter: &Meter<'_>) -> std::result::Result<(), AllocError> {
+    let stood = if meter.passed() { "past" } else { "within" };
+    write!(text, " {stood} {}", meter.level())
+}
+
+/// Adds what a row wants told.
+fn tell_wanted(
+    text: &mut String,
+    what: &str,
+    clients: &[Connection<'_>; 3],
+    cache: &Cache,
+    output: &Output<'_>,
+) -> std::result::Result<(), AllocError> {
+    match what {
+        "calls" => write!(text, " {}", cache.calls),
+        "flushes" => write!(text, " {}", output.flushes),
+        "requests" => text.push_str(clients[0].asked.as_str()),
+        _ => Ok(()),
+    }
+}
+
+/// Adds what is told where a row wants nothing: of its crowd, of its meter, else how many blocks the first
+/// connection was asked for.
+fn tell_usual(
+    text: &mut String,
+    row: Row<'_>,
+    clients: &[Connection<'_>; 3],
+    output: &Output<'_>,
+) -> std::result::Result<(), AllocError> {
+    if row.has("meet") {
+        return tell_crowd(text, output.crowd, clients);
+    }
+    if row.has("most") {
+        return tell_meter(text, output.meter);
+    }
+    write!(text, "/{}", clients[0].blocks)
+}
+
+/// Adds ` PLANS`, where the first connection was asked for so many plans, and what else is told of the row.
+fn tell_rest(
+    text: &mut String,
+    row: Row<'_>,
+    clients: &[Connection<'_>; 3],
+    cache: &Cache,
+    output: &Output<'_>,
+) -> std::result::Result<(), AllocError> {
+    write!(text, " {}", clients[0].plans)?;
+    match row.find("tell") {
+        Some(what) => tell_wanted(text, what, clients, cache, output),
+        None => tell_usual(text, row, clients, output),
+    }
+}
+
+/// What is told of a run: its answer, the bytes that were taken, and the rest.
+fn told(
+    alloc: Global,
+    row: Row<'_>,
+    answer: Result<u64>,
+    clients: &[Connection<'_>; 3],
+    cache: &Cache,
+    output: &Output<'_>,
+) -> std::result::Result<String, Fail> {
+    let mut text = String::new(alloc);
+    tell_answer(&mut text, answer, output.taken())?;
+    tell_rest(&mut text, row, clients, cache, output)?;
+    Ok(text)
+}
+
+/// What a run tells over this store.
+fn over<R: Threads + Wait + Sync>(
+    rt: &R,
+    alloc: Global,
+    row: Row<'_>,
+    store: &MemStore,
+    updater: Option<&ItemProgressUpdater>,
+    cache: &mut Cache,
+    output: &mut Output<'_>,
+) -> std::result::Result<String, Fail> {
+    let wanted = wanted(rt, alloc, row, updater)?;
+    let mut clients = connections(alloc, row, store, output.meter);
+    let lent = &mut clients[..count(row)];
+    let answer = answered(rt, alloc, row, wanted, lent, cache, output);
+    told(alloc, row, answer, &clients, cache, output)
+}
+
+/// What a run tells over the worked store.
+fn over_worked<R: Threads + Wait + Sync>(
+    rt: &R,
+    alloc: Global,
+    row: Row<'_>,
+    updater: Option<&ItemProgressUpdater>,
+    cache: &mut Cache,
+    output: &mut Output<'_>,
+) -> std::result::Result<String, Fail> {
+    over(
+        rt,
+        alloc,
+        row,
+        &worked_store(alloc)?,
+        updater,
+        cache,
+        output,
+    )
+}
+
+/// What a run into this writer tells.
+fn into_output<R: Threads + Wait + Sync>(
+    rt: &R,
+    alloc: Global,
+    row: Row<'_>,
+    updater: Option<&ItemProgressUpdater>,
+    output: &mut Output<'_>,
+) -> std::result::Result<String, Fail> {
+    over_worked(
+        rt,
+        alloc,
+        row,
+        updater,
+        &mut Cache::new(alloc, row)?,
+        output,
+    )
+}
+
+/// What the run of a row that reports to the updater tells.
+pub(crate) fn played<R: Threads + Wait + Sync>(
+    rt: &R,
+    alloc: Global,
+    row: Row<'_>,
+    updater: Option<&ItemProgressUpdater>,
+) -> std::result::Result<String, Fail> {
+    let (meter, crowd) = (Meter::new(row), Crowd::new(row));
+    into_output(
+        rt,
+        alloc,
+        row,
+        updater,
+        &mut Output::new(alloc, row, &meter, &crowd)?,
+    )
+}
+
+/// Asserts what a row comes to.
+pub(crate) fn comes_to(
+    rt: &impl Abort,
+    row: &str,
+    told: std::result::Result<String, Fail>,
+    wanted: &str,
+) {
+    match told {
+        Ok(told) => assert!(rt; told.as_str() == wanted, "{row}: {told}"),
+        Err(_) => panic!(rt; "{row}"),
+    }
+}
+
+/// Plays each line's row, which comes to what stands behind the colon.
+pub(crate) fn come_to<R: Threads + Wait + Sync + Abort>(rt: &R, alloc: Global, lines: &str) {
+    for line in lines.lines() {
+        let (text, wanted) = cut(line, ": ");
+        let row = Row { text };
+        assert!(rt; row.is_known(), "{text}");
+        comes_to(rt, text, played(rt, alloc, row, None), wanted);
+    }
+}
