@@ -1,5 +1,5 @@
 -- A run after a round.
-use Rattle.std.proofs.Common.{◌≡◌, ℕ, ◌+◌, true, false, List, [], ◌∷◌, ◌++◌, length, take, drop, refl, sym, subst, ◌∙◌, ap, arith, append_assoc, ⊎_elim, inr, None, Some, Ok, Err, ◌<◌, ◌≤◌}
+use Rattle.std.proofs.Common.{◌≡◌, ℕ, ◌+◌, true, false, List, [], ◌∷◌, ◌++◌, length, take, drop, refl, sym, subst, ◌∙◌, ap, arith, append_assoc, ⊎_elim, inl, inr, None, Some, Ok, Err, ◌<◌, ◌≤◌}
 use Rattle.std.specs.Prelude.{Result, IfErr, IfOk, count_by, filter, map}
 use Rattle.std.specs.List.{concat, flat_map, sum_by}
 use Rattle.std.proofs.Math.Seq.{drop-length}
@@ -526,3 +526,9 @@ turn_done told tries cs lengths a z es fs l n k j (Err e) f same ok err =
         fails = subst (λ (x : Led). OutcomeFails tries lengths j es fs x e) same err;
       });
     }
+
+-- the relation, where memory was wanting for the fetches
+pub turn_refused : {S : Type 0} (told : S → SinkTold) (tries : ℕ) (cs : List BlockAt) (lengths : List ℕ)
+    (a z : RoundTold S) (es : List Event) (l k : Led) (e : FileReconstructionError) → FetchRefused a z e
+    → RoundTurn told tries cs lengths a z es es l k (Err e)
+turn_refused told tries cs lengths a z es l k e f = record { ok = tt; err = inl (refl, f) }

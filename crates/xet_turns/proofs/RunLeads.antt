@@ -1,5 +1,5 @@
 -- A run from its start to its end.
-use Rattle.std.proofs.Common.{◌≡◌, ◌<◌, Bool, true, false, cond, Option, Some, None, Ok, Err, List, [], ◌∷◌, length, sym, subst, ◌∙◌, arith}
+use Rattle.std.proofs.Common.{◌≡◌, ◌<◌, Bool, true, false, cond, Option, Some, None, Ok, Err, List, [], ◌∷◌, length, refl, sym, subst, ◌∙◌, arith}
 use Rattle.std.specs.Prelude.{map, MatchOption}
 use Rattle.xet_outside.specs.Told.{ClientTold, SinkTold}
 use Rattle.xet_error.specs.declared.error.FileReconstructionError.{FileReconstructionError}
@@ -10,6 +10,7 @@ use Rattle.xet_run.specs.Allowed.{IsRunning}
 use Rattle.xet_writers.specs.Sequential.{Sequential}
 use Rattle.xet_terms.specs.Settings as settings
 use Rattle.xet_ties.specs.Causes.{failing_setting}
+use Rattle.xet_ties.specs.RunCalls.{RunCall}
 use Rattle.xet_ties.specs.Setup.{RunTold, Setup}
 use Rattle.xet_ties.proofs.CallerLemmas.{runs, settings_are, short_leaves}
 use Rattle.xet_leader.specs.declared.leader.Job.{Job}
@@ -142,3 +143,43 @@ pub led_ends : {S : Type 0} (told : S → SinkTold) (g : Setup) (b : RunTold) (m
     → RunEnds g b n answer
 led_ends told g b m n v (Ok tt) answer r c = let o = r.ok in c.ok b o.led o.steady o.finished
 led_ends told g b m n v (Err e) answer r c = c.err b r.err
+
+-- ---- the call
+
+-- the setting that fails first
+pub setting_fails : {C : Type 0} (told : C → ClientTold) (j : Job) (cs : List C) (x : Setting)
+    → Some x ≡ settings.failing_setting (length cs) j.config → failing_setting (setup_of_job j) (map told cs) ≡ Some x
+setting_fails told j cs x h = sym (settings_are told j.file_hash j.byte_range j.config cs) ∙ sym h
+
+-- a run that is refused for it
+pub refused_call : (g : Setup) (b : RunTold) (es : List Event) (x : Setting) → es ≡ []
+    → failing_setting g b.clients ≡ Some x → RunCall g b b es (Err (error.ConfigurationError x))
+refused_call g b es x is h = record {
+  settings = λ e f. let z : Some x ≡ Some e = sym h ∙ f in record { answered = cc; events = is; same = refl };
+  tied = λ f. absurd (let z : Some x ≡ None = sym h ∙ f in cc);
+  finished = tt;
+  flushed = tt;
+  cancelled = λ yes. absurd (omega arith);
+  unfailed = refl;
+  empty = λ e. record {
+    untouched = record { clients = refl; cache = refl; signal = refl; limits = refl };
+    took = refl;
+    none = tt;
+    error = tt;
+  };
+  cache_later = λ s over tells. tells;
+}
+
+-- a run over a range that has bytes, whose settings can be met
+pub ended_call : (g : Setup) (b : RunTold) (n : Moment) (answer : RunAnswer) → failing_setting g b.clients ≡ None
+    → g.range.start < g.range.end → RunEnds g b n answer → RunCall g b n.told n.events answer
+ended_call g b n answer h some r = record {
+  settings = λ e f. absurd (let z : None ≡ Some e = sym h ∙ f in cc);
+  tied = λ f. r.tied;
+  finished = r.finished;
+  flushed = r.flushed;
+  cancelled = r.cancelled;
+  unfailed = r.unfailed;
+  empty = λ e. absurd (omega arith);
+  cache_later = r.cache_later;
+}

@@ -76,39 +76,6 @@ pub fn run_round<
         result }
     ensures parts { pass.new.share.parts ≡ pass.old.share.parts }
 {
-    fetch_and_take(
-        around, leader, core, pass, clients, writer, places, lengths, tries,
-    )
-}
-
-/// The same, without what it does to a run.
-fn fetch_and_take<
-    R: Threads + Wait + Sync,
-    P: FetchPolicy,
-    C: Client + Send,
-    G: Gate + Sync,
-    L: Ledger + Send + Sync,
-    S: Sink,
-    E: EventLog,
->(
-    around: &Around<R, G, L>,
-    leader: &mut Leader<P>,
-    core: &mut RunCore<E>,
-    pass: &mut RunPass<L>,
-    clients: &mut [C],
-    writer: &mut SequentialWriter<S>,
-    places: &[BlockAt],
-    lengths: List<u64>,
-    tries: u32,
-) -> Result<Outcome>
-    requires parts { 65536 < pass.old.share.parts }
-    requires can { CanRound S.told (map C.told clients.old) core.old leader.old places.now lengths writer.old }
-    ensures turn { RoundTurn S.told tries places.now lengths
-        (record { clients = map C.told clients.old; writer = writer.old })
-        (record { clients = map C.told clients.new; writer = writer.new }) core.old core.new leader.old leader.new
-        result }
-    ensures parts { pass.new.share.parts ≡ pass.old.share.parts }
-{
     let beside = total(lengths.as_slice()) != 0 && wait_for(clients);
     let joined = match fetch_blocks(around, leader, pass, clients, writer, places, beside) {
         Ok(joined) => joined,

@@ -151,53 +151,8 @@ fn run_with<
     end_run(alloc, core, writer, led)
 }
 
-/// The run over a sink that it is lent.
-fn run_lent<
-    R: Threads + Wait + Sync,
-    G: Gate + Sync,
-    L: Ledger + Send + Sync,
-    P: FetchPolicy + Drop,
-    C: Client + Send,
-    K: ChunkCache,
-    X: CancelSignal,
-    S: Sink,
-    B: BudgetSource,
-    E: EventLog,
->(
-    rt: &R,
-    alloc: Global,
-    gate: &G,
-    blank: Blank,
-    order: Order<P>,
-    core: &mut RunCore<E>,
-    budget: &mut B,
-    clients: &mut [C],
-    cache: &mut K,
-    cancel: &mut X,
-    writer: &mut S,
-) -> Result<u64>
-    requires name { blank.name ≡ L.name }
-    requires parts { (blank.parts ≡ L.parts) × (L.parts ≡ 2 ^ 32) }
-    requires none { core.old ≡ [] }
-    requires settings { failing_setting (setup_of_job order.job) (map C.told clients.old) ≡ None }
-    requires some { order.job.byte_range.start < order.job.byte_range.end }
-    ensures { RunEnds (setup_of_job order.job)
-        (told_of C.told K.told X.told S.told B.told clients.old cache.old cancel.old writer.old budget.old)
-        (record {
-          told = told_of C.told K.told X.told S.told B.told clients.new cache.new cancel.new writer.new
-              budget.new;
-          events = core.new;
-        }) result }
-{
-    let mut own = SequentialWriter::new(alloc, writer, order.job.config.use_vectored_write);
-    let answer = run_with::<R, G, L, P, C, K, X, &mut S, B, E>(
-        rt, alloc, gate, blank, order, core, budget, clients, cache, cancel, &mut own,
-    );
-    let _sink = own.into_inner();
-    answer
-}
-
-/// The run, where all settings can be met and the range has bytes, under a ledger of its own.
+/// The run over a sink that it is lent, where all settings can be met and the range has bytes, under a ledger of its
+/// own.
 fn run_some<
     R: Threads + Wait + Sync,
     G: Gate + Sync,
@@ -232,9 +187,12 @@ fn run_some<
         }) result }
 {
     let blank = Blank::new(1 << 32);
-    run_lent::<R, G, Brand, P, C, K, X, S, B, E>(
-        rt, alloc, gate, blank, order, core, budget, clients, cache, cancel, writer,
-    )
+    let mut own = SequentialWriter::new(alloc, writer, order.job.config.use_vectored_write);
+    let answer = run_with::<R, G, Brand, P, C, K, X, &mut S, B, E>(
+        rt, alloc, gate, blank, order, core, budget, clients, cache, cancel, &mut own,
+    );
+    let _sink = own.into_inner();
+    answer
 }
 
 /// A run: the bytes of a range of a file go to the sink, in order, and are flushed. Answers how many they are.

@@ -1,4 +1,4 @@
 use Rattle.xet_turns.proofs.running.run_some.Given as goal
 
-abbrev pub ghosts-run_lent : goal.ghosts-run_lent
-ghosts-run_lent g a = record { name = a.blank.name; parts = a.blank.parts }
+abbrev pub ghosts-run_with : goal.ghosts-run_with
+ghosts-run_with g a = record { name = a.blank.name; parts = a.blank.parts }
