@@ -1,9 +1,27 @@
-//! Tests of `xet_clean`.
+//! Tests of upload sessions, of their stores and of cleaners.
 #![tactic(auto)]
 
 #[cfg(test)]
-mod cleanings;
+mod answers;
 #[cfg(test)]
-mod failures;
+mod calls;
 #[cfg(test)]
-mod refusals;
+mod downloads;
+#[cfg(test)]
+mod files;
+#[cfg(test)]
+mod managers;
+#[cfg(test)]
+mod scripts;
+#[cfg(test)]
+mod sessions;
+#[cfg(test)]
+mod settings;
+#[cfg(test)]
+mod stores;
+#[cfg(test)]
+mod tables;
+#[cfg(test)]
+mod uploads;
+#[cfg(test)]
+mod xorbs;

@@ -1,4 +1,0 @@
-//! Sessions and files of the tests of `xet_clean`.
-#![tactic(auto)]
-
-pub mod made;

@@ -1,0 +1,80 @@
+//! Sessions over an uploader and stores in memory, of which numbered calls may fail.
+use crate::settings::{config, has, setting};
+use crate::xorbs::raw;
+use std::alloc::Global;
+use xet_base::{IdSource, List, OutOfMemory, ShardRecord};
+use xet_session::{FileUploadSession, SessionStores};
+use xet_shards::{MemShards, ScriptShards, ShardStore};
+use xet_store::MemStore;
+use xet_uploader::MemUploader;
+
+/// A session over these.
+pub type Session = FileUploadSession<MemUploader, ScriptShards>;
+
+/// A number in a list, or an empty list.
+fn fails(alloc: Global, number: Option<u64>) -> Vec<u64> {
+    let mut fails = Vec::new(alloc);
+    if let Some(number) = number {
+        let _ = fails.push(number);
+    }
+    fails
+}
+
+/// An uploader, of whose puts the one with this number fails.
+pub fn uploader(alloc: Global, put: Option<u64>) -> MemUploader {
+    MemUploader::new(alloc, MemStore::new(alloc), fails(alloc, put))
+}
+
+/// A store without records, of whose calls the one with this number fails.
+fn shards(alloc: Global, call: Option<u64>) -> ScriptShards {
+    ScriptShards::new(MemShards::new(alloc), fails(alloc, call))
+}
+
+/// The record of the xorb of `Hello`.
+fn record(alloc: Global) -> Result<ShardRecord, OutOfMemory> {
+    let mut xorbs = List::new(alloc);
+    xorbs.push(raw(alloc, "Hello")?.xorb_info)?;
+    Ok(ShardRecord {
+        xorbs,
+        files: List::new(alloc),
+    })
+}
+
+/// A store that has this record, if it is to have it.
+fn records(alloc: Global, is_known: bool) -> ScriptShards {
+    let mut shards = shards(alloc, None);
+    if is_known && let Ok(record) = record(alloc) {
+        let _ = shards.add(alloc, &record);
+    }
+    shards
+}
+
+/// The stores of a session.
+pub fn stores(alloc: Global, words: &str) -> SessionStores<ScriptShards> {
+    let call = setting(words, "call");
+    let is_known = has(words, "known");
+    let resumed = if has(words, "old") {
+        Some(records(alloc, true))
+    } else {
+        None
+    };
+    SessionStores {
+        resumed,
+        session: shards(alloc, call),
+        cache: records(alloc, is_known),
+        staging: shards(alloc, None),
+    }
+}
+
+/// A session with these settings.
+pub fn session(alloc: Global, words: &str) -> Result<Session, OutOfMemory> {
+    let ids = IdSource::new(setting(words, "first").unwrap_or(1));
+    let is_dry = has(words, "dry");
+    let config = config(alloc, words)?;
+    let uploader = uploader(alloc, setting(words, "put"));
+    let stores = stores(alloc, words);
+    if is_dry {
+        return FileUploadSession::dry_run(alloc, &config, uploader, stores, ids, 0);
+    }
+    FileUploadSession::new(alloc, &config, uploader, stores, ids, 0)
+}

@@ -1,0 +1,91 @@
+//! Files that are uploaded from their sources.
+use crate::answers::{point, refuse};
+use crate::files::policy;
+use crate::sessions::Session;
+use crate::settings::number;
+use std::alloc::Global;
+use std::sync::Wait;
+use xet_base::{OutOfMemory, Text};
+use xet_clean::{UploadFile, upload_files};
+use xet_pointer::XetFileInfo;
+use xet_sinks::{ScriptSource, SourceStep};
+use xet_upload::FixedCutter;
+
+/// A file from a scripted source, cut into chunks of one length.
+type Upload = UploadFile<ScriptSource, FixedCutter>;
+
+/// A read that gives so many bytes, or one that fails where the word is no number.
+fn step(word: &str) -> SourceStep {
+    match number(word) {
+        Some(count) => SourceStep::Give(count as usize),
+        None => SourceStep::Fail,
+    }
+}
+
+/// `7,1,!`: how many bytes each read gives, and one that fails.
+fn steps(alloc: Global, words: &str) -> Vec<SourceStep> {
+    let mut steps = Vec::new(alloc);
+    for word in words.split(',') {
+        let _ = steps.push(step(word));
+    }
+    steps
+}
+
+/// `13 sha 7,1 Hello, world! And more.`: a file of so many bytes of a source with this text that follows these steps.
+fn file(alloc: Global, words: &str) -> Result<Upload, OutOfMemory> {
+    let (length, words) = words.split_once(' ').unwrap_or((words, ""));
+    let (sha256, words) = words.split_once(' ').unwrap_or((words, ""));
+    let (reads, text) = words.split_once(' ').unwrap_or((words, ""));
+    let bytes = Vec::from_slice(alloc, text.as_bytes())?;
+    Ok(UploadFile {
+        name: Text::from_string(String::new(alloc)),
+        source: ScriptSource::new(bytes, steps(alloc, reads)),
+        length: number(length).unwrap_or(0),
+        sha256: policy(sha256),
+        cutter: FixedCutter { size: 5 },
+    })
+}
+
+/// Files with `+` between them.
+fn files(alloc: Global, words: &str) -> Vec<Upload> {
+    let mut files = Vec::new(alloc);
+    for words in words.split('+') {
+        if let Ok(file) = file(alloc, words) {
+            let _ = files.push(file);
+        }
+    }
+    files
+}
+
+/// Writes pointers.
+fn point_each(out: &mut String, infos: &[XetFileInfo]) {
+    for info in infos {
+        point(out, info);
+    }
+}
+
+/// Uploads these files, and writes their pointers.
+fn upload_each<W: Wait>(
+    rt: &W,
+    alloc: Global,
+    session: &mut Session,
+    out: &mut String,
+    files: &mut [Upload],
+) {
+    match upload_files(session, rt, alloc, files, 0) {
+        Ok(infos) => point_each(out, infos.as_slice()),
+        Err(error) => refuse(out, error),
+    }
+}
+
+/// Uploads files, and writes their pointers.
+pub fn upload<W: Wait>(
+    rt: &W,
+    alloc: Global,
+    session: &mut Session,
+    out: &mut String,
+    words: &str,
+) {
+    let mut files = files(alloc, words);
+    upload_each(rt, alloc, session, out, files.as_mut_slice());
+}

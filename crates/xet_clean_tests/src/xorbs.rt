@@ -1,0 +1,48 @@
+//! Xorbs of one chunk.
+ghost use Rattle.std.specs.Prelude.{◌≡◌, [], IfOk};
+ghost use Rattle.xet_base.specs.Records.{Describes};
+
+use bytes::Bytes;
+use std::alloc::Global;
+use xet_base::{ChunkInfo, MerkleHash, OutOfMemory};
+use xet_progress::FileXorbDependency;
+use xet_upload::{DataAggregator, RawXorbData};
+
+/// Data of one chunk, or of none where the text is empty, and of no file.
+fn one_chunk(alloc: Global, text: &str) -> Result<DataAggregator, OutOfMemory>
+    ensures { IfOk result (λ waiting. waiting.files ≡ []) }
+{
+    let mut waiting = DataAggregator::new(alloc);
+    let bytes = Bytes::from_vec(Vec::from_slice(alloc, text.as_bytes())?)?;
+    if bytes.len() > 0 && bytes.len() <= 131072 && waiting.has_room(bytes.as_slice()) {
+        let info = ChunkInfo {
+            hash: MerkleHash::chunk_hash(bytes.as_slice()),
+            length: bytes.len() as u32,
+        };
+        waiting.push_chunk(bytes, info)?;
+    }
+    Ok(waiting)
+}
+
+/// A xorb of one chunk, or of none where the text is empty, with its record.
+pub fn raw(alloc: Global, text: &str) -> Result<RawXorbData, OutOfMemory>
+    ensures { IfOk result (λ raw. Describes raw.xorb_info raw.xorb) }
+{
+    let mut waiting = one_chunk(alloc, text)?;
+    let (raw, _files) = waiting.finalize(alloc)?;
+    Ok(raw)
+}
+
+/// Bytes of a file in the xorb of `Hello`.
+pub fn part(file_id: u64, n_bytes: u64, is_external: bool) -> FileXorbDependency {
+    let chunk = ChunkInfo {
+        hash: MerkleHash::chunk_hash(b"Hello"),
+        length: 5,
+    };
+    FileXorbDependency {
+        file_id,
+        xorb_hash: MerkleHash::xorb_hash([chunk].as_slice()),
+        n_bytes,
+        is_external,
+    }
+}
