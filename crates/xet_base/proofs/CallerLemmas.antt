@@ -13,3 +13,5 @@ pub use Rattle.xet_base.proofs.Joined.{concat_more}
 pub use Rattle.xet_base.proofs.Windows.{slice_range-join, length-slice_range, window_length}
 -- numbers of eight bytes compare as these do
 pub use Rattle.xet_base.proofs.Words.{numbers_cmp, settled, split}
+-- what `?` answers of an error
+pub use Rattle.xet_base.proofs.Residuals.{err-of}

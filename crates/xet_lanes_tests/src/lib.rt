@@ -1,6 +1,6 @@
-//! Tests of `xet_claims`, `xet_run` and `xet_lanes`: numbers that two threads draw, the calls of a run, limits that follow
-//! the running downloads, that lanes run side by side, beside the writing, and stop one another, and what a gate is told
-//! and when. They stand in a crate of their own, since a crate with tests is proved twice.
+//! Tests of `xet_claims`, `xet_run` and `xet_lanes`: numbers that two threads draw, the calls of a run, limits that
+//! follow the running downloads, that lanes run side by side, beside the writing, and stop one another, and what a gate
+//! is told and when. They stand in a crate of their own, since a crate with tests is proved twice.
 #![tactic(auto)]
 
 #[cfg(test)]

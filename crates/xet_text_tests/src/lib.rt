@@ -1,6 +1,6 @@
 //! Tests of what no clause of the low crates says: what errors print, the hashes of some known values, texts of pointer
-//! records as another program writes them, and calls that are tried again, cut short or stopped by a fault. They stand in
-//! a crate of their own, since a crate with tests is proved twice.
+//! records as another program writes them, and calls that are tried again, cut short or stopped by a fault. They stand
+//! in a crate of their own, since a crate with tests is proved twice.
 #![tactic(auto)]
 
 #[cfg(test)]

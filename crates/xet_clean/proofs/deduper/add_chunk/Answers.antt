@@ -1,7 +1,7 @@
 use Rattle.std.proofs.Common.{false, ◌≡◌}
 use Rattle.std.specs.Prelude.{Err, Ok}
 use Rattle.xet_session.specs.Telling.{told_by}
-use Rattle.xet_base.proofs.Residuals.{err-of}
+use Rattle.xet_base.proofs.CallerLemmas.{err-of}
 use Rattle.xet_clean.proofs.Cleaning.{chunk-later, found-adds, leaves-both, new-adds}
 use Rattle.xet_clean.proofs.SessionCalls.{calls-both, group-both}
 use Rattle.xet_clean.proofs.FileCalls.{tells-both, tells-err, tells-late, tells-ok}

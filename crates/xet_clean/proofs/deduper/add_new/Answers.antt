@@ -2,7 +2,7 @@ use Rattle.std.proofs.Common.{refl, ◌≡◌}
 use Rattle.std.specs.Prelude.{Err}
 use Rattle.xet_upload.specs.declared.data_error.DataError.TheVariants as data_error
 use Rattle.xet_session.specs.Telling.{told_by}
-use Rattle.xet_base.proofs.Residuals.{err-of}
+use Rattle.xet_base.proofs.CallerLemmas.{err-of}
 use Rattle.xet_clean.proofs.Cleaning.{chunk-memory, more-cleans}
 use Rattle.xet_clean.proofs.FileCalls.{tells-both, tells-err, tells-memory, tells-ok}
 use Rattle.xet_clean.proofs.deduper.add_new.Goals as goal

@@ -3,7 +3,7 @@ use Rattle.std.specs.Prelude.{Err}
 use Rattle.xet_upload.specs.FileDatas.{Parts}
 use Rattle.xet_upload.specs.declared.data_error.DataError.TheVariants as data_error
 use Rattle.xet_session.specs.Telling.{told_by}
-use Rattle.xet_base.proofs.Residuals.{err-of}
+use Rattle.xet_base.proofs.CallerLemmas.{err-of}
 use Rattle.xet_clean.proofs.Cleaning.{chunk-memory, cut-cleans, leaves-refl, registers-fails, registers-leaves}
 use Rattle.xet_clean.proofs.SessionCalls.{calls-none, calls-xorb}
 use Rattle.xet_clean.proofs.FileCalls.{tells-err, tells-memory, tells-ok, xorb-tells, xorb-tells-err}

@@ -1,7 +1,7 @@
 use Rattle.std.proofs.Common.{◌≡◌}
 use Rattle.std.specs.Prelude.{Err, Ok}
 use Rattle.xet_session.specs.Telling.{told_by}
-use Rattle.xet_base.proofs.Residuals.{err-of}
+use Rattle.xet_base.proofs.CallerLemmas.{err-of}
 use Rattle.xet_clean.proofs.Cleaning.{chunk-tracks, leaves-both, leaves-refl}
 use Rattle.xet_clean.proofs.SessionCalls.{calls-search, calls-told, group-both}
 use Rattle.xet_clean.proofs.FileCalls.{tells-err, tells-late, tells-moved, tells-none, tells-ok}

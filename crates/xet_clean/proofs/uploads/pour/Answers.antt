@@ -3,7 +3,7 @@ use Rattle.std.specs.Prelude.{Err}
 use Rattle.std.proofs.lemmas.List.{length-take}
 use Rattle.xet_upload.specs.declared.data_error.DataError.TheVariants as data_error
 use Rattle.xet_clean.specs.Showing.{cleaner_of}
-use Rattle.xet_base.proofs.Residuals.{err-of}
+use Rattle.xet_base.proofs.CallerLemmas.{err-of}
 use Rattle.xet_clean.proofs.FileCalls.{tells-both, tells-none}
 use Rattle.xet_clean.proofs.SessionCalls.{calls-both, calls-none, group-both}
 use Rattle.xet_clean.proofs.UploadCalls.{ended-valid, io-valid, own-late, piece-refused, piece-tells, tells-any, tells-stopped}

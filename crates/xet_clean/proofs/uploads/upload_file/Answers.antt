@@ -1,7 +1,7 @@
 use Rattle.std.proofs.Common.{refl, ap, inl, inr, sym, ◌≡◌, ◌∙◌}
 use Rattle.std.specs.Prelude.{Err, Ok}
 use Rattle.xet_session.specs.Sessions.{SessionTold}
-use Rattle.xet_base.proofs.Residuals.{err-of}
+use Rattle.xet_base.proofs.CallerLemmas.{err-of}
 use Rattle.xet_clean.proofs.FileCalls.{tells-both, tells-err, tells-ok, tells-own, tells-wider}
 use Rattle.xet_clean.proofs.UploadAlone.{alone-ended, alone-from, alone-stopped}
 use Rattle.xet_clean.proofs.SessionCalls.{calls-none}

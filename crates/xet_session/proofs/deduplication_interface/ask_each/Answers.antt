@@ -1,6 +1,6 @@
 use Rattle.std.proofs.Common.{refl, ◌≡◌, ◌∙◌}
 use Rattle.std.specs.Prelude.{Err, Ok}
-use Rattle.xet_base.proofs.Residuals.{err-of}
+use Rattle.xet_base.proofs.CallerLemmas.{err-of}
 use Rattle.xet_session.proofs.Learned.{backs-learned, learn-none, learned-all, loop-no, loop-stopped, loop-yes}
 use Rattle.xet_session.proofs.Tests.{has-listed}
 use Rattle.xet_session.proofs.deduplication_interface.ask_each.Goals as goal

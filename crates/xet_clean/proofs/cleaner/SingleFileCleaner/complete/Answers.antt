@@ -3,7 +3,7 @@ use Rattle.std.specs.Prelude.{Err}
 use Rattle.xet_base.specs.Digests.{file_hash_of}
 use Rattle.xet_upload.specs.declared.data_error.DataError.TheVariants as data_error
 use Rattle.xet_clean.specs.Showing.{cleaner_of}
-use Rattle.xet_base.proofs.Residuals.{err-of}
+use Rattle.xet_base.proofs.CallerLemmas.{err-of}
 use Rattle.xet_clean.proofs.Completing.{completes-err, completes-none, completes-ok, data-named}
 use Rattle.xet_clean.proofs.FileEnds.{took-err, took-ok}
 use Rattle.xet_clean.proofs.SessionCalls.{group-both}

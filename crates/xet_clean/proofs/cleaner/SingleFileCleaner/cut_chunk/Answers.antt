@@ -2,7 +2,7 @@ use Rattle.std.proofs.Common.{refl, ap, inl, inr, ◌≡◌, ◌∙◌}
 use Rattle.std.specs.Prelude.{Err, Ok}
 use Rattle.xet_upload.specs.declared.data_error.DataError.TheVariants as data_error
 use Rattle.xet_clean.specs.Cleaners.{Cleaner}
-use Rattle.xet_base.proofs.Residuals.{err-of}
+use Rattle.xet_base.proofs.CallerLemmas.{err-of}
 use Rattle.xet_clean.proofs.Cleaning.{leaves-refl}
 use Rattle.xet_clean.proofs.SessionCalls.{calls-none}
 use Rattle.xet_clean.proofs.Feeding.{cuts-ended, cuts-one, ended-pending}

@@ -4,7 +4,7 @@ use Rattle.xet_upload.specs.declared.data_error.DataError.TheVariants as data_er
 use Rattle.xet_session.specs.Sessions.{SessionTold}
 use Rattle.xet_session.specs.Telling.{told_by}
 use Rattle.xet_clean.specs.Cleaners.{Cleaner}
-use Rattle.xet_base.proofs.Residuals.{err-of}
+use Rattle.xet_base.proofs.CallerLemmas.{err-of}
 use Rattle.xet_clean.proofs.Cleaning.{chunk-memory, chunk-tracks, leaves-refl}
 use Rattle.xet_clean.proofs.SessionCalls.{calls-moved, calls-none, group-both}
 use Rattle.xet_clean.proofs.FileCalls.{grows-first, part-for, tells-both, tells-err, tells-late, tells-memory, tells-none, tells-own, tells-wider}

@@ -2,7 +2,7 @@ use Rattle.std.proofs.Common.{refl, inl, ◌≡◌}
 use Rattle.std.specs.Prelude.{Err}
 use Rattle.xet_session.specs.Telling.{told_by}
 use Rattle.xet_clean.specs.Showing.{cleaner_of}
-use Rattle.xet_base.proofs.Residuals.{err-of}
+use Rattle.xet_base.proofs.CallerLemmas.{err-of}
 use Rattle.xet_clean.proofs.Completing.{finishes-complete, finishes-refused, finishes-uncut}
 use Rattle.xet_clean.proofs.FileEnds.{end-early, end-taken, end-uncut, ends-early, ends-so, ends-uncut}
 use Rattle.xet_clean.proofs.SessionCalls.{group-both}

@@ -1,6 +1,6 @@
 use Rattle.std.proofs.Common.{arith, refl, ◌≡◌}
 use Rattle.std.specs.Prelude.{Err}
-use Rattle.xet_base.proofs.Residuals.{err-of}
+use Rattle.xet_base.proofs.CallerLemmas.{err-of}
 use Rattle.xet_session.proofs.CutTracking.{notes-empty, notes-none, notes-parts}
 use Rattle.xet_session.proofs.file_tracker.FileTracker.register_cut.Goals as goal
 

@@ -2,7 +2,7 @@ use Rattle.std.proofs.Common.{List, ap, ◌≡◌, ◌∙◌}
 use Rattle.xet_base.specs.declared.merklehash.MerkleHash.{MerkleHash}
 use Rattle.xet_session.specs.Telling.{told_by}
 use Rattle.std.specs.Prelude.{Err, Ok}
-use Rattle.xet_base.proofs.Residuals.{err-of}
+use Rattle.xet_base.proofs.CallerLemmas.{err-of}
 use Rattle.xet_session.proofs.Ends.{backs-kept, backs-same}
 use Rattle.xet_session.proofs.Queries.{queries-err, queries-none, queries-some}
 use Rattle.xet_session.proofs.Tests.{has-listed}

@@ -2,7 +2,7 @@ use Rattle.std.proofs.Common.{ap, refl, ◌∙◌, ◌≡◌}
 use Rattle.std.specs.Prelude.{Err}
 use Rattle.xet_upload.specs.declared.data_error.DataError.TheVariants as data_error
 use Rattle.xet_session.specs.Sessions.{SessionTold}
-use Rattle.xet_base.proofs.Residuals.{err-of}
+use Rattle.xet_base.proofs.CallerLemmas.{err-of}
 use Rattle.xet_session.proofs.CutTracking.{cut-counted, cut-noted, cut-stopped, cut-unnoted, cut-untold}
 use Rattle.xet_session.proofs.Cuts.{cut-failed, cut-put, cut-same, cut-still, names-cut, names-still, put-unnoted}
 use Rattle.xet_session.proofs.Tests.{has-listed}

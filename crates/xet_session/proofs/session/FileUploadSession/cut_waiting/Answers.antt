@@ -1,7 +1,7 @@
 use Rattle.std.proofs.Common.{ap, refl, ◌∙◌, ◌≡◌}
 use Rattle.std.specs.Prelude.{Err}
 use Rattle.xet_session.specs.Sessions.{SessionTold}
-use Rattle.xet_base.proofs.Residuals.{err-of}
+use Rattle.xet_base.proofs.CallerLemmas.{err-of}
 use Rattle.xet_session.proofs.CutTracking.{file-waits, file-waits-ok}
 use Rattle.xet_session.proofs.Completions.{names-after, took-after, took-uncut}
 use Rattle.xet_session.proofs.session.FileUploadSession.cut_waiting.Goals as goal

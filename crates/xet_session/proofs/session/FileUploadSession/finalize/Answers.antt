@@ -1,7 +1,7 @@
 use Rattle.std.proofs.Common.{ap, refl, ◌∙◌, ◌≡◌}
 use Rattle.std.specs.Prelude.{Err}
 use Rattle.xet_session.specs.Sessions.{SessionTold}
-use Rattle.xet_base.proofs.Residuals.{err-of}
+use Rattle.xet_base.proofs.CallerLemmas.{err-of}
 use Rattle.xet_session.proofs.CutTracking.{cut-untold, ends-tracked, ends-untracked, first-end}
 use Rattle.xet_session.proofs.Ends.{backs-finalized, finalizes-added, finalizes-again, finalizes-cut, finalizes-put, finalizes-unput}
 use Rattle.xet_session.proofs.Tests.{has-listed}

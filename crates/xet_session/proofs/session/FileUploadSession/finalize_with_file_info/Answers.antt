@@ -1,7 +1,7 @@
 use Rattle.std.proofs.Common.{ap, ◌∙◌, ◌≡◌}
 use Rattle.std.specs.Prelude.{Err}
 use Rattle.xet_session.specs.Sessions.{SessionTold}
-use Rattle.xet_base.proofs.Residuals.{err-of}
+use Rattle.xet_base.proofs.CallerLemmas.{err-of}
 use Rattle.xet_session.proofs.CutTracking.{tracks-err, tracks-later}
 use Rattle.xet_session.proofs.Ends.{backs-finalized, listed-counted, listed-err, listed-files, listed-ok, retold}
 use Rattle.xet_session.proofs.Tests.{has-listed}

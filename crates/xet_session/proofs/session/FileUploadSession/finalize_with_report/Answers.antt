@@ -1,6 +1,6 @@
 use Rattle.std.proofs.Common.{refl, ◌≡◌}
 use Rattle.std.specs.Prelude.{Err}
-use Rattle.xet_base.proofs.Residuals.{err-of}
+use Rattle.xet_base.proofs.CallerLemmas.{err-of}
 use Rattle.xet_session.proofs.CutTracking.{tracks-err, tracks-later}
 use Rattle.xet_session.proofs.Ends.{backs-finalized, retold, retold-ok}
 use Rattle.xet_session.proofs.Tests.{has-listed}

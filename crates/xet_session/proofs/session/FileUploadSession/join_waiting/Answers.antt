@@ -1,7 +1,7 @@
 use Rattle.std.proofs.Common.{refl, ◌≡◌}
 use Rattle.std.specs.Prelude.{Err}
 use Rattle.xet_upload.specs.declared.data_error.DataError.TheVariants as data_error
-use Rattle.xet_base.proofs.Residuals.{err-of}
+use Rattle.xet_base.proofs.CallerLemmas.{err-of}
 use Rattle.xet_session.proofs.CutTracking.{file-joined}
 use Rattle.xet_session.proofs.Completions.{took-joined, took-unjoined}
 use Rattle.xet_session.proofs.session.FileUploadSession.join_waiting.Goals as goal

@@ -2,7 +2,7 @@ use Rattle.std.proofs.Common.{ap, ◌∙◌, ◌≡◌}
 use Rattle.std.specs.Prelude.{Err}
 use Rattle.xet_upload.specs.declared.data_error.DataError.TheVariants as data_error
 use Rattle.xet_session.specs.Sessions.{SessionTold}
-use Rattle.xet_base.proofs.Residuals.{err-of}
+use Rattle.xet_base.proofs.CallerLemmas.{err-of}
 use Rattle.xet_session.proofs.Cuts.{named-put, put-failed, put-finished, registered-put, registered-unput, unadded}
 use Rattle.xet_session.proofs.Tracking.{counted, uncounted, unput}
 use Rattle.xet_session.proofs.session.FileUploadSession.put_finished.Goals as goal

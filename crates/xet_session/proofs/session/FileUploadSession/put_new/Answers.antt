@@ -1,7 +1,7 @@
 use Rattle.std.proofs.Common.{arith, inl, refl, ◌≡◌}
 use Rattle.std.specs.Prelude.{Err, None}
 use Rattle.xet_upload.specs.declared.data_error.DataError.TheVariants as data_error
-use Rattle.xet_base.proofs.Residuals.{err-of}
+use Rattle.xet_base.proofs.CallerLemmas.{err-of}
 use Rattle.xet_session.proofs.Cuts.{registers-again, registers-empty, registers-err, registers-put, registers-refused}
 use Rattle.xet_session.proofs.Tracking.{given-again, given-counted, given-empty, given-failed, given-uncounted}
 use Rattle.xet_session.proofs.session.FileUploadSession.put_new.Goals as goal

@@ -3,7 +3,7 @@ use Rattle.std.specs.Prelude.{Contains, Err, List, None}
 use Rattle.xet_base.specs.declared.merklehash.MerkleHash.{MerkleHash}
 use Rattle.xet_upload.specs.declared.data_error.DataError.TheVariants as data_error
 use Rattle.xet_session.specs.Sessions.{SessionTold}
-use Rattle.xet_base.proofs.Residuals.{err-of}
+use Rattle.xet_base.proofs.CallerLemmas.{err-of}
 use Rattle.xet_session.proofs.Cuts.{registers-finalized, registers-kept, registers-refused}
 use Rattle.xet_session.proofs.Ends.{backs-kept}
 use Rattle.xet_session.proofs.Tests.{has-listed}
