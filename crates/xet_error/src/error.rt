@@ -3,26 +3,23 @@ ghost use Rattle.std.specs.Prelude.{◌≡◌};
 ghost use Rattle.xet_error.specs.Errors.{corruption_number, of_client_error, of_sink_error, setting_number};
 ghost use Rattle.xet_error.specs.declared.error.FileReconstructionError.TheVariants as error;
 
-use thiserror::Error;
+use std::error::Error;
+use std::fmt;
 use xet_base::{FileRange, MerkleHash, OutOfMemory};
 use xet_outside::{ClientError, SinkError};
 
 /// The setting of a run that fails first. It prints its variant's name.
 ///
 /// In the Rust crate: the text of `file_reconstruction::error::FileReconstructionError::ConfigurationError`.
-#[derive(Clone, Copy, PartialEq, Eq, Debug, Drop, Error)]
+#[derive(Clone, Copy, PartialEq, Eq, Debug, Drop)]
 pub enum Setting {
     /// The run is lent no connection.
-    #[error("NoConnection")]
     NoConnection,
     /// A fetch of a block may not be tried even once.
-    #[error("NoTries")]
     NoTries,
     /// The least fetch size, in bytes, is 0.
-    #[error("LeastZero")]
     LeastZero,
     /// The greatest fetch size is below the least.
-    #[error("GreatestBelowLeast")]
     GreatestBelowLeast,
 }
 
@@ -38,59 +35,63 @@ impl Setting {
             Setting::GreatestBelowLeast => 4,
         }
     }
+
+    // The variant's name.
+    fn name(&self) -> &'static str {
+        match self {
+            Setting::NoConnection => "NoConnection",
+            Setting::NoTries => "NoTries",
+            Setting::LeastZero => "LeastZero",
+            Setting::GreatestBelowLeast => "GreatestBelowLeast",
+        }
+    }
 }
+
+impl fmt::Display for Setting {
+    fn fmt<W: fmt::Write>(&self, f: &mut fmt::Formatter<W>) -> fmt::Result {
+        f.write_str(self.name())
+    }
+}
+
+impl Error for Setting {}
 
 /// The test that an answer of a connection fails, with its numbers. Terms, entries, blocks and offsets count from 0;
 /// lengths and offsets are in bytes. It prints its variant's name.
 ///
 /// In the Rust crate such an answer panics, fails an assertion, or passes.
-#[derive(Clone, Copy, PartialEq, Eq, Debug, Drop, Error)]
+#[derive(Clone, Copy, PartialEq, Eq, Debug, Drop)]
 pub enum Corruption {
     /// Over multirange blocks, this entry of the xorb has an empty or reversed range, or one that starts before the one
     /// before it ends. The entries of each xorb count from 0.
-    #[error("Ranges")]
     Ranges { xorb: MerkleHash, entry: usize },
     /// The xorb of this term is not in the plan.
-    #[error("NoXorb")]
     NoXorb { term: usize },
     /// This term lies in no fetch range of its xorb, or has no chunks. Of two xorbs with one hash the first counts.
-    #[error("NoRange")]
     NoRange { term: usize },
     /// The plan's offset is over its first term's length. An equal one is accepted.
-    #[error("Offset")]
     Offset { offset: u64, length: u64 },
     /// The end of this term in the file, before it is cut at the query's end, passes `u64::MAX`.
-    #[error("Position")]
     Position { term: usize },
     /// The terms pass the query's end by `excess` bytes, which is more than the last term's `length`. As many are
     /// accepted.
-    #[error("Trim")]
     Trim { excess: u64, length: u64 },
     /// A refresh was answered as past the end, or with a plan without terms.
-    #[error("RefreshPastEnd")]
     RefreshPastEnd,
     /// A refresh covers these bytes of the file, and not those of the plan before it.
-    #[error("RefreshRange")]
     RefreshRange { returned: FileRange },
     /// A refresh has another block at this index, or none.
-    #[error("RefreshBlocks")]
     RefreshBlocks { index: usize },
     /// There are `actual` offsets, and not one for each of the block's `expected` chunks; or, of a term that is cut,
     /// its block has `actual` chunks, and the term needs `expected`. Sums stop at `u64::MAX`.
-    #[error("OffsetCount")]
     OffsetCount { expected: u64, actual: u64 },
     /// The offset at this place is not 0 at the first place, is not above the one before it, or is not below the number
     /// of the block's bytes.
-    #[error("OffsetOrder")]
     OffsetOrder { place: usize },
     /// The block has `actual` bytes, and its terms tell `expected`.
-    #[error("BlockLength")]
     BlockLength { expected: u64, actual: u64 },
     /// A term ends at `end` in its block, which has `length` bytes only. The end stops at `u64::MAX`.
-    #[error("TermPastBlock")]
     TermPastBlock { end: u64, length: u64 },
     /// Terms came for a query that starts at `start`, which is at or past `known`, the known end of the file.
-    #[error("PastKnownEnd")]
     PastKnownEnd { known: u64, start: u64 },
 }
 
@@ -116,67 +117,127 @@ impl Corruption {
             Corruption::PastKnownEnd { .. } => 14,
         }
     }
+
+    // The variant's name.
+    fn name(&self) -> &'static str {
+        match self {
+            Corruption::Ranges { .. } => "Ranges",
+            Corruption::NoXorb { .. } => "NoXorb",
+            Corruption::NoRange { .. } => "NoRange",
+            Corruption::Offset { .. } => "Offset",
+            Corruption::Position { .. } => "Position",
+            Corruption::Trim { .. } => "Trim",
+            Corruption::RefreshPastEnd => "RefreshPastEnd",
+            Corruption::RefreshRange { .. } => "RefreshRange",
+            Corruption::RefreshBlocks { .. } => "RefreshBlocks",
+            Corruption::OffsetCount { .. } => "OffsetCount",
+            Corruption::OffsetOrder { .. } => "OffsetOrder",
+            Corruption::BlockLength { .. } => "BlockLength",
+            Corruption::TermPastBlock { .. } => "TermPastBlock",
+            Corruption::PastKnownEnd { .. } => "PastKnownEnd",
+        }
+    }
 }
+
+impl fmt::Display for Corruption {
+    fn fmt<W: fmt::Write>(&self, f: &mut fmt::Formatter<W>) -> fmt::Result {
+        f.write_str(self.name())
+    }
+}
+
+impl Error for Corruption {}
 
 /// Why a writer refuses a term. Starts and ends are places in the file, lengths are in bytes. It prints its variant's
 /// name.
 ///
 /// In the Rust crate: the text of `file_reconstruction::error::FileReconstructionError::InternalWriterError`.
-#[derive(Clone, Copy, PartialEq, Eq, Debug, Drop, Error)]
+#[derive(Clone, Copy, PartialEq, Eq, Debug, Drop)]
 pub enum WriterFault {
     /// The term ends at `end`, before its `start`.
-    #[error("Reversed")]
     Reversed { start: u64, end: u64 },
     /// The term starts at `start`, and the one before it ended at `expected`.
-    #[error("NotSequential")]
     NotSequential { expected: u64, start: u64 },
     /// The term came with `actual` bytes, and its range has `expected`.
-    #[error("Length")]
     Length { expected: u64, actual: u64 },
     /// The writer was finished before.
-    #[error("Finished")]
     Finished,
     /// The term that starts here has no bytes yet.
-    #[error("StillWanted")]
     StillWanted { start: u64 },
     /// No term that starts here waits for bytes.
-    #[error("NotWanted")]
     NotWanted { start: u64 },
 }
+
+impl WriterFault {
+    // The variant's name.
+    fn name(&self) -> &'static str {
+        match self {
+            WriterFault::Reversed { .. } => "Reversed",
+            WriterFault::NotSequential { .. } => "NotSequential",
+            WriterFault::Length { .. } => "Length",
+            WriterFault::Finished => "Finished",
+            WriterFault::StillWanted { .. } => "StillWanted",
+            WriterFault::NotWanted { .. } => "NotWanted",
+        }
+    }
+}
+
+impl fmt::Display for WriterFault {
+    fn fmt<W: fmt::Write>(&self, f: &mut fmt::Formatter<W>) -> fmt::Result {
+        f.write_str(self.name())
+    }
+}
+
+impl Error for WriterFault {}
 
 /// Why a reconstruction fails. It is exhaustive, and each variant has one cause. It prints its variant's name.
 ///
 /// In the Rust crate: `file_reconstruction::error::FileReconstructionError`.
-#[derive(Clone, Copy, PartialEq, Eq, Debug, Drop, Error)]
+#[derive(Clone, Copy, PartialEq, Eq, Debug, Drop)]
 pub enum FileReconstructionError {
     /// An allocation was refused.
-    #[error("OutOfMemory")]
     OutOfMemory,
     /// A connection failed: its count of faults rose.
-    #[error("ClientError")]
     ClientError,
     /// A connection said that the file is not stored.
-    #[error("FileNotFound")]
     FileNotFound,
     /// The URL of a block had expired.
-    #[error("UrlExpired")]
     UrlExpired,
     /// The writer failed: its count of faults rose.
-    #[error("IoError")]
     IoError,
     /// An answer of a connection fails this test.
-    #[error("CorruptedReconstruction")]
     CorruptedReconstruction(Corruption),
     /// This setting of the run can't be met.
-    #[error("ConfigurationError")]
     ConfigurationError(Setting),
     /// The run was asked to stop.
-    #[error("Cancelled")]
     Cancelled,
     /// A writer was used out of order.
-    #[error("InternalWriterError")]
     InternalWriterError(WriterFault),
 }
+
+impl FileReconstructionError {
+    // The variant's name.
+    fn name(&self) -> &'static str {
+        match self {
+            FileReconstructionError::OutOfMemory => "OutOfMemory",
+            FileReconstructionError::ClientError => "ClientError",
+            FileReconstructionError::FileNotFound => "FileNotFound",
+            FileReconstructionError::UrlExpired => "UrlExpired",
+            FileReconstructionError::IoError => "IoError",
+            FileReconstructionError::CorruptedReconstruction(_) => "CorruptedReconstruction",
+            FileReconstructionError::ConfigurationError(_) => "ConfigurationError",
+            FileReconstructionError::Cancelled => "Cancelled",
+            FileReconstructionError::InternalWriterError(_) => "InternalWriterError",
+        }
+    }
+}
+
+impl fmt::Display for FileReconstructionError {
+    fn fmt<W: fmt::Write>(&self, f: &mut fmt::Formatter<W>) -> fmt::Result {
+        f.write_str(self.name())
+    }
+}
+
+impl Error for FileReconstructionError {}
 
 /// The result of a call of a reconstruction.
 ///
