@@ -2,6 +2,7 @@ mod Buffered
 mod DigitsOut
 mod HexDigits
 mod JoinedFronts
+mod MemCalls
 mod MissingDigit
 mod PieceLoop
 mod PieceOfDigits
@@ -9,3 +10,4 @@ mod PutGrown
 mod ReadFront
 mod StillRuns
 mod WholePiece
+mod WriteCalls
