@@ -14,7 +14,7 @@ pub struct UniqueID(pub u64);
 /// A source of ids, which gives each number once, in order. Contracts see it as the number of the next id.
 ///
 /// The Rust crates have no such type: there an id is drawn at random.
-#[derive(Drop, Debug)]
+#[derive(Drop)]
 pub struct IdSource {
     next: u64,
 }
