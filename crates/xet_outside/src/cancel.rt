@@ -15,7 +15,7 @@ pub trait CancelSignal {
 }
 
 /// A signal that never says yes.
-#[derive(Clone, Copy, PartialEq, Eq, Debug)]
+#[derive(Clone, Copy, PartialEq, Eq)]
 pub struct NeverCancel;
 
 impl CancelSignal for NeverCancel {

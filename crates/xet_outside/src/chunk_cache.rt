@@ -58,7 +58,7 @@ pub trait ChunkCache {
 }
 
 /// A cache without entries, which takes none.
-#[derive(Clone, Copy, PartialEq, Eq, Debug)]
+#[derive(Clone, Copy, PartialEq, Eq)]
 pub struct NoCache;
 
 impl ChunkCache for NoCache {

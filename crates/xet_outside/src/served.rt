@@ -4,7 +4,7 @@ use xet_base::{ChunkRange, MerkleHash, ShortList};
 /// A block that a connection answered with bytes, or as expired, by its request.
 ///
 /// The Rust crates have no such type.
-#[derive(Drop, Debug)]
+#[derive(Drop)]
 pub struct Served {
     /// The number of the plan that the block is of.
     pub plan: u64,
