@@ -54,7 +54,6 @@ pub use Rattle.xet_ties.proofs.Heard.{FirstEvent, query_answer_more, accepted_mo
 pub use Rattle.xet_ties.proofs.SaidTies.{fetch_entry, step_data, SaidBlock, block_said}
 pub use Rattle.xet_ties.proofs.SaidCauses.{accepted_said, step_fails, block_fails, term_fails, plan_fails}
 pub use Rattle.xet_ties.proofs.SaidCauses.{file_missing, refresh_fails}
-pub use Rattle.xet_ties.proofs.Plannings.{starts_at}
 pub use Rattle.xet_ties.proofs.NextPlaces.{asked_own}
 pub use Rattle.xet_ties.proofs.CutPlaces.{cut_answer_more, own_answer}
 pub use Rattle.xet_ties.proofs.FileCauses.{missing_file}

@@ -20,7 +20,7 @@ use Rattle.xet_run.specs.declared.event.Event.{Event}
 use Rattle.xet_run.specs.declared.event.Event.TheVariants.{Planned, Admit, Fetched, Cached, Expired, Refreshed, Wrote, Fail, Cancel}
 use Rattle.xet_run.specs.Events.{Task}
 use Rattle.xet_ties.specs.History.{entry_of}
-use Rattle.xet_ties.specs.InCall.{EachAskedAs, EachExchange, EachGrew, Exchange, ExchangeGrew, IsExchange, Look, SomeOne, Place}
+use Rattle.xet_ties.specs.InCall.{EachExchange, EachGrew, Exchange, ExchangeGrew, IsExchange, Look, SomeOne, Place}
 use Rattle.xet_ties.specs.Saids.{BlockOfPlan, EventPassed, FirstSaid, HasPassed, InStep, IsEventSaid, IsLookedData, IsPlanAccepted, IsQueryAnswer, IsServedData, IsTaskPiece, IsTested, IsTestedData, IsUnasked, PassedIn, TermOfPlan, planned_of, some_of}
 use Rattle.xet_ties.specs.Setup.{Setup}
 use Rattle.xet_ties.proofs.CutPlaces.{answer_of_more, cut_answer_more}
@@ -210,15 +210,6 @@ step_query qs all (x ∷ xs) h t =
     let v = length-append (plans_in x.said) (plans_in all) in
     let w = length-append x.asked qs in
     omega (arith, h, t, u, v, w)
-
--- a join asks nothing
-pub asked_join : (hs : List (List Served)) (alls : List (List Said)) (xs : List Exchange) → Match hs alls xs → EachAskedAs xs (heard_join hs alls xs)
-asked_join [] [] [] m = tt
-asked_join [] [] (x ∷ xs) m = absurd m
-asked_join [] (a ∷ alls) xs m = absurd m
-asked_join (h ∷ hs) [] xs m = absurd m
-asked_join (h ∷ hs) (a ∷ alls) [] m = absurd m
-asked_join (h ∷ hs) (a ∷ alls) (x ∷ xs) m = (refl, asked_join hs alls xs m.1)
 
 pub step_join : (hs : List (List Served)) (alls : List (List Said)) (xs : List Exchange) → Match hs alls xs → InStep xs → InStep (heard_join hs alls xs)
 step_join hs alls [] m t = absurd t

@@ -21,7 +21,7 @@ use Rattle.xet_ties.specs.Legal.{AllLatePlanned, AllLooked, AllMissed, AllPlanne
 use Rattle.xet_ties.specs.RunCalls.{IsFinished, IsUnspent, RunCall, TookAll}
 use Rattle.xet_ties.specs.Saids.{AllPassed, EntryPassed, FirstSaid, IsTested}
 use Rattle.xet_ties.specs.Setup.{EachGoesOn, IsOver, RunTold, Setup}
-use Rattle.xet_ties.specs.Ties.{EachLane, EachUnfailed, FirstUnfailed, HeardAsked, IsEntryOf, IsOther, IsPlannedEntry, IsQuiet, LeavesNothing, Slack, Stop, Ties, all_of, has_one, is_one, is_pair, is_served, lates_of}
+use Rattle.xet_ties.specs.Ties.{EachLane, EachUnfailed, FirstUnfailed, IsEntryOf, IsOther, IsPlannedEntry, IsQuiet, LeavesNothing, Slack, Stop, Ties, all_of, has_one, is_one, is_pair, is_served, lates_of}
 use Rattle.xet_ties.proofs.Asks.{first_asks}
 use Rattle.xet_ties.proofs.BytesLasts.{last_start}
 use Rattle.xet_ties.proofs.Expiries.{counted_start, each_counted, none_past, none_spent}
@@ -34,7 +34,7 @@ use Rattle.xet_ties.proofs.LowestLanes.{all_passed}
 use Rattle.xet_ties.proofs.Pairs.{served_once, served_planned}
 use Rattle.xet_ties.proofs.PlanAnswers.{first_followed}
 use Rattle.xet_ties.proofs.PlansFirst.{behind_start}
-use Rattle.xet_ties.proofs.Plannings.{PlanningOf, first_pieces, first_plans_all, numbered_at, planning_heard, plans_end, some_pieces}
+use Rattle.xet_ties.proofs.Plannings.{PlanningOf, first_pieces, first_plans_all, planning_heard, plans_end, some_pieces}
 use Rattle.xet_ties.proofs.Renewed.{renews_all, renews_but_last, renews_none}
 use Rattle.xet_ties.proofs.SaidTies.{block_said}
 use Rattle.xet_ties.proofs.ServedChunks.{chunks_heard}
@@ -146,13 +146,11 @@ whole_heard g b n es k sl a t lost none f = took_whole g b n es k sl a t lost f 
 entry_served : (g : Setup) (es : List Event) (xs : List Exchange) (x : Exchange) (rest : List Exchange) → xs ≡ x ∷ rest → (b n : RunTold) (stop : Stop) (sl : Slack) → sl.heard ≡ xs → Ties g b n es stop sl → (e : Served) → IsPlannedEntry es e → IsPlannedServed g xs e
 entry_served g es xs x rest is b n stop sl heard t e h =
     let said : FirstSaid g es (x ∷ rest) = subst (λ (l : List Exchange). FirstSaid g es l) (heard ∙ is) t.said in
-    let asked : HeardAsked g.file es sl.lost (x ∷ rest) = subst (λ (l : List Exchange). HeardAsked g.file es sl.lost l) (heard ∙ is) t.heard_asked in
     let s = block_said g es x rest e.plan e.index h.0 t.cuts t.numbers said.0 h.1 in
     subst (λ (l : List Exchange). IsPlannedServed g l e) (sym is)
     (record {
       of_plan = s.place;
       own = s.own;
-      numbered = numbered_at g es sl.lost (x ∷ rest) e.plan s.query_place s.place.query t.within t.cuts t.lost asked s.query_at s.numbered;
       is = h.2 ∙ ap (λ (k : ℕ). entry_of e.plan k h.0) (sym s.number) ∙ ap (λ (y : _). entry_of e.plan s.place.number y) (sym s.is);
     })
 

@@ -1,6 +1,6 @@
 -- What a history planned: the queries that cut the range, the answers that were said to them, and their terms in order.
-use Rattle.std.proofs.Common.{◌≡◌, ◌⊎◌, ℕ, zero, suc, ◌+◌, ◌-◌, ◌<◌, ◌≤◌, Bool, true, false, cond, List, [], ◌∷◌, ◌++◌, length, take, refl, sym, subst, ◌∙◌, ap, arith, inl, inr, ⊎_elim, Some, None}
-use Rattle.std.specs.Prelude.{All, filter, map, nat_lt, slice_get}
+use Rattle.std.proofs.Common.{◌≡◌, ◌⊎◌, ℕ, zero, suc, ◌+◌, ◌-◌, ◌<◌, ◌≤◌, Bool, true, false, cond, List, [], ◌∷◌, ◌++◌, length, take, refl, sym, subst, ◌∙◌, ap, arith, inl, inr, ⊎_elim, None}
+use Rattle.std.specs.Prelude.{All, filter, map, nat_lt}
 use Rattle.std.specs.List.{AllZip}
 use Rattle.std.proofs.lemmas.List.{append-nil}
 use Rattle.std.proofs.lemmas.List.Elements.{All-head, All-tail, All-weaker}
@@ -18,8 +18,8 @@ use Rattle.xet_run.specs.Allowed.{Adjoin, IsAllowed, IsAllowedHistory}
 use Rattle.xet_run.specs.Events.{Task, is_plan, last_of, plan_count, planned, tasks_in, tasks_of}
 use Rattle.xet_run.proofs.CallerLemmas.{ends, kept_along, planned-push}
 use Rattle.xet_history.specs.TrueHistory.{EndsEarly, SomeEndsEarly, planned_term, queries}
-use Rattle.xet_ties.specs.Cuts.{AdjoinFrom, AreParts, AskedCut, IsCut, IsNumbered, IsSaidPiece, Part, PassesTests, Planning, PlansAll, SaidTerm, SomeTellsEnd, StartsAt, answer_terms, has_some, part_end, queries_of, some_said, terms_said, under, ReachOn}
-use Rattle.xet_ties.specs.History.{EachAfter, IsNumberedNext, IsWithin, actual_range, asked_by, range_at, range_in}
+use Rattle.xet_ties.specs.Cuts.{AdjoinFrom, AreParts, AskedCut, IsCut, IsSaidPiece, Part, PassesTests, Planning, PlansAll, SaidTerm, SomeTellsEnd, answer_terms, has_some, part_end, queries_of, some_said, terms_said, under, ReachOn}
+use Rattle.xet_ties.specs.History.{EachAfter, IsNumberedNext, IsWithin, asked_by, range_at}
 use Rattle.xet_ties.specs.InCall.{EachExchange, Exchange, Look, answers_of, new_in}
 use Rattle.xet_ties.specs.Legal.{AsksSome, FirstPlansAll}
 use Rattle.xet_ties.specs.RunCalls.{IsFinished}
@@ -29,8 +29,6 @@ use Rattle.xet_ties.specs.Ties.{CutsRange, FirstAsked, FirstStarts, HeardAsked, 
 use Rattle.xet_run.specs.Events.{is_stale}
 use Rattle.xet_ties.proofs.AskTies.{none_terms}
 use Rattle.xet_ties.proofs.Asks.{AreIn, asked_cut, none_in}
-use Rattle.xet_ties.proofs.CutPlaces.{first_at}
-use Rattle.xet_ties.proofs.Numbers.{first_range, plan_at, reads_range}
 use Rattle.xet_ties.proofs.Telling.{count-more, count-same}
 use Rattle.xet_ties.proofs.Told.{answers_told, bare, if_some, told_new}
 use Rattle.std.proofs.lemmas.Bool.{cases_lt}
@@ -82,31 +80,6 @@ cut_of g es (q ∷ []) x rest within cuts l is =
     } in r)
     l.1
 cut_of g es (q ∷ r ∷ qs) x rest within cuts l is = absurd l
-
--- a plan's number by its query's place
-pub numbered_at : (g : Setup) (es : List Event) (lost : List Query) (xs : List Exchange) (p place : ℕ) (q : FileRange) → All IsWithin es → CutsRange g (queries es) → IsLost g es lost → HeardAsked g.file es lost xs → slice_get (queries es) place ≡ Some q → p ≡ place + 1
-    → IsNumbered g xs p q
-numbered_at g es lost [] p place q within cuts l is at number = absurd is
-numbered_at g es lost (x ∷ rest) p place q within cuts l is at number =
-    let c = cut_of g es lost x rest within cuts l is in
-    let less : place ≡ p - 1 = omega (arith, number) in
-    record {
-      cut = queries es ++ c.more;
-      is_cut = c.is_cut;
-      some = omega (arith, number);
-      at = ap (λ (i : ℕ). slice_get (queries es ++ c.more) i) (sym less) ∙ first_at (queries es) c.more place q at;
-    }
-
--- the plan that covers a range is of the query that starts where the range does
-pub starts_at : (g : Setup) (b n : RunTold) (es : List Event) (stop : Stop) (sl : Slack) (p : ℕ) (r : FileRange) → Ties g b n es stop sl → range_at es p ≡ r ∷ [] → StartsAt g sl.heard p r.start
-starts_at g b n es stop sl p r t h =
-    let range_of = λ (q : FileRange) (ts : List PlannedTerm) (bs : List PlannedBlock). actual_range q ts in
-    let v = plan_at range_of IsWithin p (range_in p) (reads_range p) es r t.numbers t.within (first_range es p r h) in
-    record {
-      query = v.query;
-      numbered = numbered_at g es sl.lost sl.heard p v.place v.query t.within t.cuts t.lost t.heard_asked v.at (let k = v.number in omega (arith, k));
-      starts = ap (λ (y : FileRange). y.start) v.is;
-    }
 
 -- ---- the answers to the queries of the events
 

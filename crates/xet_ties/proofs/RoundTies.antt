@@ -20,7 +20,7 @@ use Rattle.xet_ties.specs.Setup.{RunTold, Setup, most_lanes}
 use Rattle.xet_ties.specs.Ties.{EachLane, FirstLate, FirstUnfailed, Slack, Ties, all_of, has_one, is_one, is_pair, is_served, IsPlannedEntry, EachServed}
 use Rattle.xet_ties.specs.History.{block_at, fetches}
 use Rattle.xet_ties.specs.steps.Rounds.{AfterRound, calm_after, IsHeardData, IsHeardStep, IsPlanAsk, blocks_at, got_of}
-use Rattle.xet_ties.proofs.Heard.{asked_join, block_more, grew_join, join_match, step_join}
+use Rattle.xet_ties.proofs.Heard.{block_more, grew_join, join_match, step_join}
 use Rattle.xet_ties.proofs.ClientMoves.{tie_join}
 use Rattle.xet_ties.proofs.BytesLasts.{last_join}
 use Rattle.xet_ties.proofs.Requests.{all_lates}
@@ -250,7 +250,6 @@ round_tied g b at es sl fs ns ls d new fresh waits none_h none_l asks may asked 
     let after : AfterRound b.clients at.clients es fs ls sl to = record {
       grew = grew_join (lanes_entries j.keys j.hidden) j.said sl.heard match;
       step = step_join (lanes_entries j.keys j.hidden) j.said sl.heard match;
-      asked = asked_join (lanes_entries j.keys j.hidden) j.said sl.heard match;
       found = j.found sl.heard (are_paired b.clients at.clients sl.heard t.heard);
       failed = each_failed fs at.clients ns d.drawn ls sl.heard d.each (are_paired b.clients at.clients sl.heard t.heard);
       hides = each_hides fs at.clients ns d.drawn ls d.each;

@@ -26,7 +26,6 @@ use Rattle.xet_fetch.specs.Refreshes.{plan_extents, refusal_of}
 use Rattle.xet_run.specs.declared.event.PlannedBlock.{PlannedBlock}
 use Rattle.xet_run.specs.declared.event.PlannedTerm.{PlannedTerm}
 use Rattle.xet_ties.specs.Causes.{BlockFailsIn, SomeFailed, TermFailsIn}
-use Rattle.xet_ties.specs.Cuts.{StartsAt}
 use Rattle.xet_ties.specs.History.{entry_of}
 use Rattle.xet_ties.specs.InCall.{Exchange, SomeOne}
 use Rattle.xet_ties.specs.Lanes.{Ask, BytesFail, IsFor}
@@ -62,11 +61,11 @@ step_fails g xs place b x h more a k same own block number t =
       fails = subst (λ (y : XorbBlock). failed_check y t.given ≡ Some k) (sym block) t.fails;
     }
 
-pub block_fails : (g : Setup) (xs : List Exchange) (k : Corruption) (place : BlockOfPlan g xs) (p : ℕ) → p ≡ place.accepted.said.number → StartsAt g xs p place.query.start → SomeOne (BlockFailsIn g xs place p k) xs → SomeFailed g xs k
-block_fails g xs k place p own s h = inr (inr (inl (record { place = place; number = p; own = own; numbered = s; bytes = h })))
+pub block_fails : (g : Setup) (xs : List Exchange) (k : Corruption) (place : BlockOfPlan g xs) (p : ℕ) → p ≡ place.accepted.said.number → SomeOne (BlockFailsIn g xs place p k) xs → SomeFailed g xs k
+block_fails g xs k place p own h = inr (inr (inl (record { place = place; number = p; own = own; bytes = h })))
 
-pub term_fails : (g : Setup) (xs : List Exchange) (k : Corruption) (place : TermOfPlan g xs) (p : ℕ) → p ≡ place.place.accepted.said.number → StartsAt g xs p place.place.query.start → SomeOne (TermFailsIn g xs place p k) xs → SomeFailed g xs k
-term_fails g xs k place p own s h = inr (inr (inr (record { place = place; number = p; own = own; numbered = s; bytes = h })))
+pub term_fails : (g : Setup) (xs : List Exchange) (k : Corruption) (place : TermOfPlan g xs) (p : ℕ) → p ≡ place.place.accepted.said.number → SomeOne (TermFailsIn g xs place p k) xs → SomeFailed g xs k
+term_fails g xs k place p own h = inr (inr (inr (record { place = place; number = p; own = own; bytes = h })))
 
 plan_tested : (g : Setup) (xs : List Exchange) (n : ℕ) (p : Plan) (q : FileRange) (id : UniqueId) (k : Corruption) (o : Option Corruption) → g.range.start ≤ q.start → q.end ≤ g.range.end → IsCutAnswer g.file xs n q (Found p) → 0 < length p.terms → failed_test (shape p) q g.multirange ≡ o
     → FromTested p (plan_query g q id) o (Err (error.CorruptedReconstruction k)) → SomeFailed g xs k

@@ -70,15 +70,12 @@ listed_at f n zero (c ∷ bs) b h =
     ap (λ (y : PlanBlock). Some (f (n, y))) same ∙ ap (λ (i : ℕ). Some (f (i, b))) z
 listed_at f n (suc k) (c ∷ bs) b h = let z : (n + 1) + k ≡ n + suc k = omega arith in listed_at f (n + 1) k bs b h ∙ ap (λ (i : ℕ). Some (f (i, b))) z
 
--- a planned block is a block of a plan that was said and passes its tests, and the plan's number is its query's place
+-- a planned block is a block of a plan that was said and passes its tests, under the plan's own number
 pub record SaidBlock (g : Setup) (xs : List Exchange) (es : List Event) (p k : ℕ) (pb : PlannedBlock) : Type 0 where
   pub place : BlockOfPlan g xs
   pub own : p ≡ place.accepted.said.number
   pub number : place.number ≡ k
   pub is : planned_of place.block ≡ pb
-  pub query_place : ℕ
-  pub query_at : slice_get (queries es) query_place ≡ Some place.query
-  pub numbered : p ≡ query_place + 1
 
 pub at_block : (bs : List PlannedBlock) (k : ℕ) (pb : PlannedBlock) → flat_map (λ (l : List PlannedBlock). option_to_list (slice_get l k)) (option_to_list (Some bs)) ≡ pb ∷ [] → slice_get bs k ≡ Some pb
 at_block bs k pb h = go (slice_get bs k) refl
@@ -107,7 +104,7 @@ block_said g es x xs p k pb cuts numbers a h = by (first_some (map (blocks_in p)
         let b : XorbBlock = xorb_block (shape plan) g.multirange (0 + k, listed.0) in
         let accepted : IsPlanAccepted g (x ∷ xs) plan v.query = record { said = record { number = p; answer = s; some = e.some; from = lies.0; to = lies.1 }; passes = e.passes } in
         let place : BlockOfPlan g (x ∷ xs) = record { plan = plan; query = v.query; accepted = accepted; number = k; block = b; numbered = listed_at (xorb_block (shape plan) g.multirange) 0 k (blocks_of (shape plan) g.multirange) listed.0 listed.1 } in
-        record { place = place; own = refl; number = refl; is = listed.2; query_place = v.place; query_at = v.at; numbered = (let n = v.number in omega (arith, n)) })
+        record { place = place; own = refl; number = refl; is = listed.2 })
         m
 
     none : of None ≡ pb ∷ [] → ⊥

@@ -23,7 +23,6 @@ use Rattle.xet_blocks.specs.Extracts.{failed_term_test}
 use Rattle.xet_blocks.specs.PlanChecks.{failed_test}
 use Rattle.xet_blocks.specs.TermBlocks.{covered}
 use Rattle.xet_fetch.specs.Refreshes.{plan_extents, refusal_of}
-use Rattle.xet_ties.specs.Cuts.{StartsAt}
 use Rattle.xet_ties.specs.InCall.{AllBelow, Exchange, SomeOne, answers_of, expired_said, new_in}
 use Rattle.xet_ties.specs.Saids.{AllPassed, BlockOfPlan, EntryPassed, IsBlockAnswer, IsPlanAccepted, IsPlanSaid}
 use Rattle.xet_ties.specs.Saids.{IsQueryAnswer, ServedPassed, TermOfPlan}
@@ -118,7 +117,6 @@ pub record BlockFails (g : Setup) (xs : List Exchange) (k : Corruption) : Type 0
   pub place : BlockOfPlan g xs
   pub number : ℕ
   pub own : number ≡ place.accepted.said.number
-  pub numbered : StartsAt g xs number place.query.start
   pub bytes : SomeOne (BlockFailsIn g xs place number k) xs
 
 -- in bytes that a connection said in answer to a block's own request, and that pass its tests, a term fails this test
@@ -134,7 +132,6 @@ pub record TermFails (g : Setup) (xs : List Exchange) (k : Corruption) : Type 0 
   pub place : TermOfPlan g xs
   pub number : ℕ
   pub own : number ≡ place.place.accepted.said.number
-  pub numbered : StartsAt g xs number place.place.query.start
   pub bytes : SomeOne (TermFailsIn g xs place number k) xs
 
 -- one of the answers failed this test, the first that it fails

@@ -1,6 +1,6 @@
 -- The queries that cut a range among those that were asked, the answers to them, and the terms of these.
 use Rattle.std.specs.Prelude.{ℕ, ◌≡◌, ◌⊎◌, ◌+◌, ◌-◌, ◌<◌, ◌≤◌, Bool, List, [], ◌∷◌, ◌++◌, length, map, filter, nat_lt}
-use Rattle.std.specs.Prelude.{Contains, Some, None, slice_get}
+use Rattle.std.specs.Prelude.{Contains, None}
 use Rattle.xet_base.specs.declared.cas_types.FileRange.{FileRange}
 use Rattle.xet_outside.specs.Plan.{shape}
 use Rattle.xet_outside.specs.Told.{Query}
@@ -39,21 +39,6 @@ FirstCut (x ∷ xs) cut = AskedCut [] x.asked cut
 pub record IsCut (g : Setup) (xs : List Exchange) (cut : List FileRange) : Type 0 where
   pub cuts : CutsRange g cut
   pub asked : FirstCut xs cut
-
--- ---- a plan's number
-
--- the plan of this number is that of this query: its place among the queries that cut the range, from 1
-pub record IsNumbered (g : Setup) (xs : List Exchange) (number : ℕ) (q : FileRange) : Type 0 where
-  pub cut : List FileRange
-  pub is_cut : IsCut g xs cut
-  pub some : 0 < number
-  pub at : slice_get cut (number - 1) ≡ Some q
-
--- that query starts here; no two of the cut start at one place
-pub record StartsAt (g : Setup) (xs : List Exchange) (number start : ℕ) : Type 0 where
-  pub query : FileRange
-  pub numbered : IsNumbered g xs number query
-  pub starts : query.start ≡ start
 
 -- ---- the answers to the cut
 

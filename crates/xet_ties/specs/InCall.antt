@@ -80,13 +80,6 @@ EachGrew (x ∷ xs) (y ∷ ys) = ExchangeGrew x y × EachGrew xs ys
 abbrev pub served_of_all : List Exchange → List Served
 served_of_all xs = flat_map (λ x. x.served) xs
 
--- no connection was asked anything more
-abbrev pub EachAskedAs : List Exchange → List Exchange → Type 0
-EachAskedAs [] [] = Unit {0}
-EachAskedAs [] (y ∷ ys) = ⊥
-EachAskedAs (x ∷ xs) [] = ⊥
-EachAskedAs (x ∷ xs) (y ∷ ys) = (y.asked ≡ x.asked) × EachAskedAs xs ys
-
 -- ---- of connections that tell
 
 -- what was added to a list, where it is told before and after

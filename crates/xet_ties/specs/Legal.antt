@@ -15,7 +15,7 @@ use Rattle.xet_error.specs.declared.error.FileReconstructionError.TheVariants as
 use Rattle.xet_error.specs.declared.error.Setting.{Setting}
 use Rattle.xet_blocks.specs.ServedChunks.{AllServed}
 use Rattle.xet_ties.specs.Causes.{Cause, expired_answers, failing_setting, late_answers}
-use Rattle.xet_ties.specs.Cuts.{AskedCut, IsNumbered, IsSaidPiece, Planning, PlansAll, some_said}
+use Rattle.xet_ties.specs.Cuts.{AskedCut, IsSaidPiece, Planning, PlansAll, some_said}
 use Rattle.xet_ties.specs.Gains.{GainedServed, OffersFew, one_range}
 use Rattle.xet_ties.specs.History.{entry_of}
 use Rattle.xet_ties.specs.InCall.{EachExchange, Exchange, Look, answers_of, expired_said, new_in, served_of_all}
@@ -139,7 +139,6 @@ ServedOnce es = (p k : ℕ) → count_by (is_pair p k) es ≤ 1
 pub record IsPlannedServed (g : Setup) (xs : List Exchange) (e : Served) : Type 0 where
   pub of_plan : BlockOfPlan g xs
   pub own : e.plan ≡ of_plan.accepted.said.number
-  pub numbered : IsNumbered g xs e.plan of_plan.query
   pub is : e ≡ entry_of e.plan of_plan.number (planned_of of_plan.block)
 
 -- so is each that was served

@@ -4,7 +4,6 @@ use Rattle.std.specs.Prelude.{All, IfSome, ◌⊎◌, ◌-◌, ◌==◌, false, 
 use Rattle.std.proofs.lemmas.Bool.{and_from, eq-eqb}
 use Rattle.std.specs.Option.{is_some}
 use Rattle.std.proofs.lemmas.Option.{slice_get-map}
-use Rattle.xet_base.specs.declared.cas_types.FileRange.{FileRange}
 use Rattle.xet_base.specs.declared.merklehash.MerkleHash.{MerkleHash}
 use Rattle.xet_base.specs.Store.{Store}
 use Rattle.xet_outside.specs.Answers.{AnswerTo}
@@ -18,18 +17,16 @@ use Rattle.xet_error.specs.declared.error.FileReconstructionError.TheVariants as
 use Rattle.xet_blocks.specs.declared.reconstruction_terms.xorb_block.XorbBlock.{XorbBlock}
 use Rattle.xet_blocks.specs.declared.reconstruction_terms.xorb_block.XorbBlockData.{XorbBlockData}
 use Rattle.xet_blocks.specs.BlockCalls.{failed_check}
-use Rattle.xet_blocks.specs.TermBlocks.{covered, xorb_blocks}
+use Rattle.xet_blocks.specs.TermBlocks.{xorb_blocks}
 use Rattle.xet_run.specs.declared.event.Event.{Event}
 use Rattle.xet_ties.specs.Causes.{BlockFailsIn, Cause, FirstFailed, IsBlockOrPassed, IsBlockTest, LaneFails, LowestRose, QueryFailed, SomeFailed}
-use Rattle.xet_ties.specs.Cuts.{AskedCut, FirstCut, StartsAt}
-use Rattle.xet_ties.specs.History.{range_at}
-use Rattle.xet_ties.specs.InCall.{AllBelow, answers_of, EachExchange, EachGrew, Exchange, SomeOne, EachAskedAs}
+use Rattle.xet_ties.specs.InCall.{AllBelow, answers_of, EachExchange, EachGrew, Exchange, SomeOne}
 use Rattle.xet_ties.specs.Lanes.{Ask, EachDrew, HoldsAsk, IsFor, bytes_of_ask, entries_of, error_faults}
 use Rattle.xet_ties.specs.Saids.{BlockOfPlan, EventPassed, ServedPassed}
 use Rattle.xet_ties.specs.Setup.{AllTell, IsOver, RunTold, Setup}
 use Rattle.xet_ties.specs.steps.Rounds.{AreLaneEnds, FailsAsk, IsLaneEnd, IsMissingAsk, LaneFailure, NoneBelow}
 use Rattle.xet_ties.specs.Ties.{EachServed, FirstAsked, FirstUnfailed, IsFaultless, Slack, Ties, is_pair}
-use Rattle.xet_ties.proofs.CallerLemmas.{accepted_more, below_passed, block_fails, fetch_entry, is_check, others_passed, rose_since, starts_at, tells_now}
+use Rattle.xet_ties.proofs.CallerLemmas.{accepted_more, below_passed, block_fails, fetch_entry, is_check, others_passed, rose_since, tells_now}
 use Rattle.xet_lanes.specs.Fetches.{error_at, last_error}
 use Rattle.xet_lanes.specs.Rounds.{End, steps_of}
 use Rattle.xet_lanes.proofs.CallerLemmas.{FailedLane}
@@ -183,39 +180,13 @@ some_at P [] i x e h = absurd (cc)
 some_at P (y ∷ xs) zero x e h = let same : y ≡ x = cc in inl (subst P (sym same) h)
 some_at P (y ∷ xs) (suc i) x e h = inr (some_at P xs i x e h)
 
--- a plan's number, where the first connection was asked the same
-first_cut : (xs ys : List Exchange) (cut : List FileRange) → EachAskedAs xs ys → FirstCut xs cut → FirstCut ys cut
-first_cut [] [] cut s c = c
-first_cut [] (y ∷ ys) cut s c = absurd s
-first_cut (x ∷ xs) [] cut s c = absurd s
-first_cut (x ∷ xs) (y ∷ ys) cut s c = subst (λ (qs : List Query). AskedCut [] qs cut) (sym s.0) c
-
-starts_more : (g : Setup) (xs ys : List Exchange) (p start : ℕ) → EachAskedAs xs ys → StartsAt g xs p start
-    → StartsAt g ys p start
-starts_more g xs ys p start s h =
-    let n = h.numbered in
-    record {
-      query = h.query;
-      numbered = record {
-        cut = n.cut;
-        is_cut = record {
-          cuts = n.is_cut.cuts;
-          asked = first_cut xs ys n.cut s n.is_cut.asked;
-        };
-        some = n.some;
-        at = n.at;
-      };
-      starts = h.starts;
-    }
-
 lane_failed : (g : Setup) (b : RunTold) (es : List Event) (sl : Slack) (l : Led) (a : Ask) (k : Corruption)
     (ys : List Exchange) (ns : List ClientTold) (i : ℕ) (x : Exchange) → slice_get ys i ≡ Some x → FailsAsk a k x
     → All (IsBlockOrPassed g ys a.request.acquisition.plan a.request.index) x.served
     → AllBelow (ServedPassed g ys) i ys → FirstUnfailed (suc i) b.clients ns → IsLed g b es sl [] l → IsOwnAsk es l a
-    → EachGrew sl.heard ys → EachAskedAs sl.heard ys
-    → ((p : ℕ) (r : FileRange) → range_at es p ≡ r ∷ [] → StartsAt g sl.heard p r.start)
+    → EachGrew sl.heard ys
     → SomeFailed g ys k × LaneFails g ys b.clients ns k
-lane_failed g b es sl l a k ys ns i x listed own others below unfailed led h grew asked starts =
+lane_failed g b es sl l a k ys ns i x listed own others below unfailed led h grew =
     let m = h.led in
     let kk = a.request.index in
     let q = plan_at (IsLedPlan g b es sl []) l.plans m.index m.plan m.at led.plans.each in
@@ -235,12 +206,6 @@ lane_failed g b es sl l a k ys ns i x listed own others below unfailed led h gre
           a.block;
       numbered = there ∙ ap Some same;
     } in
-    let range : range_at es a.request.acquisition.plan ≡ covered (shape q.plan) q.query ∷ [] =
-    ap (λ (n : ℕ). range_at es n) (sym m.number) ∙ q.recorded.at_range
-    ∙ ap (λ (r : FileRange). r ∷ []) q.table.range_is in
-    let number : StartsAt g ys a.request.acquisition.plan q.query.start =
-    starts_more g sl.heard ys a.request.acquisition.plan q.query.start asked
-    (starts a.request.acquisition.plan (covered (shape q.plan) q.query) range) in
     let p : ℕ = a.request.acquisition.plan in
     let next : suc i ≡ i + 1 = omega arith in
     let fails : (y : Exchange) → FailsAsk a k y → BlockFailsIn g ys place p k y = λ y f. record {
@@ -248,7 +213,7 @@ lane_failed g b es sl l a k ys ns i x listed own others below unfailed led h gre
       answer = subst (λ (e : Served). AnswerTo y.served y.said e f.given) (fetch_entry a h.own) f.answer;
       fails = f.fails;
     } in (
-      block_fails g ys k place p (sym m.number ∙ q.said_as) number
+      block_fails g ys k place p (sym m.number ∙ q.said_as)
           (some_at (BlockFailsIn g ys place p k) ys i x listed (fails x own)),
       record {
         lane = i;
@@ -304,33 +269,33 @@ own_pair a =
 pub lane_cause : (g : Setup) (b at : RunTold) (es : List Event) (sl : Slack) (ns : List ClientTold) (fs : List Ask)
     (drawn : List (List ℕ)) (ends : List End) (l : Led) (e : FileReconstructionError) (ys : List Exchange)
     (all : List Event) (hs : List (List Served)) → All (IsOwnAsk es l) fs → EachDrew fs at.clients ns drawn (steps_of ends) → (f : FailedLane ends e)
-    → EachGrew sl.heard ys → EachAskedAs sl.heard ys → EachExchange b.clients ns ys
+    → EachGrew sl.heard ys → EachExchange b.clients ns ys
     → AreLaneEnds fs at.clients ys hs (steps_of ends) → IsHeardJoin g all hs f.at e ys
     → (error_faults e ≡ false → FirstUnfailed (suc f.at) b.clients ns)
     → Ties g b at es None sl → IsLed g b es sl [] l → Cause g ys b (record at { clients = ns }) e
-lane_cause g b at es sl ns fs drawn ends l error.OutOfMemory ys all hs own d f grew asked each failed join calm t led = tt
-lane_cause g b at es sl ns fs drawn ends l error.ClientError ys all hs own d f grew asked each failed join calm t led =
+lane_cause g b at es sl ns fs drawn ends l error.OutOfMemory ys all hs own d f grew each failed join calm t led = tt
+lane_cause g b at es sl ns fs drawn ends l error.ClientError ys all hs own d f grew each failed join calm t led =
     let Q = ServedPassed g ys in
     rose_since Q es 0 b.clients at.clients ns sl.hidden sl.late ys t.served.lanes
     (lane_rose Q fs at.clients ns drawn ends f.at f.end ys d f.there f.error
     (below_passed g all ys (suc f.at) 0 ys hs (join.upto refl) join.served join.passed))
-lane_cause g b at es sl ns fs drawn ends l error.FileNotFound ys all hs own d f grew asked each failed join calm t led =
+lane_cause g b at es sl ns fs drawn ends l error.FileNotFound ys all hs own d f grew each failed join calm t led =
     absurd (lane_fails (IsOwnAsk es l) fs at.clients ns drawn ends f.at f.end error.FileNotFound own d f.there
     f.error).last.cause
-lane_cause g b at es sl ns fs drawn ends l error.UrlExpired ys all hs own d f grew asked each failed join calm t led =
+lane_cause g b at es sl ns fs drawn ends l error.UrlExpired ys all hs own d f grew each failed join calm t led =
     absurd (lane_fails (IsOwnAsk es l) fs at.clients ns drawn ends f.at f.end error.UrlExpired own d f.there
     f.error).last.cause
-lane_cause g b at es sl ns fs drawn ends l error.IoError ys all hs own d f grew asked each failed join calm t led =
+lane_cause g b at es sl ns fs drawn ends l error.IoError ys all hs own d f grew each failed join calm t led =
     absurd (lane_fails (IsOwnAsk es l) fs at.clients ns drawn ends f.at f.end error.IoError own d f.there
     f.error).last.cause
-lane_cause g b at es sl ns fs drawn ends l (error.CorruptedReconstruction k) ys all hs own d f grew asked each failed join calm t led =
+lane_cause g b at es sl ns fs drawn ends l (error.CorruptedReconstruction k) ys all hs own d f grew each failed join calm t led =
     let r = lowest_failure fs at.clients ys hs ends f.at f.end k failed f.there f.error in
     let holds = ask_at (IsOwnAsk es l) fs r.number r.ask own r.at in
     let others = others_passed g all ys r.ask.request.acquisition.plan r.ask.request.index (served_of r.ask.request)
     f.at 0 ys hs r.exchange r.hidden r.there r.hidden_at r.hides (own_pair r.ask) join.served join.passed in
     let below = below_passed g all ys f.at 0 ys hs join.below join.served join.passed in
     let fails = lane_failed g b es sl l r.ask k ys ns f.at r.exchange r.there r.own others below (calm refl) led
-    holds grew asked (λ p q h. starts_at g b at es None sl p q t h) in
+    holds grew in
     record {
       untrue = λ s over.
           let honest = honest_ask g b es sl l r.ask s led over holds.led in
@@ -341,13 +306,13 @@ lane_cause g b at es sl ns fs drawn ends l (error.CorruptedReconstruction k) ys 
           (is_check k r.ask.block r.own.given r.own.fails);
       order = inr fails.1;
     }
-lane_cause g b at es sl ns fs drawn ends l (error.ConfigurationError e) ys all hs own d f grew asked each failed join calm t led =
+lane_cause g b at es sl ns fs drawn ends l (error.ConfigurationError e) ys all hs own d f grew each failed join calm t led =
     absurd (lane_fails (IsOwnAsk es l) fs at.clients ns drawn ends f.at f.end
     (error.ConfigurationError e) own d f.there f.error).last.cause
-lane_cause g b at es sl ns fs drawn ends l error.Cancelled ys all hs own d f grew asked each failed join calm t led =
+lane_cause g b at es sl ns fs drawn ends l error.Cancelled ys all hs own d f grew each failed join calm t led =
     absurd (lane_fails (IsOwnAsk es l) fs at.clients ns drawn ends f.at f.end error.Cancelled own d f.there
     f.error).last.cause
-lane_cause g b at es sl ns fs drawn ends l (error.InternalWriterError w) ys all hs own d f grew asked each failed join calm t led =
+lane_cause g b at es sl ns fs drawn ends l (error.InternalWriterError w) ys all hs own d f grew each failed join calm t led =
     absurd (lane_fails (IsOwnAsk es l) fs at.clients ns drawn ends f.at f.end
     (error.InternalWriterError w) own d f.there f.error).last.cause
 

@@ -172,7 +172,7 @@ lane_stops g b at es sl ns fs ends l e new k asks d r t led calm m j f same quie
           (never_calm g es l at.clients ns fs d.drew.drawn ends e own d.drew.each f);
       cause = subst (λ (xs : List Exchange). Cause g xs b (record at { clients = ns }) e) (sym j.heard)
           (lane_cause g b at es sl ns fs d.drew.drawn ends l e r.slack.heard (es ++ lanes_events (steps_of ends))
-          r.slack.hidden own d.drew.each f r.after.grew r.after.asked r.ties.heard r.after.failed join (λ h. upto_unfailed fs b.clients at.clients ns d.drew.drawn
+          r.slack.hidden own d.drew.each f r.after.grew r.ties.heard r.after.failed join (λ h. upto_unfailed fs b.clients at.clients ns d.drew.drawn
           ends f.at f.end e d.drew.each (subst (λ (i : ℕ). FirstUnfailed i b.clients at.clients) calm t.unfailed)
           d.last f.below f.there f.error h) t led);
       unfailed = any_unfailed b.sink.faults at.sink.faults e same;

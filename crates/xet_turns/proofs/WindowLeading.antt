@@ -4,9 +4,6 @@ use Rattle.std.specs.Prelude.{All, filter, map, slice_get}
 use Rattle.std.specs.List.{AllZip}
 use Rattle.std.proofs.lemmas.List.{map-append, take-append-drop}
 use Rattle.std.proofs.lemmas.List.Elements.{All-drop, All-take}
-use Rattle.xet_base.specs.declared.cas_types.FileRange.{FileRange}
-use Rattle.xet_outside.specs.Plan.{shape}
-use Rattle.xet_blocks.specs.TermBlocks.{covered}
 use Rattle.xet_error.specs.declared.error.Corruption.{Corruption}
 use Rattle.xet_error.specs.declared.error.FileReconstructionError.{FileReconstructionError}
 use Rattle.xet_error.specs.declared.error.FileReconstructionError.TheVariants as error
@@ -14,11 +11,10 @@ use Rattle.xet_run.specs.Events.{Task, is_kept, planned}
 use Rattle.xet_history.specs.TrueHistory.{task_piece}
 use Rattle.xet_writers.specs.Sequential.{Sequential}
 use Rattle.xet_ties.specs.Causes.{Cause}
-use Rattle.xet_ties.specs.Cuts.{StartsAt}
 use Rattle.xet_ties.specs.Saids.{IsTaskPiece, has_bytes}
 use Rattle.xet_ties.specs.Setup.{RunTold, Setup}
 use Rattle.xet_ties.specs.Ties.{MayLeave, NoneLate, all_of}
-use Rattle.xet_ties.proofs.CallerLemmas.{corrupted as is_corrupted, none_hidden, none_late, starts_at, steady_leaves, term_fails}
+use Rattle.xet_ties.proofs.CallerLemmas.{corrupted as is_corrupted, none_hidden, none_late, steady_leaves, term_fails}
 use Rattle.xet_leader.specs.Led.{Led}
 use Rattle.xet_turns.specs.RunWindows.{WindowGoes, WindowLeads, task_of}
 use Rattle.xet_leader.specs.Steady.{IsFailing, IsGoing, Loose, Moment}
@@ -131,14 +127,6 @@ module _ (g : Setup) (b : RunTold) (m : Moment) (o : Loose) (l : Led) (s : IsGoi
       (none_late b.clients) in
       steady_leaves b.clients e s.slack hidden late s.settled.ahead (λ v. s.settled.calm)
 
-  -- a plan's number is that of its query
-  numbered : {t : PlanTerm} → (led : IsLedTerm g b m.events s.slack o.stale t)
-      → StartsAt g s.slack.heard t.plan.number led.plan_is.query.start
-  numbered {t} led =
-      starts_at g b m.told m.events None s.slack t.plan.number
-      (covered (shape led.plan_is.plan) led.plan_is.query) s.ties
-      (led.plan_is.recorded.at_range ∙ ap (λ (r : FileRange). r ∷ []) led.plan_is.table.range_is)
-
   corrupted : (k : Corruption) → OneFails (open_led l) k → IsFailing g b m (error.CorruptedReconstruction k)
   corrupted k f =
       let led = term_at g b m.events s.slack o.stale (open_led l) f.place f.term opened_led f.there in
@@ -153,7 +141,7 @@ module _ (g : Setup) (b : RunTold) (m : Moment) (o : Loose) (l : Led) (s : IsGoi
             (sound_passes g b m.events s.slack o.stale f.term led x.data_of x.kept st over) ∙ x.fails in
             absurd (cc))
             (term_fails g s.slack.heard k (of_a_plan g b m.events s.slack o.stale f.term led x.data_of x.kept)
-            f.term.plan.number led.plan_is.said_as (numbered led)
+            f.term.plan.number led.plan_is.said_as
             (fails_said g b m.events s.slack o.stale f.term led x.data_of x.kept k x.fails));
         unfailed = s.unfailed;
         spent = λ h. absurd (let z : error.CorruptedReconstruction k ≡ error.UrlExpired = h in cc);

@@ -17,7 +17,7 @@ use Rattle.xet_run.specs.declared.event.Event.{Event}
 use Rattle.xet_run.specs.declared.event.PlannedBlock.{PlannedBlock}
 use Rattle.xet_run.specs.Allowed.{IsMissing}
 use Rattle.xet_ties.specs.History.{block_at}
-use Rattle.xet_ties.specs.InCall.{EachAskedAs, EachGrew, Exchange, SomeOne}
+use Rattle.xet_ties.specs.InCall.{EachGrew, Exchange, SomeOne}
 use Rattle.xet_ties.specs.Lanes.{Ask, HidesNone, HoldsAsk, IsFor, any_faults, bytes_of_ask}
 use Rattle.xet_ties.specs.Saids.{BlockOfPlan, InStep, IsServedData}
 use Rattle.xet_ties.specs.Setup.{AllTell, Setup}
@@ -129,7 +129,6 @@ pub record AfterRound (bs ms : List ClientTold) (es : List Event) (fs : List Ask
   -- the lanes' answers were heard, each query still has its answer
   pub grew : EachGrew sl.heard to.heard
   pub step : InStep sl.heard → InStep to.heard
-  pub asked : EachAskedAs sl.heard to.heard
   -- where each fetch asks for its own block, the data of Served steps was heard; and of each failed test the bytes
   pub found : All IsFor fs → All (λ ss. All (IsHeardStep fs ms to.heard) ss) ls
   pub failed : AreLaneEnds fs ms to.heard to.hidden ls
