@@ -100,11 +100,6 @@ module _ (g : Setup) (b n : RunTold) (at : SinkTold) (flushed : Option ℕ) (fau
     asked = l.asked;
     all_asked = l.all_asked;
     refreshed = l.refreshed;
-    renewed = l.renewed;
-    all_renewed = l.all_renewed;
-    followed = l.followed;
-    bytes_last = l.bytes_last;
-    behind = l.behind;
     counted = l.counted;
     late = l.late;
     under = l.under;

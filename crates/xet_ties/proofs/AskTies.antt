@@ -44,11 +44,9 @@ use Rattle.xet_ties.specs.Setup.{AllTell, RunTold, Setup}
 use Rattle.xet_ties.specs.steps.Moves.{QueryStep, heard_first}
 use Rattle.xet_ties.specs.steps.Parts.{blocks_of_answer, plan_event, plan_query, plan_refresh, terms_in}
 use Rattle.xet_ties.specs.Ties.{CutsRange, EachLane, FirstStarts, HeardAsked, IsLost, Slack, Ties, IsNextQuery}
-use Rattle.xet_ties.proofs.Orders.{first_clear}
 use Rattle.xet_ties.proofs.ClientMoves.{first_unfailed, tie_planned, tie_query}
 use Rattle.xet_ties.proofs.Heard.{FirstEvent, step_query}
 use Rattle.xet_ties.proofs.NextPlaces.{asked_own}
-use Rattle.xet_ties.proofs.OwnQueries.{refresh_answered}
 use Rattle.xet_ties.proofs.PastEnds.{past_none}
 use Rattle.xet_ties.proofs.Pushes.{starts_more}
 use Rattle.xet_ties.proofs.Recording.{tie_refreshed}
@@ -236,6 +234,6 @@ refresh_ties g b at es fs sl p r us c n cs is may new recorded none step at_rang
     (renewed_refreshed g pl q (Found new.plan) sl.heard accepted step passes) in
     let told = tie_query g b (record at { clients = c ∷ cs }) es sl (n ∷ cs) qs all (asked, refl) (subst (λ (l : List Query). IsLost g es l) (sym lost) (refl, inr (p, at_range, stale))) sl.calm (first_unfailed sl.calm b.clients c n cs new.answered.unfailed first.unfailed) first in (
       subst (λ (v : List Event). Ties g b (record at { clients = n ∷ cs }) v None (record sl { heard = heard; lost = [] })) (sym recorded)
-          (tie_refreshed g b (record at { clients = n ∷ cs }) es (record sl { heard = heard; lost = sl.lost ++ qs }) p r.range at_range lost (λ w. renews (subst (λ (l : List Query). FirstRenewed g l heard) lost w)) (first_clear p qs (Found new.plan) sl.heard (refresh_answered g es p r.range sl.heard t.numbers step at_range t.said)) told),
+          (tie_refreshed g b (record at { clients = n ∷ cs }) es (record sl { heard = heard; lost = sl.lost ++ qs }) p r.range at_range lost (λ w. renews (subst (λ (l : List Query). FirstRenewed g l heard) lost w)) told),
       step_query qs all sl.heard refl step,
     )

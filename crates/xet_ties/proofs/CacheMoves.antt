@@ -35,7 +35,6 @@ use Rattle.xet_ties.proofs.Heard.{grew_none, said_push, tested_grew}
 use Rattle.xet_ties.proofs.Gains.{gained_put, gained_same}
 use Rattle.xet_ties.proofs.EarlyEnds.{ends_same}
 use Rattle.xet_ties.proofs.HeardServed.{heard_served_same}
-use Rattle.xet_ties.proofs.Orders.{first_late_push}
 
 range_eq-true : (a b : ChunkRange) → range_eq a b ≡ true → a ≡ b
 range_eq-true a b h =
@@ -127,10 +126,6 @@ tie_missed g b n es sl to x r given l miss t = record {
   served = t.served;
   expired = t.expired;
   late_planned = t.late_planned;
-  in_order = t.in_order;
-  bytes_last = t.bytes_last;
-  behind = t.behind;
-  first_late = t.first_late;
   heard_served = t.heard_served;
   unfailed = t.unfailed;
   asked = t.asked;
@@ -188,10 +183,6 @@ tie_cached g b n es sl to p k x r entry l at t =
       served = served_same es e sl.hidden sl.late b.clients n.clients (λ l. refl) (λ l. refl) (λ p k. refl) (λ m. tt) (open_same es e (λ p k. refl)) t.served;
       expired = expired_same es e 0 sl.heard sl.late (λ l w. refl) t.expired;
       late_planned = late_push es e sl.heard t.late_planned;
-      in_order = t.in_order;
-      bytes_last = t.bytes_last;
-      behind = t.behind;
-      first_late = first_late_push es e sl.lost sl.late sl.heard (λ p k. refl) t.first_late;
       heard_served = heard_served_same es e 0 sl.heard sl.hidden (λ l w. refl) t.heard_served;
       unfailed = t.unfailed;
       asked = first_push g.file es e sl.lost sl.lost b.clients n.clients refl t.asked;
@@ -250,10 +241,6 @@ tie_put g b n es sl to due p d t = record {
   served = t.served;
   expired = t.expired;
   late_planned = t.late_planned;
-  in_order = t.in_order;
-  bytes_last = t.bytes_last;
-  behind = t.behind;
-  first_late = t.first_late;
   heard_served = t.heard_served;
   unfailed = t.unfailed;
   asked = t.asked;

@@ -18,7 +18,7 @@ use Rattle.xet_base.specs.declared.merklehash.MerkleHash.{MerkleHash}
 use Rattle.xet_ties.specs.History.{IsNumberedNext, IsOneCached, IsRenewed, asked_by, served_by, fetches, is_expired, IsWithin}
 use Rattle.xet_ties.specs.steps.Moves.{EachJoined, FirstQuery, JoinStep, QueryStep, no_hidden, no_late, heard_first, heard_join}
 use Rattle.xet_ties.specs.Setup.{AllTell, ClientGoesOn, IsOver, RunTold, Setup, download_of, most_lanes}
-use Rattle.xet_ties.specs.Ties.{EachBytesLast, EachUnasked, FirstLate, FirstUnfailed, NoneLate, all_late, all_of, at_place, is_one, is_pair, is_served, EachLane, FirstAsked, FirstStarts, IsLane, Slack, Ties, IsLost, IsPlannedEntry, IsNextQuery, EachServed, lates_of, IsLooked}
+use Rattle.xet_ties.specs.Ties.{EachUnasked, FirstUnfailed, NoneLate, all_late, all_of, at_place, is_one, is_pair, is_served, EachLane, FirstAsked, FirstStarts, IsLane, Slack, Ties, IsLost, IsPlannedEntry, IsNextQuery, EachServed, lates_of, IsLooked}
 use Rattle.xet_ties.proofs.Lanes.{open_same, served_same}
 use Rattle.xet_ties.specs.InCall.{Place}
 use Rattle.xet_ties.proofs.Gains.{gained_more}
@@ -33,10 +33,7 @@ use Rattle.xet_ties.proofs.CacheMoves.{taken_heard}
 use Rattle.xet_ties.proofs.Renewed.{renewed_join, renewed_query}
 use Rattle.xet_ties.proofs.Heard.{FirstEvent, exchange_join, exchange_query, grew_first, grew_join, join_match, passed_more, said_join, said_planned, said_query}
 use Rattle.xet_ties.proofs.EarlyEnds.{ends_push}
-use Rattle.xet_ties.proofs.BytesLasts.{last_query}
-use Rattle.xet_ties.proofs.PlansFirst.{behind_join, behind_query}
 use Rattle.xet_ties.proofs.Requests.{all_lates, lates_join, lates_query}
-use Rattle.xet_ties.proofs.Orders.{FirstJoined, first_late_join, first_late_push, first_late_query, first_late_recorded, in_order_join, in_order_query, in_order_recorded}
 use Rattle.xet_ties.proofs.HeardServed.{heard_served_same, heard_served_join, heard_served_query}
 
 -- ---- queries of the first connection
@@ -114,10 +111,6 @@ tie_query g b n es sl to qs all s l calm unfailed t = record {
   served = record { lanes = lanes_query es qs all b.clients n.clients to sl.hidden sl.late s t.served.lanes; once = t.served.once; planned = t.served.planned; on_lanes = t.served.on_lanes; past = past_query b.clients n.clients to qs all s t.served.past };
   expired = expired_query es qs all sl.heard sl.late (first_late n.clients to qs all s) t.expired;
   late_planned = late_query es qs all sl.heard (first_late n.clients to qs all s) t.late_planned;
-  bytes_last = last_query b.clients n.clients qs all sl.heard (first_late n.clients to qs all s) t.heard t.bytes_last;
-  behind = behind_query b.clients n.clients qs all sl.heard (first_late n.clients to qs all s) t.heard t.behind;
-  in_order = in_order_query b.clients n.clients sl.lost qs all sl.heard (first_late n.clients to qs all s) t.heard t.in_order;
-  first_late = first_late_query es sl.lost sl.late qs all sl.heard (first_late n.clients to qs all s) t.first_late;
   heard_served = heard_served_query es qs all sl.heard sl.hidden t.heard_served;
   unfailed = unfailed;
   asked = asked_query g.file es qs all sl.lost b.clients n.clients to s t.asked;
@@ -159,10 +152,6 @@ tie_planned g b n es sl spare plan query terms blocks lost polls next within sta
       served = served_same es e sl.hidden sl.late b.clients n.clients (λ l. refl) (λ l. refl) (λ p k. refl) (λ m. tt) (open_same es e (λ p k. refl)) t.served;
       expired = expired_same es e 0 sl.heard sl.late (λ l w. refl) t.expired;
       late_planned = late_push es e sl.heard t.late_planned;
-      bytes_last = t.bytes_last;
-      behind = t.behind;
-      in_order = in_order_recorded sl.lost ((g.file, query) ∷ []) [] sl.heard lost t.in_order;
-      first_late = first_late_push es e [] sl.late sl.heard (λ p k. refl) (first_late_recorded es sl.lost ((g.file, query) ∷ []) [] sl.late sl.heard lost t.first_late);
       heard_served = heard_served_same es e 0 sl.heard sl.hidden (λ l w. refl) t.heard_served;
       unfailed = t.unfailed;
       asked = first_push g.file es e sl.lost [] b.clients n.clients lost t.asked;
@@ -235,9 +224,9 @@ asked_join f es lost (b ∷ bs) (m ∷ ms) (n ∷ ns) (h ∷ hs) (a ∷ alls) (k
 pub tie_join : (g : Setup) (b n : RunTold) (es : List Event) (sl : Slack) (to : List ClientTold) (hs : List (List Served)) (alls : List (List Said)) (ks : List (List Place)) → EachJoined n.clients to hs alls ks
     → ((p k : ℕ) → (count_by (fetches p k) es + count_by (is_pair p k) (all_of hs)) + count_by (at_place p k) (all_late ks) ≤ cond (is_expired es p k) 0 1)
     → ((p k : ℕ) → count_by (expires p k) es + count_by (at_place p k) (all_late ks) ≤ g.tries) → All (IsPlannedEntry es) (all_of hs) → All (λ all. All (IsPlannedEntry es) (late_in all)) alls → drop most_lanes to ≡ drop most_lanes n.clients → sl.hidden ≡ no_hidden b.clients → sl.late ≡ no_late b.clients
-    → ((x : MerkleHash) (r : ChunkRange) → count_by (is_served x r) (all_of hs) + count_by (is_served x r) (all_lates alls) ≤ count_by (is_one x r) sl.pending) → FirstJoined sl.lost hs alls sl.heard → EachBytesLast (heard_join hs alls sl.heard) → (calm : ℕ) → FirstUnfailed calm b.clients to → Ties g b n es None sl
+    → ((x : MerkleHash) (r : ChunkRange) → count_by (is_served x r) (all_of hs) + count_by (is_served x r) (all_lates alls) ≤ count_by (is_one x r) sl.pending) → (calm : ℕ) → FirstUnfailed calm b.clients to → Ties g b n es None sl
     → Ties g b (record n { clients = to }) es None (record sl { heard = heard_join hs alls sl.heard; hidden = hs; late = ks; pending = []; calm = calm })
-tie_join g b n es sl to hs alls ks j once tried planned lates past no_h no_k waits joined last calm unfailed t =
+tie_join g b n es sl to hs alls ks j once tried planned lates past no_h no_k waits calm unfailed t =
     let match = join_match b.clients n.clients to hs alls ks sl.heard j t.heard in
     record {
       heard = exchange_join b.clients n.clients to hs alls ks sl.heard j t.heard;
@@ -257,10 +246,6 @@ tie_join g b n es sl to hs alls ks j once tried planned lates past no_h no_k wai
       };
       expired = expired_join es 0 hs alls ks sl.late sl.heard match (joined_late n.clients to hs alls ks j) (subst (λ (l : List (List Place)). NoneLate l) (sym no_k) (none_late b.clients)) t.expired;
       late_planned = late_join es hs alls sl.heard match lates t.late_planned;
-      bytes_last = last;
-      behind = behind_join g es hs alls b.clients n.clients sl.heard match t.heard t.cuts t.numbers t.said planned lates t.behind;
-      in_order = in_order_join b.clients n.clients sl.lost hs alls sl.heard t.heard joined t.in_order;
-      first_late = first_late_join es sl.lost hs alls ks b.clients n.clients sl.heard t.heard match (joined_late n.clients to hs alls ks j) (subst (λ (l : List (List Place)). FirstLate es sl.lost l sl.heard) no_k t.first_late);
       heard_served = heard_served_join es 0 hs alls b.clients sl.heard match (subst (λ (l : List (List Served)). EachServed es 0 sl.heard l) no_h t.heard_served);
       unfailed = unfailed;
       asked = asked_join g.file es sl.lost b.clients n.clients to hs alls ks j t.asked;

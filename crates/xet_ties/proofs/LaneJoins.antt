@@ -19,7 +19,6 @@ use Rattle.xet_ties.specs.InCall.{Exchange, place_of}
 use Rattle.xet_ties.proofs.Requests.{all_lates}
 use Rattle.xet_ties.proofs.Telling.{count-append}
 use Rattle.xet_ties.proofs.LowestLanes.{lane_failed}
-use Rattle.xet_ties.proofs.Orders.{FirstCounts}
 use Rattle.xet_ties.proofs.RoundData.{ArePaired, lanes_more}
 use Rattle.xet_ties.specs.Ties.{all_of, is_pair, is_served}
 use Rattle.xet_ties.specs.declared.lane_step.LaneStep.TheVariants as step
@@ -535,40 +534,6 @@ each_hides fs bs ns (d ∷ ds) [] e = absurd e
 each_hides fs [] ns (d ∷ ds) (ss ∷ es) e = absurd e
 each_hides fs (b ∷ bs) [] (d ∷ ds) (ss ∷ es) e = absurd e
 each_hides fs (b ∷ bs) (n ∷ ns) (d ∷ ds) (ss ∷ es) e = (e.0.did.none, each_hides fs bs ns ds es e.1)
-
--- what the first lane was answered is for no more than the round's fetches
-first_weighs : (fs : List Ask) (bs ns : List ClientTold) (drawn : List (List ℕ)) (es : List (List LaneStep)) → (e : EachDrew fs bs ns drawn es)
-    → ((h : Served → ℕ) → weigh_at h fs (concat drawn) ≤ weigh h (map asks_for fs))
-    → (let j = are_joined fs bs ns drawn es e in FirstCounts fs (lanes_entries j.keys j.hidden) j.said)
-unfolding are_joined
-first_weighs fs [] ns [] [] e most = tt
-first_weighs fs (b ∷ bs) ns [] [] e most = λ p k. omega arith
-first_weighs fs bs ns [] (ss ∷ es) e most = absurd e
-first_weighs fs bs ns (d ∷ ds) [] e most = absurd e
-first_weighs fs [] ns (d ∷ ds) (ss ∷ es) e most = absurd e
-first_weighs fs (b ∷ bs) [] (d ∷ ds) (ss ∷ es) e most = absurd e
-first_weighs fs (b ∷ bs) (n ∷ ns) (d ∷ ds) (ss ∷ es) e most = λ p k.
-    let lane = e.0 in
-    let did = lane.did in
-    let h : Served → ℕ = λ x. cond (is_pair p k x) 1 0 in
-    let mine = entries_all (keys_of lane.made ss) ++ did.hidden in
-    let l = lane_all h b n (entries_of lane.made ss ++ did.hidden) did.said lane.made ss did.hidden did.are did.at_most in
-    let m = made_weighs h fs d lane.made lane.at in
-    let s = at_append h fs d (concat ds) in
-    let w = most h in
-    let x = weigh_append h (entries_all (keys_of lane.made ss)) did.hidden in
-    let y = ap (weigh h) (entries_keys lane.made ss) in
-    let a = counted p k mine in
-    let c = counted p k (map asks_for fs) in
-    let u = counted p k (late_in did.said) in
-    let v = ap (weigh h) did.late in
-    omega (arith, l, m, s, w, x, y, a, c, u, v)
-
-pub first_counts : (fs : List Ask) (bs ns : List ClientTold) (es : List (List LaneStep)) → (d : DrewApart fs bs ns es)
-    → (let j = are_joined fs bs ns d.drawn es d.each in FirstCounts fs (lanes_entries j.keys j.hidden) j.said)
-first_counts fs bs ns es d =
-    first_weighs fs bs ns d.drawn es d.each
-    (λ h. numbers_weigh h fs (concat d.drawn) (λ x. let a = d.apart x in let o = once_most x d.count in omega (arith, a, o)) (λ x l. let w = d.within in d.apart x ∙ once_past x d.count (omega (arith, w, l))))
 
 -- ---- all that the lanes were answered
 

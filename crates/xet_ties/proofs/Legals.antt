@@ -17,13 +17,12 @@ use Rattle.xet_ties.specs.Causes.{failing_setting, late_answers}
 use Rattle.xet_ties.specs.History.{entry_of, fetched_in, telling, IsWithin}
 use Rattle.xet_ties.specs.InCall.{Exchange, Look, served_of_all, Place}
 use Rattle.xet_ties.specs.Cuts.{FirstCut, Planning}
-use Rattle.xet_ties.specs.Legal.{AllLatePlanned, AllLooked, AllMissed, AllPlanned, CacheGoesOn, FirstAsks, FirstFollowed, IsPlannedServed, Legal, SignalGoesOn, TookTested, TookWhole, requests_of}
+use Rattle.xet_ties.specs.Legal.{AllLatePlanned, AllLooked, AllMissed, AllPlanned, CacheGoesOn, FirstAsks, IsPlannedServed, Legal, SignalGoesOn, TookTested, TookWhole, requests_of}
 use Rattle.xet_ties.specs.RunCalls.{IsFinished, IsUnspent, RunCall, TookAll}
 use Rattle.xet_ties.specs.Saids.{AllPassed, EntryPassed, FirstSaid, IsTested}
 use Rattle.xet_ties.specs.Setup.{EachGoesOn, IsOver, RunTold, Setup}
-use Rattle.xet_ties.specs.Ties.{EachLane, EachUnfailed, FirstUnfailed, IsEntryOf, IsOther, IsPlannedEntry, IsQuiet, LeavesNothing, Slack, Stop, Ties, all_of, has_one, is_one, is_pair, is_served, lates_of}
+use Rattle.xet_ties.specs.Ties.{EachLane, EachUnfailed, FirstUnfailed, IsEntryOf, IsOther, IsPlannedEntry, IsQuiet, LeavesNothing, Slack, Stop, Ties, all_of, has_one, is_one, is_served, lates_of}
 use Rattle.xet_ties.proofs.Asks.{first_asks}
-use Rattle.xet_ties.proofs.BytesLasts.{last_start}
 use Rattle.xet_ties.proofs.Expiries.{counted_start, each_counted, none_past, none_spent}
 use Rattle.xet_ties.proofs.FewAsks.{none_few, run_few}
 use Rattle.xet_ties.proofs.Gains.{gained_none}
@@ -32,10 +31,7 @@ use Rattle.xet_ties.specs.Gains.{OffersFew, one_range}
 use Rattle.xet_ties.proofs.Headline as headline
 use Rattle.xet_ties.proofs.LowestLanes.{all_passed}
 use Rattle.xet_ties.proofs.Pairs.{served_once, served_planned}
-use Rattle.xet_ties.proofs.PlanAnswers.{first_followed}
-use Rattle.xet_ties.proofs.PlansFirst.{behind_start}
 use Rattle.xet_ties.proofs.Plannings.{PlanningOf, first_pieces, first_plans_all, planning_heard, plans_end, some_pieces}
-use Rattle.xet_ties.proofs.Renewed.{renews_all, renews_but_last, renews_none}
 use Rattle.xet_ties.proofs.SaidTies.{block_said}
 use Rattle.xet_ties.proofs.ServedChunks.{chunks_heard}
 use Rattle.xet_ties.proofs.Telling.{count-append}
@@ -183,25 +179,6 @@ late_heard g b n es stop sl t = by sl.heard refl
 
 -- ---- the legal answer
 
-none_followed : (g : Setup) (bs : List ClientTold) → FirstFollowed g (no_exchange bs)
-none_followed g [] = tt
-none_followed g (b ∷ bs) = record {
-  count = 0;
-  most = omega arith;
-  renewed = λ i h. absurd (omega (arith, h));
-  in_order = tt;
-  late = λ p k i. none_served bs p k;
-  few = λ p k. let l = none_late bs p k in let s = none_served bs p k in omega (arith, l, s);
-}
-  where
-    none_late : (l : List ClientTold) (p k : ℕ) → late_answers p k (no_exchange l) ≡ 0
-    none_late [] p k = refl
-    none_late (c ∷ l) p k = let r = none_late l p k in omega (arith, r)
-
-    none_served : (l : List ClientTold) (p k : ℕ) → count_by (is_pair p k) (served_of_all (no_exchange l)) ≡ 0
-    none_served [] p k = refl
-    none_served (c ∷ l) p k = none_served l p k
-
 unspent_other : (stop : Stop) → IsUnspent stop → IsOther stop
 unspent_other stop u e = subst IsUnspent e u
 
@@ -280,11 +257,6 @@ legal_refused g b x h = record {
   asked = asks_start g b.clients;
   all_asked = tt;
   refreshed = none_few g b.clients;
-  renewed = renews_none g b.clients;
-  all_renewed = tt;
-  followed = none_followed g b.clients;
-  bytes_last = last_start b.clients;
-  behind = behind_start b.clients;
   counted = counted_start b.clients;
   late = late_nothing g b.clients;
   under = λ u. absurd u;
@@ -340,13 +312,8 @@ legal_ran g b n es (Ok k) h a r =
       asked = first_asks g es t.slack.lost b.clients n.clients t.ties.within t.ties.cuts t.ties.lost t.ties.asked;
       all_asked = first_plans_all g b n es k t.slack a t.ties (t.left.none refl).lost r.finished;
       refreshed = run_few g b n es None t.slack a t.ties;
-      renewed = renews_but_last g b n es None t.slack t.ties;
-      all_renewed = renews_all g b n es None t.slack t.ties (t.left.none refl).lost;
       served = served_once es b.clients n.clients t.slack.heard t.slack.hidden t.slack.late t.ties.heard t.ties.heard_served t.ties.served;
       planned = planned_heard g b n es None t.slack t.ties;
-      followed = first_followed g b n es None t.slack a t.ties;
-      bytes_last = t.ties.bytes_last;
-      behind = t.ties.behind;
       counted = each_counted es 0 b.clients n.clients t.slack.hidden t.slack.late t.slack.heard t.ties.served.lanes t.ties.expired;
       late = late_heard g b n es None t.slack t.ties;
       under = λ u. none_spent g b n es None t.slack (t.left.late (λ e. absurd (cc))) (t.under u) t.ties;
@@ -387,13 +354,8 @@ legal_ran g b n es (Err e) h a r =
       asked = first_asks g es t.slack.lost b.clients n.clients t.ties.within t.ties.cuts t.ties.lost t.ties.asked;
       all_asked = tt;
       refreshed = run_few g b n es (Some e) t.slack a t.ties;
-      renewed = renews_but_last g b n es (Some e) t.slack t.ties;
-      all_renewed = tt;
       served = served_once es b.clients n.clients t.slack.heard t.slack.hidden t.slack.late t.ties.heard t.ties.heard_served t.ties.served;
       planned = planned_heard g b n es (Some e) t.slack t.ties;
-      followed = first_followed g b n es (Some e) t.slack a t.ties;
-      bytes_last = t.ties.bytes_last;
-      behind = t.ties.behind;
       counted = each_counted es 0 b.clients n.clients t.slack.hidden t.slack.late t.slack.heard t.ties.served.lanes t.ties.expired;
       late = late_heard g b n es (Some e) t.slack t.ties;
       under = λ u. none_spent g b n es (Some e) t.slack (t.left.late (unspent_other (Some e) u)) (t.under u) t.ties;

@@ -1,6 +1,5 @@
 mod Asks
 mod AskTies
-mod BytesLasts
 mod CacheMoves
 pub mod CallerLemmas
 mod ClientMoves
@@ -30,14 +29,10 @@ mod NewPairs
 mod NextPlaces
 mod Numbers
 mod OfferCounts
-mod Orders
-mod OwnQueries
 mod Pairs
 mod PartTies
 mod PastEnds
-mod PlanAnswers
 mod PlanAsks
-mod PlansFirst
 mod Plannings
 mod Pushes
 mod Recording

@@ -22,7 +22,7 @@ use Rattle.xet_ties.specs.Saids.{EventPassed, FirstRenewed, FirstSaid, IsTested}
 use Rattle.xet_ties.proofs.Heard.{said_push}
 use Rattle.xet_ties.specs.steps.Moves.{Fits}
 use Rattle.xet_ties.specs.Setup.{CacheTells, IsOver, RunTold, Setup, download_of}
-use Rattle.xet_ties.specs.Ties.{all_of, EachBytesLast, FirstBehind, FirstInOrder, FirstLate, FirstUnfailed, AllAre, EachExpired, HeardAsked, IsAmong, IsEntryOf, IsLooked, IsTaken, LatePlanned, Slack, Ties, AllWithin, EachServed, lates_of, is_one, is_served}
+use Rattle.xet_ties.specs.Ties.{all_of, FirstUnfailed, AllAre, EachExpired, HeardAsked, IsAmong, IsEntryOf, IsLooked, IsTaken, LatePlanned, Slack, Ties, AllWithin, EachServed, lates_of, is_one, is_served}
 use Rattle.xet_ties.proofs.Lanes.{open_same, served_same}
 use Rattle.xet_ties.proofs.Lates.{expired_same, late_push}
 use Rattle.xet_ties.proofs.Pushes.{cuts_same, first_push, lost_push, limited_same, looked_push, offered_push, polled_push, reaches_more, recorded_same, starts_same, stored_same, taken_push, tried_push, true_same}
@@ -31,7 +31,6 @@ use Rattle.xet_ties.proofs.Telling.{count-append, count-same, each-push}
 use Rattle.xet_error.specs.declared.error.FileReconstructionError.TheVariants as error
 use Rattle.xet_ties.proofs.EarlyEnds.{ends_same}
 use Rattle.xet_ties.proofs.HeardServed.{heard_served_same}
-use Rattle.xet_ties.proofs.Orders.{first_late_push, in_order_recorded}
 
 -- ---- events alone
 
@@ -48,10 +47,6 @@ tie_event g b n es e sl to f t = record {
   served = f.served b.clients n.clients t.served;
   expired = f.expired to.heard (subst (λ (l : List Exchange). EachExpired es 0 l sl.late) (sym f.heard) t.expired);
   late_planned = late_push es e to.heard (subst (λ (l : List Exchange). LatePlanned es l) (sym f.heard) t.late_planned);
-  in_order = subst (λ (l : List Exchange). FirstInOrder to.lost l) (sym f.heard) (in_order_recorded sl.lost (asked_in g.file es e) to.lost sl.heard f.asked t.in_order);
-  first_late = subst (λ (l : List Exchange). FirstLate (es ++ e ∷ []) to.lost to.late l) (sym f.heard) (f.first_late t.first_late);
-  bytes_last = subst (λ (l : List Exchange). EachBytesLast l) (sym f.heard) t.bytes_last;
-  behind = subst (λ (l : List Exchange). FirstBehind l) (sym f.heard) t.behind;
   heard_served = f.heard_served to.heard (subst (λ (l : List Exchange). EachServed es 0 l sl.hidden) (sym f.heard) t.heard_served);
   unfailed = subst (λ (i : ℕ). FirstUnfailed i b.clients n.clients) (sym f.calm) t.unfailed;
   asked = first_push g.file es e sl.lost to.lost b.clients n.clients f.asked t.asked;
@@ -101,10 +96,6 @@ tie_poll g b n es sl to a t = record {
   served = t.served;
   expired = t.expired;
   late_planned = t.late_planned;
-  in_order = t.in_order;
-  bytes_last = t.bytes_last;
-  behind = t.behind;
-  first_late = t.first_late;
   heard_served = t.heard_served;
   unfailed = t.unfailed;
   asked = t.asked;
@@ -173,10 +164,6 @@ tie_limit g b n es sl to l c t = record {
   served = t.served;
   expired = t.expired;
   late_planned = t.late_planned;
-  in_order = t.in_order;
-  bytes_last = t.bytes_last;
-  behind = t.behind;
-  first_late = t.first_late;
   heard_served = t.heard_served;
   unfailed = t.unfailed;
   asked = t.asked;
@@ -223,10 +210,6 @@ tie_admit g b n es sl to l c t =
       served = served_same es e sl.hidden sl.late b.clients n.clients (λ l. refl) (λ l. refl) (λ p k. refl) (λ m. tt) (open_same es e (λ p k. refl)) t.served;
       expired = expired_same es e 0 sl.heard sl.late (λ l w. refl) t.expired;
       late_planned = late_push es e sl.heard t.late_planned;
-      in_order = t.in_order;
-      bytes_last = t.bytes_last;
-      behind = t.behind;
-      first_late = first_late_push es e sl.lost sl.late sl.heard (λ p k. refl) t.first_late;
       heard_served = heard_served_same es e 0 sl.heard sl.hidden (λ l w. refl) t.heard_served;
       unfailed = t.unfailed;
       asked = first_push g.file es e sl.lost sl.lost b.clients n.clients refl t.asked;
@@ -282,10 +265,6 @@ tie_window g b n es sl to bytes took faults link t p q = record {
   served = t.served;
   expired = t.expired;
   late_planned = t.late_planned;
-  in_order = t.in_order;
-  bytes_last = t.bytes_last;
-  behind = t.behind;
-  first_late = t.first_late;
   heard_served = t.heard_served;
   unfailed = t.unfailed;
   asked = t.asked;
@@ -340,10 +319,6 @@ tie_fail g b n es sl x spent t =
       served = served_same es e sl.hidden sl.late b.clients n.clients (λ l. refl) (λ l. refl) (λ p k. refl) (λ m. tt) (open_same es e (λ p k. refl)) t.served;
       expired = expired_same es e 0 sl.heard sl.late (λ l w. refl) t.expired;
       late_planned = late_push es e sl.heard t.late_planned;
-      in_order = t.in_order;
-      bytes_last = t.bytes_last;
-      behind = t.behind;
-      first_late = first_late_push es e sl.lost sl.late sl.heard (λ p k. refl) t.first_late;
       heard_served = heard_served_same es e 0 sl.heard sl.hidden (λ l w. refl) t.heard_served;
       unfailed = t.unfailed;
       asked = first_push g.file es e sl.lost sl.lost b.clients n.clients refl t.asked;
@@ -386,10 +361,6 @@ tie_short g b n es sl t = record {
   served = t.served;
   expired = t.expired;
   late_planned = t.late_planned;
-  in_order = t.in_order;
-  bytes_last = t.bytes_last;
-  behind = t.behind;
-  first_late = t.first_late;
   heard_served = t.heard_served;
   unfailed = t.unfailed;
   asked = t.asked;

@@ -12,12 +12,11 @@ use Rattle.xet_ties.specs.History.{block_at, entry_of, is_expired, range_at, rou
 use Rattle.xet_ties.specs.InCall.{Place}
 use Rattle.xet_ties.specs.Saids.{FirstRenewed, HasPassed}
 use Rattle.xet_ties.specs.Setup.{RunTold, Setup}
-use Rattle.xet_ties.specs.Ties.{FirstLate, EachExpired, IsServed, Slack, Ties, all_late, all_of, at_place, has_one, is_one, is_served, EachServed}
+use Rattle.xet_ties.specs.Ties.{EachExpired, IsServed, Slack, Ties, all_late, all_of, at_place, has_one, is_one, is_served, EachServed}
 use Rattle.xet_ties.proofs.Lanes.{count_hidden, count_late, open_refreshed, open_same, served_expired, served_fetched, served_same}
 use Rattle.xet_ties.proofs.Lates.{expired_next, expired_same}
 use Rattle.xet_ties.proofs.Moves.{tie_event}
 use Rattle.xet_base.specs.declared.cas_types.FileRange.{FileRange}
-use Rattle.xet_ties.proofs.Orders.{FirstClear, first_late_clear, first_late_expired, first_late_push}
 use Rattle.xet_ties.proofs.HeardServed.{heard_served_same, heard_served_next}
 
 -- a lane's next served entry is recorded
@@ -41,7 +40,6 @@ tie_fetched g b n es sl m p k x h before after at fresh is hidden passed spare f
       served = λ bs ns v. served_fetched es m p k x h before after sl.late bs ns at is (subst (λ (l : List (List Served)). IsServed es l sl.late bs ns) hidden v);
       expired = λ xs v. expired_same es e 0 xs sl.late (λ l w. refl) v;
       heard_served = λ xs v. heard_served_next es m p k 0 x h xs before after at (omega (arith, is)) (subst (λ (l : List (List Served)). EachServed es 0 xs l) hidden v);
-      first_late = λ v. first_late_push es e sl.lost sl.late sl.heard (λ q j. refl) v;
       asked = refl;
       tried = λ q j. let a = t.tried.at_most q j in omega (arith, a);
       renewed = fresh;
@@ -82,7 +80,6 @@ tie_expired g b n es sl m p k j before after fresh is late spare fits t =
       served = λ bs ns v. served_expired es m p k j sl.hidden before after bs ns is (subst (λ (l : List (List Place)). IsServed es sl.hidden l bs ns) late v);
       expired = λ xs v. expired_next es m p k j 0 xs before after (omega (arith, is)) (subst (λ (l : List (List Place)). EachExpired es 0 xs l) late v);
       heard_served = λ xs v. heard_served_same es e 0 xs sl.hidden (λ l w. refl) v;
-      first_late = λ v. first_late_expired es m p k j sl.lost before after sl.heard (subst (λ (l : List (List Place)). FirstLate es sl.lost l sl.heard) late v);
       asked = refl;
       tried = λ q i.
           let a = t.tried.at_most q i in
@@ -103,9 +100,9 @@ tie_expired g b n es sl m p k j before after fresh is late spare fits t =
     }) t
 
 -- the refresh of a plan is recorded
-pub tie_refreshed : (g : Setup) (b n : RunTold) (es : List Event) (sl : Slack) (p : ℕ) (r : FileRange) → range_at es p ≡ r ∷ [] → sl.lost ≡ (g.file, r) ∷ [] → (FirstRenewed g sl.lost sl.heard → FirstRenewed g [] sl.heard) → FirstClear p sl.heard
+pub tie_refreshed : (g : Setup) (b n : RunTold) (es : List Event) (sl : Slack) (p : ℕ) (r : FileRange) → range_at es p ≡ r ∷ [] → sl.lost ≡ (g.file, r) ∷ [] → (FirstRenewed g sl.lost sl.heard → FirstRenewed g [] sl.heard)
     → Ties g b n es None sl → Ties g b n (es ++ Refreshed p ∷ []) None (record sl { lost = [] })
-tie_refreshed g b n es sl p r at lost renewed clear t =
+tie_refreshed g b n es sl p r at lost renewed t =
     let e : Event = Refreshed p in
     tie_event g b n es e sl (record sl { lost = [] })
     (record {
@@ -121,7 +118,6 @@ tie_refreshed g b n es sl p r at lost renewed clear t =
       served = λ bs ns v. served_same es e sl.hidden sl.late bs ns (λ l. refl) (λ l. refl) (λ q k. refl) (λ m. tt) (open_refreshed es p) v;
       expired = λ xs v. expired_same es e 0 xs sl.late (λ l w. refl) v;
       heard_served = λ xs v. heard_served_same es e 0 xs sl.hidden (λ l w. refl) v;
-      first_late = λ v. first_late_clear es p sl.lost sl.late sl.heard clear v;
       asked = lost ∙ ap (λ (l : List FileRange). map (λ v. (g.file, v)) l ++ []) (sym at);
       tried = λ q j. let a = t.tried.at_most q j in omega (arith, a);
       renewed = tt;
@@ -155,7 +151,6 @@ tie_wrote g b n es sl taken rest is t =
       served = λ bs ns v. served_same es e sl.hidden sl.late bs ns (λ l. refl) (λ l. refl) (λ q k. refl) (λ m. tt) (open_same es e (λ q k. refl)) v;
       expired = λ xs v. expired_same es e 0 xs sl.late (λ l w. refl) v;
       heard_served = λ xs v. heard_served_same es e 0 xs sl.hidden (λ l w. refl) v;
-      first_late = λ v. first_late_push es e sl.lost sl.late sl.heard (λ q j. refl) v;
       asked = refl;
       tried = λ q j. let a = t.tried.at_most q j in omega (arith, a);
       renewed = tt;
@@ -186,10 +181,6 @@ tie_rest g b n es sl rest spare fewer less t = record {
   served = t.served;
   expired = t.expired;
   late_planned = t.late_planned;
-  in_order = t.in_order;
-  bytes_last = t.bytes_last;
-  behind = t.behind;
-  first_late = t.first_late;
   heard_served = t.heard_served;
   unfailed = t.unfailed;
   asked = t.asked;

@@ -1,5 +1,5 @@
 -- Each query that doesn't cut the range was answered as the refresh of a plan.
-use Rattle.std.proofs.Common.{◌≡◌, ◌⊎◌, ℕ, ◌+◌, ◌-◌, ◌<◌, ◌≤◌, List, [], ◌∷◌, ◌++◌, length, refl, sym, subst, ◌∙◌, ap, arith, length-append, inl, inr, ⊎_elim, Some, None}
+use Rattle.std.proofs.Common.{◌≡◌, ◌⊎◌, ℕ, ◌+◌, ◌-◌, ◌<◌, ◌≤◌, List, [], ◌∷◌, ◌++◌, length, refl, sym, subst, ◌∙◌, arith, length-append, inl, inr, ⊎_elim, Some, None}
 use Rattle.std.specs.Prelude.{All, Contains, slice_get}
 use Rattle.std.proofs.lemmas.Bool.{cases_lt}
 use Rattle.std.proofs.lemmas.List.{append-nil}
@@ -24,11 +24,10 @@ use Rattle.xet_history.specs.TrueHistory.{queries}
 use Rattle.xet_ties.specs.Causes.{failing_setting}
 use Rattle.xet_ties.specs.History.{IsWithin}
 use Rattle.xet_ties.specs.InCall.{Exchange, ExchangeGrew}
-use Rattle.xet_ties.specs.Legal.{FirstRenewsBut}
 use Rattle.xet_ties.specs.Saids.{AllRenewed, FirstRenewed, InStep, IsPlanAccepted, IsRenewal, cut_places}
-use Rattle.xet_ties.specs.Setup.{RunTold, Setup}
+use Rattle.xet_ties.specs.Setup.{Setup}
 use Rattle.xet_ties.specs.steps.Moves.{heard_first, heard_join, no_exchange}
-use Rattle.xet_ties.specs.Ties.{CutsRange, HeardAsked, Slack, Ties, IsLost, Stop}
+use Rattle.xet_ties.specs.Ties.{CutsRange, HeardAsked}
 use Rattle.xet_ties.proofs.CutPlaces.{answer_of_more, cut_end, first_at, next_at, places_append}
 use Rattle.xet_ties.proofs.Heard.{Match}
 use Rattle.xet_ties.proofs.NextPlaces.{next_number}
@@ -179,34 +178,3 @@ renewed_refreshed g p q a (x ∷ xs) accepted step passes t =
       passes = passes;
     } in
     one_more g x v (said.Plan a ∷ []) (inr r) t
-
--- ---- at an exit
-
--- the answer of one query at most isn't recorded
-pub lost_few : (g : Setup) (es : List Event) (lost : List Query) → IsLost g es lost → length lost ≤ 1
-lost_few g es [] l = omega arith
-lost_few g es (q ∷ []) l = omega arith
-lost_few g es (q ∷ r ∷ qs) l = absurd l
-
--- so all that was asked is renewed but for the last query
-pub renews_but_last : (g : Setup) (b n : RunTold) (es : List Event) (stop : Stop) (sl : Slack) → Ties g b n es stop sl
-    → FirstRenewsBut g 1 sl.heard
-renews_but_last g b n es stop sl t = by sl.heard t.refreshes
-  where
-    by : (xs : List Exchange) → FirstRenewed g sl.lost xs → FirstRenewsBut g 1 xs
-    by [] r = tt
-    by (x ∷ xs) r = λ i h. let l = lost_few g es sl.lost t.lost in r i (omega (arith, h, l))
-
--- and where all of it is recorded, the last one too
-pub renews_all : (g : Setup) (b n : RunTold) (es : List Event) (stop : Stop) (sl : Slack) → Ties g b n es stop sl
-    → sl.lost ≡ [] → FirstRenewsBut g 0 sl.heard
-renews_all g b n es stop sl t none = by sl.heard t.refreshes
-  where
-    by : (xs : List Exchange) → FirstRenewed g sl.lost xs → FirstRenewsBut g 0 xs
-    by [] r = tt
-    by (x ∷ xs) r = λ i h. let l = ap (λ (l : List Query). length l) none in r i (omega (arith, h, l))
-
--- nothing was asked
-pub renews_none : (g : Setup) (bs : List ClientTold) → FirstRenewsBut g 1 (no_exchange bs)
-renews_none g [] = tt
-renews_none g (b ∷ bs) = λ i h. absurd (omega (arith, h))

@@ -3,6 +3,7 @@ use Rattle.std.proofs.Common.{◌≡◌, ℕ, ◌+◌, ◌<◌, ◌≤◌, Bool,
 use Rattle.std.specs.Prelude.{All, count_by}
 use Rattle.std.proofs.lemmas.Bool.{cases_lt}
 use Rattle.std.proofs.lemmas.List.{append-nil}
+use Rattle.std.proofs.lemmas.List.Elements.{All-head, All-tail}
 use Rattle.xet_outside.specs.Answers.{late_in}
 use Rattle.xet_outside.specs.Told.{ClientTold}
 use Rattle.xet_outside.specs.declared.said.Said.{Said}
@@ -21,7 +22,6 @@ use Rattle.xet_ties.specs.steps.Records.{EachMayExpire, IsFreshAsk, Key, MayExpi
 use Rattle.xet_ties.proofs.Expiries.{places_count}
 use Rattle.xet_ties.proofs.LaneJoins.{answered_among, are_joined, lates_of_all}
 use Rattle.xet_ties.proofs.Lates.{SaidLate, joined_late}
-use Rattle.xet_ties.proofs.Orders.{asked_fresh}
 use Rattle.xet_ties.proofs.Starts.{none_late_count}
 use Rattle.xet_ties.proofs.Telling.{count-append}
 
@@ -36,6 +36,21 @@ late_count p k (a ∷ alls) (c ∷ ks) s =
     let e = ap (λ (l : List Place). count_by (at_place p k) l) s.0 in
     let n = places_count p k (late_in a) in
     omega (arith, r, c0, e, n)
+
+-- a block that fresh fetches ask for isn't expired
+asked_fresh : (es : List Event) (fs : List Ask) (p k : ℕ) → All (IsFreshAsk es) fs → 0 < count_by (is_pair p k) (map asks_for fs) → is_expired es p k ≡ false
+asked_fresh es [] p k h i = absurd (omega (arith, i))
+asked_fresh es (a ∷ fs) p k h i = by (is_pair p k (asks_for a)) refl (λ j. asked_fresh es fs p k (All-tail (IsFreshAsk es) a fs h) j)
+  where
+    by : (v : Bool) → is_pair p k (asks_for a) ≡ v → (0 < count_by (is_pair p k) (map asks_for fs) → is_expired es p k ≡ false) → is_expired es p k ≡ false
+    by true e later =
+        let s = same_numbers (asks_for a).plan (asks_for a).index p k e in
+        let f = (All-head (IsFreshAsk es) a fs h).fresh in
+        subst (λ (j : ℕ). is_expired es p j ≡ false) s.1 (subst (λ (q : ℕ). is_expired es q (asks_for a).index ≡ false) s.0 f)
+    by false e later =
+        let n = count_by-cons (is_pair p k) (asks_for a) (map asks_for fs) in
+        let none : cond {A = ℕ} (is_pair p k (asks_for a)) 1 0 ≡ 0 = ap (λ (v : Bool). cond {A = ℕ} v 1 0) e in
+        later (omega (arith, n, none, i))
 
 -- where each fetch is of a fresh block that wasn't fetched, and no two are of one
 pub round_once : (es : List Event) (fs : List Ask) (bs ns : List ClientTold) (ls : List (List LaneStep)) → (d : DrewApart fs bs ns ls)

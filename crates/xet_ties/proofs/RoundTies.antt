@@ -17,17 +17,15 @@ use Rattle.xet_ties.specs.Saids.{HasPassed, IsServedData, PassedIn}
 use Rattle.xet_ties.specs.steps.Records.{AreFresh, asks_for, Key, Place, places, places_of, EachFresh, EachMayExpire, blocks_all, expired_on, fetched_on, lanes_entries, lane_events, lanes_late, IsFreshAsk, key_of, lanes_expired, lanes_fetched}
 use Rattle.xet_ties.specs.steps.Moves.{no_hidden, no_late, heard_join}
 use Rattle.xet_ties.specs.Setup.{RunTold, Setup, most_lanes}
-use Rattle.xet_ties.specs.Ties.{EachLane, FirstLate, FirstUnfailed, Slack, Ties, all_of, has_one, is_one, is_pair, is_served, IsPlannedEntry, EachServed}
+use Rattle.xet_ties.specs.Ties.{EachLane, FirstUnfailed, Slack, Ties, all_of, has_one, is_one, is_pair, is_served, IsPlannedEntry}
 use Rattle.xet_ties.specs.History.{block_at, fetches}
 use Rattle.xet_ties.specs.steps.Rounds.{AfterRound, calm_after, IsHeardData, IsHeardStep, IsPlanAsk, blocks_at, got_of}
 use Rattle.xet_ties.proofs.Heard.{block_more, grew_join, join_match, step_join}
 use Rattle.xet_ties.proofs.ClientMoves.{tie_join}
-use Rattle.xet_ties.proofs.BytesLasts.{last_join}
 use Rattle.xet_ties.proofs.Requests.{all_lates}
-use Rattle.xet_ties.proofs.LaneJoins.{AreJoined, are_joined, requests_among, joined_among, lates_among, answered_among}
+use Rattle.xet_ties.proofs.LaneJoins.{AreJoined, are_joined, requests_among, joined_among, lates_among}
 use Rattle.xet_ties.proofs.LaneTies.{ArePassed, EachPassed, tie_lanes_expired, tie_lanes_fetched, InRound}
-use Rattle.xet_ties.proofs.LaneJoins.{each_failed, each_hides, first_counts}
-use Rattle.xet_ties.proofs.Orders.{first_joined}
+use Rattle.xet_ties.proofs.LaneJoins.{each_failed, each_hides}
 use Rattle.xet_ties.proofs.Recording.{tie_rest}
 use Rattle.xet_ties.proofs.RoundData.{are_paired}
 use Rattle.xet_ties.proofs.RoundOnce.{round_once, round_tries}
@@ -145,12 +143,10 @@ round_joined g b at es sl fs ns ls d new fresh waits none_h none_l may t =
     let planned : All (IsPlannedEntry es) (map asks_for fs) = All-map (IsPlannedEntry es) asks_for fs (All-weaker (IsFreshAsk es) (λ a. IsPlannedEntry es (asks_for a)) (λ a h. ((key_of a).2, h.planned, refl)) fs fresh) in
     let entries = joined_among (IsPlannedEntry es) fs at.clients ns d.drawn ls d.each planned in
     let lates = lates_among (IsPlannedEntry es) fs at.clients ns d.drawn ls d.each planned in
-    let joined = first_joined es fs served j.said b.clients at.clients sl.lost sl.heard (first_counts fs at.clients ns ls d) (λ p k. let one = new p k in omega (arith, one)) fresh t.heard (subst (λ (l : List (List Place)). FirstLate es sl.lost l sl.heard) none_l t.first_late) in
     let once = round_once es fs at.clients ns ls d new fresh (λ p k. let o = t.served.once p k in omega (arith, o)) in
     let tried = round_tries g.tries es fs at.clients ns ls d may (λ p k. let o = t.tried.at_most p k in omega (arith, o)) in
     let among : (x : MerkleHash) (r : ChunkRange) → count_by (is_served x r) (all_of served) + count_by (is_served x r) (all_lates j.said) ≤ count_by (is_one x r) sl.pending = λ x r. let a = requests_among fs at.clients ns ls d x r in let w = waits x r in omega (arith, a, w) in
-    let last = last_join es fs 0 served j.said b.clients at.clients sl.heard (λ p k. answered_among fs at.clients ns ls d p k) new t.heard (subst (λ (l : List (List Served)). EachServed es 0 sl.heard l) none_h t.heard_served) t.bytes_last in
-    tie_join g b at es sl ns served j.said late j.joined once tried entries lates (past_drew most_lanes fs at.clients ns d.drawn ls d.each d.few) none_h none_l among joined last (calm_after sl.calm ls) (drew_unfailed fs sl.calm b.clients at.clients ns d.drawn ls d.each t.unfailed) t
+    tie_join g b at es sl ns served j.said late j.joined once tried entries lates (past_drew most_lanes fs at.clients ns d.drawn ls d.each d.few) none_h none_l among (calm_after sl.calm ls) (drew_unfailed fs sl.calm b.clients at.clients ns d.drawn ls d.each t.unfailed) t
 
 -- ---- what was served has passed
 

@@ -38,9 +38,6 @@ use Rattle.xet_ties.proofs.Renewed.{renewed_start}
 use Rattle.xet_ties.proofs.Gains.{gained_none}
 use Rattle.xet_ties.proofs.EarlyEnds.{ends_same, cuts_none}
 use Rattle.xet_ties.proofs.HeardServed.{heard_served_same, heard_served_start}
-use Rattle.xet_ties.proofs.BytesLasts.{last_start}
-use Rattle.xet_ties.proofs.PlansFirst.{behind_start}
-use Rattle.xet_ties.proofs.Orders.{first_late_push, first_late_start, in_order_start}
 
 -- ---- the start
 
@@ -122,10 +119,6 @@ tie_start g b h = record {
   served = served_start b.clients;
   expired = expired_start 0 b.clients;
   late_planned = late_start b.clients;
-  in_order = in_order_start b.clients;
-  bytes_last = last_start b.clients;
-  behind = behind_start b.clients;
-  first_late = first_late_start b.clients;
   heard_served = heard_served_start 0 b.clients;
   unfailed = unfailed_start b.clients;
   asked = asked_start g b.clients h;
@@ -171,10 +164,6 @@ tie_cancel g b n es sl t =
       served = served_same es e sl.hidden sl.late b.clients n.clients (λ l. refl) (λ l. refl) (λ p k. refl) (λ m. tt) (open_same es e (λ p k. refl)) t.served;
       expired = expired_same es e 0 sl.heard sl.late (λ l w. refl) t.expired;
       late_planned = late_push es e sl.heard t.late_planned;
-      in_order = t.in_order;
-      bytes_last = t.bytes_last;
-      behind = t.behind;
-      first_late = first_late_push es e sl.lost sl.late sl.heard (λ p k. refl) t.first_late;
       heard_served = heard_served_same es e 0 sl.heard sl.hidden (λ l w. refl) t.heard_served;
       unfailed = t.unfailed;
       asked = first_push g.file es e sl.lost sl.lost b.clients n.clients refl t.asked;
@@ -235,10 +224,6 @@ tie_flush g b n es sl to took faults link t = record {
   served = t.served;
   expired = t.expired;
   late_planned = t.late_planned;
-  in_order = t.in_order;
-  bytes_last = t.bytes_last;
-  behind = t.behind;
-  first_late = t.first_late;
   heard_served = t.heard_served;
   unfailed = t.unfailed;
   asked = t.asked;

@@ -20,10 +20,10 @@ use Rattle.xet_ties.specs.Gains.{GainedServed, OffersFew, one_range}
 use Rattle.xet_ties.specs.History.{entry_of}
 use Rattle.xet_ties.specs.InCall.{EachExchange, Exchange, Look, answers_of, expired_said, new_in, served_of_all}
 use Rattle.xet_ties.specs.RunCalls.{DidNothing, IsCancelled, IsUnspent, Unfailed, stop_of}
-use Rattle.xet_ties.specs.Saids.{AllPassed, AllRenewed, BlockOfPlan, own_query, planned_of, same_start}
+use Rattle.xet_ties.specs.Saids.{AllPassed, BlockOfPlan, planned_of}
 use Rattle.xet_ties.specs.Setup.{AllTell, CacheTells, EachGoesOn, IsEmptyRange, IsOver, RunTold, Setup, most_lanes}
-use Rattle.xet_ties.specs.Ties.{CutsRange, EachBytesLast, EachUnasked, EachUnfailed, FirstBehind, IsEntryOf}
-use Rattle.xet_ties.specs.Ties.{IsFaultless, NoneAgain, Reaches, is_look, is_pair, is_served, late_since}
+use Rattle.xet_ties.specs.Ties.{CutsRange, EachUnasked, EachUnfailed, IsEntryOf}
+use Rattle.xet_ties.specs.Ties.{IsFaultless, Reaches, is_look, is_pair, is_served}
 use Rattle.xet_ties.specs.Ties.{lates_of, missed}
 
 -- ---- what was heard
@@ -123,12 +123,6 @@ FirstPlansAll g (b ∷ bs) [] = ⊥
 FirstPlansAll g (b ∷ bs) (n ∷ ns) = IfSome (new_in b.asked n.asked) (AsksSome g)
     × IfSome (answers_of b n) (λ x. PlansAll g (x ∷ []))
 
--- of the first connection: each query that doesn't cut the range, but for so many last ones, has an answer that renews
--- the plan which it asks again
-abbrev pub FirstRenewsBut : Setup → ℕ → List Exchange → Type 0
-FirstRenewsBut g unanswered [] = Unit {0}
-FirstRenewsBut g unanswered (x ∷ xs) = AllRenewed g x (length x.asked - unanswered)
-
 -- ---- served blocks
 
 -- no block of a plan was served twice
@@ -165,33 +159,6 @@ NoneSpent g xs = (p k : ℕ) → late_answers p k xs < g.tries
 -- nor more often than that
 abbrev pub NonePast : Setup → List Exchange → Type 0
 NonePast g xs = (p k : ℕ) → late_answers p k xs ≤ g.tries
-
--- how many of the first of these queries, so many, are for this plan: its own one, and the refreshes that start where
--- that does
-abbrev pub plan_queries : List Query → ℕ → ℕ → ℕ
-plan_queries asked count p = count_by (λ q. same_start (Some q) (own_query asked p)) (take count asked)
-
--- what answers for blocks follow, of the queries of the first connection: all but perhaps the last one, and each that
--- doesn't cut the range was answered so that it renews its plan
-pub record IsFollowed (g : Setup) (x : Exchange) (xs : List Exchange) : Type 0 where
-  pub count : ℕ
-  pub most : length x.asked ≤ count + 1
-  pub renewed : AllRenewed g x count
-  -- an expired block is answered again only behind the answer to one of them that asks for its own plan again, by what
-  -- this connection served and said in its order
-  pub in_order : NoneAgain (take count x.asked) 0 [] x.served x.said
-  -- and where none of these answers came since, no connection served it
-  pub late : (p k : ℕ) → 0 < count_by (is_pair p k) (late_since (take count x.asked) 0 [] x.said)
-      → count_by (is_pair p k) (served_of_all xs) ≡ 0
-  -- and a block was answered, as expired or with bytes, by all connections together, no more often than its plan was
-  -- asked for by these
-  pub few : (p k : ℕ)
-      → late_answers p k xs + count_by (is_pair p k) (served_of_all xs) ≤ plan_queries x.asked count p
-
--- so of the first connection, by what all connections served and said
-abbrev pub FirstFollowed : Setup → List Exchange → Type 0
-FirstFollowed g [] = Unit {0}
-FirstFollowed g (x ∷ xs) = IsFollowed g x (x ∷ xs)
 
 -- ---- looks
 
@@ -270,18 +237,6 @@ pub record Legal (g : Setup) (before after : RunTold) (answer : Result ℕ FileR
   -- plans' URLs were asked for again no more often than expired answers came, and those of one plan no more often than
   -- requests for its blocks were answered so
   pub refreshed : FirstAsksFew g heard.list
-  -- each such refresh but perhaps the last query was answered, and its answer isn't refused, whatever the answer
-  pub renewed : FirstRenewsBut g 1 heard.list
-  -- and on Ok the last one too
-  pub all_renewed : OnOk answer (FirstRenewsBut g 0 heard.list)
-  -- by what the first connection was asked, and what it served and said in its order, an expired block is answered
-  -- again only behind an answer that isn't refused, to a query that asks for its own plan again; and no block is
-  -- answered more often by all connections than its plan was asked for and so answered, whatever the run's answer
-  pub followed : FirstFollowed g heard.list
-  -- and no connection answers for a block as expired that it served, by the order of its answers
-  pub bytes_last : EachBytesLast heard.list
-  -- nor does the first one answer for a block before it said the block's plan
-  pub behind : FirstBehind heard.list
   -- no more expired answers were heard than the connections count
   pub counted : EachCounted before.clients after.clients heard.list
   -- each request that was answered as expired is for a block of a plan that was said

@@ -1,6 +1,6 @@
 -- How plans and data are tied to what the connections said, each answer to its own request.
-use Rattle.std.specs.Prelude.{ℕ, ◌≡◌, ◌⊎◌, ◌+◌, ◌-◌, ◌<◌, ◌≤◌, ◌==◌, ◌&&◌, Bool, true, false, cond, List, [], ◌∷◌}
-use Rattle.std.specs.Prelude.{length, map, take, filter, nat_le, nat_lt, All, Contains, Option, None, Some, slice_get}
+use Rattle.std.specs.Prelude.{ℕ, ◌≡◌, ◌⊎◌, ◌+◌, ◌-◌, ◌<◌, ◌≤◌, Bool, true, cond, List, [], ◌∷◌}
+use Rattle.std.specs.Prelude.{length, map, take, filter, nat_le, nat_lt, All, Contains, None, Some, slice_get}
 use Rattle.std.specs.List.{AllZip, concat}
 use Rattle.xet_base.specs.declared.cas_types.ChunkRange.{ChunkRange}
 use Rattle.xet_base.specs.declared.cas_types.FileRange.{FileRange}
@@ -58,35 +58,6 @@ pub record AnswerOf (x : Exchange) (number : ℕ) (q : Query) (a : PlanAnswer) :
   pub at : slice_get (cut_places 0 0 x.asked) (number - 1) ≡ Some place
   pub query : slice_get x.asked place ≡ Some q
   pub answer : slice_get (plans_in x.said) place ≡ Some a
-
--- the place of a plan's own query: the one of its number among those that cut the range, counted from 1
-abbrev pub own_place : List Query → ℕ → Option ℕ
-own_place asked number = slice_get (cut_places 0 0 asked) (number - 1)
-
--- and that query
-abbrev pub query_at : List Query → Option ℕ → Option Query
-query_at asked None = None
-query_at asked (Some i) = slice_get asked i
-
-abbrev pub own_query : List Query → ℕ → Option Query
-own_query asked number = query_at asked (own_place asked number)
-
--- both queries start at the same place
-abbrev pub same_start : Option Query → Option Query → Bool
-same_start None q = false
-same_start (Some q) None = false
-same_start (Some q) (Some c) = q.1.start == c.1.start
-
--- there is one before this place
-abbrev pub is_before : Option ℕ → ℕ → Bool
-is_before None place = false
-is_before (Some own) place = nat_lt own place
-
--- the query at this place asks for the bytes of this plan again: it stands behind the plan's own query, and starts
--- where that does
-abbrev pub asks_again : List Query → ℕ → ℕ → Bool
-asks_again asked place number =
-    is_before (own_place asked number) place && same_start (slice_get asked place) (own_query asked number)
 
 -- so the first connection did
 abbrev pub IsCutAnswer : MerkleHash → List Exchange → ℕ → FileRange → PlanAnswer → Type 0

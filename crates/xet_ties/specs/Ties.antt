@@ -1,7 +1,7 @@
 -- How a run's history is tied to what the run's arguments tell before and after.
 use Rattle.std.specs.Prelude.{ℕ, zero, suc, ◌≡◌, ◌⊎◌, ◌+◌, ◌-◌, ◌^◌, ◌<◌, ◌≤◌, ◌==◌, ◌&&◌, ◌≢◌, min, Bool, true, false}
-use Rattle.std.specs.Prelude.{cond, not, List, [], ◌∷◌, ◌++◌, drop, filter, length, count_by, nat_eq, Option, Some}
-use Rattle.std.specs.Prelude.{None, IfSome, IsSome, All, Contains, take}
+use Rattle.std.specs.Prelude.{cond, not, List, [], ◌∷◌, ◌++◌, drop, length, count_by, nat_eq, Option, Some}
+use Rattle.std.specs.Prelude.{None, IfSome, IsSome, All, Contains}
 use Rattle.std.specs.List.{flat_map}
 use lib.Pointwise.{pointwise}
 use Rattle.xet_base.specs.declared.cas_types.ChunkRange.{ChunkRange}
@@ -10,7 +10,6 @@ use Rattle.xet_base.specs.declared.merklehash.MerkleHash.{MerkleHash}
 use Rattle.xet_base.specs.Hashes.{hash_eq}
 use Rattle.xet_base.specs.Store.{Store, file_of}
 use Rattle.xet_outside.specs.declared.block.BlockBytes.{BlockBytes}
-use Rattle.xet_outside.specs.declared.said.Said.{Said}
 use Rattle.xet_outside.specs.declared.said.Said.TheVariants as said
 use Rattle.xet_outside.specs.declared.served.Served.{Served}
 use Rattle.xet_outside.specs.Answers.{late_in}
@@ -31,7 +30,7 @@ use Rattle.xet_ties.specs.History.{EachAfter, IsNumberedNext, IsOnLane, IsOneCac
 use Rattle.xet_ties.specs.History.{block_at, cached_in, entry_of, expired_by, fetched_in, fetches, is_expired, kept_in}
 use Rattle.xet_ties.specs.History.{late_by, limits_of, range_at, served_by, telling, round_count}
 use Rattle.xet_ties.specs.InCall.{EachExchange, Exchange, Look, Place, late_places}
-use Rattle.xet_ties.specs.Saids.{EventPassed, FirstRenewed, FirstSaid, IsTested, asks_again, is_before, own_place}
+use Rattle.xet_ties.specs.Saids.{EventPassed, FirstRenewed, FirstSaid, IsTested}
 use Rattle.xet_ties.specs.Setup.{AllTell, CacheTells, ClientGoesOn, IsOver, RunTold, Setup, download_of, most_lanes}
 
 -- where a run stands: none while it goes on and where it answered Ok, else the error that it answered
@@ -130,86 +129,6 @@ EachExpired es lane xs ls = ⊥
 -- each request that a connection answered as expired is for a planned block
 abbrev pub LatePlanned : List Event → List Exchange → Type 0
 LatePlanned es xs = All (λ x. All (IsPlannedEntry es) (late_in x.said)) xs
-
--- the requests for blocks of other plans than the query at this place asks for again
-abbrev pub of_others : List Query → ℕ → List Served → List Served
-of_others asked place late = filter (λ e. not (asks_again asked place e.plan)) late
-
--- the requests that a connection answered as expired, without an answer since to a query that asks for the block's own
--- plan again, the last one first: by what it was asked, and what it said in its order; those before it said that are
--- given, and the place of the query that it answers next
-abbrev pub late_since : List Query → ℕ → List Served → List Said → List Served
-late_since asked place late [] = late
-late_since asked place late (said.Plan a ∷ all) = late_since asked (place + 1) (of_others asked place late) all
-late_since asked place late (said.Block b ∷ all) = late_since asked place late all
-late_since asked place late (said.Expired e ∷ all) = late_since asked place (e ∷ late) all
-
--- the entry is of none of their blocks
-abbrev pub IsOfNone : Served → List Served → Type 0
-IsOfNone e late = count_by (is_pair e.plan e.index) late ≡ 0
-
--- after an expired answer a block's next one comes behind an answer to a query that asks for its plan again, by what a
--- connection was asked, and what it served and said in its order; the requests that were answered as expired before are
--- given
-abbrev pub NoneAgain : List Query → ℕ → List Served → List Served → List Said → Type 0
-NoneAgain asked place late served [] = Unit {0}
-NoneAgain asked place late served (said.Plan a ∷ all) =
-    NoneAgain asked (place + 1) (of_others asked place late) served all
-NoneAgain asked place late served (said.Expired e ∷ all) =
-    IsOfNone e late × NoneAgain asked place (e ∷ late) served all
-NoneAgain asked place late [] (said.Block b ∷ all) = NoneAgain asked place late [] all
-NoneAgain asked place late (e ∷ served) (said.Block b ∷ all) =
-    IsOfNone e late × NoneAgain asked place late served all
-
--- after an answer with bytes a block has no expired one, by what a connection served and said in its order
-abbrev pub BytesLast : List Served → List Said → Type 0
-BytesLast served [] = Unit {0}
-BytesLast served (said.Plan a ∷ all) = BytesLast served all
-BytesLast served (said.Expired e ∷ all) = BytesLast served all
-BytesLast [] (said.Block b ∷ all) = BytesLast [] all
-BytesLast (e ∷ served) (said.Block b ∷ all) = IsOfNone e (late_in all) × BytesLast served all
-
--- so of each connection
-abbrev pub EachBytesLast : List Exchange → Type 0
-EachBytesLast xs = All (λ x. BytesLast x.served x.said) xs
-
--- the own query of the entry's plan stands before this place
-abbrev pub IsSaidBefore : List Query → ℕ → Served → Type 0
-IsSaidBefore asked place e = is_before (own_place asked e.plan) place ≡ true
-
--- answers for a block come behind the own answer of its plan, by what a connection was asked, and what it served and
--- said in its order; the place of the query that it answers next is given
-abbrev pub BehindPlans : List Query → ℕ → List Served → List Said → Type 0
-BehindPlans asked place served [] = Unit {0}
-BehindPlans asked place served (said.Plan a ∷ all) = BehindPlans asked (place + 1) served all
-BehindPlans asked place served (said.Expired e ∷ all) =
-    IsSaidBefore asked place e × BehindPlans asked place served all
-BehindPlans asked place [] (said.Block b ∷ all) = BehindPlans asked place [] all
-BehindPlans asked place (e ∷ served) (said.Block b ∷ all) =
-    IsSaidBefore asked place e × BehindPlans asked place served all
-
--- so of the first connection, which says the plans
-abbrev pub FirstBehind : List Exchange → Type 0
-FirstBehind [] = Unit {0}
-FirstBehind (x ∷ xs) = BehindPlans x.asked 0 x.served x.said
-
--- the queries whose answers are recorded: all but the last ones, as many as are lost
-abbrev pub recorded : List Query → List Query → List Query
-recorded asked lost = take (length asked - length lost) asked
-
--- so of the first connection, which answers the queries, by those whose answers are recorded
-abbrev pub FirstInOrder : List Query → List Exchange → Type 0
-FirstInOrder lost [] = Unit {0}
-FirstInOrder lost (x ∷ xs) = NoneAgain (recorded x.asked lost) 0 [] x.served x.said
-
--- a block that the first connection answered as expired, without a recorded answer since to a query that asks for its
--- plan again, is expired by the history, or no event says so yet
-abbrev pub FirstLate : List Event → List Query → List (List Place) → List Exchange → Type 0
-FirstLate es lost (l ∷ ls) (x ∷ xs) = (p k : ℕ)
-    → 0 < count_by (is_pair p k) (late_since (recorded x.asked lost) 0 [] x.said)
-    → (is_expired es p k ≡ true) ⊎ (0 < count_by (at_place p k) l)
-FirstLate es lost [] xs = Unit {0}
-FirstLate es lost (l ∷ ls) [] = Unit {0}
 
 -- of each lane from a number on, whether or not its connection tells its list: it served the entries of its Fetched
 -- events, then those that no event says yet
@@ -443,13 +362,6 @@ pub record Ties (g : Setup) (before after : RunTold) (es : List Event) (stop : S
   pub unfailed : FirstUnfailed slack.calm before.clients after.clients
   pub expired : EachExpired es 0 slack.heard slack.late
   pub late_planned : LatePlanned es slack.heard
-  -- the first connection answers for an expired block again only behind a recorded answer to a query that asks for its
-  -- plan again, and none answers one as expired that it served
-  pub in_order : FirstInOrder slack.lost slack.heard
-  pub first_late : FirstLate es slack.lost slack.late slack.heard
-  pub bytes_last : EachBytesLast slack.heard
-  -- nor does the first one for a block whose plan it didn't say before
-  pub behind : FirstBehind slack.heard
   pub heard_served : EachServed es 0 slack.heard slack.hidden
   pub asked : FirstAsked g.file es slack.lost before.clients after.clients
   pub heard_asked : HeardAsked g.file es slack.lost slack.heard
@@ -457,7 +369,7 @@ pub record Ties (g : Setup) (before after : RunTold) (es : List Event) (stop : S
   pub said : FirstSaid g es slack.heard
   pub tried : IsTried g.tries es slack.late stop
   pub renewed : EachAfter IsRenewed [] es
-  -- each recorded query that doesn't cut the range has an answer that renews the plan which it asks again
+  -- each recorded query that doesn't cut the range has an answer that isn't refused by the plan which it asks again
   pub refreshes : FirstRenewed g slack.lost slack.heard
   -- each fetched block was answered with bytes that pass its tests
   pub passed : All (EventPassed g slack.heard) es

@@ -20,8 +20,7 @@ pub fn starts_and_stops()
 /// it the window exactly, and over any connections and any cache no block of a plan served twice, each served block
 /// one of a plan that was said and passes its tests, under its plan's number, short queries that, but for refreshes,
 /// cut the range, on Ok the tested bytes of all terms up to an end, a cache that gained nothing but entries of served
-/// blocks, by the first connection's order no answer for an expired block before one to a query that asks for its plan
-/// again, and no other error than `Cancelled` and want of memory where the signal said yes.
+/// blocks, and no other error than `Cancelled` and want of memory where the signal said yes.
 pub fn runs_are_legal()
     ensures { RunsAreLegal }
 {}

@@ -19,7 +19,7 @@ use Rattle.xet_ties.specs.History.{round_in}
 use Rattle.xet_ties.specs.InCall.{Exchange, Place, late_places}
 use Rattle.xet_ties.specs.Saids.{EventPassed, FirstRenewed, IsEventSaid}
 use Rattle.xet_ties.specs.Setup.{ClientGoesOn, Setup}
-use Rattle.xet_ties.specs.Ties.{FirstLate, EachExpired, EachServed, IsEntryOf, IsServed, Slack, all_late, at_place}
+use Rattle.xet_ties.specs.Ties.{EachExpired, EachServed, IsEntryOf, IsServed, Slack, all_late, at_place}
 use Rattle.xet_ties.specs.Ties.{all_of, has_one, is_one, is_served}
 
 -- ---- queries
@@ -86,7 +86,6 @@ pub record Fits (g : Setup) (es : List Event) (e : Event) (sl to : Slack) : Type
       → IsServed (es ++ e ∷ []) to.hidden to.late bs ns
   pub expired : (xs : List Exchange) → EachExpired es 0 xs sl.late → EachExpired (es ++ e ∷ []) 0 xs to.late
   pub heard_served : (xs : List Exchange) → EachServed es 0 xs sl.hidden → EachServed (es ++ e ∷ []) 0 xs to.hidden
-  pub first_late : FirstLate es sl.lost sl.late sl.heard → FirstLate (es ++ e ∷ []) to.lost to.late sl.heard
   pub asked : sl.lost ≡ asked_in g.file es e ++ to.lost
   pub tried : (p k : ℕ) → (count_by (expires p k) es + cond (expires p k e) 1 0)
       + count_by (at_place p k) (all_late to.late) ≤ g.tries
