@@ -23,7 +23,7 @@ use Rattle.xet_ties.specs.Setup.{IsOver, RunTold, Setup, download_of}
 use Rattle.xet_ties.specs.InCall.{Look, EachGrew, Exchange}
 use Rattle.xet_ties.specs.Gains.{GrewBy}
 use Rattle.xet_ties.specs.Ties.{IsEntryOf, Slack, Ties, gave, is_look, is_one, is_range, lacks, missed, IsTaken}
-use Rattle.xet_ties.proofs.Lanes.{open_same, served_same}
+use Rattle.xet_ties.proofs.Lanes.{served_same}
 use Rattle.xet_ties.proofs.Lates.{expired_same, late_push}
 use Rattle.xet_ties.proofs.Pushes.{first_push, limited_same, offered_push, polled_push, grew_by_more, recorded_same, stored_same, taken_push, tried_push, true_same, cuts_same, lost_push, starts_same}
 use Rattle.xet_ties.proofs.Numbers.{heard_push}
@@ -180,7 +180,7 @@ tie_cached g b n es sl to p k x r entry l at t =
       ends = ends_same es e refl t.ends;
       numbers = each-push IsNumberedNext es e t.numbers tt;
       stored = stored_same g.file es e b.clients refl t.stored;
-      served = served_same es e sl.hidden sl.late b.clients n.clients (λ l. refl) (λ l. refl) (λ p k. refl) (λ m. tt) (open_same es e (λ p k. refl)) t.served;
+      served = served_same es e sl.hidden sl.late b.clients n.clients (λ l. refl) (λ l. refl) (λ p k. refl) (λ m. tt) t.served;
       expired = expired_same es e 0 sl.heard sl.late (λ l w. refl) t.expired;
       late_planned = late_push es e sl.heard t.late_planned;
       heard_served = heard_served_same es e 0 sl.heard sl.hidden (λ l w. refl) t.heard_served;

@@ -1,5 +1,5 @@
 -- The ties after a step of the connections.
-use Rattle.std.proofs.Common.{◌≡◌, ℕ, zero, suc, ◌+◌, ◌≤◌, min, cond, List, [], ◌∷◌, ◌++◌, refl, sym, subst, ◌∙◌, ap, arith, append_assoc, Some, None, Option}
+use Rattle.std.proofs.Common.{◌≡◌, ℕ, zero, suc, ◌+◌, ◌≤◌, min, List, [], ◌∷◌, ◌++◌, refl, sym, subst, ◌∙◌, ap, arith, append_assoc, Some, None, Option}
 use Rattle.std.specs.Prelude.{IsSome, count_by, drop, option_map, All}
 use Rattle.std.proofs.lemmas.List.{append-nil}
 use Rattle.xet_base.specs.Store.{Store, file_of}
@@ -15,11 +15,11 @@ use Rattle.xet_history.specs.TrueHistory.{IsTrueEvent}
 use Rattle.xet_base.specs.declared.cas_types.FileRange.{FileRange}
 use Rattle.xet_base.specs.declared.cas_types.ChunkRange.{ChunkRange}
 use Rattle.xet_base.specs.declared.merklehash.MerkleHash.{MerkleHash}
-use Rattle.xet_ties.specs.History.{IsNumberedNext, IsOneCached, IsRenewed, asked_by, served_by, fetches, is_expired, IsWithin}
+use Rattle.xet_ties.specs.History.{IsNumberedNext, IsOneCached, IsRenewed, asked_by, served_by, fetches, IsWithin}
 use Rattle.xet_ties.specs.steps.Moves.{EachJoined, FirstQuery, JoinStep, QueryStep, no_hidden, no_late, heard_first, heard_join}
 use Rattle.xet_ties.specs.Setup.{AllTell, ClientGoesOn, IsOver, RunTold, Setup, download_of, most_lanes}
 use Rattle.xet_ties.specs.Ties.{EachUnasked, FirstUnfailed, NoneLate, all_late, all_of, at_place, is_one, is_pair, is_served, EachLane, FirstAsked, FirstStarts, IsLane, Slack, Ties, IsLost, IsPlannedEntry, IsNextQuery, EachServed, lates_of, IsLooked}
-use Rattle.xet_ties.proofs.Lanes.{open_same, served_same}
+use Rattle.xet_ties.proofs.Lanes.{served_same}
 use Rattle.xet_ties.specs.InCall.{Place}
 use Rattle.xet_ties.proofs.Gains.{gained_more}
 use Rattle.xet_ties.proofs.Lates.{expired_join, expired_query, expired_same, joined_late, late_join, late_push, late_query, none_late}
@@ -149,7 +149,7 @@ tie_planned g b n es sl spare plan query terms blocks lost polls next within sta
       ends = ends_push es e next.goes_on;
       numbers = each-push IsNumberedNext es e t.numbers number;
       stored = λ s tell k. stored s tell;
-      served = served_same es e sl.hidden sl.late b.clients n.clients (λ l. refl) (λ l. refl) (λ p k. refl) (λ m. tt) (open_same es e (λ p k. refl)) t.served;
+      served = served_same es e sl.hidden sl.late b.clients n.clients (λ l. refl) (λ l. refl) (λ p k. refl) (λ m. tt) t.served;
       expired = expired_same es e 0 sl.heard sl.late (λ l w. refl) t.expired;
       late_planned = late_push es e sl.heard t.late_planned;
       heard_served = heard_served_same es e 0 sl.heard sl.hidden (λ l w. refl) t.heard_served;
@@ -222,7 +222,7 @@ asked_join f es lost (b ∷ bs) (m ∷ ms) (n ∷ ns) (h ∷ hs) (a ∷ alls) (k
 
 -- the lanes came back from a join
 pub tie_join : (g : Setup) (b n : RunTold) (es : List Event) (sl : Slack) (to : List ClientTold) (hs : List (List Served)) (alls : List (List Said)) (ks : List (List Place)) → EachJoined n.clients to hs alls ks
-    → ((p k : ℕ) → (count_by (fetches p k) es + count_by (is_pair p k) (all_of hs)) + count_by (at_place p k) (all_late ks) ≤ cond (is_expired es p k) 0 1)
+    → ((p k : ℕ) → count_by (fetches p k) es + count_by (is_pair p k) (all_of hs) ≤ 1)
     → ((p k : ℕ) → count_by (expires p k) es + count_by (at_place p k) (all_late ks) ≤ g.tries) → All (IsPlannedEntry es) (all_of hs) → All (λ all. All (IsPlannedEntry es) (late_in all)) alls → drop most_lanes to ≡ drop most_lanes n.clients → sl.hidden ≡ no_hidden b.clients → sl.late ≡ no_late b.clients
     → ((x : MerkleHash) (r : ChunkRange) → count_by (is_served x r) (all_of hs) + count_by (is_served x r) (all_lates alls) ≤ count_by (is_one x r) sl.pending) → (calm : ℕ) → FirstUnfailed calm b.clients to → Ties g b n es None sl
     → Ties g b (record n { clients = to }) es None (record sl { heard = heard_join hs alls sl.heard; hidden = hs; late = ks; pending = []; calm = calm })

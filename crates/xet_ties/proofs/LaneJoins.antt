@@ -71,18 +71,6 @@ hidden_after a qs s t ss hidden (inr x) =
     let e : length (s ∷ t ∷ ss) - 1 ≡ suc (length (t ∷ ss) - 1) = omega arith in
     inr (record { ask = x.ask; some = omega arith; last = sym (ap (slice_get (a ∷ qs)) e) ∙ x.last; may = sym (ap (λ k. hides_at (slice_get (s ∷ t ∷ ss) k)) e) ∙ x.may; is = x.is })
 
-lane_weighs : (h : Served → ℕ) (b n : ClientTold) (served : List Served) (all : List Said) (qs : List Ask) (ss : List LaneStep) (hidden : List Served) → AreOf b n served all qs ss → IsHidden qs ss hidden
-    → weigh h (entries_of qs ss) + weigh h hidden ≤ weigh h (map asks_for qs)
-lane_weighs h b n served all qs [] hidden are (inl e) = let f : weigh h hidden ≡ 0 = ap (weigh h) e in omega arith
-lane_weighs h b n served all qs [] hidden are (inr t) = let some = t.some in absurd (omega arith)
-lane_weighs h b n served all [] (s ∷ ss) hidden are i = absurd are
-lane_weighs h b n served all (a ∷ qs) (s ∷ []) hidden are i = let f = last_weighs h a qs s hidden i in let w = weigh_append h (entries_in a s) [] in omega arith
-lane_weighs h b n served all (a ∷ qs) (s ∷ t ∷ ss) hidden are i =
-    let r = lane_weighs h b n served all qs (t ∷ ss) hidden are.1 (hidden_after a qs s t ss hidden i) in
-    let w = weigh_append h (entries_in a s) (entries_of qs (t ∷ ss)) in
-    let f = in_weighs h a s in
-    omega arith
-
 in_both : (h : Served → ℕ) (a : Ask) (s : LaneStep) → weigh h (entries_in a s) + weigh h (lates_in a s) ≤ h (asks_for a)
 in_both h a (step.Served p k d) = omega arith
 in_both h a (step.Expired p k) = omega arith
@@ -356,7 +344,6 @@ pub record AreJoined (fs : List Ask) (bs ns : List ClientTold) (drawn : List (Li
       → All (λ l. All (IsHeardStep fs bs (heard_join (lanes_entries keys hidden) said xs)) l) es
   -- nothing is hidden where no step may hide
   pub none : All HidesNone es → hidden ≡ no_hidden bs
-  pub weighs : (h : Served → ℕ) → weigh h (all_of (lanes_entries keys hidden)) ≤ weigh_at h fs (concat drawn)
   pub fresh : (history : List Event) → All (IsFreshAsk history) fs → EachFresh history keys
 
 weigh_all : (h : Served → ℕ) (x : List Served) (xs : List (List Served)) → weigh h (all_of (x ∷ xs)) ≡ weigh h x + weigh h (all_of xs)
@@ -402,7 +389,6 @@ are_joined fs bs ns [] [] e = record {
   got = refl;
   found = λ xs p own. All-nil (λ l. All (IsHeardStep fs bs (heard_join (map (λ _. []) bs) (map (λ _. []) bs) xs)) l);
   none = λ h. refl;
-  weighs = λ h. let z = none_weigh h bs in omega (arith, z);
   fresh = λ history h. tt;
 }
 are_joined fs bs ns [] (ss ∷ es) e = absurd e
@@ -433,15 +419,6 @@ are_joined fs (b ∷ bs) (n ∷ ns) (d ∷ ds) (ss ∷ es) e =
           lanes_more fs b n bs mine did.said (lanes_entries rest.keys rest.hidden) rest.said d lane.made ss es lane.at
           (subst (λ (l : List Served). AreOf b n (l ++ did.hidden) did.said lane.made ss) (entries_keys lane.made ss) did.are) (made_of IsFor fs d lane.made own lane.at) (λ ys q. rest.found ys q own) xs p;
       none = λ h. ap (λ (l : List Served). l ∷ rest.hidden) (did.none (All-head HidesNone ss es h)) ∙ ap (λ (l : List (List Served)). [] ∷ l) (rest.none (All-tail HidesNone ss es h));
-      weighs = λ h.
-          let w = weigh_all h mine (lanes_entries rest.keys rest.hidden) in
-          let x = weigh_append h (entries_all keys) did.hidden in
-          let y = ap (weigh h) (entries_keys lane.made ss) in
-          let l = lane_weighs h b n (entries_of lane.made ss ++ did.hidden) did.said lane.made ss did.hidden did.are did.at_most in
-          let m = made_weighs h fs d lane.made lane.at in
-          let s = at_append h fs d (concat ds) in
-          let t = rest.weighs h in
-          omega (arith, w, x, y, l, m, s, t);
       fresh = λ history h. (fresh_keys history b n (entries_of lane.made ss ++ did.hidden) did.said lane.made ss did.are (made_of (IsFreshAsk history) fs d lane.made h lane.at), rest.fresh history h);
     }
 
@@ -569,27 +546,17 @@ all_weighs h fs (b ∷ bs) (n ∷ ns) (d ∷ ds) (ss ∷ es) e =
     let r = all_weighs h fs bs ns ds es e.1 in
     omega (arith, l, m, s, w, x, y, v, r)
 
--- the requests for a block that these answered as expired
-abbrev pub lates_of_all : ℕ → ℕ → List (List Said) → ℕ
-lates_of_all p k [] = 0
-lates_of_all p k (a ∷ alls) = count_by (is_pair p k) (late_in a) + lates_of_all p k alls
-
-lates_counted : (p k : ℕ) (alls : List (List Said)) → lates_weigh (λ e. cond (is_pair p k e) 1 0) alls ≡ lates_of_all p k alls
-lates_counted p k [] = refl
-lates_counted p k (a ∷ alls) = let r = lates_counted p k alls in let c = counted p k (late_in a) in omega (arith, r, c)
-
--- a block has no more answers than the round's fetches ask for
-pub answered_among : (fs : List Ask) (bs ns : List ClientTold) (es : List (List LaneStep)) → (d : DrewApart fs bs ns es) → (p k : ℕ)
-    → (let j = are_joined fs bs ns d.drawn es d.each in count_by (is_pair p k) (all_of (lanes_entries j.keys j.hidden)) + lates_of_all p k j.said ≤ count_by (is_pair p k) (map asks_for fs))
-answered_among fs bs ns es d p k =
+-- a block was served no more often than the round's fetches ask for
+pub served_among : (fs : List Ask) (bs ns : List ClientTold) (es : List (List LaneStep)) → (d : DrewApart fs bs ns es) → (p k : ℕ)
+    → (let j = are_joined fs bs ns d.drawn es d.each in count_by (is_pair p k) (all_of (lanes_entries j.keys j.hidden)) ≤ count_by (is_pair p k) (map asks_for fs))
+served_among fs bs ns es d p k =
     let j = are_joined fs bs ns d.drawn es d.each in
     let h : Served → ℕ = λ e. cond (is_pair p k e) 1 0 in
     let most = numbers_weigh h fs (concat d.drawn) (λ x. let a = d.apart x in let o = once_most x d.count in omega (arith, a, o)) (λ x l. let w = d.within in d.apart x ∙ once_past x d.count (omega (arith, w, l))) in
     let w = all_weighs h fs bs ns d.drawn es d.each in
     let a = counted p k (all_of (lanes_entries j.keys j.hidden)) in
     let c = counted p k (map asks_for fs) in
-    let l = lates_counted p k j.said in
-    omega (arith, most, w, a, c, l)
+    omega (arith, most, w, a, c)
 
 lates_ranges : (T : Served → Bool) (alls : List (List Said)) → lates_weigh (λ e. cond (T e) 1 0) alls ≡ count_by T (all_lates alls)
 lates_ranges T [] = refl

@@ -1,5 +1,5 @@
 -- The lanes' ties after one more event.
-use Rattle.std.proofs.Common.{◌≡◌, ℕ, ◌+◌, ◌≤◌, ◌==◌, Bool, true, false, cond, List, [], ◌∷◌, ◌++◌, length, refl, sym, subst, ◌∙◌, ap, arith, append_assoc, length-append}
+use Rattle.std.proofs.Common.{◌≡◌, ℕ, ◌+◌, ◌≤◌, Bool, false, cond, List, [], ◌∷◌, ◌++◌, length, refl, sym, subst, ◌∙◌, ap, arith, append_assoc, length-append}
 use Rattle.std.specs.Prelude.{All, count_by, map, option_map}
 use Rattle.std.proofs.lemmas.List.Elements.{All-append, All-push, All-tail, All-weaker}
 use Rattle.std.proofs.lemmas.Bool.{eq-eqb, ne_eqb}
@@ -7,14 +7,13 @@ use Rattle.xet_outside.proofs.CallerLemmas.{count_by-cons}
 use Rattle.xet_outside.specs.Told.{ClientTold}
 use Rattle.xet_outside.specs.declared.served.Served.{Served}
 use Rattle.xet_run.specs.declared.event.Event.{Event}
-use Rattle.xet_run.specs.Events.{expires}
-use Rattle.xet_run.specs.declared.event.Event.TheVariants.{Fetched, Expired, Refreshed}
+use Rattle.xet_run.specs.declared.event.Event.TheVariants.{Fetched, Expired}
 use Rattle.xet_run.specs.declared.event.PlannedBlock.{PlannedBlock}
-use Rattle.xet_ties.specs.History.{IsOnLane, block_at, entry_of, expired_by, expires_on, expiry_of, served_by, served_in, fetches, is_expired}
+use Rattle.xet_ties.specs.History.{IsOnLane, block_at, entry_of, expired_by, expires_on, served_by, served_in, fetches}
 use Rattle.xet_ties.specs.InCall.{Place}
 use Rattle.xet_ties.specs.Ties.{EachLane, IsLane, IsPlannedEntry, IsServed, all_late, all_of, at_place, is_pair}
 use Rattle.xet_run.proofs.CallerLemmas.{count_by-push}
-use Rattle.xet_ties.proofs.Telling.{all_left, all_right, block_at-push, count-append, count-same, count-more, expired-push, now_refreshed, telling-push, telling-same}
+use Rattle.xet_ties.proofs.Telling.{all_left, all_right, block_at-push, count-append, count-same, count-more, telling-push, telling-same}
 
 -- each lane from a number on stays tied
 each_lane : (es fs : List Event) (lane : ℕ) → ((l : ℕ) (b n : ClientTold) (h : List Served) (k : List Place) → lane ≤ l → IsLane es l b n h k → IsLane fs l b n h k)
@@ -64,37 +63,15 @@ late_length es l (b ∷ bs) [] hs ks t = absurd t
 late_length es l (b ∷ bs) (n ∷ ns) [] ks t = absurd t
 late_length es l (b ∷ bs) (n ∷ ns) (h ∷ hs) [] t = absurd t
 
-pub one_most : (v : Bool) → cond {A = ℕ} v 0 1 ≤ 1
-one_most true = omega arith
-one_most false = omega arith
-
--- a block may be answered after an event of no expiry and no refresh where it might before
-pub open_same : (es : List Event) (e : Event) → ((p k : ℕ) → expiry_of p k e ≡ []) → (p k : ℕ) → cond {A = ℕ} (is_expired es p k) 0 1 ≤ cond (is_expired (es ++ e ∷ []) p k) 0 1
-open_same es e none p k = let s = ap (λ (v : Bool). cond {A = ℕ} v 0 1) (expired-push es e p k (none p k)) in omega (arith, s)
-
--- and after a refresh
-pub open_refreshed : (es : List Event) (n p k : ℕ) → cond {A = ℕ} (is_expired es p k) 0 1 ≤ cond (is_expired (es ++ Refreshed n ∷ []) p k) 0 1
-open_refreshed es n p k = by (n == p) refl
-  where
-    by : (v : Bool) → (n == p) ≡ v → cond {A = ℕ} (is_expired es p k) 0 1 ≤ cond (is_expired (es ++ Refreshed n ∷ []) p k) 0 1
-    by true h =
-        let s = ap (λ (v : Bool). cond {A = ℕ} v 0 1) (now_refreshed es n p k h) in
-        let l = one_most (is_expired es p k) in
-        omega (arith, s, l)
-    by false h =
-        let s = ap (λ (v : Bool). cond {A = ℕ} v 0 1) (expired-push es (Refreshed n) p k (ap (λ (v : Bool). cond {A = List Bool} v (false ∷ []) []) h)) in
-        omega (arith, s)
-
 -- an event that neither fetches nor expires
 pub served_same : (es : List Event) (e : Event) (hs : List (List Served)) (ks : List (List Place)) (bs ns : List ClientTold) → ((l : ℕ) → served_in l es e ≡ []) → ((l : ℕ) → expires_on l e ≡ false) → ((p k : ℕ) → fetches p k e ≡ false) → ((n : ℕ) → IsOnLane n e)
-    → ((p k : ℕ) → cond {A = ℕ} (is_expired es p k) 0 1 ≤ cond (is_expired (es ++ e ∷ []) p k) 0 1) → IsServed es hs ks bs ns → IsServed (es ++ e ∷ []) hs ks bs ns
-served_same es e hs ks bs ns none off apart on opens t = record {
+    → IsServed es hs ks bs ns → IsServed (es ++ e ∷ []) hs ks bs ns
+served_same es e hs ks bs ns none off apart on t = record {
   lanes = each_lane es (es ++ e ∷ []) 0 (λ l b n h k p. lane_same es e l b n h k (none l) (off l)) bs ns hs ks t.lanes;
   once = λ p k.
       let a = t.once p k in
       let c = count-same (fetches p k) es e (apart p k) in
-      let o = opens p k in
-      omega (arith, a, c, o);
+      omega (arith, a, c);
   planned = entries_push es e (all_of hs) t.planned;
   on_lanes = All-push (IsOnLane (length bs)) es e t.on_lanes (on (length bs));
   past = t.past;
@@ -170,8 +147,7 @@ served_fetched es m p k x h fs gs ks bs ns at is t = record {
       let a = t.once q j in
       let c = count_hidden (is_pair q j) (entry_of p k x) h gs fs in
       let d = count_by-push (fetches q j) es (Fetched m p k) in
-      let o = open_same es (Fetched m p k) (λ r i. refl) q j in
-      omega (arith, a, c, d, o);
+      omega (arith, a, c, d);
   planned = entries_push es (Fetched m p k) (all_of (fs ++ h ∷ gs)) (planned_less (IsPlannedEntry es) (entry_of p k x) h gs fs t.planned);
   on_lanes =
       let n = hidden_length es 0 bs ns (fs ++ (entry_of p k x ∷ h) ∷ gs) ks t.lanes in
@@ -226,7 +202,10 @@ pub served_expired : (es : List Event) (m p k : ℕ) (j : List Place) (hs : List
     → IsServed es hs (fs ++ ((p, k) ∷ j) ∷ gs) bs ns → IsServed (es ++ Expired m p k ∷ []) hs (fs ++ j ∷ gs) bs ns
 served_expired es m p k j hs fs gs bs ns is t = record {
   lanes = each_expired es 0 m p k (p, k) j gs bs ns hs fs (omega (arith, is)) t.lanes;
-  once = λ q i. once q i (expires q i (Expired m p k)) refl;
+  once = λ q i.
+      let a = t.once q i in
+      let c = count-same (fetches q i) es (Expired m p k) refl in
+      omega (arith, a, c);
   planned = entries_push es (Expired m p k) (all_of hs) t.planned;
   on_lanes =
       let n = late_length es 0 bs ns hs (fs ++ ((p, k) ∷ j) ∷ gs) t.lanes in
@@ -234,24 +213,3 @@ served_expired es m p k j hs fs gs bs ns is t = record {
       All-push (IsOnLane (length bs)) es (Expired m p k) t.on_lanes (omega (arith, n, c, is));
   past = t.past;
 }
-  where
-    e : Event
-    e = Expired m p k
-
-    once : (q i : ℕ) (v : Bool) → expires q i e ≡ v
-        → (count_by (fetches q i) (es ++ e ∷ []) + count_by (is_pair q i) (all_of hs)) + count_by (at_place q i) (all_late (fs ++ j ∷ gs)) ≤ cond {A = ℕ} (is_expired (es ++ e ∷ []) q i) 0 1
-    once q i true h =
-        let a = t.once q i in
-        let c = count-same (fetches q i) es e refl in
-        let d = count_late q i (p, k) j gs fs in
-        let here = ap (λ (v : Bool). cond {A = ℕ} v 1 0) h in
-        let l = one_most (is_expired es q i) in
-        omega (arith, a, c, d, here, l)
-    once q i false h =
-        let a = t.once q i in
-        let c = count-same (fetches q i) es e refl in
-        let d = count_late q i (p, k) j gs fs in
-        let here = ap (λ (v : Bool). cond {A = ℕ} v 1 0) h in
-        let none : expiry_of q i e ≡ [] = ap (λ (v : Bool). cond {A = List Bool} v (true ∷ []) []) h in
-        let o = ap (λ (v : Bool). cond {A = ℕ} v 0 1) (expired-push es e q i none) in
-        omega (arith, a, c, d, here, o)

@@ -12,13 +12,12 @@ use Rattle.xet_outside.proofs.CallerLemmas.{count_by-cons}
 use Rattle.xet_run.specs.declared.event.Event.{Event}
 use Rattle.xet_run.specs.declared.event.Event.TheVariants.{Planned, Admit, Fetched, Cached, Expired, Refreshed, Wrote, Fail, Cancel}
 use Rattle.xet_run.specs.declared.event.PlannedBlock.{PlannedBlock}
-use Rattle.xet_ties.specs.History.{block_at, blocks_in, entry_of, fetches, is_expired, served_by, served_in, telling}
+use Rattle.xet_ties.specs.History.{block_at, blocks_in, entry_of, fetches, served_by, served_in, telling}
 use Rattle.xet_ties.specs.InCall.{EachExchange, Exchange, served_of_all, Place}
 use Rattle.xet_ties.specs.Legal.{ServedOnce}
 use Rattle.xet_ties.specs.Saids.{EntryPassed, EventPassed, HasPassed}
 use Rattle.xet_ties.specs.Setup.{Setup}
 use Rattle.xet_ties.specs.Ties.{EachServed, IsPlannedEntry, IsServed, all_of, is_pair}
-use Rattle.xet_ties.proofs.Lanes.{one_most}
 use Rattle.xet_ties.proofs.Telling.{block_at-push, count-append}
 
 -- ---- one event
@@ -132,7 +131,7 @@ heard_count p k es l (b ∷ bs) (n ∷ ns) (x ∷ xs) (h ∷ hs) e t =
 
 -- no event fetches a block that another one fetched
 pub fetched_once : (es : List Event) (hs : List (List Served)) (ks : List (List Place)) (bs ns : List ClientTold) → IsServed es hs ks bs ns → (p k : ℕ) → count_by (fetches p k) es ≤ 1
-fetched_once es hs ks bs ns s p k = let o = s.once p k in let l = one_most (is_expired es p k) in omega (arith, o, l)
+fetched_once es hs ks bs ns s p k = let o = s.once p k in omega (arith, o)
 
 -- so none is served twice
 pub served_once : (es : List Event) (bs ns : List ClientTold) (xs : List Exchange) (hs : List (List Served)) (ks : List (List Place)) → EachExchange bs ns xs → EachServed es 0 xs hs → IsServed es hs ks bs ns → ServedOnce (served_of_all xs)
@@ -140,8 +139,7 @@ served_once es bs ns xs hs ks e t s p k =
     let a = heard_count p k es 0 bs ns xs hs e t in
     let m = lanes_most p k [] es 0 bs in
     let o = s.once p k in
-    let l = one_most (is_expired es p k) in
-    omega (arith, a, m, o, l)
+    omega (arith, a, m, o)
 
 -- ---- entries of planned blocks
 

@@ -13,7 +13,7 @@ use Rattle.xet_ties.specs.InCall.{Place}
 use Rattle.xet_ties.specs.Saids.{FirstRenewed, HasPassed}
 use Rattle.xet_ties.specs.Setup.{RunTold, Setup}
 use Rattle.xet_ties.specs.Ties.{EachExpired, IsServed, Slack, Ties, all_late, all_of, at_place, has_one, is_one, is_served, EachServed}
-use Rattle.xet_ties.proofs.Lanes.{count_hidden, count_late, open_refreshed, open_same, served_expired, served_fetched, served_same}
+use Rattle.xet_ties.proofs.Lanes.{count_hidden, count_late, served_expired, served_fetched, served_same}
 use Rattle.xet_ties.proofs.Lates.{expired_next, expired_same}
 use Rattle.xet_ties.proofs.Moves.{tie_event}
 use Rattle.xet_base.specs.declared.cas_types.FileRange.{FileRange}
@@ -115,7 +115,7 @@ tie_refreshed g b n es sl p r at lost renewed t =
       within = tt;
       plan = refl;
       tasks = refl;
-      served = λ bs ns v. served_same es e sl.hidden sl.late bs ns (λ l. refl) (λ l. refl) (λ q k. refl) (λ m. tt) (open_refreshed es p) v;
+      served = λ bs ns v. served_same es e sl.hidden sl.late bs ns (λ l. refl) (λ l. refl) (λ q k. refl) (λ m. tt) v;
       expired = λ xs v. expired_same es e 0 xs sl.late (λ l w. refl) v;
       heard_served = λ xs v. heard_served_same es e 0 xs sl.hidden (λ l w. refl) v;
       asked = lost ∙ ap (λ (l : List FileRange). map (λ v. (g.file, v)) l ++ []) (sym at);
@@ -148,7 +148,7 @@ tie_wrote g b n es sl taken rest is t =
       within = tt;
       plan = refl;
       tasks = refl;
-      served = λ bs ns v. served_same es e sl.hidden sl.late bs ns (λ l. refl) (λ l. refl) (λ q k. refl) (λ m. tt) (open_same es e (λ q k. refl)) v;
+      served = λ bs ns v. served_same es e sl.hidden sl.late bs ns (λ l. refl) (λ l. refl) (λ q k. refl) (λ m. tt) v;
       expired = λ xs v. expired_same es e 0 xs sl.late (λ l w. refl) v;
       heard_served = λ xs v. heard_served_same es e 0 xs sl.hidden (λ l w. refl) v;
       asked = refl;

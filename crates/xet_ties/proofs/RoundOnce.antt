@@ -1,79 +1,22 @@
--- No block of a round is answered twice before an event says so, nor more often than it may be asked for.
-use Rattle.std.proofs.Common.{◌≡◌, ℕ, ◌+◌, ◌<◌, ◌≤◌, Bool, true, false, cond, List, [], ◌∷◌, ◌++◌, map, refl, sym, subst, ap, arith, append_assoc, ⊎_elim}
-use Rattle.std.specs.Prelude.{All, count_by}
-use Rattle.std.proofs.lemmas.Bool.{cases_lt}
+-- No block of a round is answered as expired more often than it may be asked for.
+use Rattle.std.proofs.Common.{◌≡◌, ℕ, ◌+◌, ◌<◌, ◌≤◌, Bool, true, false, cond, List, [], ◌∷◌, ◌++◌, map, refl, sym, subst, ap, arith, append_assoc}
+use Rattle.std.specs.Prelude.{count_by}
 use Rattle.std.proofs.lemmas.List.{append-nil}
-use Rattle.std.proofs.lemmas.List.Elements.{All-head, All-tail}
-use Rattle.xet_outside.specs.Answers.{late_in}
 use Rattle.xet_outside.specs.Told.{ClientTold}
-use Rattle.xet_outside.specs.declared.said.Said.{Said}
 use Rattle.xet_outside.proofs.CallerLemmas.{count_by-cons}
 use Rattle.xet_run.specs.declared.event.Event.{Event}
 use Rattle.xet_run.specs.declared.event.Event.TheVariants.{Expired}
 use Rattle.xet_run.specs.Events.{expires}
 use Rattle.xet_run.proofs.CallerLemmas.{count_by-push, same_numbers}
-use Rattle.xet_ties.specs.History.{fetches, is_expired}
 use Rattle.xet_ties.specs.InCall.{Place}
 use Rattle.xet_ties.specs.Lanes.{Ask, DrewApart}
-use Rattle.xet_ties.specs.Ties.{all_late, all_of, at_place, is_pair}
+use Rattle.xet_ties.specs.Ties.{all_late, at_place}
 use Rattle.xet_ties.specs.declared.lane_step.LaneStep.{LaneStep}
 use Rattle.xet_ties.specs.steps.Moves.{no_late}
-use Rattle.xet_ties.specs.steps.Records.{EachMayExpire, IsFreshAsk, Key, MayExpire, asks_for, expired_all, fetched_all, fetched_on, lane_events, lanes_entries, lanes_expired, lanes_fetched, lanes_late, places_of}
-use Rattle.xet_ties.proofs.Expiries.{places_count}
-use Rattle.xet_ties.proofs.LaneJoins.{answered_among, are_joined, lates_of_all}
-use Rattle.xet_ties.proofs.Lates.{SaidLate, joined_late}
+use Rattle.xet_ties.specs.steps.Records.{EachMayExpire, Key, MayExpire, expired_all, fetched_all, fetched_on, lane_events, lanes_expired, lanes_fetched, lanes_late, places_of}
+use Rattle.xet_ties.proofs.LaneJoins.{are_joined}
 use Rattle.xet_ties.proofs.Starts.{none_late_count}
 use Rattle.xet_ties.proofs.Telling.{count-append}
-
--- by the places of what was said
-late_count : (p k : ℕ) (alls : List (List Said)) (ks : List (List Place)) → SaidLate alls ks → count_by (at_place p k) (all_late ks) ≡ lates_of_all p k alls
-late_count p k [] [] s = refl
-late_count p k [] (c ∷ ks) s = absurd s
-late_count p k (a ∷ alls) [] s = absurd s
-late_count p k (a ∷ alls) (c ∷ ks) s =
-    let r = late_count p k alls ks s.1 in
-    let c0 = count-append (at_place p k) c (all_late ks) in
-    let e = ap (λ (l : List Place). count_by (at_place p k) l) s.0 in
-    let n = places_count p k (late_in a) in
-    omega (arith, r, c0, e, n)
-
--- a block that fresh fetches ask for isn't expired
-asked_fresh : (es : List Event) (fs : List Ask) (p k : ℕ) → All (IsFreshAsk es) fs → 0 < count_by (is_pair p k) (map asks_for fs) → is_expired es p k ≡ false
-asked_fresh es [] p k h i = absurd (omega (arith, i))
-asked_fresh es (a ∷ fs) p k h i = by (is_pair p k (asks_for a)) refl (λ j. asked_fresh es fs p k (All-tail (IsFreshAsk es) a fs h) j)
-  where
-    by : (v : Bool) → is_pair p k (asks_for a) ≡ v → (0 < count_by (is_pair p k) (map asks_for fs) → is_expired es p k ≡ false) → is_expired es p k ≡ false
-    by true e later =
-        let s = same_numbers (asks_for a).plan (asks_for a).index p k e in
-        let f = (All-head (IsFreshAsk es) a fs h).fresh in
-        subst (λ (j : ℕ). is_expired es p j ≡ false) s.1 (subst (λ (q : ℕ). is_expired es q (asks_for a).index ≡ false) s.0 f)
-    by false e later =
-        let n = count_by-cons (is_pair p k) (asks_for a) (map asks_for fs) in
-        let none : cond {A = ℕ} (is_pair p k (asks_for a)) 1 0 ≡ 0 = ap (λ (v : Bool). cond {A = ℕ} v 1 0) e in
-        later (omega (arith, n, none, i))
-
--- where each fetch is of a fresh block that wasn't fetched, and no two are of one
-pub round_once : (es : List Event) (fs : List Ask) (bs ns : List ClientTold) (ls : List (List LaneStep)) → (d : DrewApart fs bs ns ls)
-    → ((p k : ℕ) → count_by (fetches p k) es + count_by (is_pair p k) (map asks_for fs) ≤ 1) → All (IsFreshAsk es) fs
-    → ((p k : ℕ) → count_by (fetches p k) es ≤ cond (is_expired es p k) 0 1) → (p k : ℕ)
-    → (let j = are_joined fs bs ns d.drawn ls d.each in
-    (count_by (fetches p k) es + count_by (is_pair p k) (all_of (lanes_entries j.keys j.hidden))) + count_by (at_place p k) (all_late (lanes_late (map places_of ls) (no_late bs)))
-    ≤ cond (is_expired es p k) 0 1)
-round_once es fs bs ns ls d new fresh before p k =
-    let j = are_joined fs bs ns d.drawn ls d.each in
-    let late = lanes_late (map places_of ls) (no_late bs) in
-    let a = answered_among fs bs ns ls d p k in
-    let c = late_count p k j.said late (joined_late bs ns (lanes_entries j.keys j.hidden) j.said late j.joined) in
-    let u = new p k in
-    let v = before p k in
-    ⊎_elim
-    (λ (some : 0 < count_by (is_pair p k) (map asks_for fs)).
-    let o = ap (λ (v : Bool). cond {A = ℕ} v 0 1) (asked_fresh es fs p k fresh some) in
-    omega (arith, a, c, u, o))
-    (λ (none : count_by (is_pair p k) (map asks_for fs) ≤ 0). omega (arith, a, c, v, none))
-    (cases_lt 0 (count_by (is_pair p k) (map asks_for fs)))
-
--- ---- tries
 
 -- after more expired answers of a lane
 lane_most : (tries lane p k : ℕ) (es : List Event) (cs : List Place) → MayExpire tries lane es cs → count_by (expires p k) es ≤ tries → count_by (expires p k) (es ++ expired_all lane cs) ≤ tries

@@ -23,12 +23,12 @@ use Rattle.xet_ties.specs.steps.Rounds.{AfterRound, calm_after, IsHeardData, IsH
 use Rattle.xet_ties.proofs.Heard.{block_more, grew_join, join_match, step_join}
 use Rattle.xet_ties.proofs.ClientMoves.{tie_join}
 use Rattle.xet_ties.proofs.Requests.{all_lates}
-use Rattle.xet_ties.proofs.LaneJoins.{AreJoined, are_joined, requests_among, joined_among, lates_among}
+use Rattle.xet_ties.proofs.LaneJoins.{AreJoined, served_among, are_joined, requests_among, joined_among, lates_among}
 use Rattle.xet_ties.proofs.LaneTies.{ArePassed, EachPassed, tie_lanes_expired, tie_lanes_fetched, InRound}
 use Rattle.xet_ties.proofs.LaneJoins.{each_failed, each_hides}
 use Rattle.xet_ties.proofs.Recording.{tie_rest}
 use Rattle.xet_ties.proofs.RoundData.{are_paired}
-use Rattle.xet_ties.proofs.RoundOnce.{round_once, round_tries}
+use Rattle.xet_ties.proofs.RoundOnce.{round_tries}
 use Rattle.std.proofs.lemmas.List.Elements.{All-append, All-cons, All-head, All-map, All-nil, All-tail, All-weaker}
 use Rattle.xet_blocks.specs.declared.reconstruction_terms.xorb_block.XorbBlock.{XorbBlock}
 use Rattle.xet_blocks.specs.declared.reconstruction_terms.xorb_block.XorbBlockData.{XorbBlockData}
@@ -143,7 +143,7 @@ round_joined g b at es sl fs ns ls d new fresh waits none_h none_l may t =
     let planned : All (IsPlannedEntry es) (map asks_for fs) = All-map (IsPlannedEntry es) asks_for fs (All-weaker (IsFreshAsk es) (λ a. IsPlannedEntry es (asks_for a)) (λ a h. ((key_of a).2, h.planned, refl)) fs fresh) in
     let entries = joined_among (IsPlannedEntry es) fs at.clients ns d.drawn ls d.each planned in
     let lates = lates_among (IsPlannedEntry es) fs at.clients ns d.drawn ls d.each planned in
-    let once = round_once es fs at.clients ns ls d new fresh (λ p k. let o = t.served.once p k in omega (arith, o)) in
+    let once : (p k : ℕ) → count_by (fetches p k) es + count_by (is_pair p k) (all_of served) ≤ 1 = λ p k. let a = served_among fs at.clients ns ls d p k in let u = new p k in omega (arith, a, u) in
     let tried = round_tries g.tries es fs at.clients ns ls d may (λ p k. let o = t.tried.at_most p k in omega (arith, o)) in
     let among : (x : MerkleHash) (r : ChunkRange) → count_by (is_served x r) (all_of served) + count_by (is_served x r) (all_lates j.said) ≤ count_by (is_one x r) sl.pending = λ x r. let a = requests_among fs at.clients ns ls d x r in let w = waits x r in omega (arith, a, w) in
     tie_join g b at es sl ns served j.said late j.joined once tried entries lates (past_drew most_lanes fs at.clients ns d.drawn ls d.each d.few) none_h none_l among (calm_after sl.calm ls) (drew_unfailed fs sl.calm b.clients at.clients ns d.drawn ls d.each t.unfailed) t

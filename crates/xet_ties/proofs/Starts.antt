@@ -23,7 +23,7 @@ use Rattle.xet_ties.specs.steps.Moves.{no_slack, no_hidden, no_late, no_exchange
 use Rattle.xet_ties.specs.Causes.{failing_setting}
 use Rattle.xet_ties.specs.Setup.{RunTold, Setup, download_of}
 use Rattle.xet_ties.specs.Ties.{all_late, all_of, at_place, is_pair, is_served, EachLane, EachUnasked, EachUnfailed, FirstAsked, IsFaultless, HeardAsked, IsEntryOf, IsLane, MayLeave, NoneLate, Slack, Ties, IsPlannedEntry, LeavesNothing, IsServed, lates_of}
-use Rattle.xet_ties.proofs.Lanes.{open_same, served_same}
+use Rattle.xet_ties.proofs.Lanes.{served_same}
 use Rattle.xet_ties.proofs.Lates.{expired_same, expired_start, late_push, late_start}
 use Rattle.xet_ties.proofs.Moves.{tie_fail, tie_admit, tie_limit}
 use Rattle.xet_ties.proofs.Pushes.{first_push, limited_same, looked_push, offered_push, polled_push, grew_by_none, reaches_start, starts_same, stored_same, taken_push, true_same, cuts_same, lost_push}
@@ -96,7 +96,7 @@ none_planned [] = All-nil (IsPlannedEntry [])
 none_planned (b ∷ bs) = none_planned bs
 
 pub served_start : (bs : List ClientTold) → IsServed [] (no_hidden bs) (no_late bs) bs bs
-served_start bs = record { lanes = lanes_start 0 bs; once = λ p k. let n = none_hidden_by (is_pair p k) bs in let l = none_late_count p k bs in omega (arith, n, l); planned = none_planned bs; on_lanes = All-nil (IsOnLane (length bs)); past = refl }
+served_start bs = record { lanes = lanes_start 0 bs; once = λ p k. let n = none_hidden_by (is_pair p k) bs in omega (arith, n); planned = none_planned bs; on_lanes = All-nil (IsOnLane (length bs)); past = refl }
 
 pub first_start : (f : MerkleHash) (b : ClientTold) (bs : List ClientTold) → FirstAsked f [] [] (b ∷ bs) (b ∷ bs)
 first_start f b bs = (record { asked = same_list b.asked }, unasked_start bs)
@@ -161,7 +161,7 @@ tie_cancel g b n es sl t =
       ends = ends_same es e refl t.ends;
       numbers = each-push IsNumberedNext es e t.numbers tt;
       stored = stored_same g.file es e b.clients refl t.stored;
-      served = served_same es e sl.hidden sl.late b.clients n.clients (λ l. refl) (λ l. refl) (λ p k. refl) (λ m. tt) (open_same es e (λ p k. refl)) t.served;
+      served = served_same es e sl.hidden sl.late b.clients n.clients (λ l. refl) (λ l. refl) (λ p k. refl) (λ m. tt) t.served;
       expired = expired_same es e 0 sl.heard sl.late (λ l w. refl) t.expired;
       late_planned = late_push es e sl.heard t.late_planned;
       heard_served = heard_served_same es e 0 sl.heard sl.hidden (λ l w. refl) t.heard_served;

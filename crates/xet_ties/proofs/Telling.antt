@@ -1,5 +1,5 @@
 -- What the words on a history say after one more event.
-use Rattle.std.proofs.Common.{◌≡◌, ℕ, ◌+◌, ◌==◌, Bool, true, false, cond, List, [], ◌∷◌, ◌++◌, refl, sym, subst, ◌∙◌, ap, arith, append_assoc, Some, None, Option}
+use Rattle.std.proofs.Common.{◌≡◌, ℕ, ◌+◌, Bool, true, false, cond, List, [], ◌∷◌, ◌++◌, refl, sym, subst, ◌∙◌, ap, arith, append_assoc, Some, None, Option}
 use Rattle.std.specs.Prelude.{All, count_by, map, option_to_list, slice_get}
 use Rattle.std.specs.List.{flat_map}
 use Rattle.std.proofs.lemmas.List.Elements.{All-cons, All-head, All-nil, All-tail}
@@ -10,8 +10,7 @@ use Rattle.xet_run.specs.Events.{last_of}
 use Rattle.std.proofs.lemmas.List.{append-nil}
 use Rattle.xet_outside.proofs.CallerLemmas.{count_by-cons}
 use Rattle.xet_run.specs.declared.event.Event.{Event}
-use Rattle.xet_run.specs.declared.event.Event.TheVariants.{Refreshed}
-use Rattle.xet_run.proofs.CallerLemmas.{count_by-push, flat-push, last_of-append}
+use Rattle.xet_run.proofs.CallerLemmas.{count_by-push, flat-push}
 use Rattle.xet_ties.specs.History.{EachAfter, block_at, blocks_in, expiry_of, is_expired, range_at, range_in, telling}
 
 pub telling-after : {A : Type 0} (says : List Event → Event → List A) (before es : List Event) (e : Event) → telling says before (es ++ e ∷ []) ≡ telling says before es ++ says (before ++ es) e
@@ -88,12 +87,6 @@ range_at-push es e p r h = go (first_some (map (range_in p) es)) refl
 
 pub expired-push : (es : List Event) (e : Event) (p k : ℕ) → expiry_of p k e ≡ [] → is_expired (es ++ e ∷ []) p k ≡ is_expired es p k
 expired-push es e p k h = ap (λ (l : List Bool). last_of false l) (flat-push (expiry_of p k) es e ∙ ap (λ (l : List Bool). flat_map (expiry_of p k) es ++ l) h ∙ append-nil (flat_map (expiry_of p k) es))
-
-pub now_refreshed : (es : List Event) (n p k : ℕ) → (n == p) ≡ true → is_expired (es ++ Refreshed n ∷ []) p k ≡ false
-now_refreshed es n p k h =
-    ap (λ (l : List Bool). last_of false l) (flat-push (expiry_of p k) es (Refreshed n))
-    ∙ last_of-append false (flat_map (expiry_of p k) es) (expiry_of p k (Refreshed n))
-    ∙ ap (λ (v : Bool). last_of (is_expired es p k) (cond {A = List Bool} v (false ∷ []) [])) h
 
 -- ---- facts of all elements of joined lists
 

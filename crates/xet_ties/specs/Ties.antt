@@ -1,6 +1,6 @@
 -- How a run's history is tied to what the run's arguments tell before and after.
 use Rattle.std.specs.Prelude.{ℕ, zero, suc, ◌≡◌, ◌⊎◌, ◌+◌, ◌-◌, ◌^◌, ◌<◌, ◌≤◌, ◌==◌, ◌&&◌, ◌≢◌, min, Bool, true, false}
-use Rattle.std.specs.Prelude.{cond, not, List, [], ◌∷◌, ◌++◌, drop, length, count_by, nat_eq, Option, Some}
+use Rattle.std.specs.Prelude.{not, List, [], ◌∷◌, ◌++◌, drop, length, count_by, nat_eq, Option, Some}
 use Rattle.std.specs.Prelude.{None, IfSome, IsSome, All, Contains}
 use Rattle.std.specs.List.{flat_map}
 use lib.Pointwise.{pointwise}
@@ -27,7 +27,7 @@ use Rattle.xet_history.specs.Queries.{CutFrom}
 use Rattle.xet_history.specs.TrueHistory.{EndsEarly, IsTrueHistory, SomeEndsEarly, pieces, queries}
 use Rattle.xet_ties.specs.Gains.{GainedServed, GrewBy}
 use Rattle.xet_ties.specs.History.{EachAfter, IsNumberedNext, IsOnLane, IsOneCached, IsRenewed, IsWithin, asked_by}
-use Rattle.xet_ties.specs.History.{block_at, cached_in, entry_of, expired_by, fetched_in, fetches, is_expired, kept_in}
+use Rattle.xet_ties.specs.History.{block_at, cached_in, entry_of, expired_by, fetched_in, fetches, kept_in}
 use Rattle.xet_ties.specs.History.{late_by, limits_of, range_at, served_by, telling, round_count}
 use Rattle.xet_ties.specs.InCall.{EachExchange, Exchange, Look, Place, late_places}
 use Rattle.xet_ties.specs.Saids.{EventPassed, FirstRenewed, FirstSaid, IsTested}
@@ -108,10 +108,8 @@ IsPlannedEntry es e = (x : PlannedBlock) × (block_at es e.plan e.index ≡ x �
 pub record IsServed (es : List Event) (hidden : List (List Served)) (late : List (List Place))
     (before after : List ClientTold) : Type 0 where
   pub lanes : EachLane es 0 before after hidden late
-  -- no block of a plan was served twice, nor served and also answered as expired with no event that says so; a block
-  -- that the history has as expired was neither served nor so answered
-  pub once : (p k : ℕ) → (count_by (fetches p k) es + count_by (is_pair p k) (all_of hidden))
-      + count_by (at_place p k) (all_late late) ≤ cond (is_expired es p k) 0 1
+  -- no block of a plan was served twice
+  pub once : (p k : ℕ) → count_by (fetches p k) es + count_by (is_pair p k) (all_of hidden) ≤ 1
   -- each hidden entry is of a planned block
   pub planned : All (IsPlannedEntry es) (all_of hidden)
   -- each event is of one of the lanes
