@@ -32,7 +32,6 @@ mod OfferCounts
 mod Pairs
 mod PartTies
 mod PastEnds
-mod PlanAsks
 mod Plannings
 mod Pushes
 mod Recording

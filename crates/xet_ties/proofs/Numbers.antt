@@ -1,6 +1,6 @@
 -- A plan's number is its place among the queries, and what was heard is that these were asked.
 use Rattle.std.proofs.Common.{◌≡◌, ℕ, zero, suc, ◌+◌, ◌≤◌, ◌==◌, Bool, true, false, cond, List, [], ◌∷◌, ◌++◌, refl, sym, subst, ◌∙◌, ap, arith, append_assoc, Some, None, Option}
-use Rattle.std.specs.Prelude.{All, map, option_to_list, slice_get}
+use Rattle.std.specs.Prelude.{All, map, slice_get}
 use Rattle.std.proofs.lemmas.Bool.{eqb-true}
 use Rattle.std.proofs.lemmas.List.Elements.{All-head, All-tail}
 use Rattle.xet_base.specs.declared.cas_types.FileRange.{FileRange}
@@ -16,7 +16,7 @@ use Rattle.xet_run.specs.declared.event.PlannedTerm.{PlannedTerm}
 use Rattle.xet_run.specs.Events.{is_plan, plan_count}
 use Rattle.xet_history.specs.Queries.{CutFrom}
 use Rattle.xet_history.specs.TrueHistory.{queries}
-use Rattle.xet_ties.specs.History.{EachAfter, IsNumberedNext, actual_range, asked_by, asked_in, blocks_in, range_at, range_in}
+use Rattle.xet_ties.specs.History.{EachAfter, IsNumberedNext, asked_by, asked_in, blocks_in}
 use Rattle.xet_ties.specs.InCall.{Exchange}
 use Rattle.xet_ties.specs.steps.Moves.{heard_first, heard_join}
 use Rattle.xet_ties.specs.Ties.{HeardAsked}
@@ -36,16 +36,6 @@ next_same es (Refreshed plan) h = tt
 next_same es (Wrote taken) h = tt
 next_same es (Fail error) h = tt
 next_same es Cancel h = tt
-
--- the range of the first event that has one
-pub first_range : (es : List Event) (p : ℕ) (r : FileRange) → range_at es p ≡ r ∷ []
-    → first_some (map (range_in p) es) ≡ Some r
-first_range es p r h = one (first_some (map (range_in p) es)) refl h
-  where
-    one : (o : Option FileRange) → first_some (map (range_in p) es) ≡ o → option_to_list o ≡ r ∷ []
-        → first_some (map (range_in p) es) ≡ Some r
-    one None e k = absurd (cc)
-    one (Some y) e k = let same : y ≡ r = cc in e ∙ ap (λ (z : FileRange). Some z) same
 
 -- ---- what was heard
 
@@ -152,20 +142,6 @@ pub reads_blocks : (p : ℕ) → Reads (λ q ts bs. bs) p (blocks_in p)
 reads_blocks p = record { planned = λ plan q ts bs. refl; none = none }
   where
     none : (e : Event) → is_plan e ≡ false → blocks_in p e ≡ None
-    none (Planned plan query terms blocks) h = absurd (cc)
-    none (Admit limit) h = refl
-    none (Fetched lane plan block) h = refl
-    none (Cached plan block) h = refl
-    none (Expired lane plan block) h = refl
-    none (Refreshed plan) h = refl
-    none (Wrote taken) h = refl
-    none (Fail error) h = refl
-    none Cancel h = refl
-
-pub reads_range : (p : ℕ) → Reads (λ q ts bs. actual_range q ts) p (range_in p)
-reads_range p = record { planned = λ plan q ts bs. refl; none = none }
-  where
-    none : (e : Event) → is_plan e ≡ false → range_in p e ≡ None
     none (Planned plan query terms blocks) h = absurd (cc)
     none (Admit limit) h = refl
     none (Fetched lane plan block) h = refl

@@ -1,6 +1,6 @@
 -- Which answers of a run are legal, by what its arguments tell before and after.
-use Rattle.std.specs.Prelude.{ℕ, ◌≡◌, ◌⊎◌, ◌+◌, ◌-◌, ◌^◌, ◌<◌, ◌≤◌, ◌==◌, List, [], ◌∷◌, ◌++◌, drop, length}
-use Rattle.std.specs.Prelude.{min, take, All, Some, IsSome, IfSome, OnOk, slice_get, option_map, count_by, Result}
+use Rattle.std.specs.Prelude.{ℕ, ◌≡◌, ◌⊎◌, ◌+◌, ◌-◌, ◌^◌, ◌<◌, ◌≤◌, List, [], ◌∷◌, ◌++◌, drop, length}
+use Rattle.std.specs.Prelude.{min, take, All, Some, IsSome, IfSome, OnOk, option_map, count_by, Result}
 use Rattle.std.specs.Prelude.{Err, IfOk, IfErr}
 use Rattle.std.specs.List.{AllZip, concat}
 use Rattle.xet_base.specs.declared.cas_types.ChunkRange.{ChunkRange}
@@ -91,20 +91,12 @@ FirstAsks g [] (n ∷ ns) = ⊥
 FirstAsks g (b ∷ bs) [] = ⊥
 FirstAsks g (b ∷ bs) (n ∷ ns) = IfSome (new_in b.asked n.asked) (AsksCut g) × EachUnasked bs ns
 
--- the requests for blocks of a plan that connections answered as expired together
-abbrev pub plan_lates : ℕ → List Exchange → ℕ
-plan_lates p [] = 0
-plan_lates p (x ∷ xs) = count_by (λ (e : Served). e.plan == p) (late_in x.said) + plan_lates p xs
-
--- queries that cut the range, and no more others than expired answers came; so from where each of the cut starts, whose
--- plan is the one of its number, no more than requests for this plan's blocks were answered as expired
+-- queries that cut the range, and no more others than expired answers came
 pub record AsksFew (g : Setup) (xs : List Exchange) (qs : List Query) : Type 0 where
   pub cut : List FileRange
   pub cuts : CutsRange g cut
   pub asked : AskedCut [] qs cut
   pub few : length qs ≤ length cut + expired_answers xs
-  pub each : (i : ℕ) (c : FileRange) → slice_get cut i ≡ Some c
-      → count_by (λ (q : Query). q.1.start == c.start) qs ≤ 1 + plan_lates (i + 1) xs
 
 -- so the first connection was asked, by what all connections said
 abbrev pub FirstAsksFew : Setup → List Exchange → Type 0
@@ -234,8 +226,7 @@ pub record Legal (g : Setup) (before after : RunTold) (answer : Result ℕ FileR
   pub asked : FirstAsks g before.clients after.clients
   -- on Ok it was planned to the range's end or the file's, by what the first connection alone tells
   pub all_asked : OnOk answer (FirstPlansAll g before.clients after.clients)
-  -- plans' URLs were asked for again no more often than expired answers came, and those of one plan no more often than
-  -- requests for its blocks were answered so
+  -- plans' URLs were asked for again no more often than expired answers came
   pub refreshed : FirstAsksFew g heard.list
   -- no more expired answers were heard than the connections count
   pub counted : EachCounted before.clients after.clients heard.list
