@@ -33,7 +33,7 @@ use Rattle.xet_ties.specs.Causes.{Cause, NoneAtEnd, PlanFails, RefreshFails, Low
 use Rattle.xet_ties.specs.Causes as causes
 use Rattle.xet_ties.specs.Cuts.{AskedCut, IsSaidPiece, SaidTerm, some_said}
 use Rattle.xet_ties.specs.InCall.{Exchange, Look, SomeOne, all_exchanges, expired_said}
-use Rattle.xet_ties.specs.Legal.{FirstAsksFew, Legal, TookCounted, TookTested, TookWhole}
+use Rattle.xet_ties.specs.Legal.{FirstAsksFew, Legal, TookTested, TookWhole}
 use Rattle.xet_ties.specs.Saids.{IsBlockAnswer, IsPlanAccepted, IsPlanSaid, IsQueryAnswer, ServedPassed}
 use Rattle.xet_ties.proofs.CallerLemmas.{all_told}
 use Rattle.xet_ties.specs.Setup.{AllTell, RunTold}
@@ -117,9 +117,9 @@ module _ (s : Store) (valid : IsValid s) (q : Wanted) (H : Type 0) (cs ds : List
   by_cause xs error.Cancelled h = omega (arith, h)
   by_cause xs (error.InternalWriterError w) h = h
 
-  counts_ok : (answer : Result ℕ FileReconstructionError) → IfOk answer (TookCounted b n) → CountsOk b n answer
-  counts_ok (Ok m) h = (h.bytes, h.took, h.total)
-  counts_ok (Err e) h = tt
+  counts_ok : (xs : List Exchange) (looks : List Look) (answer : Result ℕ FileReconstructionError) → IfOk answer (TookWhole (setup_of q) xs looks b n) → CountsOk b n answer
+  counts_ok xs looks (Ok m) h = (concat h.pieces, h.took, h.total)
+  counts_ok xs looks (Err e) h = tt
 
   causes_of : (xs : List Exchange) (answer : Result ℕ FileReconstructionError) → IfErr answer (Cause (setup_of q) xs (told_of cs k b) (told_of ds l n)) → IfErr answer (TapCause s q H b n)
   causes_of xs (Ok m) h = tt
@@ -131,7 +131,7 @@ module _ (s : Store) (valid : IsValid s) (q : Wanted) (H : Type 0) (cs ds : List
     prefix = λ honest cache. h.prefix s (record { tell = tells honest; valid = valid }) cache;
     cause = causes_of h.heard.list answer h.cause;
     settings = λ e f. let r = h.settings e (same ∙ f) in (inl r.0, ap (λ (t : RunTold). t.sink.took) r.1);
-    counts = counts_ok answer h.total;
+    counts = counts_ok h.heard.list h.looks.list answer h.whole;
     faults = h.sink_later;
     unfailed = h.unfailed;
     link = h.link;

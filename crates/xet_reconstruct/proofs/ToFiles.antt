@@ -11,7 +11,7 @@ use Rattle.xet_error.specs.declared.error.Setting.{Setting}
 use Rattle.xet_run.specs.Budgets.{LimitTold}
 use Rattle.xet_ties.specs.Causes.{Cause, failing_setting}
 use Rattle.xet_ties.specs.InCall.{Exchange, Look}
-use Rattle.xet_ties.specs.Legal.{IsExact, Legal, TookCounted, TookTested, TookWhole}
+use Rattle.xet_ties.specs.Legal.{IsExact, Legal, TookTested, TookWhole}
 use Rattle.xet_ties.specs.RunCalls.{DidNothing, Unfailed}
 use Rattle.xet_ties.specs.Setup.{RunTold, Setup}
 use Rattle.xet_reconstruct.specs.steps.Placing.{ReadyCall}
@@ -82,13 +82,9 @@ module _ (g : Setup) (b n : RunTold) (at : SinkTold) (flushed : Option ℕ) (fau
     stored = l.stored;
     heard = l.heard;
     looks = l.looks;
-    looked = l.looked;
-    missed_first = l.missed_first;
     tested = other_tested l.heard.list l.looks.list l.tested;
     whole = if_ok answer (TookWhole g l.heard.list l.looks.list at n.sink)
         (TookWhole g l.heard.list l.looks.list then_sink n.sink) (other_whole l.heard.list l.looks.list) l.whole;
-    total = if_ok answer (TookCounted at n.sink) (TookCounted then_sink n.sink)
-        (λ k t. record { bytes = t.bytes; took = t.took; total = t.total }) l.total;
     flushed = l.flushed;
     cancelled = l.cancelled;
     unfailed = subst (λ (k : ℕ). Unfailed k n.sink.faults answer) same l.unfailed;

@@ -4,7 +4,7 @@ use Rattle.std.specs.Prelude.{All, count_by, Ok, Err, Result}
 use Rattle.std.specs.List.{concat}
 use Rattle.std.proofs.lemmas.List.{append-nil, take_all, take-append-le}
 use Rattle.std.proofs.lemmas.List.Elements.{All-cons, All-nil, All-weaker}
-use Rattle.xet_base.specs.Store.{Store, window}
+use Rattle.xet_base.specs.Store.{window}
 use Rattle.xet_outside.specs.declared.served.Served.{Served}
 use Rattle.xet_outside.specs.Answers.{late_in}
 use Rattle.xet_outside.specs.Told.{ClientTold, Query, SinkTold, Took, TookPrefix}
@@ -17,16 +17,16 @@ use Rattle.xet_ties.specs.Causes.{failing_setting, late_answers}
 use Rattle.xet_ties.specs.History.{entry_of, fetched_in, telling, IsWithin}
 use Rattle.xet_ties.specs.InCall.{Exchange, Look, served_of_all, Place}
 use Rattle.xet_ties.specs.Cuts.{FirstCut, Planning}
-use Rattle.xet_ties.specs.Legal.{AllLatePlanned, AllLooked, AllMissed, AllPlanned, CacheGoesOn, FirstAsks, IsPlannedServed, Legal, SignalGoesOn, TookTested, TookWhole, requests_of}
+use Rattle.xet_ties.specs.Legal.{AllLatePlanned, AllPlanned, CacheGoesOn, FirstAsks, IsPlannedServed, Legal, SignalGoesOn, TookTested, TookWhole}
 use Rattle.xet_ties.specs.RunCalls.{IsFinished, IsUnspent, RunCall, TookAll}
 use Rattle.xet_ties.specs.Saids.{AllPassed, EntryPassed, FirstSaid, IsTested}
-use Rattle.xet_ties.specs.Setup.{EachGoesOn, IsOver, RunTold, Setup}
-use Rattle.xet_ties.specs.Ties.{EachLane, EachUnfailed, FirstUnfailed, IsEntryOf, IsOther, IsPlannedEntry, IsQuiet, LeavesNothing, Slack, Stop, Ties, all_of, has_one, is_one, is_served, lates_of}
+use Rattle.xet_ties.specs.Setup.{EachGoesOn, RunTold, Setup}
+use Rattle.xet_ties.specs.Ties.{EachLane, EachUnfailed, FirstUnfailed, IsEntryOf, IsOther, IsPlannedEntry, IsQuiet, LeavesNothing, Slack, Stop, Ties, all_of, has_one}
 use Rattle.xet_ties.proofs.Asks.{first_asks}
 use Rattle.xet_ties.proofs.Expiries.{counted_start, each_counted, none_past, none_spent}
 use Rattle.xet_ties.proofs.FewAsks.{none_few, run_few}
 use Rattle.xet_ties.proofs.Gains.{gained_none}
-use Rattle.xet_ties.proofs.OfferCounts.{fetched_kept, served_counted}
+use Rattle.xet_ties.proofs.OfferCounts.{served_counted}
 use Rattle.xet_ties.specs.Gains.{OffersFew, one_range}
 use Rattle.xet_ties.proofs.Headline as headline
 use Rattle.xet_ties.proofs.LowestLanes.{all_passed}
@@ -34,7 +34,6 @@ use Rattle.xet_ties.proofs.Pairs.{served_once, served_planned}
 use Rattle.xet_ties.proofs.Plannings.{PlanningOf, first_pieces, first_plans_all, planning_heard, plans_end, some_pieces}
 use Rattle.xet_ties.proofs.SaidTies.{block_said}
 use Rattle.xet_ties.proofs.ServedChunks.{chunks_heard}
-use Rattle.xet_ties.proofs.Telling.{count-append}
 use Rattle.xet_ties.proofs.Wholes.{took_all}
 use Rattle.xet_outside.proofs.CallerLemmas.{added_none}
 use Rattle.xet_ties.specs.steps.Moves.{no_exchange, no_hidden, no_late}
@@ -83,25 +82,6 @@ offers_all g b n es sl t left =
     let due = left.due in
     let hidden = ap (λ (l : List Served). count_by one_range l) left.hidden in
     omega (arith, all, c, due, hidden)
-
--- ---- looks
-
-looked_all : (g : Setup) (b n : RunTold) (es : List Event) (stop : Stop) (sl : Slack) → Ties g b n es stop sl → AllLooked (requests_of sl.heard) sl.looks
-looked_all g b n es stop sl t x r =
-    let all = served_counted (is_served x r) (is_one x r) (λ a c d. refl) es b.clients n.clients sl.heard sl.hidden t.heard t.heard_served t.served.on_lanes in
-    let kept = (t.looked.cover x r).kept in
-    let fetched = fetched_kept (is_one x r) [] es in
-    let both = count-append (is_served x r) (served_of_all sl.heard) (lates_of sl.heard) in
-    let left = count-append (is_served x r) (all_of sl.hidden) (lates_of sl.heard) in
-    omega (arith, all, kept, fetched, both, left)
-
-missed_all : (g : Setup) (b n : RunTold) (es : List Event) (stop : Stop) (sl : Slack) → Ties g b n es stop sl → (s : Store) → IsOver s b.clients → AllMissed s (requests_of sl.heard) sl.looks
-missed_all g b n es stop sl t s o x r =
-    let all = served_counted (is_served x r) (is_one x r) (λ a c d. refl) es b.clients n.clients sl.heard sl.hidden t.heard t.heard_served t.served.on_lanes in
-    let fetched = (t.looked.cover x r).honest s o in
-    let both = count-append (is_served x r) (served_of_all sl.heard) (lates_of sl.heard) in
-    let left = count-append (is_served x r) (all_of sl.hidden) (lates_of sl.heard) in
-    omega (arith, all, fetched, both, left)
 
 -- ---- tested bytes
 
@@ -226,14 +206,6 @@ none_heard : (g : Setup) (bs : List ClientTold) (p k : ℕ) → late_answers p k
 none_heard g [] p k = omega arith
 none_heard g (b ∷ bs) p k = let r = none_heard g bs p k in omega (arith, r)
 
-looked_nothing : (bs : List ClientTold) → AllLooked (requests_of (no_exchange bs)) []
-looked_nothing [] x r = omega arith
-looked_nothing (b ∷ bs) x r = looked_nothing bs x r
-
-missed_nothing : (s : Store) (bs : List ClientTold) → AllMissed s (requests_of (no_exchange bs)) []
-missed_nothing s [] x r = omega arith
-missed_nothing s (b ∷ bs) x r = missed_nothing s bs x r
-
 -- a run that its settings refuse
 legal_refused : (g : Setup) (b : RunTold) (x : Setting) → failing_setting g b.clients ≡ Some x → Legal g b b (Err (error.ConfigurationError x))
 legal_refused g b x h = record {
@@ -242,11 +214,8 @@ legal_refused g b x h = record {
   stored = λ s o. tt;
   heard = record { list = no_exchange b.clients; told = exchange_start b.clients };
   looks = record { list = []; told = added_none b.cache.looked b.cache.looked refl; given = All-nil (IsEntryOf b.cache.entries) };
-  looked = looked_nothing b.clients;
-  missed_first = λ s o. missed_nothing s b.clients;
   tested = record { planning = plans_nothing g b.clients; pieces = []; each = tt; took = none_took b.sink.took [] };
   whole = tt;
-  total = tt;
   flushed = tt;
   cancelled = λ i. absurd (omega (arith, i));
   unfailed = refl;
@@ -297,11 +266,8 @@ legal_ran g b n es (Ok k) h a r =
       stored = λ s o. headline.is_stored g b n es k t.slack a t.ties none r.finished s o;
       heard = record { list = t.slack.heard; told = t.ties.heard };
       looks = record { list = t.slack.looks; told = t.ties.looked.looked; given = t.ties.looked_entries };
-      looked = looked_all g b n es None t.slack t.ties;
-      missed_first = λ s o. missed_all g b n es None t.slack t.ties s o;
       tested = tested_heard g b n es None t.slack a t.ties;
       whole = whole_heard g b n es k t.slack a t.ties (t.left.none refl).lost none r.finished;
-      total = record { bytes = t.ties.taken.taken; took = t.ties.taken.took; total = let c = t.ties.taken.counted in let f = r.finished.count in omega (arith, c, f, none) };
       flushed = r.flushed;
       cancelled = r.cancelled;
       unfailed = r.unfailed;
@@ -339,11 +305,8 @@ legal_ran g b n es (Err e) h a r =
       stored = λ s o. tt;
       heard = record { list = t.slack.heard; told = t.ties.heard };
       looks = record { list = t.slack.looks; told = t.ties.looked.looked; given = t.ties.looked_entries };
-      looked = looked_all g b n es (Some e) t.slack t.ties;
-      missed_first = λ s o. missed_all g b n es (Some e) t.slack t.ties s o;
       tested = tested_heard g b n es (Some e) t.slack a t.ties;
       whole = tt;
-      total = tt;
       flushed = tt;
       cancelled = r.cancelled;
       unfailed = r.unfailed;

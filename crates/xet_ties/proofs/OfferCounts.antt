@@ -9,21 +9,10 @@ use Rattle.xet_outside.proofs.CallerLemmas.{count_by-cons}
 use Rattle.xet_run.specs.declared.event.Event.{Event}
 use Rattle.xet_run.specs.declared.event.Event.TheVariants.{Planned, Admit, Fetched, Cached, Expired, Refreshed, Wrote, Fail, Cancel}
 use Rattle.xet_run.specs.declared.event.PlannedBlock.{PlannedBlock}
-use Rattle.xet_ties.specs.History.{IsOnLane, block_at, cached_in, entry_of, fetched_in, kept_in, served_by, served_in, telling}
+use Rattle.xet_ties.specs.History.{IsOnLane, block_at, entry_of, fetched_in, served_by, served_in, telling}
 use Rattle.xet_ties.specs.InCall.{EachExchange, Exchange, served_of_all}
 use Rattle.xet_ties.specs.Ties.{EachServed, all_of}
 use Rattle.xet_ties.proofs.Telling.{count-append}
-
--- each fetched block is kept
-pub fetched_kept : (Q : PlannedBlock → Bool) (before es : List Event)
-    → count_by Q (telling fetched_in before es) ≤ count_by Q (telling kept_in before es)
-fetched_kept Q before [] = omega arith
-fetched_kept Q before (e ∷ es) =
-    let r = fetched_kept Q (before ++ e ∷ []) es in
-    let a = count-append Q (fetched_in before e) (telling fetched_in (before ++ e ∷ []) es) in
-    let b = count-append Q (kept_in before e) (telling kept_in (before ++ e ∷ []) es) in
-    let c = count-append Q (fetched_in before e) (cached_in before e) in
-    omega (arith, r, a, b, c)
 
 -- a kind of served entries, and the planned blocks that they are of
 module _ (P : Served → Bool) (Q : PlannedBlock → Bool)

@@ -1,11 +1,9 @@
 -- Which answers of a run are legal, by what its arguments tell before and after.
-use Rattle.std.specs.Prelude.{ℕ, ◌≡◌, ◌⊎◌, ◌+◌, ◌-◌, ◌^◌, ◌<◌, ◌≤◌, List, [], ◌∷◌, ◌++◌, drop, length}
+use Rattle.std.specs.Prelude.{ℕ, ◌≡◌, ◌⊎◌, ◌+◌, ◌-◌, ◌^◌, ◌<◌, ◌≤◌, List, [], ◌∷◌, drop, length}
 use Rattle.std.specs.Prelude.{min, take, All, Some, IsSome, IfSome, OnOk, option_map, count_by, Result}
 use Rattle.std.specs.Prelude.{Err, IfOk, IfErr}
 use Rattle.std.specs.List.{AllZip, concat}
-use Rattle.xet_base.specs.declared.cas_types.ChunkRange.{ChunkRange}
 use Rattle.xet_base.specs.declared.cas_types.FileRange.{FileRange}
-use Rattle.xet_base.specs.declared.merklehash.MerkleHash.{MerkleHash}
 use Rattle.xet_base.specs.Store.{Store, file_of, window}
 use Rattle.xet_outside.specs.declared.served.Served.{Served}
 use Rattle.xet_outside.specs.Answers.{late_in}
@@ -23,8 +21,7 @@ use Rattle.xet_ties.specs.RunCalls.{DidNothing, IsCancelled, IsUnspent, Unfailed
 use Rattle.xet_ties.specs.Saids.{AllPassed, BlockOfPlan, planned_of}
 use Rattle.xet_ties.specs.Setup.{AllTell, CacheTells, EachGoesOn, IsEmptyRange, IsOver, RunTold, Setup, most_lanes}
 use Rattle.xet_ties.specs.Ties.{CutsRange, EachUnasked, EachUnfailed, IsEntryOf}
-use Rattle.xet_ties.specs.Ties.{IsFaultless, Reaches, is_look, is_pair, is_served}
-use Rattle.xet_ties.specs.Ties.{lates_of, missed}
+use Rattle.xet_ties.specs.Ties.{IsFaultless, Reaches, is_pair}
 
 -- ---- what was heard
 
@@ -48,12 +45,6 @@ pub record IsExact (s : Store) (g : Setup) (before after : SinkTold) (k : ℕ) :
   pub stored : IsSome (file_of s g.file) ⊎ IsEmptyRange g.range
   pub took : Took before.took after.took (window s g.file g.range)
   pub total : k ≡ length (window s g.file g.range)
-
--- the writer took so many bytes
-pub record TookCounted (before after : SinkTold) (k : ℕ) : Type 0 where
-  pub bytes : List ℕ
-  pub took : Took before.took after.took bytes
-  pub total : k ≡ length bytes
 
 -- nothing but tested bytes: a prefix of the joined pieces of the first terms with bytes of plans that were said
 pub record TookTested (g : Setup) (xs : List Exchange) (looks : List Look) (before after : SinkTold) : Type 0 where
@@ -152,21 +143,6 @@ NoneSpent g xs = (p k : ℕ) → late_answers p k xs < g.tries
 abbrev pub NonePast : Setup → List Exchange → Type 0
 NonePast g xs = (p k : ℕ) → late_answers p k xs ≤ g.tries
 
--- ---- looks
-
--- the requests for blocks that connections answered, with bytes or as expired
-abbrev pub requests_of : List Exchange → List Served
-requests_of xs = served_of_all xs ++ lates_of xs
-
--- each block of one range was looked for, as often at least as these requests are for it
-abbrev pub AllLooked : List Served → List Look → Type 0
-AllLooked es looks = (x : MerkleHash) (r : ChunkRange) → count_by (is_served x r) es ≤ count_by (is_look x r) looks
-
--- and as often at least in vain: the look gave nothing, or another entry than the store's block
-abbrev pub AllMissed : Store → List Served → List Look → Type 0
-AllMissed s es looks = (x : MerkleHash) (r : ChunkRange)
-    → count_by (is_served x r) es ≤ count_by (missed s x r) looks
-
 -- ---- counts
 
 -- the counts of a signal don't fall
@@ -194,16 +170,10 @@ pub record Legal (g : Setup) (before after : RunTold) (answer : Result ℕ FileR
   -- what the connections were asked, served and said, and the looks into the cache
   pub heard : HeardOf before.clients after.clients
   pub looks : LooksOf before.cache after.cache
-  -- each request for a block of one range that was answered has a look of its own into the cache
-  pub looked : AllLooked (requests_of heard.list) looks.list
-  -- and over connections that tell one valid store one in vain
-  pub missed_first : (s : Store) → IsOver s before.clients → AllMissed s (requests_of heard.list) looks.list
   -- whatever is told, the writer took tested bytes of these and no others, whatever the answer
   pub tested : TookTested g heard.list looks.list before.sink after.sink
   -- and on Ok those of all terms of plans that cut the range, up to its end or one that an answer told
   pub whole : IfOk answer (TookWhole g heard.list looks.list before.sink after.sink)
-  -- whatever is told, Ok counts what the writer took
-  pub total : IfOk answer (TookCounted before.sink after.sink)
   -- on Ok all that the writer took is flushed
   pub flushed : OnOk answer (after.sink.flushed ≡ option_map length after.sink.took)
   -- where the signal said yes the answer is that the run was cancelled, or want of memory
