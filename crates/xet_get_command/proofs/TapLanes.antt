@@ -29,7 +29,8 @@ use Rattle.xet_ties.specs.InCall.{Exchange, Look, EachExchange, all_exchanges, e
 use Rattle.xet_ties.proofs.CallerLemmas.{all_told, if_some, looks_gained, told_new}
 use Rattle.xet_ties.specs.Gains.{GaveServed}
 use Rattle.xet_ties.specs.Ties.{IsEntryOf}
-use Rattle.xet_ties.specs.Legal.{AllPlanned, IsPlannedServed, Legal, ServedOnce}
+use Rattle.xet_ties.specs.Legal.{Legal}
+use Rattle.xet_ties.specs.LegalWords.{AllPlanned, IsPlannedServed, ServedOnce, requests_of}
 use Rattle.xet_ties.specs.Setup.{AllTell, CacheTells, EachGoesOn, RunTold}
 use Rattle.xet_get_command.specs.declared.wanted.Wanted.{Wanted}
 use Rattle.xet_room.specs.declared.status.Status.TheVariants.{NoMemory}
@@ -238,26 +239,26 @@ behind_lanes : (pass : HonestAnswersPass) (s : Store) (valid : IsValid s) (q : W
     → BehindLanes s q (taps_before s lanes) (taps_after s lanes) k l b n answer
 behind_lanes pass s valid q lanes k l b n answer same h = record {
   all = behind_all s valid q (All (λ (t : TapTold). t.honest ≡ true) (taps_before s lanes)) (befores s lanes) (afters s lanes) k l b n (tell s lanes) (calm s lanes) same answer h;
-  chunks = λ honest none. on_ok answer (h.chunks s (record { tell = tell s lanes honest; valid = valid }) none);
-  any = λ empty none. by empty (λ plain. none_given h.looks.list l.entries (none plain) h.looks.given) (all_passages (taps_before s lanes) (taps_after s lanes)) refl;
+  chunks = λ honest none. on_ok answer (h.blocks.chunks s (record { tell = tell s lanes honest; valid = valid }) none);
+  any = λ empty none. by empty (λ plain. none_given h.told.looks l.entries (none plain) h.told.given) (all_passages (taps_before s lanes) (taps_after s lanes)) refl;
   honest = honest s lanes;
-  unasked = λ e f. taps_same s lanes (ap (λ (t : RunTold). t.clients) (h.settings e (same ∙ f)).1);
+  unasked = λ e f. taps_same s lanes (ap (λ (t : RunTold). t.clients) (h.first.settings e (same ∙ f)).1);
 }
   where
-    on_ok : (a : Result ℕ FileReconstructionError) → OnOk a (AllServed s q.file q.range (served_of_all h.heard.list)) → OnOk a (IfSome (all_passed (taps_before s lanes) (taps_after s lanes)) (AllServed s q.file q.range))
+    on_ok : (a : Result ℕ FileReconstructionError) → OnOk a (AllServed s q.file q.range (served_of_all h.told.heard)) → OnOk a (IfSome (all_passed (taps_before s lanes) (taps_after s lanes)) (AllServed s q.file q.range))
     on_ok (Ok m) w =
-        if_some (all_passed (taps_before s lanes) (taps_after s lanes)) (λ es. es ≡ served_of_all h.heard.list) (AllServed s q.file q.range)
-        (λ es e. subst (AllServed s q.file q.range) (sym e) w) (served s lanes h.heard.list h.heard.told)
+        if_some (all_passed (taps_before s lanes) (taps_after s lanes)) (λ es. es ≡ served_of_all h.told.heard) (AllServed s q.file q.range)
+        (λ es e. subst (AllServed s q.file q.range) (sym e) w) (served s lanes h.told.heard h.told.exchanges)
     on_ok (Err e) w = tt
 
-    by : k.entries ≡ Some [] → GaveNothing q h.looks.list → (o : Option (List Passage)) → all_passages (taps_before s lanes) (taps_after s lanes) ≡ o → Wrote (λ status bytes. IfSome (all_passages (taps_before s lanes) (taps_after s lanes)) (λ ps. MadeOf s q ps status bytes)) b n (status_of_answer answer) (result_ok answer)
+    by : k.entries ≡ Some [] → GaveNothing q h.told.looks → (o : Option (List Passage)) → all_passages (taps_before s lanes) (taps_after s lanes) ≡ o → Wrote (λ status bytes. IfSome (all_passages (taps_before s lanes) (taps_after s lanes)) (λ ps. MadeOf s q ps status bytes)) b n (status_of_answer answer) (result_ok answer)
     by empty nothing None e = inr (λ status bytes. rw e tt)
     by empty nothing (Some ps) e =
         let sides = have_sides s lanes ps e in
-        let heard : sides.xs ≡ h.heard.list = subst (λ (o : Option (List Exchange)). IfSome o (λ ys. ys ≡ h.heard.list)) sides.is (all_told (befores s lanes) (afters s lanes) h.heard.list h.heard.told) in
-        let given : GaveServed (setup_of q) sides.xs h.looks.list = rw heard (looks_gained (setup_of q) h.heard.list k l h.looks.list empty h.gained h.looks.given) in
-        let once : ServedOnce (served_of_all sides.xs) = subst (λ (ys : List Exchange). ServedOnce (served_of_all ys)) (sym heard) h.served in
-        let planned : AllPlanned (setup_of q) sides.xs = subst (AllPlanned (setup_of q)) (sym heard) h.planned in
+        let heard : sides.xs ≡ h.told.heard = subst (λ (o : Option (List Exchange)). IfSome o (λ ys. ys ≡ h.told.heard)) sides.is (all_told (befores s lanes) (afters s lanes) h.told.heard h.told.exchanges) in
+        let given : GaveServed (setup_of q) sides.xs h.told.looks = rw heard (looks_gained (setup_of q) h.told.heard k l h.told.looks empty h.cached.gained h.told.given) in
+        let once : ServedOnce (served_of_all sides.xs) = subst (λ (ys : List Exchange). ServedOnce (served_of_all ys)) (sym heard) h.blocks.served in
+        let planned : AllPlanned (setup_of q) sides.xs = subst (AllPlanned (setup_of q)) (sym heard) h.blocks.planned in
         let m = made pass s valid q (befores s lanes) (afters s lanes) k l b n same sides.xs sides.is sides.first sides.unexpired answer h in
         inl (record {
           bytes = m.0;
@@ -268,7 +269,7 @@ behind_lanes pass s valid q lanes k l b n answer same h = record {
             passed = sides.passed;
             once = once;
             planned = planned;
-            looks = h.looks.list;
+            looks = h.told.looks;
             looked = nothing;
             given = given;
             made = m.3;
@@ -282,7 +283,7 @@ record NonePassed (s : Store) (ps : List Passage) : Type 0 where
   xs : List Exchange
   passed : AllZip (IsPassed s) ps xs
   none : served_of_all xs ≡ []
-  each : All (λ x. x.served ≡ []) xs
+  each : All (λ x. requests_of x ≡ []) xs
 
 none_passed : (ts : List TapTold) (ps : List Passage) → all_passages ts ts ≡ Some ps → (s : Store) → NonePassed s ps
 none_passed [] ps e s = rw (← some_same [] ps e) (record { xs = []; passed = tt; none = refl; each = All-nil _ })
@@ -297,16 +298,16 @@ none_passed (t ∷ ts) ps e s = by (λ qs f. none_passed ts qs f s) t.passed t.g
         let rest = others qs e3 in
         let x : Exchange = record { asked = []; served = []; said = [] } in
         let one : IsPassed s p x = record { served_is = sym (drop-length es); blocks_are = sym (drop-length bs); plans = tt } in
-        rw (← some_same (p ∷ qs) ps (rw (e1, e2, e3) at e)) (record { xs = x ∷ rest.xs; passed = (one, rest.passed); none = rest.none; each = All-cons (λ (y : Exchange). y.served ≡ []) x rest.xs refl rest.each })
+        rw (← some_same (p ∷ qs) ps (rw (e1, e2, e3) at e)) (record { xs = x ∷ rest.xs; passed = (one, rest.passed); none = rest.none; each = All-cons (λ (y : Exchange). requests_of y ≡ []) x rest.xs refl rest.each })
 
 -- so no block of a plan was served twice
 once_of_none : (xs : List Exchange) → served_of_all xs ≡ [] → ServedOnce (served_of_all xs)
 once_of_none xs e = subst ServedOnce (sym e) (λ p k. omega arith)
 
 -- and each is a block of a plan
-planned_of_none : (q : Wanted) (xs : List Exchange) → All (λ x. x.served ≡ []) xs → AllPlanned (setup_of q) xs
+planned_of_none : (q : Wanted) (xs : List Exchange) → All (λ x. requests_of x ≡ []) xs → AllPlanned (setup_of q) xs
 planned_of_none q xs each =
-    All-weaker (λ (x : Exchange). x.served ≡ []) (λ (x : Exchange). All (IsPlannedServed (setup_of q) xs) x.served)
+    All-weaker (λ (x : Exchange). requests_of x ≡ []) (λ (x : Exchange). All (IsPlannedServed (setup_of q) xs) (requests_of x))
     (λ x e. subst (All (IsPlannedServed (setup_of q) xs)) (sym e) (All-nil (IsPlannedServed (setup_of q) xs))) xs each
 
 pub unbehind : (s : Store) (q : Wanted) (ts : List TapTold) (k : CacheTold) (b : SinkTold) → BehindTaps s q ts ts k k b b (Err error.OutOfMemory)

@@ -33,7 +33,8 @@ use Rattle.xet_ties.specs.Causes.{Cause, NoneAtEnd, PlanFails, RefreshFails, Low
 use Rattle.xet_ties.specs.Causes as causes
 use Rattle.xet_ties.specs.Cuts.{AskedCut, IsSaidPiece, SaidTerm, some_said}
 use Rattle.xet_ties.specs.InCall.{Exchange, Look, SomeOne, all_exchanges, expired_said}
-use Rattle.xet_ties.specs.Legal.{FirstAsksFew, Legal, TookTested, TookWhole}
+use Rattle.xet_ties.specs.Legal.{Legal}
+use Rattle.xet_ties.specs.LegalWords.{FirstAsksFew, TookTested, TookWhole}
 use Rattle.xet_ties.specs.Saids.{IsBlockAnswer, IsPlanAccepted, IsPlanSaid, IsQueryAnswer, ServedPassed}
 use Rattle.xet_ties.proofs.CallerLemmas.{all_told}
 use Rattle.xet_ties.specs.Setup.{AllTell, RunTold}
@@ -127,14 +128,14 @@ module _ (s : Store) (valid : IsValid s) (q : Wanted) (H : Type 0) (cs ds : List
 
   pub behind_all : (answer : Result ℕ FileReconstructionError) → Legal (setup_of q) (told_of cs k b) (told_of ds l n) answer → BehindAll s q H k b n answer
   behind_all answer h = record {
-    exact = λ honest cache. h.exact s (record { tell = tells honest; valid = valid }) cache;
-    prefix = λ honest cache. h.prefix s (record { tell = tells honest; valid = valid }) cache;
-    cause = causes_of h.heard.list answer h.cause;
-    settings = λ e f. let r = h.settings e (same ∙ f) in (inl r.0, ap (λ (t : RunTold). t.sink.took) r.1);
-    counts = counts_ok h.heard.list h.looks.list answer h.whole;
-    faults = h.sink_later;
-    unfailed = h.unfailed;
-    link = h.link;
+    exact = λ honest cache. h.exact.exact s (record { tell = tells honest; valid = valid }) cache;
+    prefix = λ honest cache. h.exact.prefix s (record { tell = tells honest; valid = valid }) cache;
+    cause = causes_of h.told.heard answer h.cause;
+    settings = λ e f. let r = h.first.settings e (same ∙ f) in (inl r.0, ap (λ (t : RunTold). t.sink.took) r.1);
+    counts = counts_ok h.told.heard h.told.looks answer h.written.whole;
+    faults = h.later.sink_later;
+    unfailed = h.faults.unfailed;
+    link = h.later.link;
   }
 
 -- ---- no answer is an expired one
@@ -265,9 +266,9 @@ module _ (pass : HonestAnswersPass) (s : Store) (valid : IsValid s) (q : Wanted)
   Made answer looks = (bytes : List ℕ) × Took b.took n.took bytes × IfSome (result_ok answer) (λ m. m ≡ length bytes) × IsMade s q xs looks (status_of_answer answer) bytes
 
   -- what holds of what was heard holds of what is told
-  here : (P : List Exchange → Type 0) (answer : Result ℕ FileReconstructionError) (h : Legal (setup_of q) (told_of cs k b) (told_of ds l n) answer) → P h.heard.list → P xs
+  here : (P : List Exchange → Type 0) (answer : Result ℕ FileReconstructionError) (h : Legal (setup_of q) (told_of cs k b) (told_of ds l n) answer) → P h.told.heard → P xs
   here P answer h p =
-      let heard : xs ≡ h.heard.list = subst (λ (o : Option (List Exchange)). IfSome o (λ ys. ys ≡ h.heard.list)) is (all_told cs ds h.heard.list h.heard.told) in
+      let heard : xs ≡ h.told.heard = subst (λ (o : Option (List Exchange)). IfSome o (λ ys. ys ≡ h.told.heard)) is (all_told cs ds h.told.heard h.told.exchanges) in
       subst P (sym heard) p
 
   -- the test that failed is a block's or a term's
@@ -284,35 +285,35 @@ module _ (pass : HonestAnswersPass) (s : Store) (valid : IsValid s) (q : Wanted)
           let cuts : CutsRange (setup_of q) few.cut = few.cuts in
           block_failed pass s valid q x xs plans (forward [] x.asked few.cut q.range.start q.range.end (greatest_of q.options + least_of q.options) few.asked (omega (arith, count, none)) cuts.from) test failed
 
-  pub made : (answer : Result ℕ FileReconstructionError) → (h : Legal (setup_of q) (told_of cs k b) (told_of ds l n) answer) → Made answer h.looks.list
+  pub made : (answer : Result ℕ FileReconstructionError) → (h : Legal (setup_of q) (told_of cs k b) (told_of ds l n) answer) → Made answer h.told.looks
   made (Ok m) h =
-      let all : TookWhole (setup_of q) xs h.looks.list b n m = here (λ xs. TookWhole (setup_of q) xs h.looks.list b n m) (Ok m) h h.whole in
+      let all : TookWhole (setup_of q) xs h.told.looks b n m = here (λ xs. TookWhole (setup_of q) xs h.told.looks b n m) (Ok m) h h.written.whole in
       (concat all.pieces, all.took, all.total, record { all = all.all; pieces = all.pieces; each = all.each; is = refl })
   made (Err e) h = by_error e (here (λ xs. Cause (setup_of q) xs (told_of cs k b) (told_of ds l n) e) (Err e) h h.cause)
     where
-      some : TookTested (setup_of q) xs h.looks.list b n
-      some = here (λ xs. TookTested (setup_of q) xs h.looks.list b n) (Err e) h h.tested
+      some : TookTested (setup_of q) xs h.told.looks b n
+      some = here (λ xs. TookTested (setup_of q) xs h.told.looks b n) (Err e) h h.written.tested
 
       bytes : List ℕ
       bytes = take some.took.count (concat some.pieces)
 
-      first : FirstBytes (setup_of q) xs h.looks.list bytes
+      first : FirstBytes (setup_of q) xs h.told.looks bytes
       first = inr (record { planning = some.planning; pieces = some.pieces; each = some.each; count = some.took.count; is = refl })
 
-      by_error : (e : FileReconstructionError) → Cause (setup_of q) xs (told_of cs k b) (told_of ds l n) e → Made (Err e) h.looks.list
+      by_error : (e : FileReconstructionError) → Cause (setup_of q) xs (told_of cs k b) (told_of ds l n) e → Made (Err e) h.told.looks
       by_error error.OutOfMemory h = (bytes, some.took.took, tt, first)
       by_error error.ClientError h = (bytes, some.took.took, tt, first)
       by_error error.FileNotFound cause =
           let said = cause.said in
           let none = answer_honest s q xs plans said.0 NoFile said.1 in
-          let nothing = no_pieces s q xs plans h.looks.list (take (length some.pieces) (some_said (setup_of q) some.planning.parts)) some.pieces none some.each in
+          let nothing = no_pieces s q xs plans h.told.looks (take (length some.pieces) (some_said (setup_of q) some.planning.parts)) some.pieces none some.each in
           (bytes, some.took.took, tt, ((cause.some, none), rw nothing (take-nil some.took.count)))
       by_error error.UrlExpired h = (bytes, some.took.took, tt, first)
       by_error error.IoError h = (bytes, some.took.took, tt, first)
       by_error (error.CorruptedReconstruction test) cause =
-          (bytes, some.took.took, tt, (first, block_is test (here (FirstAsksFew (setup_of q)) (Err e) h h.refreshed) cause.failed))
+          (bytes, some.took.took, tt, (first, block_is test (here (FirstAsksFew (setup_of q)) (Err e) h h.queries.few) cause.failed))
       by_error (error.ConfigurationError e) f =
-          let took : n.took ≡ b.took = ap (λ (t : RunTold). t.sink.took) (h.settings e f).1 in
+          let took : n.took ≡ b.took = ap (λ (t : RunTold). t.sink.took) (h.first.settings e f).1 in
           ([], took ∙ took_same b.took, tt, (sym same ∙ f, refl))
       by_error error.Cancelled h = (bytes, some.took.took, tt, first)
       by_error (error.InternalWriterError w) h = (bytes, some.took.took, tt, first)

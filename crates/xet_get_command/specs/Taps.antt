@@ -15,7 +15,7 @@ use Rattle.xet_ties.specs.Causes.{BlockFails, TermFails}
 use Rattle.xet_ties.specs.Cuts.{IsSaidPiece, Planning, PlansAll, some_said}
 use Rattle.xet_ties.specs.Gains.{GaveServed}
 use Rattle.xet_ties.specs.InCall.{Exchange, Look, joined, new_in, served_of_all}
-use Rattle.xet_ties.specs.Legal.{AllPlanned, ServedOnce}
+use Rattle.xet_ties.specs.LegalWords.{AllPlanned, ServedOnce}
 use Rattle.xet_ties.specs.Setup.{Setup}
 use Rattle.xet_get_command.specs.declared.wanted.Wanted.{Wanted}
 use Rattle.xet_room.specs.declared.status.Status.{Status}

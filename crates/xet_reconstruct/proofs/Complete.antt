@@ -46,6 +46,6 @@ pub legal_complete : LegalIsComplete
 legal_complete g b n (Ok k) l f = tt
 legal_complete g b n (Err e) l f =
     ⊎_elim
-    (λ (h : HaveFile g b.clients). no_cause g l.heard.list b n e h f l.cause)
-    (λ (r : IsEmptyRange g.range). no_local g l.heard.list b n e (l.empty r).error f l.cause)
+    (λ (h : HaveFile g b.clients). no_cause g l.told.heard b n e h f l.cause)
+    (λ (r : IsEmptyRange g.range). no_local g l.told.heard b n e (l.first.empty r).error f l.cause)
     f.stored

@@ -44,40 +44,31 @@ unlimited_nothing b n answer d = record {
 pub unlimited_legal : (g : Setup) (b n : RunTold) (answer : Result ℕ FileReconstructionError) → Legal g b n answer
     → Legal g (unlimited b) (unlimited n) answer
 unlimited_legal g b n answer l = record {
+  told = l.told;
   exact = l.exact;
-  prefix = l.prefix;
-  stored = l.stored;
-  heard = l.heard;
-  looks = l.looks;
-  tested = l.tested;
-  whole = l.whole;
-  flushed = l.flushed;
-  cancelled = l.cancelled;
-  unfailed = l.unfailed;
-  clients_unfailed = l.clients_unfailed;
-  cause = if_err answer (Cause g l.heard.list b n) (Cause g l.heard.list (unlimited b) (unlimited n))
-      (unlimited_cause g l.heard.list b n) l.cause;
-  settings = λ e h. ((l.settings e h).0, ap unlimited (l.settings e h).1);
-  empty = λ e. unlimited_nothing b n answer (l.empty e);
-  asked = l.asked;
-  all_asked = l.all_asked;
-  refreshed = l.refreshed;
-  counted = l.counted;
-  late = l.late;
-  under = l.under;
-  at_most = l.at_most;
-  served = l.served;
-  planned = l.planned;
-  passed = l.passed;
-  gained = l.gained;
-  offers = l.offers;
-  all_offered = l.all_offered;
-  chunks = l.chunks;
-  past = l.past;
-  goes_on = l.goes_on;
-  cache_later = l.cache_later;
-  sink_later = l.sink_later;
-  signal_later = l.signal_later;
-  counts_later = l.counts_later;
-  link = l.link;
+  first = record {
+    settings = λ e h. ((l.first.settings e h).0, ap unlimited (l.first.settings e h).1);
+    empty = λ e. unlimited_nothing b n answer (l.first.empty e);
+  };
+  cause = if_err answer (Cause g l.told.heard b n) (Cause g l.told.heard (unlimited b) (unlimited n))
+      (unlimited_cause g l.told.heard b n) l.cause;
+  written = l.written;
+  faults = record {
+    cancelled = l.faults.cancelled;
+    unfailed = l.faults.unfailed;
+    clients_unfailed = l.faults.clients_unfailed;
+  };
+  queries = l.queries;
+  blocks = l.blocks;
+  tries = l.tries;
+  cached = l.cached;
+  later = record {
+    goes_on = l.later.goes_on;
+    past = l.later.past;
+    cache_later = l.later.cache_later;
+    sink_later = l.later.sink_later;
+    signal_later = l.later.signal_later;
+    counts_later = l.later.counts_later;
+    link = l.later.link;
+  };
 }

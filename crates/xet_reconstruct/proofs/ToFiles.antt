@@ -11,7 +11,8 @@ use Rattle.xet_error.specs.declared.error.Setting.{Setting}
 use Rattle.xet_run.specs.Budgets.{LimitTold}
 use Rattle.xet_ties.specs.Causes.{Cause, failing_setting}
 use Rattle.xet_ties.specs.InCall.{Exchange, Look}
-use Rattle.xet_ties.specs.Legal.{IsExact, Legal, TookTested, TookWhole}
+use Rattle.xet_ties.specs.Legal.{Legal}
+use Rattle.xet_ties.specs.LegalWords.{IsExact, TookTested, TookWhole}
 use Rattle.xet_ties.specs.RunCalls.{DidNothing, Unfailed}
 use Rattle.xet_ties.specs.Setup.{RunTold, Setup}
 use Rattle.xet_reconstruct.specs.steps.Placing.{ReadyCall}
@@ -76,44 +77,43 @@ module _ (g : Setup) (b n : RunTold) (at : SinkTold) (flushed : Option ℕ) (fau
   pub other_legal : (answer : Result ℕ FileReconstructionError) → failing_setting g b.clients ≡ None
       → n.sink.link ≡ link → Legal g at_start n answer → Legal g other_start n answer
   other_legal answer h at_link l = record {
-    exact = λ s o c. if_ok answer (IsExact s g at n.sink) (IsExact s g then_sink n.sink)
-        (λ k e. record { stored = e.stored; took = e.took; total = e.total }) (l.exact s o c);
-    prefix = l.prefix;
-    stored = l.stored;
-    heard = l.heard;
-    looks = l.looks;
-    tested = other_tested l.heard.list l.looks.list l.tested;
-    whole = if_ok answer (TookWhole g l.heard.list l.looks.list at n.sink)
-        (TookWhole g l.heard.list l.looks.list then_sink n.sink) (other_whole l.heard.list l.looks.list) l.whole;
-    flushed = l.flushed;
-    cancelled = l.cancelled;
-    unfailed = subst (λ (k : ℕ). Unfailed k n.sink.faults answer) same l.unfailed;
-    clients_unfailed = l.clients_unfailed;
-    cause = if_err answer (Cause g l.heard.list at_start n) (Cause g l.heard.list other_start n)
-        (other_cause l.heard.list) l.cause;
-    settings = λ e h2. absurd (let z : None ≡ Some e = sym h ∙ h2 in cc);
-    empty = λ e. other_nothing answer (l.empty e);
-    asked = l.asked;
-    all_asked = l.all_asked;
-    refreshed = l.refreshed;
-    counted = l.counted;
-    late = l.late;
-    under = l.under;
-    at_most = l.at_most;
-    served = l.served;
-    planned = l.planned;
-    passed = l.passed;
-    gained = l.gained;
-    offers = l.offers;
-    all_offered = l.all_offered;
-    chunks = l.chunks;
-    goes_on = l.goes_on;
-    cache_later = l.cache_later;
-    signal_later = l.signal_later;
-    counts_later = l.counts_later;
-    sink_later = (let x = l.sink_later in omega (arith, x, same));
-    link = at_link;
-    past = l.past;
+    told = l.told;
+    exact = record {
+      exact = λ s o c. if_ok answer (IsExact s g at n.sink) (IsExact s g then_sink n.sink)
+          (λ k e. record { stored = e.stored; took = e.took; total = e.total }) (l.exact.exact s o c);
+      prefix = l.exact.prefix;
+      stored = l.exact.stored;
+    };
+    first = record {
+      settings = λ e h2. absurd (let z : None ≡ Some e = sym h ∙ h2 in cc);
+      empty = λ e. other_nothing answer (l.first.empty e);
+    };
+    cause = if_err answer (Cause g l.told.heard at_start n) (Cause g l.told.heard other_start n)
+        (other_cause l.told.heard) l.cause;
+    written = record {
+      tested = other_tested l.told.heard l.told.looks l.written.tested;
+      whole = if_ok answer (TookWhole g l.told.heard l.told.looks at n.sink)
+          (TookWhole g l.told.heard l.told.looks then_sink n.sink) (other_whole l.told.heard l.told.looks) l.written.whole;
+      flushed = l.written.flushed;
+    };
+    faults = record {
+      cancelled = l.faults.cancelled;
+      unfailed = subst (λ (k : ℕ). Unfailed k n.sink.faults answer) same l.faults.unfailed;
+      clients_unfailed = l.faults.clients_unfailed;
+    };
+    queries = l.queries;
+    blocks = l.blocks;
+    tries = l.tries;
+    cached = l.cached;
+    later = record {
+      goes_on = l.later.goes_on;
+      past = l.later.past;
+      cache_later = l.later.cache_later;
+      sink_later = (let x = l.later.sink_later in omega (arith, x, same));
+      signal_later = l.later.signal_later;
+      counts_later = l.later.counts_later;
+      link = at_link;
+    };
   }
 
 -- a run into a file that was made ready
@@ -190,7 +190,7 @@ ready_file limits g truncate place p b n at answer is h given l ran =
     let r = subst (λ (q : ℕ). ReadyCall truncate q b.sink at (Ok tt)) is given in
     let legal : Legal g (placed_as n.sink.link b) n answer = ready_legal g b n at answer h r.took r.unfailed l in
     let stands : (bytes : List ℕ) → Took b.sink.took n.sink.took bytes → StandAt truncate place b.sink n.sink bytes =
-    λ bytes t. r.ready n.sink bytes (subst (λ (x : Option (List ℕ)). Took x n.sink.took bytes) (sym r.took) t) l.link in
+    λ bytes t. r.ready n.sink bytes (subst (λ (x : Option (List ℕ)). Took x n.sink.took bytes) (sym r.took) t) l.later.link in
     record {
       settings = λ x h2. absurd (let z : None ≡ Some x = sym h ∙ h2 in cc);
       legal = legal;
@@ -202,6 +202,6 @@ ready_file limits g truncate place p b n at answer is h given l ran =
       });
       exact = λ s o c. on_ok answer (IsExact s g (placed_as n.sink.link b).sink n.sink)
           (StandAt truncate place b.sink n.sink (window s g.file g.range))
-          (λ k e. exact_there g truncate place b n s k stands e) (legal.exact s o c);
-      link = ap before_place l.link ∙ r.link;
+          (λ k e. exact_there g truncate place b n s k stands e) (legal.exact.exact s o c);
+      link = ap before_place l.later.link ∙ r.link;
     }

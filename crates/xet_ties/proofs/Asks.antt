@@ -19,7 +19,7 @@ use Rattle.xet_history.specs.TrueHistory.{queries}
 use Rattle.xet_ties.specs.History.{IsWithin, actual_range, asked_by, asked_in, range_at, range_in, telling}
 use Rattle.xet_ties.specs.InCall.{new_in}
 use Rattle.xet_ties.specs.Cuts.{AskedCut, LiesInSome}
-use Rattle.xet_ties.specs.Legal.{AsksCut, FirstAsks, IsShort}
+use Rattle.xet_ties.specs.LegalWords.{AsksCut, FirstAsks, IsShort}
 use Rattle.xet_ties.specs.Setup.{Setup}
 use Rattle.xet_ties.specs.Ties.{CutsRange, FirstAsked, IsLost, IsNextQuery}
 use Rattle.xet_ties.proofs.Told.{if_some, told_new}

@@ -13,7 +13,7 @@ use Rattle.xet_run.specs.declared.event.Event.{Event}
 use Rattle.xet_run.specs.declared.event.Event.TheVariants.{Planned, Admit, Fetched, Cached, Expired, Refreshed, Wrote, Fail, Cancel}
 use Rattle.xet_run.specs.Events.{expires}
 use Rattle.xet_ties.specs.steps.Moves.{no_exchange}
-use Rattle.xet_ties.specs.Legal.{EachCounted}
+use Rattle.xet_ties.specs.LegalWords.{EachCounted}
 use Rattle.xet_ties.specs.Causes.{HaveExpired, NoneAtEnd, expired_answers, late_answers, total_expiries}
 use Rattle.xet_ties.specs.History.{IsOnLane, expired_by, expires_on, is_expiry, late_by, late_on}
 use Rattle.xet_ties.specs.Setup.{RunTold, Setup}

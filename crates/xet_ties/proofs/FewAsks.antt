@@ -16,7 +16,7 @@ use Rattle.xet_ties.specs.Causes.{expired_answers}
 use Rattle.xet_ties.specs.History.{IsWithin, asked_by, asked_in, is_expiry, is_refresh, range_at, range_in, telling}
 use Rattle.xet_ties.specs.InCall.{Exchange}
 use Rattle.xet_ties.specs.Cuts.{AskedCut}
-use Rattle.xet_ties.specs.Legal.{AsksFew, FirstAsksFew}
+use Rattle.xet_ties.specs.LegalWords.{AsksFew, FirstAsksFew}
 use Rattle.xet_ties.specs.Setup.{RunTold, Setup}
 use Rattle.xet_ties.specs.Ties.{CutsRange, IsLost, Slack, Stop, Ties, IsNextQuery, HeardAsked}
 use Rattle.xet_ties.specs.steps.Moves.{no_exchange}

@@ -16,7 +16,7 @@ use Rattle.xet_history.specs.TrueHistory.{ReachesEnd, SomeEndsEarly, pieces, que
 use Rattle.xet_history.specs.Laws.{IsPrefix}
 use Rattle.xet_history.proofs.CallerLemmas.{pieces_reach, all_sized, pieces_are_prefix}
 use Rattle.xet_ties.specs.Setup.{IsEmptyRange, AllTell, CacheTells, IsOver, RunTold, Setup, download_of}
-use Rattle.xet_ties.specs.Legal.{IsExact}
+use Rattle.xet_ties.specs.LegalWords.{IsExact}
 use Rattle.xet_ties.specs.RunCalls.{IsFinished}
 use Rattle.xet_ties.specs.Ties.{Slack, Stop, Ties}
 

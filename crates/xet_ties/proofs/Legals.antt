@@ -1,10 +1,10 @@
 -- A run that is tied gives a legal answer.
 use Rattle.std.proofs.Common.{◌≡◌, ℕ, ◌+◌, ◌≤◌, List, [], ◌∷◌, length, take, refl, sym, subst, ◌∙◌, ap, arith, length-append, Some, None, Option}
-use Rattle.std.specs.Prelude.{All, count_by, Ok, Err, Result}
+use Rattle.std.specs.Prelude.{All, IfErr, IfOk, IfSome, OnOk, count_by, ◌<◌, option_map, Ok, Err, Result}
 use Rattle.std.specs.List.{concat}
 use Rattle.std.proofs.lemmas.List.{append-nil, take_all, take-append-le}
-use Rattle.std.proofs.lemmas.List.Elements.{All-cons, All-nil, All-weaker}
-use Rattle.xet_base.specs.Store.{window}
+use Rattle.std.proofs.lemmas.List.Elements.{All-append, All-cons, All-head, All-nil, All-tail, All-weaker}
+use Rattle.xet_base.specs.Store.{Store, window}
 use Rattle.xet_outside.specs.declared.served.Served.{Served}
 use Rattle.xet_outside.specs.Answers.{late_in}
 use Rattle.xet_outside.specs.Told.{ClientTold, Query, SinkTold, Took, TookPrefix}
@@ -13,15 +13,19 @@ use Rattle.xet_error.specs.declared.error.FileReconstructionError.TheVariants as
 use Rattle.xet_error.specs.declared.error.Setting.{Setting}
 use Rattle.xet_run.specs.declared.event.Event.{Event}
 use Rattle.xet_run.specs.Allowed.{IsAllowedHistory}
-use Rattle.xet_ties.specs.Causes.{failing_setting, late_answers}
+use Rattle.xet_run.specs.Events.{expires}
+use Rattle.xet_blocks.specs.ServedChunks.{AllServed}
+use Rattle.xet_ties.specs.Causes.{Cause, failing_setting, late_answers}
 use Rattle.xet_ties.specs.History.{entry_of, fetched_in, telling, IsWithin}
 use Rattle.xet_ties.specs.InCall.{Exchange, Look, served_of_all, Place}
 use Rattle.xet_ties.specs.Cuts.{FirstCut, Planning}
-use Rattle.xet_ties.specs.Legal.{AllLatePlanned, AllPlanned, CacheGoesOn, FirstAsks, IsPlannedServed, Legal, SignalGoesOn, TookTested, TookWhole}
-use Rattle.xet_ties.specs.RunCalls.{IsFinished, IsUnspent, RunCall, TookAll}
-use Rattle.xet_ties.specs.Saids.{AllPassed, EntryPassed, FirstSaid, IsTested}
-use Rattle.xet_ties.specs.Setup.{EachGoesOn, RunTold, Setup}
-use Rattle.xet_ties.specs.Ties.{EachLane, EachUnfailed, FirstUnfailed, IsEntryOf, IsOther, IsPlannedEntry, IsQuiet, LeavesNothing, Slack, Stop, Ties, all_of, has_one}
+use Rattle.xet_ties.specs.Legal.{Legal}
+use Rattle.xet_ties.specs.LegalParts.{Blocks, Cached, Exact, Faults, Later, Queries, Tries, Written}
+use Rattle.xet_ties.specs.LegalWords.{AllPlanned, CacheGoesOn, FirstAsks, FirstPlansAll, IsPlannedServed, SignalGoesOn, TookTested, TookWhole, requests_of}
+use Rattle.xet_ties.specs.RunCalls.{IsFinished, IsUnspent, RunCall, TookAll, stop_of}
+use Rattle.xet_ties.specs.Saids.{EntryPassed, FirstSaid, IsTested, ServedPassed}
+use Rattle.xet_ties.specs.Setup.{CacheTells, EachGoesOn, IsOver, RunTold, Setup}
+use Rattle.xet_ties.specs.Ties.{EachLane, EachUnfailed, FirstUnfailed, IsEntryOf, IsOther, IsPlannedEntry, LeavesNothing, MayLeave, Slack, Stop, Ties, all_of, has_one}
 use Rattle.xet_ties.proofs.Asks.{first_asks}
 use Rattle.xet_ties.proofs.Expiries.{counted_start, each_counted, none_past, none_spent}
 use Rattle.xet_ties.proofs.FewAsks.{none_few, run_few}
@@ -130,32 +134,35 @@ entry_served g es xs x rest is b n stop sl heard t e h =
       is = h.2 ∙ ap (λ (k : ℕ). entry_of e.plan k h.0) (sym s.number) ∙ ap (λ (y : _). entry_of e.plan s.place.number y) (sym s.is);
     })
 
+-- both kinds of requests of each connection
+both_requests : (P : Served → Type 0) (xs : List Exchange) → All (λ (x : Exchange). All P x.served) xs
+    → All (λ (x : Exchange). All P (late_in x.said)) xs → All (λ (x : Exchange). All P (requests_of x)) xs
+both_requests P [] served late = All-nil (λ (x : Exchange). All P (requests_of x))
+both_requests P (x ∷ xs) served late =
+    let S : Exchange → Type 0 = λ y. All P y.served in
+    let L : Exchange → Type 0 = λ y. All P (late_in y.said) in
+    All-cons (λ (y : Exchange). All P (requests_of y)) x xs
+    (All-append P x.served (late_in x.said) (All-head S x xs served) (All-head L x xs late))
+    (both_requests P xs (All-tail S x xs served) (All-tail L x xs late))
+
 pub planned_heard : (g : Setup) (b n : RunTold) (es : List Event) (stop : Stop) (sl : Slack) → Ties g b n es stop sl → AllPlanned g sl.heard
 planned_heard g b n es stop sl t = by sl.heard refl
   where
     by : (xs : List Exchange) → sl.heard ≡ xs → AllPlanned g sl.heard
     by [] e = absurd (subst (λ (l : List Exchange). FirstSaid g es l) e t.said)
     by (x ∷ rest) e =
-        let one : (y : Served) → IsPlannedEntry es y → IsPlannedServed g (x ∷ rest) y = entry_served g es (x ∷ rest) x rest refl b n stop sl e t in
-        let all : All (λ y. All (IsPlannedServed g (x ∷ rest)) y.served) sl.heard =
-        each_heard (IsPlannedServed g (x ∷ rest)) es 0 sl.heard sl.hidden
-        (λ lane. All-weaker (IsPlannedEntry es) (IsPlannedServed g (x ∷ rest)) one _ (served_planned lane es))
-        (All-weaker (IsPlannedEntry es) (IsPlannedServed g (x ∷ rest)) one (all_of sl.hidden) t.served.planned)
+        let P : Served → Type 0 = IsPlannedServed g (x ∷ rest) in
+        let one : (y : Served) → IsPlannedEntry es y → P y = entry_served g es (x ∷ rest) x rest refl b n stop sl e t in
+        let served : All (λ (y : Exchange). All P y.served) sl.heard =
+        each_heard P es 0 sl.heard sl.hidden
+        (λ lane. All-weaker (IsPlannedEntry es) P one _ (served_planned lane es))
+        (All-weaker (IsPlannedEntry es) P one (all_of sl.hidden) t.served.planned)
         t.heard_served in
-        subst (λ (l : List Exchange). All (λ y. All (IsPlannedServed g l) y.served) sl.heard) (sym e) all
-
--- each request that was answered as expired is for a block of a plan that was said
-late_heard : (g : Setup) (b n : RunTold) (es : List Event) (stop : Stop) (sl : Slack) → Ties g b n es stop sl → AllLatePlanned g sl.heard
-late_heard g b n es stop sl t = by sl.heard refl
-  where
-    by : (xs : List Exchange) → sl.heard ≡ xs → AllLatePlanned g sl.heard
-    by [] e = absurd (subst (λ (l : List Exchange). FirstSaid g es l) e t.said)
-    by (x ∷ rest) e =
-        let one : (y : Served) → IsPlannedEntry es y → IsPlannedServed g (x ∷ rest) y = entry_served g es (x ∷ rest) x rest refl b n stop sl e t in
-        let all : All (λ y. All (IsPlannedServed g (x ∷ rest)) (late_in y.said)) sl.heard =
-        All-weaker (λ y. All (IsPlannedEntry es) (late_in y.said)) (λ y. All (IsPlannedServed g (x ∷ rest)) (late_in y.said))
-        (λ y h. All-weaker (IsPlannedEntry es) (IsPlannedServed g (x ∷ rest)) one (late_in y.said) h) sl.heard t.late_planned in
-        subst (λ (l : List Exchange). All (λ y. All (IsPlannedServed g l) (late_in y.said)) sl.heard) (sym e) all
+        let late : All (λ (y : Exchange). All P (late_in y.said)) sl.heard =
+        All-weaker (λ (y : Exchange). All (IsPlannedEntry es) (late_in y.said)) (λ (y : Exchange). All P (late_in y.said))
+        (λ y h. All-weaker (IsPlannedEntry es) P one (late_in y.said) h) sl.heard t.late_planned in
+        subst (λ (l : List Exchange). All (λ (y : Exchange). All (IsPlannedServed g l) (requests_of y)) sl.heard) (sym e)
+        (both_requests P sl.heard served late)
 
 -- ---- the legal answer
 
@@ -169,26 +176,10 @@ none_took o whole = record { count = 0; within = omega arith; took = same o }
     same None = refl
     same (Some xs) = ap (λ (l : List ℕ). Some l) (sym (append-nil xs))
 
-told_nothing : (g : Setup) (bs : List ClientTold) → All (λ (x : Exchange). All (IsPlannedServed g (no_exchange bs)) x.served) (no_exchange bs)
-told_nothing g bs = each bs
-  where
-    each : (l : List ClientTold) → All (λ (x : Exchange). All (IsPlannedServed g (no_exchange bs)) x.served) (no_exchange l)
-    each [] = All-nil (λ (x : Exchange). All (IsPlannedServed g (no_exchange bs)) x.served)
-    each (b ∷ l) = All-cons (λ (x : Exchange). All (IsPlannedServed g (no_exchange bs)) x.served) _ (no_exchange l) (All-nil (IsPlannedServed g (no_exchange bs))) (each l)
-
-passed_nothing : (g : Setup) (bs : List ClientTold) → AllPassed g (no_exchange bs)
-passed_nothing g bs = each bs
-  where
-    each : (l : List ClientTold) → All (λ (x : Exchange). All (EntryPassed g (no_exchange bs)) x.served) (no_exchange l)
-    each [] = All-nil (λ (x : Exchange). All (EntryPassed g (no_exchange bs)) x.served)
-    each (b ∷ l) = All-cons (λ (x : Exchange). All (EntryPassed g (no_exchange bs)) x.served) _ (no_exchange l) (All-nil (EntryPassed g (no_exchange bs))) (each l)
-
-late_nothing : (g : Setup) (bs : List ClientTold) → AllLatePlanned g (no_exchange bs)
-late_nothing g bs = each bs
-  where
-    each : (l : List ClientTold) → All (λ (x : Exchange). All (IsPlannedServed g (no_exchange bs)) (late_in x.said)) (no_exchange l)
-    each [] = All-nil (λ (x : Exchange). All (IsPlannedServed g (no_exchange bs)) (late_in x.said))
-    each (b ∷ l) = All-cons (λ (x : Exchange). All (IsPlannedServed g (no_exchange bs)) (late_in x.said)) _ (no_exchange l) (All-nil (IsPlannedServed g (no_exchange bs))) (each l)
+-- of connections that weren't asked
+nothing : (P : Exchange → Type 0) (bs : List ClientTold) → P (record { asked = []; served = []; said = [] }) → All P (no_exchange bs)
+nothing P [] p = All-nil P
+nothing P (b ∷ bs) p = All-cons P (record { asked = []; served = []; said = [] }) (no_exchange bs) p (nothing P bs p)
 
 asks_start : (g : Setup) (bs : List ClientTold) → FirstAsks g bs bs
 asks_start g [] = tt
@@ -209,132 +200,142 @@ none_heard g (b ∷ bs) p k = let r = none_heard g bs p k in omega (arith, r)
 -- a run that its settings refuse
 legal_refused : (g : Setup) (b : RunTold) (x : Setting) → failing_setting g b.clients ≡ Some x → Legal g b b (Err (error.ConfigurationError x))
 legal_refused g b x h = record {
-  exact = λ s o c. tt;
-  prefix = λ s o c. none_took b.sink.took (window s g.file g.range);
-  stored = λ s o. tt;
-  heard = record { list = no_exchange b.clients; told = exchange_start b.clients };
-  looks = record { list = []; told = added_none b.cache.looked b.cache.looked refl; given = All-nil (IsEntryOf b.cache.entries) };
-  tested = record { planning = plans_nothing g b.clients; pieces = []; each = tt; took = none_took b.sink.took [] };
-  whole = tt;
-  flushed = tt;
-  cancelled = λ i. absurd (omega (arith, i));
-  unfailed = refl;
-  clients_unfailed = λ c. unfailed_start b.clients;
+  told = record {
+    heard = no_exchange b.clients;
+    exchanges = exchange_start b.clients;
+    looks = [];
+    looked = added_none b.cache.looked b.cache.looked refl;
+    given = All-nil (IsEntryOf b.cache.entries);
+  };
+  exact = record { exact = λ s o c. tt; prefix = λ s o c. none_took b.sink.took (window s g.file g.range); stored = λ s o. tt };
+  first = record {
+    settings = λ e i. let j : x ≡ e = cc in (ap (λ (y : Setting). let r : Result ℕ FileReconstructionError = Err (error.ConfigurationError y) in r) j, refl);
+    empty = λ i. record { untouched = record { clients = refl; cache = refl; signal = refl; limits = refl }; took = refl; none = tt; error = tt };
+  };
   cause = h;
-  settings = λ e i. let j : x ≡ e = cc in (ap (λ (y : Setting). let r : Result ℕ FileReconstructionError = Err (error.ConfigurationError y) in r) j, refl);
-  empty = λ i. record { untouched = record { clients = refl; cache = refl; signal = refl; limits = refl }; took = refl; none = tt; error = tt };
-  asked = asks_start g b.clients;
-  all_asked = tt;
-  refreshed = none_few g b.clients;
-  counted = counted_start b.clients;
-  late = late_nothing g b.clients;
-  under = λ u. absurd u;
-  at_most = λ p k. none_heard g b.clients p k;
-  served = served_once [] b.clients b.clients (no_exchange b.clients) (no_hidden b.clients) (no_late b.clients) (exchange_start b.clients) (heard_served_start 0 b.clients) (served_start b.clients);
-  planned = told_nothing g b.clients;
-  passed = λ c. passed_nothing g b.clients;
-  gained = gained_none g (no_exchange b.clients) b.cache;
-  offers = record { puts = 0; offers = grew_by_none b.cache.offers; few = omega arith };
-  all_offered = tt;
-  chunks = λ s o e. tt;
-  past = refl;
-  goes_on = stays b.clients;
-  cache_later = λ s o c. c;
-  sink_later = omega arith;
-  signal_later = record { asks = reaches_start b.signal.asks; yes = omega arith };
-  counts_later = record { offers = reaches_start b.cache.offers; faults = omega arith };
-  link = refl;
+  written = record {
+    tested = record { planning = plans_nothing g b.clients; pieces = []; each = tt; took = none_took b.sink.took [] };
+    whole = tt;
+    flushed = tt;
+  };
+  faults = record { cancelled = λ i. absurd (omega (arith, i)); unfailed = refl; clients_unfailed = λ c. unfailed_start b.clients };
+  queries = record { asked = asks_start g b.clients; all_asked = tt; few = none_few g b.clients };
+  blocks = record {
+    served = served_once [] b.clients b.clients (no_exchange b.clients) (no_hidden b.clients) (no_late b.clients) (exchange_start b.clients) (heard_served_start 0 b.clients) (served_start b.clients);
+    planned = nothing (λ (y : Exchange). All (IsPlannedServed g (no_exchange b.clients)) (requests_of y)) b.clients (All-nil (IsPlannedServed g (no_exchange b.clients)));
+    passed = λ c. nothing (ServedPassed g (no_exchange b.clients)) b.clients (All-nil (EntryPassed g (no_exchange b.clients)));
+    chunks = λ s o e. tt;
+  };
+  tries = record { at_most = λ p k. none_heard g b.clients p k; under = λ u. absurd u; counted = counted_start b.clients };
+  cached = record {
+    gained = gained_none g (no_exchange b.clients) b.cache;
+    offers = record { puts = 0; offers = grew_by_none b.cache.offers; few = omega arith };
+    all_offered = tt;
+  };
+  later = record {
+    goes_on = stays b.clients;
+    past = refl;
+    cache_later = λ s o c. c;
+    sink_later = omega arith;
+    signal_later = record { asks = reaches_start b.signal.asks; yes = omega arith };
+    counts_later = record { offers = reaches_start b.cache.offers; faults = omega arith };
+    link = refl;
+  };
 }
 
 all_unfailed : (bs ns : List ClientTold) (i : ℕ) → i ≡ length bs → FirstUnfailed i bs ns → EachUnfailed bs ns
 all_unfailed bs ns i e h = subst (λ (k : ℕ). FirstUnfailed k bs ns) e h
 
--- no connection failed, and each block passed its tests
-quiet_unfailed : (g : Setup) (b n : RunTold) (es : List Event) (stop : Stop) (sl : Slack) → IsQuiet b.clients sl → Ties g b n es stop sl → EachUnfailed b.clients n.clients
-quiet_unfailed g b n es stop sl q t = all_unfailed b.clients n.clients sl.calm q.calm t.unfailed
+-- ---- the parts of a run that its settings let go on
 
-quiet_passed : (g : Setup) (b n : RunTold) (es : List Event) (stop : Stop) (sl : Slack) → IsQuiet b.clients sl → Ties g b n es stop sl → AllPassed g sl.heard
-quiet_passed g b n es stop sl q t = all_passed g es sl.heard sl.hidden q.hidden t.heard_served t.passed
+exact_of : (g : Setup) (b n : RunTold) (es : List Event) (answer : Result ℕ FileReconstructionError) (sl : Slack) → IsAllowedHistory es → Ties g b n es (stop_of answer) sl → MayLeave (stop_of answer) b.clients sl → IfOk answer (IsFinished g es) → Exact g b.clients b.cache b.sink n.sink answer
+exact_of g b n es (Ok k) sl a t left f =
+    let none : sl.ahead ≡ 0 = (left.none refl).ahead in
+    record {
+      exact = λ s o c. headline.exact g b n es k sl a t none f s o c;
+      prefix = λ s o c. headline.prefix g b n es None sl t s o c;
+      stored = λ s o. headline.is_stored g b n es k sl a t none f s o;
+    }
+exact_of g b n es (Err e) sl a t left f = record { exact = λ s o c. tt; prefix = λ s o c. headline.prefix g b n es (Some e) sl t s o c; stored = λ s o. tt }
+
+cause_of : (answer : Result ℕ FileReconstructionError) (P : FileReconstructionError → Type 0) → IfSome (stop_of answer) P → IfErr answer P
+cause_of (Ok k) P c = tt
+cause_of (Err e) P c = c
+
+written_of : (g : Setup) (b n : RunTold) (es : List Event) (answer : Result ℕ FileReconstructionError) (sl : Slack) → IsAllowedHistory es → Ties g b n es (stop_of answer) sl → MayLeave (stop_of answer) b.clients sl → IfOk answer (IsFinished g es) → OnOk answer (n.sink.flushed ≡ option_map length n.sink.took) → Written g sl.heard sl.looks b.sink n.sink answer
+written_of g b n es (Ok k) sl a t left f flushed =
+    let none = left.none refl in
+    record { tested = tested_heard g b n es None sl a t; whole = whole_heard g b n es k sl a t none.lost none.ahead f; flushed = flushed }
+written_of g b n es (Err e) sl a t left f flushed = record { tested = tested_heard g b n es (Some e) sl a t; whole = tt; flushed = tt }
+
+faults_of : (g : Setup) (b n : RunTold) (es : List Event) (answer : Result ℕ FileReconstructionError) (sl : Slack) → Ties g b n es (stop_of answer) sl → MayLeave (stop_of answer) b.clients sl → RunCall g b n es answer → Faults b n answer
+faults_of g b n es answer sl t left r = record {
+  cancelled = r.cancelled;
+  unfailed = r.unfailed;
+  clients_unfailed = λ c. all_unfailed b.clients n.clients sl.calm (left.quiet c).calm t.unfailed;
+}
+
+queries_of : (g : Setup) (b n : RunTold) (es : List Event) (answer : Result ℕ FileReconstructionError) (sl : Slack) → IsAllowedHistory es → Ties g b n es (stop_of answer) sl → MayLeave (stop_of answer) b.clients sl → IfOk answer (IsFinished g es) → Queries g sl.heard b.clients n.clients answer
+queries_of g b n es answer sl a t left f = record {
+  asked = first_asks g es sl.lost b.clients n.clients t.within t.cuts t.lost t.asked;
+  all_asked = all answer t left f;
+  few = run_few g b n es (stop_of answer) sl a t;
+}
+  where
+    all : (r : Result ℕ FileReconstructionError) → Ties g b n es (stop_of r) sl → MayLeave (stop_of r) b.clients sl → IfOk r (IsFinished g es) → OnOk r (FirstPlansAll g b.clients n.clients)
+    all (Ok k) u l h = first_plans_all g b n es k sl a u (l.none refl).lost h
+    all (Err e) u l h = tt
+
+blocks_of : (g : Setup) (b n : RunTold) (es : List Event) (answer : Result ℕ FileReconstructionError) (sl : Slack) → IsAllowedHistory es → Ties g b n es (stop_of answer) sl → MayLeave (stop_of answer) b.clients sl → IfOk answer (IsFinished g es) → Blocks g sl.heard b.clients b.cache answer
+blocks_of g b n es answer sl a t left f = record {
+  served = served_once es b.clients n.clients sl.heard sl.hidden sl.late t.heard t.heard_served t.served;
+  planned = planned_heard g b n es (stop_of answer) sl t;
+  passed = λ c. all_passed g es sl.heard sl.hidden (left.quiet c).hidden t.heard_served t.passed;
+  chunks = λ s o e. all answer t left f s o e;
+}
+  where
+    all : (r : Result ℕ FileReconstructionError) → Ties g b n es (stop_of r) sl → MayLeave (stop_of r) b.clients sl → IfOk r (IsFinished g es) → (s : Store) → IsOver s b.clients → b.cache.entries ≡ Some []
+        → OnOk r (AllServed s g.file g.range (served_of_all sl.heard))
+    all (Ok k) u l h s o e = chunks_heard g b n es k sl a u (l.none refl).ahead h s o e
+    all (Err x) u l h s o e = tt
+
+tries_of : (g : Setup) (b n : RunTold) (es : List Event) (answer : Result ℕ FileReconstructionError) (sl : Slack) → Ties g b n es (stop_of answer) sl → MayLeave (stop_of answer) b.clients sl → (IsUnspent (stop_of answer) → (p k : ℕ) → count_by (expires p k) es < g.tries) → Tries g sl.heard b.clients n.clients answer
+tries_of g b n es answer sl t left under = record {
+  at_most = none_past g b n es (stop_of answer) sl t;
+  under = λ u. none_spent g b n es (stop_of answer) sl (left.late (unspent_other (stop_of answer) u)) (under u) t;
+  counted = each_counted es 0 b.clients n.clients sl.hidden sl.late sl.heard t.served.lanes t.expired;
+}
+
+cached_of : (g : Setup) (b n : RunTold) (es : List Event) (answer : Result ℕ FileReconstructionError) (sl : Slack) → Ties g b n es (stop_of answer) sl → MayLeave (stop_of answer) b.clients sl → Cached g sl.heard b.cache n.cache answer
+cached_of g b n es (Ok k) sl t left = record { gained = t.gained; offers = offers_few g b n es None sl t; all_offered = offers_all g b n es sl t (left.none refl) }
+cached_of g b n es (Err e) sl t left = record { gained = t.gained; offers = offers_few g b n es (Some e) sl t; all_offered = tt }
+
+later_of : (g : Setup) (b n : RunTold) (es : List Event) (stop : Stop) (sl : Slack) → Ties g b n es stop sl → ((s : Store) → IsOver s b.clients → CacheTells s b.cache → CacheTells s n.cache) → Later b n
+later_of g b n es stop sl t tells = record {
+  goes_on = goes_on es 0 b.clients n.clients sl.hidden sl.late t.served.lanes;
+  past = t.served.past;
+  cache_later = tells;
+  sink_later = t.taken.faults;
+  signal_later = signal_goes_on g b n es stop sl t;
+  counts_later = cache_goes_on g b n es stop sl t;
+  link = t.taken.link;
+}
 
 legal_ran : (g : Setup) (b n : RunTold) (es : List Event) (answer : Result ℕ FileReconstructionError) → failing_setting g b.clients ≡ None → IsAllowedHistory es → RunCall g b n es answer → Legal g b n answer
-legal_ran g b n es (Ok k) h a r =
-    let t = r.tied h in
-    let none : t.slack.ahead ≡ 0 = (t.left.none refl).ahead in
-    record {
-      exact = λ s o c. headline.exact g b n es k t.slack a t.ties none r.finished s o c;
-      prefix = λ s o c. headline.prefix g b n es None t.slack t.ties s o c;
-      stored = λ s o. headline.is_stored g b n es k t.slack a t.ties none r.finished s o;
-      heard = record { list = t.slack.heard; told = t.ties.heard };
-      looks = record { list = t.slack.looks; told = t.ties.looked.looked; given = t.ties.looked_entries };
-      tested = tested_heard g b n es None t.slack a t.ties;
-      whole = whole_heard g b n es k t.slack a t.ties (t.left.none refl).lost none r.finished;
-      flushed = r.flushed;
-      cancelled = r.cancelled;
-      unfailed = r.unfailed;
-      clients_unfailed = λ c. quiet_unfailed g b n es None t.slack (t.left.quiet c) t.ties;
-      cause = tt;
-      settings = λ e i. absurd (cc);
-      empty = r.empty;
-      asked = first_asks g es t.slack.lost b.clients n.clients t.ties.within t.ties.cuts t.ties.lost t.ties.asked;
-      all_asked = first_plans_all g b n es k t.slack a t.ties (t.left.none refl).lost r.finished;
-      refreshed = run_few g b n es None t.slack a t.ties;
-      served = served_once es b.clients n.clients t.slack.heard t.slack.hidden t.slack.late t.ties.heard t.ties.heard_served t.ties.served;
-      planned = planned_heard g b n es None t.slack t.ties;
-      counted = each_counted es 0 b.clients n.clients t.slack.hidden t.slack.late t.slack.heard t.ties.served.lanes t.ties.expired;
-      late = late_heard g b n es None t.slack t.ties;
-      under = λ u. none_spent g b n es None t.slack (t.left.late (λ e. absurd (cc))) (t.under u) t.ties;
-      at_most = none_past g b n es None t.slack t.ties;
-      passed = λ c. quiet_passed g b n es None t.slack (t.left.quiet c) t.ties;
-      gained = t.ties.gained;
-      offers = offers_few g b n es None t.slack t.ties;
-      all_offered = offers_all g b n es t.slack t.ties (t.left.none refl);
-      chunks = λ s o e. chunks_heard g b n es k t.slack a t.ties none r.finished s o e;
-      past = t.ties.served.past;
-      goes_on = goes_on es 0 b.clients n.clients t.slack.hidden t.slack.late t.ties.served.lanes;
-      cache_later = r.cache_later;
-      sink_later = t.ties.taken.faults;
-      signal_later = signal_goes_on g b n es None t.slack t.ties;
-      counts_later = cache_goes_on g b n es None t.slack t.ties;
-      link = t.ties.taken.link;
-    }
-legal_ran g b n es (Err e) h a r =
+legal_ran g b n es answer h a r =
     let t = r.tied h in
     record {
-      exact = λ s o c. tt;
-      prefix = λ s o c. headline.prefix g b n es (Some e) t.slack t.ties s o c;
-      stored = λ s o. tt;
-      heard = record { list = t.slack.heard; told = t.ties.heard };
-      looks = record { list = t.slack.looks; told = t.ties.looked.looked; given = t.ties.looked_entries };
-      tested = tested_heard g b n es (Some e) t.slack a t.ties;
-      whole = tt;
-      flushed = tt;
-      cancelled = r.cancelled;
-      unfailed = r.unfailed;
-      clients_unfailed = λ c. quiet_unfailed g b n es (Some e) t.slack (t.left.quiet c) t.ties;
-      cause = t.cause;
-      settings = λ x i. absurd (cc);
-      empty = r.empty;
-      asked = first_asks g es t.slack.lost b.clients n.clients t.ties.within t.ties.cuts t.ties.lost t.ties.asked;
-      all_asked = tt;
-      refreshed = run_few g b n es (Some e) t.slack a t.ties;
-      served = served_once es b.clients n.clients t.slack.heard t.slack.hidden t.slack.late t.ties.heard t.ties.heard_served t.ties.served;
-      planned = planned_heard g b n es (Some e) t.slack t.ties;
-      counted = each_counted es 0 b.clients n.clients t.slack.hidden t.slack.late t.slack.heard t.ties.served.lanes t.ties.expired;
-      late = late_heard g b n es (Some e) t.slack t.ties;
-      under = λ u. none_spent g b n es (Some e) t.slack (t.left.late (unspent_other (Some e) u)) (t.under u) t.ties;
-      at_most = none_past g b n es (Some e) t.slack t.ties;
-      passed = λ c. quiet_passed g b n es (Some e) t.slack (t.left.quiet c) t.ties;
-      gained = t.ties.gained;
-      offers = offers_few g b n es (Some e) t.slack t.ties;
-      all_offered = tt;
-      chunks = λ s o i. tt;
-      past = t.ties.served.past;
-      goes_on = goes_on es 0 b.clients n.clients t.slack.hidden t.slack.late t.ties.served.lanes;
-      cache_later = r.cache_later;
-      sink_later = t.ties.taken.faults;
-      signal_later = signal_goes_on g b n es (Some e) t.slack t.ties;
-      counts_later = cache_goes_on g b n es (Some e) t.slack t.ties;
-      link = t.ties.taken.link;
+      told = record { heard = t.slack.heard; exchanges = t.ties.heard; looks = t.slack.looks; looked = t.ties.looked.looked; given = t.ties.looked_entries };
+      exact = exact_of g b n es answer t.slack a t.ties t.left r.finished;
+      first = record { settings = λ x i. absurd (let z : None ≡ Some x = sym h ∙ i in cc); empty = r.empty };
+      cause = cause_of answer (Cause g t.slack.heard b n) t.cause;
+      written = written_of g b n es answer t.slack a t.ties t.left r.finished r.flushed;
+      faults = faults_of g b n es answer t.slack t.ties t.left r;
+      queries = queries_of g b n es answer t.slack a t.ties t.left r.finished;
+      blocks = blocks_of g b n es answer t.slack a t.ties t.left r.finished;
+      tries = tries_of g b n es answer t.slack t.ties t.left t.under;
+      cached = cached_of g b n es answer t.slack t.ties t.left;
+      later = later_of g b n es (stop_of answer) t.slack t.ties r.cache_later;
     }
 
 pub legal_of : (g : Setup) (b n : RunTold) (es : List Event) (answer : Result ℕ FileReconstructionError) → IsAllowedHistory es → RunCall g b n es answer → Legal g b n answer

@@ -14,7 +14,7 @@ use Rattle.xet_run.specs.declared.event.Event.TheVariants.{Planned, Admit, Fetch
 use Rattle.xet_run.specs.declared.event.PlannedBlock.{PlannedBlock}
 use Rattle.xet_ties.specs.History.{block_at, blocks_in, entry_of, fetches, served_by, served_in, telling}
 use Rattle.xet_ties.specs.InCall.{EachExchange, Exchange, served_of_all, Place}
-use Rattle.xet_ties.specs.Legal.{ServedOnce}
+use Rattle.xet_ties.specs.LegalWords.{ServedOnce}
 use Rattle.xet_ties.specs.Saids.{EntryPassed, EventPassed, HasPassed}
 use Rattle.xet_ties.specs.Setup.{Setup}
 use Rattle.xet_ties.specs.Ties.{EachServed, IsPlannedEntry, IsServed, all_of, is_pair}

@@ -21,7 +21,7 @@ use Rattle.xet_history.specs.TrueHistory.{EndsEarly, SomeEndsEarly, planned_term
 use Rattle.xet_ties.specs.Cuts.{AdjoinFrom, AreParts, AskedCut, IsCut, IsSaidPiece, Part, PassesTests, Planning, PlansAll, SaidTerm, SomeTellsEnd, answer_terms, has_some, part_end, queries_of, some_said, terms_said, under, ReachOn}
 use Rattle.xet_ties.specs.History.{EachAfter, IsNumberedNext, IsWithin, asked_by, range_at}
 use Rattle.xet_ties.specs.InCall.{EachExchange, Exchange, Look, answers_of, new_in}
-use Rattle.xet_ties.specs.Legal.{AsksSome, FirstPlansAll}
+use Rattle.xet_ties.specs.LegalWords.{AsksSome, FirstPlansAll}
 use Rattle.xet_ties.specs.RunCalls.{IsFinished}
 use Rattle.xet_ties.specs.Saids.{AnswerOf, FirstSaid, IsEventSaid, IsMadeOf, IsMadeOfPlan, IsPiece, IsTaskPiece, has_bytes, some_of}
 use Rattle.xet_ties.specs.Setup.{RunTold, Setup}

@@ -39,7 +39,8 @@ use Rattle.xet_ties.specs.Causes.{BlockFailsIn, HaveExpired, IsCorrupted, IsMiss
 use Rattle.xet_ties.specs.History.{block_at, fetches, is_expiry, is_refresh, range_at}
 use Rattle.xet_ties.specs.InCall.{EachGrew, Exchange, Look, served_of_all}
 use Rattle.xet_ties.specs.Lanes.{AnswerStep, Ask, BytesFail, DrewApart, IsFor, IsOf, LaneDid, StepDid}
-use Rattle.xet_ties.specs.Legal.{AllPlanned, FirstAsks, IsExact, Legal, ServedOnce, TookTested}
+use Rattle.xet_ties.specs.Legal.{Legal}
+use Rattle.xet_ties.specs.LegalWords.{AllPlanned, FirstAsks, IsExact, ServedOnce, TookTested}
 use Rattle.xet_ties.specs.RunCalls.{IsFinished, RunCall, TookAll}
 use Rattle.xet_ties.specs.Saids.{BlockOfPlan, InStep, IsCutAnswer, IsPlanAccepted, IsQueryAnswer, IsServedData}
 use Rattle.xet_ties.specs.Saids.{IsTested, planned_of, IsTaskPiece, has_bytes}

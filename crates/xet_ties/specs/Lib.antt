@@ -6,6 +6,8 @@ pub mod InCall
 pub mod Lanes
 pub mod Laws
 pub mod Legal
+pub mod LegalParts
+pub mod LegalWords
 pub mod RunCalls
 pub mod Saids
 pub mod Setup

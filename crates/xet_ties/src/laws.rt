@@ -16,11 +16,7 @@ pub fn starts_and_stops()
     ensures stop { StopsTied }
 {}
 
-/// A run whose history is allowed and that is tied gives a legal answer: over one valid store and a cache that tells
-/// it the window exactly, and over any connections and any cache no block of a plan served twice, each served block
-/// one of a plan that was said and passes its tests, under its plan's number, short queries that, but for refreshes,
-/// cut the range, on Ok the tested bytes of all terms up to an end, a cache that gained nothing but entries of served
-/// blocks, and no other error than `Cancelled` and want of memory where the signal said yes.
+/// A run whose history is allowed and that is tied gives a legal answer, in all its parts.
 pub fn runs_are_legal()
     ensures { RunsAreLegal }
 {}

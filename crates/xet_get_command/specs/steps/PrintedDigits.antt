@@ -14,7 +14,7 @@ use Rattle.xet_error.specs.declared.error.Setting.{Setting}
 use Rattle.xet_error.specs.Errors.{corruption_number}
 use Rattle.xet_blocks.specs.ServedChunks.{AllServed}
 use Rattle.xet_reconstruct.specs.Setup.{no_limits}
-use Rattle.xet_ties.specs.Legal.{IsExact}
+use Rattle.xet_ties.specs.LegalWords.{IsExact}
 use Rattle.xet_ties.specs.RunCalls.{Unfailed}
 use Rattle.xet_ties.specs.Setup.{RunTold}
 use Rattle.xet_get_command.specs.declared.digits.Printed.{Printed}

@@ -10,7 +10,7 @@ use Rattle.xet_blocks.specs.ServedChunks.{AllServed}
 use Rattle.xet_run.specs.declared.budget_book.BookView.{BookView}
 use Rattle.std.specs.Arc.{arc_value}
 use Rattle.xet_run.specs.Budgets.{LimitTold}
-use Rattle.xet_ties.specs.Legal.{IsExact}
+use Rattle.xet_ties.specs.LegalWords.{IsExact}
 use Rattle.xet_ties.specs.RunCalls.{Unfailed}
 use Rattle.xet_ties.specs.Setup.{CacheTells}
 use Rattle.xet_get_command.specs.declared.wanted.Wanted.{Wanted}
