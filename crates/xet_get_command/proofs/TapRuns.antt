@@ -1,5 +1,5 @@
 -- Runs over connections to a valid store behind taps.
-use Rattle.std.proofs.Common.{◌≡◌, ℕ, ◌+◌, ◌<◌, ◌≤◌, zero, suc, true, false, cond, Bool, List, [], ◌∷◌, ◌++◌, length, take, Option, Some, None, IsNone, IsSome, Ok, Err, refl, sym, ap, ◌∙◌, arith, inl, inr, subst, ⊎_elim}
+use Rattle.std.proofs.Common.{◌≡◌, ℕ, ◌+◌, ◌<◌, ◌≤◌, zero, suc, true, false, cond, Bool, List, [], ◌∷◌, ◌++◌, length, take, Option, Some, None, IsNone, IsSome, Ok, Err, refl, sym, ap, ◌∙◌, arith, inl, inr, subst, ◌⊎◌, ⊎_elim}
 use Rattle.std.specs.Prelude.{All, IfErr, IfOk, IfSome, Result, count_by, nat_eq, slice_get}
 use Rattle.std.specs.List.{AllZip, concat}
 use Rattle.std.specs.Result.{result_ok}
@@ -29,14 +29,14 @@ use Rattle.xet_error.specs.declared.error.Setting.TheVariants.{NoConnection}
 use Rattle.xet_error.specs.Errors.{corruption_number}
 use Rattle.xet_blocks.specs.declared.reconstruction_terms.xorb_block.XorbBlock.{XorbBlock}
 use Rattle.xet_reconstruct.specs.Laws.{AreHonest, HonestAnswersPass}
-use Rattle.xet_ties.specs.Causes.{Cause, NoneAtEnd, PlanFails, RefreshFails, LowestRose, SomeFailed, expired_answers, failing_size, total_expiries}
+use Rattle.xet_ties.specs.Causes.{Cause, LaneFails, NoneAtEnd, NothingElse, PlanFails, RefreshFails, LowestRose, SomeFailed, expired_answers, failing_size, total_expiries}
 use Rattle.xet_ties.specs.Causes as causes
 use Rattle.xet_ties.specs.Cuts.{AskedCut, IsSaidPiece, SaidTerm, some_said}
 use Rattle.xet_ties.specs.InCall.{Exchange, Look, SomeOne, all_exchanges, expired_said}
 use Rattle.xet_ties.specs.Legal.{Legal}
 use Rattle.xet_ties.specs.LegalWords.{FirstAsksFew, TookTested, TookWhole}
 use Rattle.xet_ties.specs.Saids.{IsBlockAnswer, IsPlanAccepted, IsPlanSaid, IsQueryAnswer, ServedPassed}
-use Rattle.xet_ties.proofs.CallerLemmas.{all_told}
+use Rattle.xet_ties.proofs.CallerLemmas.{all_told, lane_block}
 use Rattle.xet_ties.specs.Setup.{AllTell, RunTold}
 use Rattle.xet_ties.specs.Ties.{CutsRange}
 use Rattle.xet_terms.specs.Queries.{CutFrom}
@@ -285,6 +285,11 @@ module _ (pass : HonestAnswersPass) (s : Store) (valid : IsValid s) (q : Wanted)
           let cuts : CutsRange (setup_of q) few.cut = few.cuts in
           block_failed pass s valid q x xs plans (forward [] x.asked few.cut q.range.start q.range.end (greatest_of q.options + least_of q.options) few.asked (omega (arith, count, none)) cuts.from) test failed
 
+  -- so it is in the cause
+  failed_is : (test : Corruption) → FirstAsksFew (setup_of q) xs → (SomeFailed (setup_of q) xs test × NothingElse (setup_of q) xs cs ds) ⊎ LaneFails (setup_of q) xs cs ds test → BlockFailed (setup_of q) xs (corruption_number test)
+  failed_is test few (inl f) = block_is test few f.0
+  failed_is test few (inr f) = record { test = test; number_is = refl; fails = inl (lane_block (setup_of q) xs cs ds test f) }
+
   pub made : (answer : Result ℕ FileReconstructionError) → (h : Legal (setup_of q) (told_of cs k b) (told_of ds l n) answer) → Made answer h.told.looks
   made (Ok m) h =
       let all : TookWhole (setup_of q) xs h.told.looks b n m = here (λ xs. TookWhole (setup_of q) xs h.told.looks b n m) (Ok m) h h.written.whole in
@@ -311,7 +316,7 @@ module _ (pass : HonestAnswersPass) (s : Store) (valid : IsValid s) (q : Wanted)
       by_error error.UrlExpired h = (bytes, some.took.took, tt, first)
       by_error error.IoError h = (bytes, some.took.took, tt, first)
       by_error (error.CorruptedReconstruction test) cause =
-          (bytes, some.took.took, tt, (first, block_is test (here (FirstAsksFew (setup_of q)) (Err e) h h.queries.few) cause.failed))
+          (bytes, some.took.took, tt, (first, failed_is test (here (FirstAsksFew (setup_of q)) (Err e) h h.queries.few) cause.failed))
       by_error (error.ConfigurationError e) f =
           let took : n.took ≡ b.took = ap (λ (t : RunTold). t.sink.took) (h.first.settings e f).1 in
           ([], took ∙ took_same b.took, tt, (sym same ∙ f, refl))

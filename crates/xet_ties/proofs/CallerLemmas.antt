@@ -52,7 +52,7 @@ pub use Rattle.xet_ties.proofs.Records.{SoFar, so_none, so_next, so_more, so_all
 pub use Rattle.xet_ties.proofs.Heard.{Match, join_match, grew_none, grew_first, grew_join, step_start, step_query, step_join}
 pub use Rattle.xet_ties.proofs.Heard.{FirstEvent, query_answer_more, accepted_more, served_more, tested_data_more, tested_grew, zip_weaker}
 pub use Rattle.xet_ties.proofs.SaidTies.{fetch_entry, step_data, SaidBlock, block_said}
-pub use Rattle.xet_ties.proofs.SaidCauses.{accepted_said, step_fails, block_fails, term_fails, plan_fails}
+pub use Rattle.xet_ties.proofs.SaidCauses.{accepted_said, lane_block, step_fails, term_fails, plan_fails}
 pub use Rattle.xet_ties.proofs.SaidCauses.{file_missing, refresh_fails}
 pub use Rattle.xet_ties.proofs.NextPlaces.{asked_own}
 pub use Rattle.xet_ties.proofs.CutPlaces.{cut_answer_more, own_answer}

@@ -118,7 +118,6 @@ first_failed g es k (b ∷ bs) (n ∷ ns) (x ∷ xs) h s f =
 pub corrupted : (g : Setup) (b n : RunTold) (es : List Event) (stop : Stop) (sl : Slack) (k : Corruption) → Ties g b n es stop sl → IsQuiet b.clients sl → ((s : Store) → IsOver s b.clients → ⊥) → SomeFailed g sl.heard k → IsCorrupted g sl.heard b.clients n.clients k
 corrupted g b n es stop sl k t quiet untrue failed = record {
   untrue = untrue;
-  failed = failed;
+  failed = inl (failed, record { passed = all_passed g es sl.heard sl.hidden quiet.hidden t.heard_served t.passed; unfailed = subst (λ (i : ℕ). FirstUnfailed i b.clients n.clients) quiet.calm t.unfailed });
   first = first_failed g es k b.clients n.clients sl.heard t.heard t.said failed;
-  order = inl (record { passed = all_passed g es sl.heard sl.hidden quiet.hidden t.heard_served t.passed; unfailed = subst (λ (i : ℕ). FirstUnfailed i b.clients n.clients) quiet.calm t.unfailed });
 }

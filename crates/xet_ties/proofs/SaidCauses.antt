@@ -1,6 +1,6 @@
 -- The causes that the answers which were said give.
-use Rattle.std.proofs.Common.{◌≡◌, ℕ, ◌<◌, ◌≤◌, List, [], ◌∷◌, ◌++◌, length, refl, sym, subst, ◌∙◌, ap, arith, inl, inr, ⊎_elim, Some, None, Option}
-use Rattle.std.specs.Prelude.{Result, Err}
+use Rattle.std.proofs.Common.{◌≡◌, ℕ, zero, suc, ◌<◌, ◌≤◌, List, [], ◌∷◌, ◌++◌, length, refl, sym, subst, ◌∙◌, ap, arith, inl, inr, ⊎_elim, Some, None, Option}
+use Rattle.std.specs.Prelude.{Result, Err, slice_get}
 use Rattle.xet_base.specs.declared.cas_types.FileRange.{FileRange}
 use Rattle.xet_base.specs.declared.unique_id.UniqueId.{UniqueId}
 use Rattle.xet_outside.specs.Answers.{AnswerTo, bytes_in}
@@ -25,7 +25,7 @@ use Rattle.xet_blocks.specs.TermBlocks.{covered}
 use Rattle.xet_fetch.specs.Refreshes.{plan_extents, refusal_of}
 use Rattle.xet_run.specs.declared.event.PlannedBlock.{PlannedBlock}
 use Rattle.xet_run.specs.declared.event.PlannedTerm.{PlannedTerm}
-use Rattle.xet_ties.specs.Causes.{BlockFailsIn, SomeFailed, TermFailsIn}
+use Rattle.xet_ties.specs.Causes.{BlockFails, BlockFailsIn, LaneFails, SomeFailed, TermFailsIn}
 use Rattle.xet_ties.specs.History.{entry_of}
 use Rattle.xet_ties.specs.InCall.{Exchange, SomeOne}
 use Rattle.xet_ties.specs.Lanes.{Ask, BytesFail, IsFor}
@@ -61,8 +61,14 @@ step_fails g xs place b x h more a k same own block number t =
       fails = subst (λ (y : XorbBlock). failed_check y t.given ≡ Some k) (sym block) t.fails;
     }
 
-pub block_fails : (g : Setup) (xs : List Exchange) (k : Corruption) (place : BlockOfPlan g xs) (p : ℕ) → p ≡ place.accepted.said.number → SomeOne (BlockFailsIn g xs place p k) xs → SomeFailed g xs k
-block_fails g xs k place p own h = inr (inr (inl (record { place = place; number = p; own = own; bytes = h })))
+some_at : (P : Exchange → Type 0) (xs : List Exchange) (i : ℕ) (x : Exchange) → slice_get xs i ≡ Some x → P x → SomeOne P xs
+some_at P [] i x e h = absurd (cc)
+some_at P (y ∷ xs) zero x e h = let same : y ≡ x = cc in inl (subst P (sym same) h)
+some_at P (y ∷ xs) (suc i) x e h = inr (some_at P xs i x e h)
+
+-- what fails in a lane is a block
+pub lane_block : (g : Setup) (xs : List Exchange) (bs ns : List ClientTold) (k : Corruption) → LaneFails g xs bs ns k → BlockFails g xs k
+lane_block g xs bs ns k f = record { place = f.place; number = f.number; own = f.own; bytes = some_at (BlockFailsIn g xs f.place f.number k) xs f.lane f.exchange f.at f.bytes }
 
 pub term_fails : (g : Setup) (xs : List Exchange) (k : Corruption) (place : TermOfPlan g xs) (p : ℕ) → p ≡ place.place.accepted.said.number → SomeOne (TermFailsIn g xs place p k) xs → SomeFailed g xs k
 term_fails g xs k place p own h = inr (inr (inr (record { place = place; number = p; own = own; bytes = h })))

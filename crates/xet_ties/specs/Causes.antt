@@ -203,11 +203,11 @@ pub record NothingElse (g : Setup) (xs : List Exchange) (before after : List Cli
 pub record IsCorrupted (g : Setup) (xs : List Exchange) (before after : List ClientTold) (k : Corruption)
     : Type 0 where
   pub untrue : (s : Store) → IsOver s before → ⊥
-  pub failed : SomeFailed g xs k
+  -- no call of a connection failed, and no test of a served block; or the test is of a block, and none of these failed
+  -- besides in its connection and below
+  pub failed : (SomeFailed g xs k × NothingElse g xs before after) ⊎ LaneFails g xs before after k
   -- whatever the other connections tell
   pub first : FirstFailed g before after k
-  -- no call of a connection failed and no test of a served block, or none in this connection and below
-  pub order : NothingElse g xs before after ⊎ LaneFails g xs before after k
 
 -- the cause of each error, by what the connections were asked, served and said; want of memory is free, and a run is
 -- never at fault itself

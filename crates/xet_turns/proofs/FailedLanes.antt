@@ -19,14 +19,14 @@ use Rattle.xet_blocks.specs.declared.reconstruction_terms.xorb_block.XorbBlockDa
 use Rattle.xet_blocks.specs.BlockCalls.{failed_check}
 use Rattle.xet_blocks.specs.TermBlocks.{xorb_blocks}
 use Rattle.xet_run.specs.declared.event.Event.{Event}
-use Rattle.xet_ties.specs.Causes.{BlockFailsIn, Cause, FirstFailed, IsBlockOrPassed, IsBlockTest, LaneFails, LowestRose, QueryFailed, SomeFailed}
-use Rattle.xet_ties.specs.InCall.{AllBelow, answers_of, EachExchange, EachGrew, Exchange, SomeOne}
+use Rattle.xet_ties.specs.Causes.{BlockFailsIn, Cause, FirstFailed, IsBlockOrPassed, IsBlockTest, LaneFails, LowestRose, QueryFailed}
+use Rattle.xet_ties.specs.InCall.{AllBelow, answers_of, EachExchange, EachGrew, Exchange}
 use Rattle.xet_ties.specs.Lanes.{Ask, EachDrew, HoldsAsk, IsFor, bytes_of_ask, entries_of, error_faults}
 use Rattle.xet_ties.specs.Saids.{BlockOfPlan, EventPassed, ServedPassed}
 use Rattle.xet_ties.specs.Setup.{AllTell, IsOver, RunTold, Setup}
 use Rattle.xet_ties.specs.steps.Rounds.{AreLaneEnds, FailsAsk, IsLaneEnd, IsMissingAsk, LaneFailure, NoneBelow}
 use Rattle.xet_ties.specs.Ties.{EachServed, FirstAsked, FirstUnfailed, IsFaultless, Slack, Ties, is_pair}
-use Rattle.xet_ties.proofs.CallerLemmas.{accepted_more, below_passed, block_fails, fetch_entry, is_check, others_passed, rose_since, tells_now}
+use Rattle.xet_ties.proofs.CallerLemmas.{accepted_more, below_passed, fetch_entry, is_check, others_passed, rose_since, tells_now}
 use Rattle.xet_lanes.specs.Fetches.{error_at, last_error}
 use Rattle.xet_lanes.specs.Rounds.{End, steps_of}
 use Rattle.xet_lanes.proofs.CallerLemmas.{FailedLane}
@@ -174,18 +174,12 @@ pub honest_ask : (g : Setup) (b : RunTold) (es : List Event) (sl : Slack) (l : L
 honest_ask g b es sl l a s led over h = led_honest g b es sl [] h.plan a.request.index a.block
     (plan_at (IsLedPlan g b es sl []) l.plans h.index h.plan h.at led.plans.each) h.in_plan s over
 
-some_at : (P : Exchange → Type 0) (xs : List Exchange) (i : ℕ) (x : Exchange) → slice_get xs i ≡ Some x → P x
-    → SomeOne P xs
-some_at P [] i x e h = absurd (cc)
-some_at P (y ∷ xs) zero x e h = let same : y ≡ x = cc in inl (subst P (sym same) h)
-some_at P (y ∷ xs) (suc i) x e h = inr (some_at P xs i x e h)
-
 lane_failed : (g : Setup) (b : RunTold) (es : List Event) (sl : Slack) (l : Led) (a : Ask) (k : Corruption)
     (ys : List Exchange) (ns : List ClientTold) (i : ℕ) (x : Exchange) → slice_get ys i ≡ Some x → FailsAsk a k x
     → All (IsBlockOrPassed g ys a.request.acquisition.plan a.request.index) x.served
     → AllBelow (ServedPassed g ys) i ys → FirstUnfailed (suc i) b.clients ns → IsLed g b es sl [] l → IsOwnAsk es l a
     → EachGrew sl.heard ys
-    → SomeFailed g ys k × LaneFails g ys b.clients ns k
+    → LaneFails g ys b.clients ns k
 lane_failed g b es sl l a k ys ns i x listed own others below unfailed led h grew =
     let m = h.led in
     let kk = a.request.index in
@@ -212,22 +206,19 @@ lane_failed g b es sl l a k ys ns i x listed own others below unfailed led h gre
       given = f.given;
       answer = subst (λ (e : Served). AnswerTo y.served y.said e f.given) (fetch_entry a h.own) f.answer;
       fails = f.fails;
-    } in (
-      block_fails g ys k place p (sym m.number ∙ q.said_as)
-          (some_at (BlockFailsIn g ys place p k) ys i x listed (fails x own)),
-      record {
-        lane = i;
-        exchange = x;
-        at = listed;
-        place = place;
-        number = p;
-        own = sym m.number ∙ q.said_as;
-        bytes = fails x own;
-        others = others;
-        passed = below;
-        unfailed = subst (λ (n : ℕ). FirstUnfailed n b.clients ns) next unfailed;
-      },
-    )
+    } in
+    record {
+      lane = i;
+      exchange = x;
+      at = listed;
+      place = place;
+      number = p;
+      own = sym m.number ∙ q.said_as;
+      bytes = fails x own;
+      others = others;
+      passed = below;
+      unfailed = subst (λ (n : ℕ). FirstUnfailed n b.clients ns) next unfailed;
+    }
   where
     kept_none : (o : Option XorbBlockData) → is_some o ≡ false → o ≡ None
     kept_none None h = refl
@@ -301,10 +292,9 @@ lane_cause g b at es sl ns fs drawn ends l (error.CorruptedReconstruction k) ys 
           let honest = honest_ask g b es sl l r.ask s led over holds.led in
           r.dishonest s (tells_now s es 0 b.clients at.clients sl.hidden sl.late t.served.lanes over.tell)
           honest.holds honest.passes;
-      failed = fails.0;
+      failed = inr fails;
       first = first_failed g g.file es sl.lost b.clients at.clients ns ys k t.asked each
           (is_check k r.ask.block r.own.given r.own.fails);
-      order = inr fails.1;
     }
 lane_cause g b at es sl ns fs drawn ends l (error.ConfigurationError e) ys all hs own d f grew each failed join calm t led =
     absurd (lane_fails (IsOwnAsk es l) fs at.clients ns drawn ends f.at f.end
