@@ -43,7 +43,7 @@ mod RoundAllowed
 mod RoundAsks
 mod RoundCounts
 mod RoundData
-mod RoundOnce
+mod RoundLates
 mod RoundShorts
 mod RoundTies
 mod RoundTries
