@@ -201,140 +201,129 @@ all_expired g b n es stop sl t =
     let heard = said_total es 0 b.clients n.clients sl.heard sl.late t.heard t.expired in
     omega (arith, m, heard)
 
--- ---- of some blocks
+-- ---- of one block
 
--- the requests for blocks of some places that connections answered as expired together
-abbrev pub lates_at : (Place → Bool) → List Exchange → ℕ
-lates_at T [] = 0
-lates_at T (x ∷ xs) = count_by (λ (e : Served). T (place_of e)) (late_in x.said) + lates_at T xs
+-- its Expired events, by lane, from a number on, and those that one event adds
+abbrev lates_on : ℕ → ℕ → ℕ → List Event → List Exchange → ℕ
+lates_on p k l es [] = 0
+lates_on p k l es (x ∷ xs) = count_by (at_place p k) (late_by l es) + lates_on p k (l + 1) es xs
 
--- the event is the expiry of such a block
-abbrev pub expired_at : (Place → Bool) → Event → Bool
-expired_at T (Expired lane p k) = T (p, k)
-expired_at T e = false
+abbrev late_event : ℕ → ℕ → ℕ → Event → List Exchange → ℕ
+late_event p k l e [] = 0
+late_event p k l e (x ∷ xs) = count_by (at_place p k) (late_on l e) + late_event p k (l + 1) e xs
 
--- their Expired events, by lane, from a number on, and those that one event adds
-abbrev lates_on : (Place → Bool) → ℕ → List Event → List Exchange → ℕ
-lates_on T l es [] = 0
-lates_on T l es (x ∷ xs) = count_by T (late_by l es) + lates_on T (l + 1) es xs
-
-abbrev late_event : (Place → Bool) → ℕ → Event → List Exchange → ℕ
-late_event T l e [] = 0
-late_event T l e (x ∷ xs) = count_by T (late_on l e) + late_event T (l + 1) e xs
-
-late_split : (T : Place → Bool) (l : ℕ) (e : Event) (es : List Event) (xs : List Exchange)
-    → lates_on T l (e ∷ es) xs ≡ late_event T l e xs + lates_on T l es xs
-late_split T l e es [] = refl
-late_split T l e es (x ∷ xs) =
-    let r = late_split T (l + 1) e es xs in
-    let c = count-append T (late_on l e) (late_by l es) in
+late_split : (p k l : ℕ) (e : Event) (es : List Event) (xs : List Exchange)
+    → lates_on p k l (e ∷ es) xs ≡ late_event p k l e xs + lates_on p k l es xs
+late_split p k l e es [] = refl
+late_split p k l e es (x ∷ xs) =
+    let r = late_split p k (l + 1) e es xs in
+    let c = count-append (at_place p k) (late_on l e) (late_by l es) in
     omega (arith, r, c)
 
-lates_none : (T : Place → Bool) (l : ℕ) (xs : List Exchange) → lates_on T l [] xs ≡ 0
-lates_none T l [] = refl
-lates_none T l (x ∷ xs) = let r = lates_none T (l + 1) xs in omega (arith, r)
+lates_none : (p k l : ℕ) (xs : List Exchange) → lates_on p k l [] xs ≡ 0
+lates_none p k l [] = refl
+lates_none p k l (x ∷ xs) = let r = lates_none p k (l + 1) xs in omega (arith, r)
 
--- how often it is such a block
-abbrev is_it : (Place → Bool) → ℕ → ℕ → ℕ
-is_it T a c = cond {A = ℕ} (T (a, c)) 1 0
+-- how often it is that block
+abbrev is_it : ℕ → ℕ → ℕ → ℕ → ℕ
+is_it p k a c = cond {A = ℕ} (a == p && c == k) 1 0
 
-one_place : (T : Place → Bool) (a c : ℕ) → count_by T ((a, c) ∷ []) ≡ is_it T a c
-one_place T a c = let n = count_by-cons T (a, c) [] in omega (arith, n)
+one_place : (p k a c : ℕ) → count_by (at_place p k) ((a, c) ∷ []) ≡ is_it p k a c
+one_place p k a c = let n = count_by-cons (at_place p k) (a, c) [] in omega (arith, n)
 
 -- an event of a lower lane
-late_past : (T : Place → Bool) (l m a c : ℕ) (xs : List Exchange) → m < l → late_event T l (Expired m a c) xs ≡ 0
-late_past T l m a c [] h = refl
-late_past T l m a c (x ∷ xs) h =
-    let r = late_past T (l + 1) m a c xs (omega (arith, h)) in
-    let n : count_by T (late_on l (Expired m a c)) ≡ 0 =
-    ap (λ v. count_by T (cond {A = List Place} v ((a, c) ∷ []) [])) (ne_eqb m l (λ q. absurd (omega (arith, q, h)))) in
+late_past : (p k l m a c : ℕ) (xs : List Exchange) → m < l → late_event p k l (Expired m a c) xs ≡ 0
+late_past p k l m a c [] h = refl
+late_past p k l m a c (x ∷ xs) h =
+    let r = late_past p k (l + 1) m a c xs (omega (arith, h)) in
+    let n : count_by (at_place p k) (late_on l (Expired m a c)) ≡ 0 =
+    ap (λ v. count_by (at_place p k) (cond {A = List Place} v ((a, c) ∷ []) [])) (ne_eqb m l (λ q. absurd (omega (arith, q, h)))) in
     omega (arith, r, n)
 
 -- an event of one of the lanes
-late_here : (T : Place → Bool) (l m a c : ℕ) (xs : List Exchange) → l ≤ m → m < l + length xs
-    → late_event T l (Expired m a c) xs ≡ is_it T a c
-late_here T l m a c [] low h = absurd (omega (arith, low, h))
-late_here T l m a c (x ∷ xs) low h =
-    by (m == l) refl (λ less more. late_here T (l + 1) m a c xs less more)
+late_here : (p k l m a c : ℕ) (xs : List Exchange) → l ≤ m → m < l + length xs
+    → late_event p k l (Expired m a c) xs ≡ is_it p k a c
+late_here p k l m a c [] low h = absurd (omega (arith, low, h))
+late_here p k l m a c (x ∷ xs) low h =
+    by (m == l) refl (λ less more. late_here p k (l + 1) m a c xs less more)
   where
     by : (v : Bool) → (m == l) ≡ v
-        → (l + 1 ≤ m → m < (l + 1) + length xs → late_event T (l + 1) (Expired m a c) xs ≡ is_it T a c)
-        → count_by T (late_on l (Expired m a c)) + late_event T (l + 1) (Expired m a c) xs ≡ is_it T a c
+        → (l + 1 ≤ m → m < (l + 1) + length xs → late_event p k (l + 1) (Expired m a c) xs ≡ is_it p k a c)
+        → count_by (at_place p k) (late_on l (Expired m a c)) + late_event p k (l + 1) (Expired m a c) xs ≡ is_it p k a c
     by true e next =
-        let n : count_by T (late_on l (Expired m a c)) ≡ is_it T a c =
-        ap (λ v. count_by T (cond {A = List Place} v ((a, c) ∷ []) [])) e ∙ one_place T a c in
+        let n : count_by (at_place p k) (late_on l (Expired m a c)) ≡ is_it p k a c =
+        ap (λ v. count_by (at_place p k) (cond {A = List Place} v ((a, c) ∷ []) [])) e ∙ one_place p k a c in
         let same : m ≡ l = eqb-true m l e in
-        let r = late_past T (l + 1) m a c xs (omega (arith, same)) in
+        let r = late_past p k (l + 1) m a c xs (omega (arith, same)) in
         omega (arith, n, r)
     by false e next =
-        let n : count_by T (late_on l (Expired m a c)) ≡ 0 =
-        ap (λ v. count_by T (cond {A = List Place} v ((a, c) ∷ []) [])) e in
+        let n : count_by (at_place p k) (late_on l (Expired m a c)) ≡ 0 =
+        ap (λ v. count_by (at_place p k) (cond {A = List Place} v ((a, c) ∷ []) [])) e in
         let apart : (m ≡ l → ⊥) = (λ s. let y = eq-eqb m l s in cc) in
         let r = next (omega (arith, low, apart)) (omega (arith, h)) in
         omega (arith, n, r)
 
 -- one event
-quiet : (T : Place → Bool) (l : ℕ) (e : Event) (xs : List Exchange) → ((lane : ℕ) → late_on lane e ≡ [])
-    → late_event T l e xs ≡ 0
-quiet T l e [] h = refl
-quiet T l e (x ∷ xs) h =
-    let r = quiet T (l + 1) e xs h in
-    let n = ap (λ (s : List Place). count_by T s) (h l) in
+quiet : (p k l : ℕ) (e : Event) (xs : List Exchange) → ((lane : ℕ) → late_on lane e ≡ [])
+    → late_event p k l e xs ≡ 0
+quiet p k l e [] h = refl
+quiet p k l e (x ∷ xs) h =
+    let r = quiet p k (l + 1) e xs h in
+    let n = ap (λ (s : List Place). count_by (at_place p k) s) (h l) in
     omega (arith, r, n)
 
-late_one : (T : Place → Bool) (e : Event) (xs : List Exchange) → IsOnLane (length xs) e
-    → late_event T 0 e xs ≡ cond {A = ℕ} (expired_at T e) 1 0
-late_one T (Expired m a c) xs on = late_here T 0 m a c xs (omega arith) (omega (arith, on))
-late_one T (Planned plan query terms blocks) xs on = quiet T 0 (Planned plan query terms blocks) xs (λ l. refl)
-late_one T (Admit limit) xs on = quiet T 0 (Admit limit) xs (λ l. refl)
-late_one T (Fetched lane plan block) xs on = quiet T 0 (Fetched lane plan block) xs (λ l. refl)
-late_one T (Cached plan block) xs on = quiet T 0 (Cached plan block) xs (λ l. refl)
-late_one T (Refreshed plan) xs on = quiet T 0 (Refreshed plan) xs (λ l. refl)
-late_one T (Wrote taken) xs on = quiet T 0 (Wrote taken) xs (λ l. refl)
-late_one T (Fail error) xs on = quiet T 0 (Fail error) xs (λ l. refl)
-late_one T Cancel xs on = quiet T 0 Cancel xs (λ l. refl)
+late_one : (p k : ℕ) (e : Event) (xs : List Exchange) → IsOnLane (length xs) e
+    → late_event p k 0 e xs ≡ cond {A = ℕ} (expires p k e) 1 0
+late_one p k (Expired m a c) xs on = late_here p k 0 m a c xs (omega arith) (omega (arith, on))
+late_one p k (Planned plan query terms blocks) xs on = quiet p k 0 (Planned plan query terms blocks) xs (λ l. refl)
+late_one p k (Admit limit) xs on = quiet p k 0 (Admit limit) xs (λ l. refl)
+late_one p k (Fetched lane plan block) xs on = quiet p k 0 (Fetched lane plan block) xs (λ l. refl)
+late_one p k (Cached plan block) xs on = quiet p k 0 (Cached plan block) xs (λ l. refl)
+late_one p k (Refreshed plan) xs on = quiet p k 0 (Refreshed plan) xs (λ l. refl)
+late_one p k (Wrote taken) xs on = quiet p k 0 (Wrote taken) xs (λ l. refl)
+late_one p k (Fail error) xs on = quiet p k 0 (Fail error) xs (λ l. refl)
+late_one p k Cancel xs on = quiet p k 0 Cancel xs (λ l. refl)
 
 -- all events
-late_all : (T : Place → Bool) (es : List Event) (xs : List Exchange) → All (IsOnLane (length xs)) es
-    → lates_on T 0 es xs ≡ count_by (expired_at T) es
-late_all T [] xs a = lates_none T 0 xs
-late_all T (e ∷ es) xs a =
-    let one = late_one T e xs (All-head (IsOnLane (length xs)) e es a) in
-    let r = late_all T es xs (All-tail (IsOnLane (length xs)) e es a) in
-    let s = late_split T 0 e es xs in
-    let c = count_by-cons (expired_at T) e es in
+late_all : (p k : ℕ) (es : List Event) (xs : List Exchange) → All (IsOnLane (length xs)) es
+    → lates_on p k 0 es xs ≡ count_by (expires p k) es
+late_all p k [] xs a = lates_none p k 0 xs
+late_all p k (e ∷ es) xs a =
+    let one = late_one p k e xs (All-head (IsOnLane (length xs)) e es a) in
+    let r = late_all p k es xs (All-tail (IsOnLane (length xs)) e es a) in
+    let s = late_split p k 0 e es xs in
+    let c = count_by-cons (expires p k) e es in
     omega (arith, one, r, s, c)
 
 -- requests by their places
-places_at : (T : Place → Bool) (es : List Served)
-    → count_by T (map place_of es) ≡ count_by (λ (e : Served). T (place_of e)) es
-places_at T [] = refl
-places_at T (e ∷ es) =
-    let r = places_at T es in
-    let a = count_by-cons T (place_of e) (map place_of es) in
-    let b = count_by-cons (λ (y : Served). T (place_of y)) e es in
+places_count : (p k : ℕ) (es : List Served) → count_by (at_place p k) (map place_of es) ≡ count_by (is_pair p k) es
+places_count p k [] = refl
+places_count p k (e ∷ es) =
+    let r = places_count p k es in
+    let a = count_by-cons (at_place p k) (place_of e) (map place_of es) in
+    let b = count_by-cons (is_pair p k) e es in
     omega (arith, r, a, b)
 
 -- what was heard are the Expired events, and those that no event says
-late_both : (T : Place → Bool) (l : ℕ) (es : List Event) (xs : List Exchange) (ls : List (List Place))
-    → EachExpired es l xs ls → lates_at T xs ≡ lates_on T l es xs + count_by T (all_late ls)
-late_both T l es [] [] t = refl
-late_both T l es [] (c ∷ ls) t = absurd t
-late_both T l es (x ∷ xs) [] t = absurd t
-late_both T l es (x ∷ xs) (k' ∷ ls) t =
-    let r = late_both T (l + 1) es xs ls t.1 in
-    let e = ap (λ (s : List Place). count_by T s) t.0 in
-    let a = count-append T (late_by l es) k' in
-    let b = count-append T k' (all_late ls) in
-    let c = places_at T (late_in x.said) in
+late_both : (p k l : ℕ) (es : List Event) (xs : List Exchange) (ls : List (List Place)) → EachExpired es l xs ls
+    → late_answers p k xs ≡ lates_on p k l es xs + count_by (at_place p k) (all_late ls)
+late_both p k l es [] [] t = refl
+late_both p k l es [] (c ∷ ls) t = absurd t
+late_both p k l es (x ∷ xs) [] t = absurd t
+late_both p k l es (x ∷ xs) (k' ∷ ls) t =
+    let r = late_both p k (l + 1) es xs ls t.1 in
+    let e = ap (λ (s : List Place). count_by (at_place p k) s) t.0 in
+    let a = count-append (at_place p k) (late_by l es) k' in
+    let b = count-append (at_place p k) k' (all_late ls) in
+    let c = places_count p k (late_in x.said) in
     omega (arith, r, e, a, b, c)
 
-none_left : (T : Place → Bool) (ls : List (List Place)) → NoneLate ls → count_by T (all_late ls) ≡ 0
-none_left T [] none = refl
-none_left T (l ∷ ls) none =
-    let r = none_left T ls none.1 in
-    let e = ap (λ (s : List Place). count_by T s) none.0 in
-    let a = count-append T l (all_late ls) in
+none_left : (p k : ℕ) (ls : List (List Place)) → NoneLate ls → count_by (at_place p k) (all_late ls) ≡ 0
+none_left p k [] none = refl
+none_left p k (l ∷ ls) none =
+    let r = none_left p k ls none.1 in
+    let e = ap (λ (s : List Place). count_by (at_place p k) s) none.0 in
+    let a = count-append (at_place p k) l (all_late ls) in
     omega (arith, r, e, a)
 
 heard_length : (bs ns : List ClientTold) (xs : List Exchange) → EachExchange bs ns xs → length xs ≡ length bs
@@ -345,66 +334,15 @@ heard_length (b ∷ bs) [] xs h = absurd h
 heard_length (b ∷ bs) (n ∷ ns) [] h = absurd h
 heard_length (b ∷ bs) (n ∷ ns) (x ∷ xs) h = let r = heard_length bs ns xs h.1 in omega (arith, r)
 
--- the events are answers that were heard, and where no event is missing they are all
-places_late : (g : Setup) (b n : RunTold) (es : List Event) (stop : Stop) (sl : Slack) (T : Place → Bool)
-    → Ties g b n es stop sl → lates_on T 0 es sl.heard ≡ count_by (expired_at T) es
-places_late g b n es stop sl T t =
-    late_all T es sl.heard (subst (λ (m : ℕ). All (IsOnLane m) es)
-    (sym (heard_length b.clients n.clients sl.heard t.heard)) t.served.on_lanes)
-
--- so no fewer were heard
-pub places_heard : (g : Setup) (b n : RunTold) (es : List Event) (stop : Stop) (sl : Slack) (T : Place → Bool)
-    → Ties g b n es stop sl → count_by (expired_at T) es ≤ lates_at T sl.heard
-places_heard g b n es stop sl T t =
-    let a = places_late g b n es stop sl T t in
-    let c = late_both T 0 es sl.heard sl.late t.expired in
-    omega (arith, a, c)
-
--- ---- of one block
-
-block_answers : (p k : ℕ) (xs : List Exchange) → lates_at (at_place p k) xs ≡ late_answers p k xs
-block_answers p k [] = refl
-block_answers p k (x ∷ xs) = let r = block_answers p k xs in omega (arith, r)
-
-block_event : (p k : ℕ) (e : Event) → expired_at (at_place p k) e ≡ expires p k e
-block_event p k (Expired m a c) = refl
-block_event p k (Planned plan query terms blocks) = refl
-block_event p k (Admit limit) = refl
-block_event p k (Fetched lane plan block) = refl
-block_event p k (Cached plan block) = refl
-block_event p k (Refreshed plan) = refl
-block_event p k (Wrote taken) = refl
-block_event p k (Fail error) = refl
-block_event p k Cancel = refl
-
-block_events : (p k : ℕ) (es : List Event) → count_by (expired_at (at_place p k)) es ≡ count_by (expires p k) es
-block_events p k [] = refl
-block_events p k (e ∷ es) =
-    let r = block_events p k es in
-    let a = count_by-cons (expired_at (at_place p k)) e es in
-    let b = count_by-cons (expires p k) e es in
-    let c = ap (λ (v : Bool). cond {A = ℕ} v 1 0) (block_event p k e) in
-    omega (arith, r, a, b, c)
-
--- as many at least were heard
-block_heard : (g : Setup) (b n : RunTold) (es : List Event) (stop : Stop) (sl : Slack) (p k : ℕ)
-    → Ties g b n es stop sl → count_by (expires p k) es ≤ late_answers p k sl.heard
-block_heard g b n es stop sl p k t =
-    let a = places_heard g b n es stop sl (at_place p k) t in
-    let d = block_answers p k sl.heard in
-    let e = block_events p k es in
-    omega (arith, a, d, e)
-
--- and just as many with those that no event says
-pub block_late : (g : Setup) (b n : RunTold) (es : List Event) (stop : Stop) (sl : Slack) (p k : ℕ)
+-- so the answers that were heard are its events, and those that no event says
+block_late : (g : Setup) (b n : RunTold) (es : List Event) (stop : Stop) (sl : Slack) (p k : ℕ)
     → Ties g b n es stop sl
     → late_answers p k sl.heard ≡ count_by (expires p k) es + count_by (at_place p k) (all_late sl.late)
 block_late g b n es stop sl p k t =
-    let a = places_late g b n es stop sl (at_place p k) t in
-    let c = late_both (at_place p k) 0 es sl.heard sl.late t.expired in
-    let d = block_answers p k sl.heard in
-    let e = block_events p k es in
-    omega (arith, a, c, d, e)
+    let a = late_all p k es sl.heard (subst (λ (m : ℕ). All (IsOnLane m) es)
+    (sym (heard_length b.clients n.clients sl.heard t.heard)) t.served.on_lanes) in
+    let c = late_both p k 0 es sl.heard sl.late t.expired in
+    omega (arith, a, c)
 
 -- where no request is left that no event says, each block's requests were answered as expired as often as it has such
 -- events
@@ -414,7 +352,7 @@ pub none_spent : (g : Setup) (b n : RunTold) (es : List Event) (stop : Stop) (sl
 none_spent g b n es stop sl none under t p k =
     let u = under p k in
     let a = block_late g b n es stop sl p k t in
-    let z = none_left (at_place p k) sl.late none in
+    let z = none_left p k sl.late none in
     omega (arith, u, a, z)
 
 -- and never more often than there are tries
@@ -429,7 +367,7 @@ none_past g b n es stop sl t p k =
 pub have_expired : (g : Setup) (b n : RunTold) (es : List Event) (stop : Stop) (sl : Slack) (p k : ℕ) → count_by (expires p k) es ≡ g.tries → Ties g b n es stop sl → HaveExpired g.tries sl.heard b.clients n.clients
 have_expired g b n es stop sl p k spent t =
     let m = expires_most p k es b.clients t.served.on_lanes in
-    let heard = block_heard g b n es stop sl p k t in
+    let heard = block_late g b n es stop sl p k t in
     record {
       counted = λ none. let s = lanes_total es 0 b.clients n.clients sl.hidden sl.late t.served.lanes none in omega (arith, m, s, spent);
       plan = p;
