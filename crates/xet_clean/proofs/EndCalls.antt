@@ -4,9 +4,9 @@ use Rattle.std.specs.Prelude.{All, cond, is_some, Result, Ok, Err, OnErr, OnOk}
 use Rattle.std.proofs.lemmas.List.{append-nil, append_assoc}
 use Rattle.std.proofs.lemmas.List.Elements.{All-append, All-cons, All-head, All-nil, All-tail, All-weaker}
 use Rattle.xet_base.specs.declared.merklehash.MerkleHash.{MerkleHash}
-use Rattle.xet_progress.specs.Accepted.{refusal_of}
-use Rattle.xet_progress.specs.declared.step.TrackerStep.{TrackerStep}
-use Rattle.xet_progress.specs.declared.step.TrackerStep.TheVariants.{AssertComplete, IncrementFileSize, IsComplete, RegisterDependencies, RegisterNewFile, RegisterNewXorb, RegisterXorbUploadCompletion, RegisterXorbUploadProgress, RegisterXorbUploadProgressBackground, Status}
+use Rattle.xet_progress_state.specs.Accepted.{refusal_of}
+use Rattle.xet_progress_state.specs.declared.step.TrackerStep.{TrackerStep}
+use Rattle.xet_progress_state.specs.declared.step.TrackerStep.TheVariants.{AssertComplete, IncrementFileSize, IsComplete, RegisterDependencies, RegisterNewFile, RegisterNewXorb, RegisterXorbUploadCompletion, RegisterXorbUploadProgress, RegisterXorbUploadProgressBackground, Status}
 use Rattle.xet_upload.specs.declared.data_error.DataError.{DataError}
 use Rattle.xet_session.specs.Calls.{Cut, CutPut, CutStill, CutStopped, waiting_hash}
 use Rattle.xet_session.specs.Completions.{CutsFile, CutsWaiting, Joins, with_waiting}

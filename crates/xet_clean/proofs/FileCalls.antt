@@ -9,10 +9,10 @@ use Rattle.xet_base.specs.declared.merklehash.MerkleHash.{MerkleHash}
 use Rattle.xet_base.specs.declared.mdb_shard.Xorb.{Xorb}
 use Rattle.xet_outside.specs.declared.client.ClientError.{ClientError}
 use Rattle.xet_outside.specs.declared.client.ClientError.TheVariants as client_error
-use Rattle.xet_progress.specs.Accepted.{or_else, refusal_of}
-use Rattle.xet_progress.specs.declared.step.FileXorbDependency.{FileXorbDependency}
-use Rattle.xet_progress.specs.declared.step.TrackerStep.{TrackerStep}
-use Rattle.xet_progress.specs.declared.step.TrackerStep.TheVariants.{AssertComplete, IncrementFileSize, IsComplete, RegisterDependencies, RegisterNewFile, RegisterNewXorb, RegisterXorbUploadCompletion, RegisterXorbUploadProgress, RegisterXorbUploadProgressBackground, Status}
+use Rattle.xet_progress_state.specs.Accepted.{or_else, refusal_of}
+use Rattle.xet_progress_state.specs.declared.step.FileXorbDependency.{FileXorbDependency}
+use Rattle.xet_progress_state.specs.declared.step.TrackerStep.{TrackerStep}
+use Rattle.xet_progress_state.specs.declared.step.TrackerStep.TheVariants.{AssertComplete, IncrementFileSize, IsComplete, RegisterDependencies, RegisterNewFile, RegisterNewXorb, RegisterXorbUploadCompletion, RegisterXorbUploadProgress, RegisterXorbUploadProgressBackground, Status}
 use Rattle.xet_shard_interface.specs.Interfaces.{InterfaceTold, StoreFails, resumed_faults}
 use Rattle.xet_upload.specs.DataErrors.{of_client_error}
 use Rattle.xet_upload.specs.declared.data_error.DataError.{DataError}

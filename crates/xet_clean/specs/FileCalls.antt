@@ -2,10 +2,10 @@
 use Rattle.std.specs.Prelude.{ℕ, ◌≡◌, ◌⊎◌, Bool, true, List, [], ◌∷◌, ◌++◌, take, All, Option, None, Some, Result}
 use Rattle.std.specs.Prelude.{IfErr}
 use Rattle.xet_base.specs.declared.invalid.Invalid.{Invalid}
-use Rattle.xet_progress.specs.declared.step.TrackerStep.{TrackerStep}
-use Rattle.xet_progress.specs.declared.step.TrackerStep.TheVariants.{IncrementFileSize, RegisterDependencies}
-use Rattle.xet_progress.specs.declared.step.TrackerStep.TheVariants.{RegisterNewFile, RegisterNewXorb}
-use Rattle.xet_progress.specs.declared.step.TrackerStep.TheVariants.{RegisterXorbUploadCompletion}
+use Rattle.xet_progress_state.specs.declared.step.TrackerStep.{TrackerStep}
+use Rattle.xet_progress_state.specs.declared.step.TrackerStep.TheVariants.{IncrementFileSize, RegisterDependencies}
+use Rattle.xet_progress_state.specs.declared.step.TrackerStep.TheVariants.{RegisterNewFile, RegisterNewXorb}
+use Rattle.xet_progress_state.specs.declared.step.TrackerStep.TheVariants.{RegisterXorbUploadCompletion}
 use Rattle.xet_upload.specs.declared.data_error.DataError.{DataError}
 use Rattle.xet_upload.specs.declared.data_error.DataError.TheVariants as data_error
 use Rattle.xet_session.specs.Calls.{finalized_error}

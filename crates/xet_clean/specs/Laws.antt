@@ -13,7 +13,7 @@ use Rattle.xet_base.specs.Hashes.{hash_eq}
 use Rattle.xet_base.specs.Store.{IsTermIn, Store, chunks_of_file, file_of, terms_of_file, window, xorb_of}
 use Rattle.xet_uploader.specs.declared.uploader.Put.{Put}
 use Rattle.xet_uploader.specs.StoresAfter.{file_of_record, files_in, store_after}
-use Rattle.xet_progress.specs.declared.item.GroupProgressReport.{GroupProgressReport}
+use Rattle.xet_progress_state.specs.declared.item.GroupProgressReport.{GroupProgressReport}
 use Rattle.xet_upload.specs.Standing.{ChunksAgree, IsRecordIn, world}
 use Rattle.xet_upload.specs.Waitings.{Waiting}
 use Rattle.xet_upload.specs.declared.metrics.DeduplicationMetrics.{DeduplicationMetrics}

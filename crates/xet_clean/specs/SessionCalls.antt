@@ -5,7 +5,7 @@ use Rattle.xet_base.specs.declared.mdb_shard.FileDataSequenceEntry.{FileDataSequ
 use Rattle.xet_base.specs.declared.mdb_shard.Xorb.{Xorb}
 use Rattle.xet_base.specs.Digests.{file_hash_of}
 use Rattle.xet_base.specs.Store.{Store}
-use Rattle.xet_progress.specs.declared.step.TrackerStep.{TrackerStep}
+use Rattle.xet_progress_state.specs.declared.step.TrackerStep.{TrackerStep}
 use Rattle.xet_upload.specs.Waitings.{Waiting}
 use Rattle.xet_upload.specs.declared.data_error.DataError.{DataError}
 use Rattle.xet_upload.specs.declared.waiting.WaitingFile.{WaitingFile}

@@ -1,6 +1,6 @@
 //! Files that are uploaded from their sources, one after another.
 ghost use Rattle.std.specs.Prelude.{◌≡◌, ◌+◌, ◌++◌, ◌∷◌, ◌<◌, [], None, OnOk, Some, length, map};
-ghost use Rattle.xet_progress.specs.Counts.{sizes};
+ghost use Rattle.xet_progress_state.specs.Counts.{sizes};
 ghost use Rattle.xet_session.specs.Sessions.{HasListed};
 ghost use Rattle.xet_session.specs.Telling.{KeepsGroup, told_by};
 ghost use Rattle.xet_clean.specs.FileCalls.{IsLate, IsUploadCall, IsXorbCall, TellsOf};

@@ -6,12 +6,12 @@ use Rattle.std.proofs.lemmas.Bool.{false≢true}
 use Rattle.xet_base.specs.declared.item_id.UniqueID.{UniqueID}
 use Rattle.xet_base.specs.declared.invalid.Invalid.{Invalid}
 use Rattle.xet_base.specs.declared.invalid.Invalid.TheVariants.{UnknownItem, PastTotal, SumTooGreat}
-use Rattle.xet_progress.specs.declared.error.ProgressError.{ProgressError}
-use Rattle.xet_progress.specs.declared.error.ProgressError.TheVariants.{OutOfMemory, InvalidOperation}
-use Rattle.xet_progress.specs.declared.item.ItemProgress.{ItemProgress}
-use Rattle.xet_progress.specs.declared.item.ItemProgressReport.{ItemProgressReport}
-use Rattle.xet_progress.specs.Group.{Change, Group, IsSound, ItemAnswer, ItemCall, item_of, more_completed, more_transferred, refusal_at, sized, transfer_sized}
-use Rattle.xet_progress.specs.Items.{blank_item, report_of}
+use Rattle.xet_progress_state.specs.declared.error.ProgressError.{ProgressError}
+use Rattle.xet_progress_state.specs.declared.error.ProgressError.TheVariants.{OutOfMemory, InvalidOperation}
+use Rattle.xet_progress_state.specs.declared.item.ItemProgress.{ItemProgress}
+use Rattle.xet_progress_state.specs.declared.item.ItemProgressReport.{ItemProgressReport}
+use Rattle.xet_progress_state.specs.Group.{Change, Group, IsSound, ItemAnswer, ItemCall, item_of, more_completed, more_transferred, refusal_at, sized, transfer_sized}
+use Rattle.xet_progress_state.specs.Items.{blank_item, report_of}
 use Rattle.xet_progress.specs.Held.{Held, UpdaterCall, known_answer, said_or}
 
 -- a change whose test names no item

@@ -3,14 +3,13 @@ use Rattle.std.proofs.Common.{◌≡◌, ℕ, Bool, refl, sym, ap, ◌∙◌, �
 use Rattle.std.specs.Prelude.{Option, Some, None, is_some, Result, Ok, Err}
 use Rattle.xet_base.specs.declared.item_id.UniqueID.{UniqueID}
 use Rattle.xet_base.specs.declared.invalid.Invalid.{Invalid}
-use Rattle.xet_progress.specs.declared.error.ProgressError.{ProgressError}
-use Rattle.xet_progress.specs.declared.error.ProgressError.TheVariants.{OutOfMemory, InvalidOperation}
-use Rattle.xet_progress.specs.declared.item.ItemProgress.{ItemProgress}
-use Rattle.xet_progress.specs.Accepted.{or_else, past_total, too_great}
-use Rattle.xet_progress.specs.Group.{Change, Group, IsSound, IsWithinItem, TransferCall, group_sums, is_id, item_of, more_completed, more_transferred, over_items, refusal_at, sized, transfer_sized, transfer_test}
+use Rattle.xet_progress_state.specs.declared.error.ProgressError.{ProgressError}
+use Rattle.xet_progress_state.specs.declared.error.ProgressError.TheVariants.{OutOfMemory, InvalidOperation}
+use Rattle.xet_progress_state.specs.declared.item.ItemProgress.{ItemProgress}
+use Rattle.xet_progress_state.specs.Accepted.{or_else, past_total, too_great}
+use Rattle.xet_progress_state.specs.Group.{Change, Group, IsSound, IsWithinItem, TransferCall, group_sums, is_id, item_of, more_completed, more_transferred, over_items, refusal_at, sized, transfer_sized, transfer_test}
 use Rattle.xet_progress.specs.Held.{Held, UpdaterCall}
-use Rattle.xet_progress.proofs.Looked.{past_total_no, too_great_no}
-use Rattle.xet_progress.proofs.Sums.{found_is}
+use Rattle.xet_progress_state.proofs.CallerLemmas.{found_is, past_total_no, too_great_no}
 
 never : (before now : Group) (id : UniqueID) (f : ItemProgress → Change) (e : ProgressError) → ((i : ItemProgress) → item_of before id ≡ Some i → (f i).test ≡ None) → UpdaterCall before now id f (Err e) → (o : Option ItemProgress) → item_of before id ≡ o → ⊥
 never before now id f e t c None n = let r = (c.unknown n).0 in cc

@@ -2,10 +2,10 @@
 use Rattle.std.specs.Prelude.{◌≡◌, None, IsSome, Result, Ok, Err, option_map, unwrap_or}
 use Rattle.xet_base.specs.declared.item_id.UniqueID.{UniqueID}
 use Rattle.xet_base.specs.declared.invalid.Invalid.TheVariants.{UnknownItem}
-use Rattle.xet_progress.specs.declared.error.ProgressError.{ProgressError}
-use Rattle.xet_progress.specs.declared.error.ProgressError.TheVariants.{InvalidOperation}
-use Rattle.xet_progress.specs.declared.item.ItemProgress.{ItemProgress}
-use Rattle.xet_progress.specs.Group.{Change, Group, IsSound, ItemCall, item_of}
+use Rattle.xet_progress_state.specs.declared.error.ProgressError.{ProgressError}
+use Rattle.xet_progress_state.specs.declared.error.ProgressError.TheVariants.{InvalidOperation}
+use Rattle.xet_progress_state.specs.declared.item.ItemProgress.{ItemProgress}
+use Rattle.xet_progress_state.specs.Group.{Change, Group, IsSound, ItemCall, item_of}
 
 -- on some group, of which what is true of every group is true, the call has this answer; which group it is isn't said
 pub record Held (P : Group → Group → Type 0) : Type 0 where

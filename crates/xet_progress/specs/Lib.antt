@@ -1,8 +1,1 @@
-pub mod Accepted
-pub mod Counts
-pub mod Group
 pub mod Held
-pub mod Items
-pub mod Replies
-pub mod Rows
-pub mod steps

@@ -1,12 +1,12 @@
 //! The answers that replies stand for.
 ghost use Rattle.std.specs.Prelude.{◌≡◌, true, IfOk, Ok, Err};
-ghost use Rattle.xet_progress.specs.declared.step.TrackerReply.TheVariants.{Done, FileId, Flag, Sums};
-ghost use Rattle.xet_progress.specs.Replies.{gives_done, gives_flag, gives_id, gives_plain, gives_sums, gives_whole};
-ghost use Rattle.xet_progress.specs.Replies.{said, said_complete};
+ghost use Rattle.xet_progress_state.specs.declared.step.TrackerReply.TheVariants.{Done, FileId, Flag, Sums};
+ghost use Rattle.xet_progress_state.specs.Replies.{gives_done, gives_flag, gives_id, gives_plain, gives_sums};
+ghost use Rattle.xet_progress_state.specs.Replies.{gives_whole};
+ghost use Rattle.xet_progress_state.specs.Replies.{said, said_complete};
 
-use crate::error::{Incomplete, ProgressError};
-use crate::step::TrackerReply;
 use xet_base::OutOfMemory;
+use xet_progress_state::{Incomplete, ProgressError, TrackerReply};
 
 /// The answer of a call that gives an id.
 pub(crate) fn id_answer(reply: &Result<TrackerReply, OutOfMemory>) -> Result<u64, ProgressError>

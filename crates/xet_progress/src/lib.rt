@@ -1,40 +1,21 @@
-//! Progress of uploads: items and their sums in a group, and the completion tracker, which counts which bytes of which
-//! files stand in xorbs that are uploaded.
+//! Progress of uploads under locks: groups of items, and the completion tracker, each of whose calls is one hold of
+//! its lock.
 //!
-//! `GroupState` and `TrackerState` are the plain states, on whose calls the contracts stand. `GroupProgress`,
-//! `ItemProgressUpdater` and `CompletionTracker` share them under locks.
+//! The plain states stand in `xet_progress_state`, whose public names this crate gives on. `GroupProgress`,
+//! `ItemProgressUpdater` and `CompletionTracker` share them.
 #![tactic(auto)]
 
 mod answer;
-mod calls;
-mod credit;
-mod depend;
-pub mod error;
-mod file;
-pub mod group;
-mod hash_key;
-pub mod item;
-pub mod laws;
-mod marks;
-mod name;
-mod part;
 pub mod progress;
-mod recent;
-mod reply;
 mod report;
-pub mod state;
-pub mod step;
 pub mod tracker;
 pub mod updater;
-mod xorb;
 
-pub use error::{Incomplete, ProgressError};
-pub use group::GroupState;
-pub use item::{GroupProgressReport, ItemProgress, ItemProgressReport};
 pub use progress::GroupProgress;
-pub use state::TrackerState;
-pub use step::{
-    CompletionTrackerFileId, FileXorbDependency, TrackerCall, TrackerReply, TrackerStep,
-};
 pub use tracker::{CompletionTracker, TrackerPass};
 pub use updater::ItemProgressUpdater;
+pub use xet_progress_state::{
+    CompletionTrackerFileId, FileXorbDependency, GroupProgressReport, GroupState, Incomplete,
+    ItemProgress, ItemProgressReport, ProgressError, TrackerCall, TrackerReply, TrackerState,
+    TrackerStep,
+};

@@ -1,14 +1,11 @@
 //! A progress group that several users share.
 ghost use Rattle.std.specs.Prelude.{◌≡◌, ◌≤◌, ◌^◌, IfOk, IfErr, option_map};
 ghost use Rattle.xet_base.specs.declared.invalid.Invalid.{Invalid};
-ghost use Rattle.xet_progress.specs.Group.{NewItemCall, TransferCall, group_completeness, group_sums, item_of};
-ghost use Rattle.xet_progress.specs.Group.{reports_of};
+ghost use Rattle.xet_progress_state.specs.Group.{NewItemCall, TransferCall, group_completeness, group_sums, item_of};
+ghost use Rattle.xet_progress_state.specs.Group.{reports_of};
 ghost use Rattle.xet_progress.specs.Held.{Held};
-ghost use Rattle.xet_progress.specs.Items.{report_of};
+ghost use Rattle.xet_progress_state.specs.Items.{report_of};
 
-use crate::error::{Incomplete, ProgressError};
-use crate::group::GroupState;
-use crate::item::{GroupProgressReport, ItemProgressReport};
 use crate::tracker::{CompletionTracker, TrackerPass};
 use crate::updater::ItemProgressUpdater;
 use std::alloc::Global;
@@ -16,6 +13,9 @@ use std::collections::BTreeMap;
 use std::sync::ledger::{Blank, Ledger};
 use std::sync::{Arc, Mutex, Wait};
 use xet_base::{OutOfMemory, UniqueID};
+use xet_progress_state::{
+    GroupProgressReport, GroupState, Incomplete, ItemProgressReport, ProgressError,
+};
 
 /// A group's state under a lock. Each call is one hold of it, and whenever it is free the sums are those of the items
 /// and of what trackers and `add_transfer` added.

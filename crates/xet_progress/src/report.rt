@@ -1,14 +1,13 @@
 //! What a tracker tells the items of its files and its group.
-use crate::file::TrackedFile;
 use crate::progress::GroupProgress;
-use crate::state::TrackerState;
-use crate::step::{FileXorbDependency, TrackerReply, TrackerStep};
 use crate::updater::ItemProgressUpdater;
-use crate::xorb::Found;
 use std::alloc::Global;
 use std::collections::BTreeSet;
 use std::sync::{Arc, Wait};
 use xet_base::{MerkleHash, OutOfMemory};
+use xet_progress_state::{
+    FileXorbDependency, Found, TrackedFile, TrackerReply, TrackerState, TrackerStep,
+};
 
 /// A file's item, and the completed bytes that it was told.
 #[derive(Drop)]

@@ -1,27 +1,27 @@
 //! The completion tracker that several users share.
 ghost use Rattle.std.specs.Prelude.{◌≡◌, ◌+◌, ◌-◌, ◌^◌, ◌<◌, ◌≤◌, true, [], map, length, min, vec_len, IfOk};
-ghost use Rattle.xet_progress.specs.declared.step.TrackerReply.TheVariants.{Done, FileId, Flag, Sums};
-ghost use Rattle.xet_progress.specs.declared.step.TrackerStep.TheVariants.{RegisterNewFile, IncrementFileSize};
-ghost use Rattle.xet_progress.specs.declared.step.TrackerStep.TheVariants.{RegisterNewXorb, RegisterDependencies};
-ghost use Rattle.xet_progress.specs.declared.step.TrackerStep.TheVariants.{RegisterXorbUploadCompletion};
-ghost use Rattle.xet_progress.specs.declared.step.TrackerStep.TheVariants.{RegisterXorbUploadProgress};
-ghost use Rattle.xet_progress.specs.declared.step.TrackerStep.TheVariants.{RegisterXorbUploadProgressBackground};
-ghost use Rattle.xet_progress.specs.declared.step.TrackerStep.TheVariants.{Status, IsComplete, AssertComplete};
-ghost use Rattle.xet_progress.specs.Replies.{Answered, Counted, KeptCall, after_all, gives, gives_id, map_ok};
-ghost use Rattle.xet_progress.specs.Replies.{replies_of, said, said_complete, steps_of};
+ghost use Rattle.xet_progress_state.specs.declared.step.TrackerReply.TheVariants.{Done, FileId, Flag, Sums};
+ghost use Rattle.xet_progress_state.specs.declared.step.TrackerStep.TheVariants.{RegisterNewFile, IncrementFileSize};
+ghost use Rattle.xet_progress_state.specs.declared.step.TrackerStep.TheVariants.{RegisterNewXorb, RegisterDependencies};
+ghost use Rattle.xet_progress_state.specs.declared.step.TrackerStep.TheVariants.{RegisterXorbUploadCompletion};
+ghost use Rattle.xet_progress_state.specs.declared.step.TrackerStep.TheVariants.{RegisterXorbUploadProgress};
+ghost use Rattle.xet_progress_state.specs.declared.step.TrackerStep.TheVariants.{RegisterXorbUploadProgressBackground};
+ghost use Rattle.xet_progress_state.specs.declared.step.TrackerStep.TheVariants.{Status, IsComplete, AssertComplete};
+ghost use Rattle.xet_progress_state.specs.Replies.{Answered, Counted, KeptCall, after_all, gives, gives_id, map_ok};
+ghost use Rattle.xet_progress_state.specs.Replies.{replies_of, said, said_complete, steps_of};
 
 use crate::answer::{done_answer, flag_answer, id_answer, plain_answer, sums_answer, whole_answer};
-use crate::error::{Incomplete, ProgressError};
 use crate::progress::GroupProgress;
 use crate::report::Reports;
-use crate::state::TrackerState;
-use crate::step::{FileXorbDependency, TrackerCall, TrackerReply, TrackerStep};
 use crate::updater::ItemProgressUpdater;
-use crate::xorb::Found;
 use std::alloc::Global;
 use std::sync::ledger::{Blank, Book, Ledger, Share};
 use std::sync::{Arc, Mutex, Wait};
 use xet_base::{List, MerkleHash, OutOfMemory};
+use xet_progress_state::{
+    FileXorbDependency, Found, Incomplete, ProgressError, TrackerCall, TrackerReply, TrackerState,
+    TrackerStep,
+};
 
 /// Counts the calls of one user of a tracker, and holds parts of its ledger, all 2^32 of them at first.
 ///

@@ -1,16 +1,15 @@
 //! One user's hold on an item of a shared group.
 ghost use Rattle.std.specs.Prelude.{◌≡◌, [], IfOk};
-ghost use Rattle.xet_progress.specs.Group.{group_sums, more_completed, more_transferred, sized, transfer_sized};
+ghost use Rattle.xet_progress_state.specs.Group.{group_sums, more_completed, more_transferred, sized, transfer_sized};
 ghost use Rattle.xet_progress.specs.Held.{Held, UpdaterCall, known_answer, said_or};
-ghost use Rattle.xet_progress.specs.Items.{blank_item, item_completeness, report_of};
+ghost use Rattle.xet_progress_state.specs.Items.{blank_item, item_completeness, report_of};
 
-use crate::error::{Incomplete, ProgressError};
-use crate::item::{ItemProgress, ItemProgressReport};
 use crate::progress::GroupProgress;
 use std::alloc::Global;
 use std::marker::Model;
 use std::sync::{Arc, Wait};
 use xet_base::{Invalid, OutOfMemory, Text, UniqueID};
+use xet_progress_state::{Incomplete, ItemProgress, ItemProgressReport, ProgressError};
 
 /// Names an item of a group, and reports to it. Contracts see it as the item's id. The group has the item: a call that
 /// did not find it would change nothing and answer `Ok`, 0, or an item with no name and no bytes.

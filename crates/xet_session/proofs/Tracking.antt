@@ -10,13 +10,13 @@ use Rattle.xet_outside.specs.declared.client.ClientError.{ClientError}
 use Rattle.xet_outside.specs.declared.client.ClientError.TheVariants as client_error
 use Rattle.xet_base.specs.Hashes.{hash_eq}
 use Rattle.xet_base.proofs.CallerLemmas.{eq-hash_eq}
-use Rattle.xet_progress.specs.Accepted.{CallOf, Refused, completion_test, or_else, refusal_of}
-use Rattle.xet_progress.specs.Counts.{new_xorb, registrations}
-use Rattle.xet_progress.specs.declared.error.ProgressError.{ProgressError}
-use Rattle.xet_progress.specs.declared.error.ProgressError.TheVariants as progress_error
-use Rattle.xet_progress.specs.declared.step.FileXorbDependency.{FileXorbDependency}
-use Rattle.xet_progress.specs.declared.step.TrackerStep.{TrackerStep}
-use Rattle.xet_progress.specs.declared.step.TrackerStep.TheVariants.{RegisterDependencies, RegisterNewXorb, RegisterXorbUploadCompletion}
+use Rattle.xet_progress_state.specs.Accepted.{CallOf, Refused, completion_test, or_else, refusal_of}
+use Rattle.xet_progress_state.specs.Counts.{new_xorb, registrations}
+use Rattle.xet_progress_state.specs.declared.error.ProgressError.{ProgressError}
+use Rattle.xet_progress_state.specs.declared.error.ProgressError.TheVariants as progress_error
+use Rattle.xet_progress_state.specs.declared.step.FileXorbDependency.{FileXorbDependency}
+use Rattle.xet_progress_state.specs.declared.step.TrackerStep.{TrackerStep}
+use Rattle.xet_progress_state.specs.declared.step.TrackerStep.TheVariants.{RegisterDependencies, RegisterNewXorb, RegisterXorbUploadCompletion}
 use Rattle.xet_shard_interface.specs.Interfaces.{StoreFails, resumed_faults}
 use Rattle.xet_upload.specs.DataErrors.{of_client_error, of_progress_error}
 use Rattle.xet_upload.specs.declared.data_error.DataError.{DataError}

@@ -8,12 +8,13 @@ use Rattle.xet_base.specs.declared.invalid.Invalid.TheVariants as invalid
 use Rattle.xet_base.specs.declared.item_id.UniqueID.{UniqueID}
 use Rattle.xet_base.specs.declared.merklehash.MerkleHash.{MerkleHash}
 use Rattle.xet_base.specs.declared.mdb_shard.Xorb.{Xorb}
-use Rattle.xet_progress.specs.Accepted.{or_else, refusal_of}
-use Rattle.xet_progress.specs.Counts.{sizes}
-use Rattle.xet_progress.specs.declared.step.FileXorbDependency.{FileXorbDependency}
-use Rattle.xet_progress.specs.declared.step.TrackerStep.{TrackerStep}
-use Rattle.xet_progress.specs.declared.step.TrackerStep.TheVariants.{RegisterDependencies, RegisterNewFile}
-use Rattle.xet_progress.specs.declared.step.TrackerStep.TheVariants.{RegisterNewXorb, RegisterXorbUploadCompletion}
+use Rattle.xet_progress_state.specs.Accepted.{or_else, refusal_of}
+use Rattle.xet_progress_state.specs.Counts.{sizes}
+use Rattle.xet_progress_state.specs.declared.step.FileXorbDependency.{FileXorbDependency}
+use Rattle.xet_progress_state.specs.declared.step.TrackerStep.{TrackerStep}
+use Rattle.xet_progress_state.specs.declared.step.TrackerStep.TheVariants.{RegisterDependencies, RegisterNewFile}
+use Rattle.xet_progress_state.specs.declared.step.TrackerStep.TheVariants.{RegisterNewXorb}
+use Rattle.xet_progress_state.specs.declared.step.TrackerStep.TheVariants.{RegisterXorbUploadCompletion}
 use Rattle.xet_upload.specs.Waitings.{Waiting, own_bytes}
 use Rattle.xet_upload.specs.declared.data_error.DataError.{DataError}
 use Rattle.xet_upload.specs.declared.data_error.DataError.TheVariants as data_error

@@ -2,8 +2,8 @@
 ghost use Rattle.std.specs.Prelude.{◌≡◌, ◌++◌, ◌∷◌, [], List, OnErr, OnOk, vec_capacity, vec_len};
 ghost use Rattle.xet_base.specs.declared.merklehash.MerkleHash.{MerkleHash};
 ghost use Rattle.xet_base.specs.Records.{Describes};
-ghost use Rattle.xet_progress.specs.declared.step.TrackerStep.{TrackerStep};
-ghost use Rattle.xet_progress.specs.declared.step.TrackerStep.TheVariants.{RegisterDependencies};
+ghost use Rattle.xet_progress_state.specs.declared.step.TrackerStep.{TrackerStep};
+ghost use Rattle.xet_progress_state.specs.declared.step.TrackerStep.TheVariants.{RegisterDependencies};
 ghost use Rattle.xet_session.specs.Calls.{Backs, Queries, SearchesInOrder};
 ghost use Rattle.xet_session.specs.Learnings.{Completes, Learns, RegistersSo};
 ghost use Rattle.xet_session.specs.Sessions.{SessionTold};

@@ -1,10 +1,11 @@
 //! The tracker of a session's files and xorbs.
 ghost use Rattle.std.specs.Prelude.{◌≡◌, ◌++◌, ◌∷◌, [], IfOk, OnErr, OnOk, is_some, length, not};
-ghost use Rattle.xet_progress.specs.Accepted.{CallOf};
-ghost use Rattle.xet_progress.specs.Counts.{size_of, sizes};
-ghost use Rattle.xet_progress.specs.declared.step.TrackerStep.TheVariants.{IncrementFileSize, RegisterDependencies};
-ghost use Rattle.xet_progress.specs.declared.step.TrackerStep.TheVariants.{RegisterNewFile, RegisterNewXorb};
-ghost use Rattle.xet_progress.specs.declared.step.TrackerStep.TheVariants.{RegisterXorbUploadCompletion};
+ghost use Rattle.xet_progress_state.specs.Accepted.{CallOf};
+ghost use Rattle.xet_progress_state.specs.Counts.{size_of, sizes};
+ghost use Rattle.xet_progress_state.specs.declared.step.TrackerStep.TheVariants.{IncrementFileSize};
+ghost use Rattle.xet_progress_state.specs.declared.step.TrackerStep.TheVariants.{RegisterDependencies};
+ghost use Rattle.xet_progress_state.specs.declared.step.TrackerStep.TheVariants.{RegisterNewFile, RegisterNewXorb};
+ghost use Rattle.xet_progress_state.specs.declared.step.TrackerStep.TheVariants.{RegisterXorbUploadCompletion};
 ghost use Rattle.xet_session.specs.Trackings.{with_call};
 ghost use Rattle.xet_session.specs.steps.CutNotes.{NotesCut, parts_of};
 

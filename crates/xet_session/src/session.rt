@@ -2,12 +2,13 @@
 ghost use Rattle.std.specs.Prelude.{◌≡◌, ◌+◌, ◌++◌, ◌<◌, ◌≤◌, ◌⊎◌, ◌∷◌, [], All, Contains, IfErr, IfOk, IfSome, None};
 ghost use Rattle.std.specs.Prelude.{OnErr, OnOk, Some, false, length, map, option_map, true, vec_capacity, vec_len};
 ghost use Rattle.xet_base.specs.Records.{Describes};
-ghost use Rattle.xet_progress.specs.Group.{group_sums, item_of, reports_of};
+ghost use Rattle.xet_progress_state.specs.Group.{group_sums, item_of, reports_of};
 ghost use Rattle.xet_progress.specs.Held.{Held};
-ghost use Rattle.xet_progress.specs.Items.{report_of};
-ghost use Rattle.xet_progress.specs.declared.step.TrackerStep.TheVariants.{IncrementFileSize, RegisterDependencies};
-ghost use Rattle.xet_progress.specs.declared.step.TrackerStep.TheVariants.{RegisterNewFile};
-ghost use Rattle.xet_progress.specs.Counts.{sizes};
+ghost use Rattle.xet_progress_state.specs.Items.{report_of};
+ghost use Rattle.xet_progress_state.specs.declared.step.TrackerStep.TheVariants.{IncrementFileSize};
+ghost use Rattle.xet_progress_state.specs.declared.step.TrackerStep.TheVariants.{RegisterDependencies};
+ghost use Rattle.xet_progress_state.specs.declared.step.TrackerStep.TheVariants.{RegisterNewFile};
+ghost use Rattle.xet_progress_state.specs.Counts.{sizes};
 ghost use Rattle.xet_shard_interface.specs.Interfaces.{ListsFiles, Searches, new_interface, records_of, rules_of};
 ghost use Rattle.xet_shard_interface.specs.Interfaces.{shards_told};
 ghost use Rattle.xet_upload.specs.Orders.{names_of};

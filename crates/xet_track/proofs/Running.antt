@@ -3,14 +3,14 @@ use Rattle.std.proofs.Common.{◌≡◌, ℕ, Bool, true, false, cond, ◌&&◌,
 use Rattle.std.specs.Prelude.{Some, None, nat_eq, unwrap_or, is_some}
 use Rattle.std.specs.List.{list_all}
 use Rattle.std.proofs.lemmas.List.{append-nil, append_assoc, append_cancel_left}
-use Rattle.xet_progress.specs.declared.step.TrackerStep.{TrackerStep}
+use Rattle.xet_progress_state.specs.declared.step.TrackerStep.{TrackerStep}
 use Rattle.xet_track.specs.Lines.{lines_of, in_front, before, behind}
 use Rattle.xet_track.specs.Script.{step_of_line}
 use Rattle.std.specs.Prelude.{Option, codes}
 use Rattle.std.specs.Fmt.{decimal}
-use Rattle.xet_progress.specs.declared.step.TrackerReply.{TrackerReply}
-use Rattle.xet_progress.specs.declared.step.TrackerReply.TheVariants.{Done, FileId, Flag, Sums, Unfinished, Refused}
-use Rattle.xet_progress.specs.Replies.{reply_of}
+use Rattle.xet_progress_state.specs.declared.step.TrackerReply.{TrackerReply}
+use Rattle.xet_progress_state.specs.declared.step.TrackerReply.TheVariants.{Done, FileId, Flag, Sums, Unfinished, Refused}
+use Rattle.xet_progress_state.specs.Replies.{reply_of}
 use Rattle.xet_track.specs.Texts.{LineOf, PrintedPart, line_text, lines_text, moved_by, number_of_invalid, text_of_reply}
 
 -- a text ends with a line end

@@ -2,13 +2,13 @@
 use Rattle.std.specs.Prelude.{ℕ, Bool, true, false, cond, List, [], ◌∷◌, Option, Some, None, option_and_then}
 use Rattle.std.specs.Prelude.{option_map, codes}
 use Rattle.std.specs.Str.{bytes_eq}
-use Rattle.xet_progress.specs.declared.step.TrackerStep.{TrackerStep}
-use Rattle.xet_progress.specs.declared.step.TrackerStep.TheVariants.{RegisterNewFile, IncrementFileSize}
-use Rattle.xet_progress.specs.declared.step.TrackerStep.TheVariants.{RegisterNewXorb, RegisterDependencies}
-use Rattle.xet_progress.specs.declared.step.TrackerStep.TheVariants.{RegisterXorbUploadCompletion}
-use Rattle.xet_progress.specs.declared.step.TrackerStep.TheVariants.{RegisterXorbUploadProgress}
-use Rattle.xet_progress.specs.declared.step.TrackerStep.TheVariants.{RegisterXorbUploadProgressBackground, Status}
-use Rattle.xet_progress.specs.declared.step.TrackerStep.TheVariants.{IsComplete}
+use Rattle.xet_progress_state.specs.declared.step.TrackerStep.{TrackerStep}
+use Rattle.xet_progress_state.specs.declared.step.TrackerStep.TheVariants.{RegisterNewFile, IncrementFileSize}
+use Rattle.xet_progress_state.specs.declared.step.TrackerStep.TheVariants.{RegisterNewXorb, RegisterDependencies}
+use Rattle.xet_progress_state.specs.declared.step.TrackerStep.TheVariants.{RegisterXorbUploadCompletion}
+use Rattle.xet_progress_state.specs.declared.step.TrackerStep.TheVariants.{RegisterXorbUploadProgress}
+use Rattle.xet_progress_state.specs.declared.step.TrackerStep.TheVariants.{RegisterXorbUploadProgressBackground, Status}
+use Rattle.xet_progress_state.specs.declared.step.TrackerStep.TheVariants.{IsComplete}
 use Rattle.xet_track.specs.Lines.{words_of}
 use Rattle.xet_track.specs.Numbers.{number_of_text, name_of_text}
 

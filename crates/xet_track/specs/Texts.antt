@@ -6,10 +6,11 @@ use Rattle.xet_base.specs.declared.invalid.Invalid.{Invalid}
 use Rattle.xet_base.specs.declared.invalid.Invalid.TheVariants.{Finalized, ReversedRange, IdsUsedUp, DuplicateId}
 use Rattle.xet_base.specs.declared.invalid.Invalid.TheVariants.{UnknownItem, UnknownFile, UnknownXorb, OtherSize}
 use Rattle.xet_base.specs.declared.invalid.Invalid.TheVariants.{PastTotal, XorbCompleted, SumTooGreat}
-use Rattle.xet_progress.specs.declared.step.TrackerStep.{TrackerStep}
-use Rattle.xet_progress.specs.declared.step.TrackerReply.{TrackerReply}
-use Rattle.xet_progress.specs.declared.step.TrackerReply.TheVariants.{Done, FileId, Flag, Sums, Unfinished, Refused}
-use Rattle.xet_progress.specs.Replies.{reply_of, after}
+use Rattle.xet_progress_state.specs.declared.step.TrackerStep.{TrackerStep}
+use Rattle.xet_progress_state.specs.declared.step.TrackerReply.{TrackerReply}
+use Rattle.xet_progress_state.specs.declared.step.TrackerReply.TheVariants.{Done, FileId, Flag, Sums, Unfinished}
+use Rattle.xet_progress_state.specs.declared.step.TrackerReply.TheVariants.{Refused}
+use Rattle.xet_progress_state.specs.Replies.{reply_of, after}
 use Rattle.xet_track.specs.Lines.{lines_of}
 use Rattle.xet_track.specs.Script.{step_of_line}
 

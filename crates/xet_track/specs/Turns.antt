@@ -1,7 +1,7 @@
 -- A script on its way.
 use Rattle.std.specs.Prelude.{ℕ, ◌≡◌, ◌<◌, Bool, false, List, [], ◌∷◌, ◌++◌, is_some, length}
 use Rattle.std.specs.List.{list_all}
-use Rattle.xet_progress.specs.declared.step.TrackerStep.{TrackerStep}
+use Rattle.xet_progress_state.specs.declared.step.TrackerStep.{TrackerStep}
 use Rattle.xet_track.specs.declared.script.Turn.{Turn}
 use Rattle.xet_track.specs.declared.script.Turn.TheVariants.{Printed, Unread, Ended}
 use Rattle.xet_track.specs.Lines.{before, lines_of}

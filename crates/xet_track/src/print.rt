@@ -5,7 +5,7 @@ ghost use Rattle.xet_track.specs.Texts.{number_of_invalid, text_of_reply};
 
 use itoa::Buffer;
 use xet_base::{Invalid, OutOfMemory};
-use xet_progress::TrackerReply;
+use xet_progress_state::TrackerReply;
 
 /// Adds bytes: all or none.
 pub(crate) fn add_bytes(out: &mut Vec<u8>, bytes: &[u8]) -> Result<(), OutOfMemory>

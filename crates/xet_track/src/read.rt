@@ -5,7 +5,7 @@ ghost use Rattle.xet_track.specs.steps.Spelling.{call_of};
 
 use crate::line::cut;
 use crate::word::{name, number, spells};
-use xet_progress::{FileXorbDependency, TrackerStep};
+use xet_progress_state::{FileXorbDependency, TrackerStep};
 
 /// A call that a line spells. A line has at most one dependency, which takes no list.
 #[derive(Drop)]

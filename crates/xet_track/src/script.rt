@@ -1,6 +1,6 @@
 //! Runs a script of calls.
 ghost use Rattle.std.specs.Prelude.{◌≡◌, ◌++◌, [], IfOk, OnErr, OnOk, option_map, unwrap_or};
-ghost use Rattle.xet_progress.specs.Replies.{StepOf};
+ghost use Rattle.xet_progress_state.specs.Replies.{StepOf};
 ghost use Rattle.xet_track.specs.Texts.{LineOf, PrintedPart, track_reads, track_text};
 ghost use Rattle.xet_track.specs.Turns.{TurnOf};
 ghost use Rattle.xet_track.specs.steps.Spelling.{call_of};
@@ -11,7 +11,7 @@ use crate::read::{Spelled, read_line};
 use std::alloc::Global;
 use std::marker::Model;
 use xet_base::OutOfMemory;
-use xet_progress::{TrackerReply, TrackerState};
+use xet_progress_state::{TrackerReply, TrackerState};
 
 /// What the next line of a script did.
 #[derive(Clone, Copy, PartialEq, Eq, Drop, Debug)]

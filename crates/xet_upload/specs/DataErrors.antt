@@ -4,8 +4,8 @@ use Rattle.xet_error.specs.declared.error.FileReconstructionError.{FileReconstru
 use Rattle.xet_error.specs.declared.error.FileReconstructionError.TheVariants as reconstruction_error
 use Rattle.xet_outside.specs.declared.client.ClientError.{ClientError}
 use Rattle.xet_outside.specs.declared.client.ClientError.TheVariants as client_error
-use Rattle.xet_progress.specs.declared.error.ProgressError.{ProgressError}
-use Rattle.xet_progress.specs.declared.error.ProgressError.TheVariants as progress_error
+use Rattle.xet_progress_state.specs.declared.error.ProgressError.{ProgressError}
+use Rattle.xet_progress_state.specs.declared.error.ProgressError.TheVariants as progress_error
 use Rattle.xet_shards.specs.declared.shard_store.ShardError.{ShardError}
 use Rattle.xet_shards.specs.declared.shard_store.ShardError.TheVariants as shard_error
 use Rattle.xet_upload.specs.declared.data_error.DataError.{DataError}

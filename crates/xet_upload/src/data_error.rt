@@ -8,7 +8,7 @@ use thiserror::Error;
 use xet_base::{DataHashHexParseError, Invalid, OutOfMemory};
 use xet_error::FileReconstructionError;
 use xet_outside::{ClientError, SourceFault};
-use xet_progress::ProgressError;
+use xet_progress_state::ProgressError;
 use xet_shards::ShardError;
 
 /// Why a call of a session gave no answer. It is exhaustive, and each variant has one cause. Lengths are in bytes. All

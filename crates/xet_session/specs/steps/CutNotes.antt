@@ -2,9 +2,9 @@
 use Rattle.std.specs.Prelude.{◌≡◌, ◌<◌, false, ltb, List, [], ◌∷◌, length, map, Result, OnOk}
 use Rattle.std.specs.List.{filter}
 use Rattle.xet_base.specs.declared.merklehash.MerkleHash.{MerkleHash}
-use Rattle.xet_progress.specs.declared.step.FileXorbDependency.{FileXorbDependency}
-use Rattle.xet_progress.specs.declared.step.TrackerStep.{TrackerStep}
-use Rattle.xet_progress.specs.declared.step.TrackerStep.TheVariants.{RegisterDependencies, RegisterNewXorb}
+use Rattle.xet_progress_state.specs.declared.step.FileXorbDependency.{FileXorbDependency}
+use Rattle.xet_progress_state.specs.declared.step.TrackerStep.{TrackerStep}
+use Rattle.xet_progress_state.specs.declared.step.TrackerStep.TheVariants.{RegisterDependencies, RegisterNewXorb}
 use Rattle.xet_upload.specs.declared.raw_xorb.PendingFile.{PendingFile}
 use Rattle.xet_upload.specs.declared.raw_xorb.RawXorbData.{RawXorbData}
 use Rattle.xet_session.specs.Trackings.{CalledSome, with_calls}

@@ -8,8 +8,8 @@ use Rattle.xet_base.specs.declared.mdb_shard.MDBFileInfo.{MDBFileInfo}
 use Rattle.xet_base.specs.Records.{Describes}
 use Rattle.xet_outside.specs.Told.{Grew}
 use Rattle.xet_uploader.specs.declared.uploader.Put.TheVariants as put
-use Rattle.xet_progress.specs.declared.step.TrackerStep.{TrackerStep}
-use Rattle.xet_progress.specs.declared.step.TrackerStep.TheVariants.{RegisterXorbUploadCompletion}
+use Rattle.xet_progress_state.specs.declared.step.TrackerStep.{TrackerStep}
+use Rattle.xet_progress_state.specs.declared.step.TrackerStep.TheVariants.{RegisterXorbUploadCompletion}
 use Rattle.xet_shards.specs.Shards.{with_records}
 use Rattle.xet_shard_interface.specs.Interfaces.{LaterFaults, StoresTell, known_told, records_of}
 use Rattle.xet_shard_interface.specs.Puts.{Asks, PutFailed, Uploads}

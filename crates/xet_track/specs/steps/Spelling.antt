@@ -1,7 +1,7 @@
 -- The call that a line spells, as the code holds it.
 use Rattle.std.specs.Prelude.{[], ◌∷◌}
-use Rattle.xet_progress.specs.declared.step.TrackerStep.{TrackerStep}
-use Rattle.xet_progress.specs.declared.step.TrackerStep.TheVariants.{RegisterDependencies}
+use Rattle.xet_progress_state.specs.declared.step.TrackerStep.{TrackerStep}
+use Rattle.xet_progress_state.specs.declared.step.TrackerStep.TheVariants.{RegisterDependencies}
 use Rattle.xet_track.specs.declared.read.Spelled.{Spelled}
 use Rattle.xet_track.specs.declared.read.Spelled.TheVariants.{Step, Dependency}
 

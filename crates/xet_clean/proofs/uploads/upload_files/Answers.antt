@@ -2,7 +2,7 @@ use Rattle.std.proofs.Common.{List, ap, refl, rules, arith, inl, inr, sym, â—Œâ‰
 use Rattle.std.specs.Prelude.{Err}
 use Rattle.std.proofs.lemmas.List.{length-map}
 use Rattle.std.proofs.lemmas.Result.{err_from_is_err_and}
-use Rattle.xet_progress.specs.Counts.{sizes}
+use Rattle.xet_progress_state.specs.Counts.{sizes}
 use Rattle.xet_session.specs.Telling.{told_by}
 use Rattle.xet_clean.specs.UploadTelling.{file_told}
 use Rattle.xet_clean.specs.Uploads.{FileTold, Upload, fixed_sizes}

@@ -1,6 +1,6 @@
 use Rattle.std.proofs.Common.{◌≡◌, ◌+◌, ◌++◌, ◌≤◌, List, length, map}
 use Rattle.std.specs.Prelude.{Ok, vec_capacity, vec_len}
-use Rattle.xet_progress.specs.Counts.{sizes}
+use Rattle.xet_progress_state.specs.Counts.{sizes}
 use Rattle.xet_session.specs.Telling.{told_by}
 use Rattle.xet_clean.specs.FileCalls.{IsUploadCall, TellsOf}
 use Rattle.xet_clean.specs.SessionCalls.{CallsOf, UploadsOnce}

@@ -1,6 +1,6 @@
 use Rattle.std.proofs.Common.{◌∙◌}
 use Rattle.std.specs.Prelude.{Ok}
-use Rattle.xet_progress.specs.Items.{item_completeness}
+use Rattle.xet_progress_state.specs.Items.{item_completeness}
 use Rattle.xet_progress.proofs.Held.{said_else}
 use Rattle.xet_progress.proofs.updater.ItemProgressUpdater.assert_complete.Goals as goal
 

@@ -1,6 +1,6 @@
 use Rattle.std.proofs.Common.{◌∙◌, ap, []}
-use Rattle.xet_progress.specs.declared.item.ItemProgress.{ItemProgress}
-use Rattle.xet_progress.specs.Items.{blank_item}
+use Rattle.xet_progress_state.specs.declared.item.ItemProgress.{ItemProgress}
+use Rattle.xet_progress_state.specs.Items.{blank_item}
 use Rattle.xet_progress.proofs.Held.{said_none}
 use Rattle.xet_progress.proofs.updater.ItemProgressUpdater.item.Goals as goal
 

@@ -1,4 +1,4 @@
-use Rattle.xet_progress.specs.Group.{more_transferred}
+use Rattle.xet_progress_state.specs.Group.{more_transferred}
 use Rattle.xet_progress.specs.Held.{UpdaterCall, known_answer}
 use Rattle.xet_progress.proofs.Held.{transferred_test, updater_call}
 use Rattle.xet_progress.proofs.Nothing.{nothing_transferred}

@@ -1,5 +1,5 @@
 use Rattle.std.proofs.Common.{◌∙◌}
-use Rattle.xet_progress.specs.declared.item.ItemProgress.{ItemProgress}
+use Rattle.xet_progress_state.specs.declared.item.ItemProgress.{ItemProgress}
 use Rattle.xet_progress.proofs.Held.{said_else}
 use Rattle.xet_progress.proofs.updater.ItemProgressUpdater.total_bytes_completed.Goals as goal
 

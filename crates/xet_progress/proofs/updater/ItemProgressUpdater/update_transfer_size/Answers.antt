@@ -1,4 +1,4 @@
-use Rattle.xet_progress.specs.Group.{transfer_sized, group_sums}
+use Rattle.xet_progress_state.specs.Group.{transfer_sized, group_sums}
 use Rattle.xet_progress.specs.Held.{UpdaterCall, known_answer}
 use Rattle.xet_progress.proofs.Held.{transfer_test, updater_call}
 use Rattle.xet_progress.proofs.Nothing.{nothing_to_transfer}

@@ -1,7 +1,0 @@
-use Rattle.std.proofs.Common.{rules}
-use Rattle.xet_progress.specs.steps.Keys.{last_word}
-use Rattle.xet_progress.proofs.hash_key.last_word.Goals as goal
-
-pub returns : goal.returns
-unfolding last_word
-returns c = search rules

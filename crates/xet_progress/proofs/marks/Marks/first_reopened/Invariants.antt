@@ -1,9 +1,0 @@
-use Rattle.std.proofs.Common.{length}
-use Rattle.xet_progress.specs.steps.Open.{Marked}
-use Rattle.xet_progress.proofs.marks.Marks.first_reopened.Given as goal
-
-abbrev pub invariant-loop-id : goal.invariant-loop-id
-invariant-loop-id l = Marked l.files l.self
-
-abbrev pub decreases-loop-id : goal.decreases-loop-id
-decreases-loop-id l = length l.self.reopened.keys

@@ -1,4 +1,0 @@
-use Rattle.xet_progress.proofs.state.TrackerState.register_xorb_upload_progress.Goals as goal
-
-pub returns : goal.returns
-returns c = rw c.look.ensures at c.send.ensures

@@ -1,0 +1,11 @@
+use Rattle.std.proofs.Common.{◌∙◌, ap}
+use Rattle.std.proofs.Math.Seq.{map-set_same}
+use Rattle.xet_progress_state.specs.declared.xorb.TrackedXorb.{TrackedXorb}
+use Rattle.xet_progress_state.specs.steps.Keys.{key_of}
+use Rattle.xet_progress_state.proofs.Remembering.{indexes_to}
+use Rattle.xet_progress_state.proofs.xorb.Xorbs.advance.Goals as goal
+
+pub invariant_of-self : goal.invariant_of-self
+invariant_of-self c =
+    indexes_to c.self.invariant (map-set_same (λ (x : TrackedXorb). key_of x.hash) c.self.inside.list.items c.args.place c.advance.new.xorb c.index_mut.result.now
+    (ap key_of (c.advance.ensures.xorb.same_hash ∙ ap (λ (x : TrackedXorb). x.hash) c.index_mut.ensures.value)))
