@@ -7,10 +7,11 @@ use std::sync::Wait;
 use std::thread::Threads;
 use xet_base::{FileRange, MerkleHash};
 use xet_blocks::Steady;
+use xet_connections::MemClient;
 use xet_outside::{NeverCancel, NoCache};
 use xet_reconstruct::FileReconstructor;
 use xet_sinks::VecSink;
-use xet_store::{MemClient, MemStore};
+use xet_store::MemStore;
 
 /// Cuts files, two of them alike, and ends.
 const SCRIPT: &str =

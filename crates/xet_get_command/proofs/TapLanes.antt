@@ -14,10 +14,10 @@ use Rattle.xet_outside.specs.declared.said.Said.{Said}
 use Rattle.xet_outside.specs.declared.said.Said.TheVariants as said
 use Rattle.xet_outside.specs.declared.served.Served.{Served}
 use Rattle.xet_outside.specs.Told.{CacheEntry, CacheTold, ClientTold, SinkTold}
-use Rattle.xet_store.specs.HonestPlans.{PlansAreHonest}
+use Rattle.xet_connections.specs.HonestPlans.{PlansAreHonest}
 use Rattle.xet_store.specs.declared.client_log.ClientLog.{ClientLog}
 use Rattle.xet_store.specs.Taps.{AreGiven, TapTold, given_count, said_behind}
-use Rattle.xet_store.proofs.CallerLemmas.{same_link}
+use Rattle.xet_connections.proofs.CallerLemmas.{same_link}
 use Rattle.xet_error.specs.declared.error.FileReconstructionError.{FileReconstructionError}
 use Rattle.xet_error.specs.declared.error.FileReconstructionError.TheVariants as error
 use Rattle.xet_error.specs.declared.error.Setting.{Setting}

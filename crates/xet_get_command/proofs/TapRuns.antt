@@ -19,8 +19,8 @@ use Rattle.xet_outside.specs.declared.plan.PlanAnswer.TheVariants.{Found, NoFile
 use Rattle.xet_outside.specs.declared.said.Said.{Said}
 use Rattle.xet_outside.specs.declared.said.Said.TheVariants as said
 use Rattle.xet_outside.specs.Told.{CacheTold, ClientTold, IsHonest, Query, Rose, SinkTold, Took}
-use Rattle.xet_store.specs.HonestPlans.{PlansAreHonest}
-use Rattle.xet_store.proofs.CallerLemmas.{honest_answer, with_block, with_plan}
+use Rattle.xet_connections.specs.HonestPlans.{PlansAreHonest}
+use Rattle.xet_connections.proofs.CallerLemmas.{honest_answer, with_block, with_plan}
 use Rattle.xet_store.specs.declared.client_log.ClientLog.{ClientLog}
 use Rattle.xet_error.specs.declared.error.Corruption.{Corruption}
 use Rattle.xet_error.specs.declared.error.FileReconstructionError.{FileReconstructionError}

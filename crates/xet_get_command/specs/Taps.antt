@@ -6,7 +6,7 @@ use Rattle.xet_base.specs.Store.{Store}
 use Rattle.xet_outside.specs.Answers.{bytes_in, plans_in}
 use Rattle.xet_outside.specs.declared.block.BlockBytes.{BlockBytes}
 use Rattle.xet_outside.specs.declared.served.Served.{Served}
-use Rattle.xet_store.specs.HonestPlans.{PlansAreHonest}
+use Rattle.xet_connections.specs.HonestPlans.{PlansAreHonest}
 use Rattle.xet_store.specs.Taps.{TapTold}
 use Rattle.xet_error.specs.declared.error.Corruption.{Corruption}
 use Rattle.xet_error.specs.declared.error.Setting.{Setting}

@@ -15,13 +15,12 @@ use std::sync::Wait;
 use std::thread::Threads;
 use xet_base::OutOfMemory;
 use xet_blocks::Steady;
+use xet_connections::MemClient;
 use xet_error::{FileReconstructionError, Result};
 use xet_reconstruct::FileReconstructor;
 use xet_reconstruct::laws::honest_answers;
 use xet_run::BookView;
-use xet_store::{
-    ChunkCache, Client, MapCache, MemClient, MemStore, NeverCancel, NoCache, Sink, Tap,
-};
+use xet_store::{ChunkCache, Client, MapCache, MemStore, NeverCancel, NoCache, Sink, Tap};
 
 // The run over these connections.
 fn run_over<R: Threads + Wait + Sync, C: Client + Send, K: ChunkCache, O: Sink>(

@@ -2,7 +2,7 @@
 ghost use Rattle.std.specs.Prelude.{◌≡◌, [], count_by, false};
 ghost use Rattle.xet_outside.specs.Answers.{plans_in};
 ghost use Rattle.xet_outside.specs.Told.{BlockCall, PlanCall};
-ghost use Rattle.xet_store.specs.HonestPlans.{PlansAreHonest, PlansAreHonest-prop};
+ghost use Rattle.xet_connections.specs.HonestPlans.{PlansAreHonest, PlansAreHonest-prop};
 ghost use Rattle.xet_store.specs.Taps.{AreGiven, said_behind};
 ghost use Rattle.xet_ties.specs.InCall.{expired_said};
 ghost use Rattle.xet_get_command.specs.steps.OwnTaps.{behind_own};
@@ -10,8 +10,9 @@ ghost use Rattle.xet_get_command.specs.steps.OwnTaps.{behind_own};
 use std::alloc::Global;
 use std::snapshot::Snapshot;
 use xet_base::{FileRange, MerkleHash};
+use xet_connections::MemClient;
 use xet_store::client_log::ClientLog;
-use xet_store::{BlockAnswer, BlockRequest, Client, ClientError, MemClient, PlanAnswer, Tap};
+use xet_store::{BlockAnswer, BlockRequest, Client, ClientError, PlanAnswer, Tap};
 
 /// A connection to a store in memory behind a tap of its own. It tells what a `TapClient` tells, whose tap is borrowed;
 /// many of these stand in a list, and hand their taps back.

@@ -4,8 +4,9 @@ use crate::row::Row;
 use crate::said::{block, plan};
 use std::alloc::Global;
 use xet_base::{FileRange, MerkleHash, OutOfMemory};
+use xet_connections::MemClient;
 use xet_outside::{BlockAnswer, BlockRequest, Client, ClientError, PlanAnswer};
-use xet_store::{MemClient, MemStore};
+use xet_store::MemStore;
 
 /// A connection to a store that does at each of its calls what its text says, and counts them. Its blocks enter the
 /// meter.

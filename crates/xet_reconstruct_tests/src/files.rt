@@ -6,12 +6,13 @@ use std::test::Fail;
 use std::thread::Threads;
 use xet_base::FileRange;
 use xet_blocks::Steady;
+use xet_connections::MemClient;
 use xet_error::Result;
 use xet_outside::{NeverCancel, NoCache};
 use xet_reconstruct::FileReconstructor;
 use xet_sinks::MemFile;
+use xet_store::MemStore;
 use xet_store::worked::{FILE_OF_ALL, worked_store};
-use xet_store::{MemClient, MemStore};
 
 /// What a run of the bytes 3 to 9 into this file answers.
 fn written<R: Threads + Wait + Sync>(

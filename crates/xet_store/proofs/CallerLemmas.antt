@@ -1,12 +1,12 @@
 -- What proofs of the crates above may cite of this crate's words.
 
--- behind a tap: the answers to queries are those of the store, and a link names the tap and the store
-pub use Rattle.xet_store.proofs.TapConnections.{honest_answer, same_link}
--- the log of the connection behind a tap, and what the tap gave and tells after one call more
-pub use Rattle.xet_store.proofs.TapConnections.{given_none, given_plan, given_block, with_plan, with_block}
-pub use Rattle.xet_store.proofs.TapConnections.{honest_none, honest_plan, honest_block, said_grew}
--- a connection to a store in memory, and its log, may go to another thread
-pub use Rattle.xet_store.proofs.SentConnections.{client_log_send, mem_client_send}
+-- what is known of the files of a valid store, and of walks over their terms
+pub use Rattle.xet_store.proofs.StoredFiles.{found_terms, found_short, found_walk, found_within, walk_same}
+pub use Rattle.xet_store.proofs.PlannedTerms.{bytes_none, walk_of, walk_place, walk_start, walk_within}
+-- a block of the store's is one of every store that holds the same
+pub use Rattle.xet_store.proofs.HonestBlocks.{honest_by}
+-- the log of a connection may go to another thread
+pub use Rattle.xet_store.proofs.SentLogs.{client_log_send}
 -- what a store that accepts xorbs and files holds
 pub use Rattle.xet_store.proofs.AcceptedTerms.{accepted_terms}
 pub use Rattle.xet_store.proofs.GrownStores.{valid_with_file, valid_with_xorb}

@@ -13,7 +13,7 @@ use Rattle.xet_base.specs.declared.stored.StoredTerm.{StoredTerm}
 use Rattle.xet_base.specs.Lists.{placed}
 use Rattle.xet_base.specs.Store.{Store, IsTermIn, chunks_of, chunks_of_term}
 use Rattle.xet_outside.specs.declared.plan.PlanTerm.{PlanTerm}
-use Rattle.xet_store.specs.steps.MemPlans.{IsWalk, bytes_before, terms_at, offset_at}
+use Rattle.xet_store.specs.MemPlans.{IsWalk, bytes_before, terms_at, offset_at}
 use Rattle.xet_outside.specs.Plan.{touches, ends_before, lengths, cut_of, cut_term}
 use Rattle.xet_outside.proofs.CallerLemmas.{Full, count_by-no, count_by-yes, has_chunks, keeps, offset_skip, skips, skips-keeps, skips_past, sum_lengths, touched_past}
 use Rattle.xet_store.proofs.CutTerms.{place_in}

@@ -15,7 +15,7 @@ use Rattle.xet_base.specs.Store.{Store, chunks_of, xorb_of}
 use Rattle.xet_base.proofs.CallerLemmas.{firsts-push, firsts_keeps, position_some, position_no, hash_eq-true, eq-hash_eq, hash_eq-own, hash_eq-chain}
 use Rattle.xet_outside.specs.declared.plan.PlanTerm.{PlanTerm}
 use Rattle.xet_outside.specs.declared.plan.PlanXorb.{PlanXorb}
-use Rattle.xet_store.specs.steps.MemPlans.{has_number, IsTouched, IsUsed}
+use Rattle.xet_store.specs.steps.UsedXorbs.{has_number, IsTouched, IsUsed}
 use Rattle.xet_outside.specs.Plan.{XorbShape, xorb_shape, fetch_range, plan_xorb, ranges_of, touched_numbers}
 use Rattle.xet_base.specs.Ranges.{Ascend}
 use Rattle.xet_outside.proofs.CallerLemmas.{runs_ascend}

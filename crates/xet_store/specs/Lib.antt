@@ -1,9 +1,8 @@
-pub mod HonestPlans
 pub mod MapCaches
 pub mod MemBlocks
+pub mod MemPlans
 pub mod MemUrls
 pub mod Parts
 pub mod Refusals
-pub mod Scripts
 pub mod Taps
 pub mod steps

@@ -1,4 +1,4 @@
 pub mod Joined
 pub mod Marks
-pub mod MemPlans
 pub mod TermRefusals
+pub mod UsedXorbs

@@ -4,8 +4,9 @@ use crate::rows::{comes_to, numbered, numbers, show, word};
 use std::alloc::Global;
 use std::test::Fail;
 use xet_base::{FileRange, MerkleHash, OutOfMemory, ShardRecord};
+use xet_connections::MemClient;
 use xet_outside::{Client, Plan, PlanAnswer};
-use xet_store::{MemClient, MemStore};
+use xet_store::MemStore;
 use xet_uploader::{MemUploader, Put, Uploader};
 
 /// Which puts fail, and the calls: `1 ab,cde` puts the xorb with this hash and these chunks, `+1 ab,cde` the records of

@@ -8,7 +8,8 @@ use denote.Struct.Struct.{Shape, Struct}
 use denote.Struct.Declared.{shape}
 use mir.Syntax.{named, of_param}
 use Rattle.std.proofs.Crossing.{crosses}
-use Rattle.xet_store.proofs.CallerLemmas.{client_log_send, mem_client_send}
+use Rattle.xet_store.proofs.CallerLemmas.{client_log_send}
+use Rattle.xet_connections.proofs.CallerLemmas.{mem_client_send}
 use Rattle.xet_get_command.specs.contracts.tapped_client.TappedClient as tapped_client
 use Rattle.xet_outside.specs.Told.{ClientTold}
 use Rattle.xet_get_command.specs.declared.tapped_client.TappedClient.{TappedClient}

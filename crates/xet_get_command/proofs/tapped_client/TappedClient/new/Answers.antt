@@ -1,5 +1,5 @@
 use Rattle.std.proofs.Common.{refl}
-use Rattle.xet_store.proofs.CallerLemmas.{given_none, honest_none}
+use Rattle.xet_connections.proofs.CallerLemmas.{given_none, honest_none}
 use Rattle.xet_get_command.proofs.tapped_client.TappedClient.new.Goals as goal
 
 pub invariant_of-result : goal.invariant_of-result

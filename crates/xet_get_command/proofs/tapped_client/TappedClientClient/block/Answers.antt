@@ -1,6 +1,6 @@
 use Rattle.std.proofs.Common.{ap, rules}
 use Rattle.xet_store.specs.declared.client_log.ClientLog.{ClientLog}
-use Rattle.xet_store.proofs.CallerLemmas.{given_block, honest_block, said_grew}
+use Rattle.xet_connections.proofs.CallerLemmas.{given_block, honest_block, said_grew}
 use Rattle.xet_get_command.proofs.TapRuns.{unexpired_block}
 use Rattle.xet_get_command.proofs.tapped_client.TappedClientClient.block.Goals as goal
 

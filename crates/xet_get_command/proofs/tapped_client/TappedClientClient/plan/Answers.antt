@@ -1,6 +1,6 @@
 use Rattle.std.proofs.Common.{refl}
 use Rattle.xet_outside.specs.Told.{Query}
-use Rattle.xet_store.proofs.CallerLemmas.{honest_plan, given_plan}
+use Rattle.xet_connections.proofs.CallerLemmas.{honest_plan, given_plan}
 use Rattle.xet_get_command.proofs.TapRuns.{unexpired_plan}
 use Rattle.xet_get_command.proofs.tapped_client.TappedClientClient.plan.Goals as goal
 

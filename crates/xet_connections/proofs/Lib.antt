@@ -1,0 +1,3 @@
+pub mod CallerLemmas
+pub mod SentConnections
+pub mod TapConnections

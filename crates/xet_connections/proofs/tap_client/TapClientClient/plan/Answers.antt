@@ -1,0 +1,16 @@
+use Rattle.std.proofs.Common.{refl}
+use Rattle.xet_outside.specs.Told.{Query}
+use Rattle.xet_connections.proofs.TapConnections.{honest_plan, given_plan}
+use Rattle.xet_connections.proofs.tap_client.TapClientClient.plan.Goals as goal
+
+pub invariant_of-self-2 : goal.invariant_of-self-2
+invariant_of-self-2 g c =
+    let s = c.args.self.now in
+    let q : Query = (c.args.file.now, c.args.range) in
+    let call = c.in_ok-answer.ensures.call in
+    record {
+      given = given_plan (g.T.Tap.told s.start.value) (g.T.Tap.told s.tap.now) s.log c.and_plan-self.result q
+          c.in_ok-answer.answer c.and_plan-self.ensures s.given;
+      plans = honest_plan s.inner.store.now c.plan.new.self.store.now s.log c.and_plan-self.result q
+          c.in_ok-answer.answer call.store c.and_plan-self.ensures (call.honest s.inner.store.now refl) s.plans;
+    }

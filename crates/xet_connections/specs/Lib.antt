@@ -1,0 +1,2 @@
+pub mod HonestPlans
+pub mod Scripts
