@@ -3,7 +3,7 @@ use Rattle.std.specs.Prelude.{ℕ, ◌-◌, ◌^◌, ◌==◌, true, false, cond
 use Rattle.std.specs.Prelude.{None, option_and_then, unwrap_or, codes}
 use Rattle.std.specs.List.{after_first, before_first, position_or_len}
 use Rattle.std.specs.Str.{bytes_eq}
-use Rattle.xet_run.specs.declared.budget_book.BudgetSettings.{BudgetSettings}
+use Rattle.xet_events.specs.declared.budget_book.BudgetSettings.{BudgetSettings}
 use Rattle.xet_terms.specs.declared.reconstruction_config.ReconstructionConfig.{ReconstructionConfig}
 use Rattle.xet_get_command.specs.declared.options.GetOption.{GetOption}
 use Rattle.xet_get_command.specs.declared.options.GetOption.TheVariants as word

@@ -12,15 +12,15 @@ use Rattle.xet_outside.specs.declared.plan.PlanTerm.{PlanTerm}
 use Rattle.xet_outside.specs.Plan.{Shape, plan_of}
 use Rattle.xet_blocks.specs.Terms.{file_term, terms_from}
 use Rattle.xet_history.specs.Queries.{CutFrom}
-use Rattle.xet_run.specs.declared.event.PlannedTerm.{PlannedTerm}
-use Rattle.xet_run.specs.declared.event.PlannedBlock.{PlannedBlock}
-use Rattle.xet_run.specs.declared.event.Event.{Event}
-use Rattle.xet_run.specs.declared.event.Event.TheVariants.{Planned, Admit, Fetched, Cached, Expired, Refreshed, Wrote, Fail, Cancel}
-use Rattle.xet_run.specs.Events.{size, last_of, tasks_of, planned_end}
-use Rattle.xet_run.specs.Allowed.{Adjoin, AllowedAfter}
+use Rattle.xet_events.specs.declared.event.PlannedTerm.{PlannedTerm}
+use Rattle.xet_events.specs.declared.event.PlannedBlock.{PlannedBlock}
+use Rattle.xet_events.specs.declared.event.Event.{Event}
+use Rattle.xet_events.specs.declared.event.Event.TheVariants.{Planned, Admit, Fetched, Cached, Expired, Refreshed, Wrote, Fail, Cancel}
+use Rattle.xet_events.specs.Events.{size, last_of, tasks_of, planned_end}
+use Rattle.xet_events.specs.Allowed.{Adjoin, AllowedAfter}
 use Rattle.xet_history.specs.TrueHistory.{queries_end, SomeEndsEarly, planned_term, queries, IsTrueEvent}
 use Rattle.xet_history.specs.Laws.{PiecesReach}
-use Rattle.xet_run.proofs.CallerLemmas.{adjoin_sums, ends}
+use Rattle.xet_events.proofs.CallerLemmas.{adjoin_sums, ends}
 use Rattle.xet_history.proofs.TruePieces.{honest_plan, pieces_cover, to_end, within_end}
 
 -- ---- where the file ends

@@ -16,14 +16,14 @@ use Rattle.xet_blocks.specs.Blocks.{PlanBlock, blocks_of, block_ranges}
 use Rattle.xet_blocks.specs.Terms.{terms_of, term_piece, piece_of}
 use Rattle.xet_history.specs.Queries.{CutFrom}
 use Rattle.xet_blocks.proofs.CallerLemmas.{pieces_join, pieces_sized}
-use Rattle.xet_run.specs.declared.event.PlannedTerm.{PlannedTerm}
-use Rattle.xet_run.specs.declared.event.PlannedBlock.{PlannedBlock}
-use Rattle.xet_run.specs.declared.event.Event.{Event}
-use Rattle.xet_run.specs.declared.event.Event.TheVariants.{Planned, Admit, Fetched, Cached, Expired, Refreshed, Wrote, Fail, Cancel}
-use Rattle.xet_run.specs.Events.{Task, size, last_of, tasks_of, planned, is_admit, written}
+use Rattle.xet_events.specs.declared.event.PlannedTerm.{PlannedTerm}
+use Rattle.xet_events.specs.declared.event.PlannedBlock.{PlannedBlock}
+use Rattle.xet_events.specs.declared.event.Event.{Event}
+use Rattle.xet_events.specs.declared.event.Event.TheVariants.{Planned, Admit, Fetched, Cached, Expired, Refreshed, Wrote, Fail, Cancel}
+use Rattle.xet_events.specs.Events.{Task, size, last_of, tasks_of, planned, is_admit, written}
 use Rattle.xet_history.specs.TrueHistory.{queries_end, planned_term, planned_block, queries, IsTrueEvent, task_piece, pieces}
 use Rattle.xet_history.specs.Laws.{PiecesCover, PiecesArePrefix, WrittenArePrefix}
-use Rattle.xet_run.proofs.CallerLemmas.{facts}
+use Rattle.xet_events.proofs.CallerLemmas.{facts}
 
 slice_get-map : {A B : Type 0} (f : A → B) (xs : List A) (k : ℕ) → slice_get (map f xs) k ≡ option_map f (slice_get xs k)
 slice_get-map f [] k = refl

@@ -1,9 +1,9 @@
 -- Laws of histories that are true of a valid store's file.
 use Rattle.std.specs.Prelude.{◌≡◌, ℕ, ◌<◌, ◌≤◌, ◌++◌, List, take, length}
 use Rattle.xet_base.specs.Store.{Store, IsValid, window}
-use Rattle.xet_run.specs.declared.event.Event.{Event}
-use Rattle.xet_run.specs.Events.{written}
-use Rattle.xet_run.specs.Allowed.{IsAllowedHistory}
+use Rattle.xet_events.specs.declared.event.Event.{Event}
+use Rattle.xet_events.specs.Events.{written}
+use Rattle.xet_events.specs.Allowed.{IsAllowedHistory}
 use Rattle.xet_history.specs.TrueHistory.{Download, IsTrueHistory, ReachesEnd, queries_end, pieces}
 
 -- some bytes are the beginning of others

@@ -11,11 +11,11 @@ use Rattle.xet_outside.specs.Plan.{plan_of, block_of}
 use Rattle.xet_blocks.specs.declared.reconstruction_terms.file_term.FileTerm.{FileTerm}
 use Rattle.xet_blocks.specs.Blocks.{PlanBlock, blocks_of, block_ranges}
 use Rattle.xet_blocks.specs.Terms.{terms_of}
-use Rattle.xet_run.specs.declared.event.PlannedTerm.{PlannedTerm}
-use Rattle.xet_run.specs.declared.event.PlannedBlock.{PlannedBlock}
-use Rattle.xet_run.specs.declared.event.Event.{Event}
-use Rattle.xet_run.specs.declared.event.Event.TheVariants.{Planned}
-use Rattle.xet_run.specs.Events.{Task, last_of, planned}
+use Rattle.xet_events.specs.declared.event.PlannedTerm.{PlannedTerm}
+use Rattle.xet_events.specs.declared.event.PlannedBlock.{PlannedBlock}
+use Rattle.xet_events.specs.declared.event.Event.{Event}
+use Rattle.xet_events.specs.declared.event.Event.TheVariants.{Planned}
+use Rattle.xet_events.specs.Events.{Task, last_of, planned}
 
 -- what a run downloads: a range of a file, in queries of a least and a greatest size, over blocks of one or several
 -- ranges

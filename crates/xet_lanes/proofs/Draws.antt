@@ -9,8 +9,8 @@ use Rattle.xet_outside.specs.Told.{ClientTold}
 use Rattle.xet_error.specs.declared.error.FileReconstructionError.{FileReconstructionError}
 use Rattle.xet_claims.specs.declared.claim_rule.View.{View}
 use Rattle.xet_claims.specs.ClaimViews.{gained, halted, missed, saw}
-use Rattle.xet_run.specs.declared.run_call.RunCall.{RunCall}
-use Rattle.xet_run.specs.declared.run_call.RunCall.TheVariants as call
+use Rattle.xet_events.specs.declared.run_call.RunCall.{RunCall}
+use Rattle.xet_events.specs.declared.run_call.RunCall.TheVariants as call
 use Rattle.xet_ties.specs.declared.lane_step.LaneStep.{LaneStep}
 use Rattle.xet_ties.specs.Lanes.{AreAt, Ask, IsFor, LaneDid, LaneDrew}
 use Rattle.xet_lanes.specs.declared.lane.Fetch.{Fetch}

@@ -2,7 +2,7 @@
 ghost use Rattle.std.specs.Prelude.{◌≡◌, ◌⊎◌, ◌∷◌, [], All, Some, false, length, map, true};
 ghost use Rattle.xet_claims.specs.ClaimPasses.{IsFresh, IsPassOf, pass_view};
 ghost use Rattle.xet_claims.specs.ClaimViews.{halted};
-ghost use Rattle.xet_run.specs.declared.run_call.RunCall.TheVariants as call;
+ghost use Rattle.xet_events.specs.declared.run_call.RunCall.TheVariants as call;
 ghost use Rattle.xet_ties.specs.Lanes.{IsFor, LaneDrew};
 ghost use Rattle.xet_lanes.specs.Fetches.{NoneFailedBefore, ask_of};
 ghost use Rattle.xet_lanes.specs.steps.Drawn.{AllDrew, AllReady, HasEnded, HasSeen, HasStopped, HasTold, IsNext, work};

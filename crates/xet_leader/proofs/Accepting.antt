@@ -5,11 +5,11 @@ use Rattle.std.proofs.lemmas.Bool.{le-ltb, lt-ltb, ltb-false, ltb-true}
 use Rattle.std.proofs.lemmas.List.{append-nil, length-take-le, take-append-drop, take-append-le, take_all}
 use Rattle.xet_base.specs.declared.cas_types.FileRange.{FileRange}
 use Rattle.xet_blocks.specs.declared.reconstruction_terms.file_term.TermBlock.{TermBlock}
-use Rattle.xet_run.specs.declared.event.Event.{Event}
-use Rattle.xet_run.specs.declared.event.PlannedBlock.{PlannedBlock}
-use Rattle.xet_run.specs.declared.event.PlannedTerm.{PlannedTerm}
-use Rattle.xet_run.specs.Events.{last_of, plan_count, planned_end, tasks_of}
-use Rattle.xet_run.proofs.CallerLemmas.{end-push, flat-push}
+use Rattle.xet_events.specs.declared.event.Event.{Event}
+use Rattle.xet_events.specs.declared.event.PlannedBlock.{PlannedBlock}
+use Rattle.xet_events.specs.declared.event.PlannedTerm.{PlannedTerm}
+use Rattle.xet_events.specs.Events.{last_of, plan_count, planned_end, tasks_of}
+use Rattle.xet_events.proofs.CallerLemmas.{end-push, flat-push}
 use Rattle.xet_history.specs.TrueHistory.{EndsEarly, SomeEndsEarly, queries, queries_in}
 use Rattle.xet_terms.specs.Managers.{IsManager, Manager, accepted, ends_early, known_after, planned_with, without_past}
 use Rattle.xet_terms.specs.Queries.{CutFrom, end_from}

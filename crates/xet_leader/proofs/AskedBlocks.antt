@@ -14,10 +14,10 @@ use Rattle.xet_blocks.specs.declared.reconstruction_terms.retrieval_urls.Retriev
 use Rattle.xet_blocks.specs.declared.reconstruction_terms.retrieval_urls.TermBlockRetrievalURLs.{TermBlockRetrievalURLs}
 use Rattle.xet_blocks.specs.declared.reconstruction_terms.xorb_block.XorbBlock.{XorbBlock}
 use Rattle.xet_blocks.specs.BlockCalls.{IsBeyond, IsRequestOf}
-use Rattle.xet_run.specs.declared.event.Event.{Event}
-use Rattle.xet_run.specs.declared.event.PlannedBlock.{PlannedBlock}
-use Rattle.xet_run.specs.Allowed.{IsMissing}
-use Rattle.xet_run.specs.Events.{expires, is_kept}
+use Rattle.xet_events.specs.declared.event.Event.{Event}
+use Rattle.xet_events.specs.declared.event.PlannedBlock.{PlannedBlock}
+use Rattle.xet_events.specs.Allowed.{IsMissing}
+use Rattle.xet_events.specs.Events.{expires, is_kept}
 use Rattle.xet_ties.specs.Causes.{Cause}
 use Rattle.xet_ties.specs.History.{block_at, is_expired}
 use Rattle.xet_ties.specs.Lanes.{Ask, IsFor}

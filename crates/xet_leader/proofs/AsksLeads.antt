@@ -12,10 +12,10 @@ use Rattle.xet_error.specs.declared.error.FileReconstructionError.TheVariants as
 use Rattle.xet_base.specs.declared.cas_types.FileRange.{FileRange}
 use Rattle.xet_blocks.specs.declared.reconstruction_terms.file_term.TermBlock.{TermBlock}
 use Rattle.xet_blocks.specs.TermBlockCalls.{TermBlockCause}
-use Rattle.xet_run.specs.declared.event.Event.{Event}
-use Rattle.xet_run.specs.declared.event.Event.TheVariants.{Planned, Admit, Fetched, Cached, Expired, Refreshed, Wrote, Fail, Cancel}
-use Rattle.xet_run.specs.Allowed.{IsAllowedHistory}
-use Rattle.xet_run.specs.Events.{is_plan, plan_count, expires}
+use Rattle.xet_events.specs.declared.event.Event.{Event}
+use Rattle.xet_events.specs.declared.event.Event.TheVariants.{Planned, Admit, Fetched, Cached, Expired, Refreshed, Wrote, Fail, Cancel}
+use Rattle.xet_events.specs.Allowed.{IsAllowedHistory}
+use Rattle.xet_events.specs.Events.{is_plan, plan_count, expires}
 use Rattle.xet_history.specs.TrueHistory.{queries, queries_in}
 use Rattle.xet_terms.specs.Managers.{IsCovered, Manager, PassesKnownEnd}
 use Rattle.xet_terms.specs.declared.manager.PlanDue.{PlanDue}

@@ -22,10 +22,10 @@ use Rattle.xet_blocks.specs.Terms.{terms_of}
 use Rattle.xet_blocks.proofs.CallerLemmas.{IsHonestTerm, honest_terms}
 use Rattle.xet_fetch.specs.CachedBlocks.{passes_cached}
 use Rattle.xet_fetch.proofs.CallerLemmas.{honest_entries_pass}
-use Rattle.xet_run.specs.declared.event.Event.{Event}
-use Rattle.xet_run.specs.declared.event.PlannedBlock.{PlannedBlock}
-use Rattle.xet_run.specs.Allowed.{IsMissing}
-use Rattle.xet_run.specs.Events.{Task, is_kept}
+use Rattle.xet_events.specs.declared.event.Event.{Event}
+use Rattle.xet_events.specs.declared.event.PlannedBlock.{PlannedBlock}
+use Rattle.xet_events.specs.Allowed.{IsMissing}
+use Rattle.xet_events.specs.Events.{Task, is_kept}
 use Rattle.xet_history.specs.TrueHistory.{planned_term}
 use Rattle.xet_ties.specs.History.{block_at}
 use Rattle.xet_ties.specs.Saids.{has_bytes, planned_of}

@@ -5,12 +5,12 @@ use Rattle.std.proofs.lemmas.Bool.{or_cases, or_from, or_left, or_parts, or_righ
 use Rattle.std.proofs.lemmas.List.{append-nil}
 use Rattle.std.proofs.lemmas.List.Concat.{flat_map-append}
 use Rattle.std.proofs.lemmas.List.Folds.{list_any-append}
-use Rattle.xet_run.specs.declared.event.Event.{Event}
-use Rattle.xet_run.specs.declared.event.Event.TheVariants.{Cached}
-use Rattle.xet_run.specs.declared.event.PlannedBlock.{PlannedBlock}
-use Rattle.xet_run.specs.Allowed.{IsMissing}
-use Rattle.xet_run.specs.Events.{Task, is_admit, is_kept, keeps, planned}
-use Rattle.xet_run.proofs.CallerLemmas.{any-push, planned-push}
+use Rattle.xet_events.specs.declared.event.Event.{Event}
+use Rattle.xet_events.specs.declared.event.Event.TheVariants.{Cached}
+use Rattle.xet_events.specs.declared.event.PlannedBlock.{PlannedBlock}
+use Rattle.xet_events.specs.Allowed.{IsMissing}
+use Rattle.xet_events.specs.Events.{Task, is_admit, is_kept, keeps, planned}
+use Rattle.xet_events.proofs.CallerLemmas.{any-push, planned-push}
 use Rattle.xet_ties.specs.History.{block_at}
 use Rattle.xet_ties.specs.steps.Windows.{open_terms}
 use Rattle.xet_ties.proofs.CallerLemmas.{block_at-push, count-same, missing-push}

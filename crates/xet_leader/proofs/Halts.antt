@@ -3,8 +3,8 @@ use Rattle.std.proofs.Common.{◌≡◌, ℕ, ◌<◌, List, Err, Some, false, r
 use Rattle.std.specs.Prelude.{count_by}
 use Rattle.xet_error.specs.declared.error.FileReconstructionError.{FileReconstructionError}
 use Rattle.xet_error.specs.declared.error.FileReconstructionError.TheVariants as error
-use Rattle.xet_run.specs.declared.event.Event.{Event}
-use Rattle.xet_run.specs.Events.{expires}
+use Rattle.xet_events.specs.declared.event.Event.{Event}
+use Rattle.xet_events.specs.Events.{expires}
 use Rattle.xet_parts.specs.Stops.{IsStopped}
 use Rattle.xet_ties.specs.RunCalls.{IsCancelled, IsUnspent}
 use Rattle.xet_ties.specs.Setup.{Setup}

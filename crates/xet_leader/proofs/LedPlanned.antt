@@ -17,10 +17,10 @@ use Rattle.xet_blocks.specs.declared.reconstruction_terms.file_term.FileTerm.{Fi
 use Rattle.xet_blocks.specs.declared.reconstruction_terms.file_term.TermBlock.{TermBlock}
 use Rattle.xet_blocks.specs.TermBlockCalls.{FromAnswer}
 use Rattle.xet_blocks.specs.Terms.{terms_from}
-use Rattle.xet_run.specs.declared.event.Event.{Event}
-use Rattle.xet_run.specs.Allowed.{IsRunning}
-use Rattle.xet_run.specs.Events.{Task, is_admit, is_plan, plan_count, planned, size, tasks_of, written}
-use Rattle.xet_run.proofs.CallerLemmas.{error-push, planned-push, written-push}
+use Rattle.xet_events.specs.declared.event.Event.{Event}
+use Rattle.xet_events.specs.Allowed.{IsRunning}
+use Rattle.xet_events.specs.Events.{Task, is_admit, is_plan, plan_count, planned, size, tasks_of, written}
+use Rattle.xet_events.proofs.CallerLemmas.{error-push, planned-push, written-push}
 use Rattle.xet_history.specs.TrueHistory.{planned_term, queries}
 use Rattle.xet_parts.proofs.CallerLemmas.{query_within}
 use Rattle.xet_terms.specs.Managers.{Manager, accepted}

@@ -9,10 +9,10 @@ use Rattle.xet_error.specs.declared.error.FileReconstructionError.{FileReconstru
 use Rattle.xet_error.specs.declared.error.FileReconstructionError.TheVariants as error
 use Rattle.xet_blocks.specs.declared.reconstruction_terms.xorb_block.XorbBlock.{XorbBlock}
 use Rattle.xet_blocks.specs.declared.reconstruction_terms.xorb_block.XorbBlockData.{XorbBlockData}
-use Rattle.xet_run.specs.declared.event.Event.{Event}
-use Rattle.xet_run.specs.declared.event.Event.TheVariants.{Cached}
-use Rattle.xet_run.specs.Allowed.{IsMissing, IsRunning}
-use Rattle.xet_run.specs.Events.{keeps}
+use Rattle.xet_events.specs.declared.event.Event.{Event}
+use Rattle.xet_events.specs.declared.event.Event.TheVariants.{Cached}
+use Rattle.xet_events.specs.Allowed.{IsMissing, IsRunning}
+use Rattle.xet_events.specs.Events.{keeps}
 use Rattle.xet_ties.specs.steps.Parts.{FoundBlock}
 use Rattle.xet_ties.proofs.CallerLemmas.{IsStill, missing-push, running-push}
 use Rattle.xet_leader.specs.ByNumber.{plan_index}

@@ -15,11 +15,11 @@ use Rattle.xet_blocks.specs.declared.reconstruction_terms.xorb_block.XorbBlock.{
 use Rattle.xet_blocks.specs.declared.reconstruction_terms.xorb_block.XorbBlockData.{XorbBlockData}
 use Rattle.xet_blocks.specs.BlockChecks.{block_data}
 use Rattle.xet_fetch.specs.CachedBlocks.{FoundIn, LookOk, LookedFor, passes_cached}
-use Rattle.xet_run.specs.declared.event.Event.{Event}
-use Rattle.xet_run.specs.declared.event.Event.TheVariants.{Cached}
-use Rattle.xet_run.specs.declared.event.PlannedBlock.{PlannedBlock}
-use Rattle.xet_run.specs.Events.{is_kept}
-use Rattle.xet_run.specs.Allowed.{IsMissing}
+use Rattle.xet_events.specs.declared.event.Event.{Event}
+use Rattle.xet_events.specs.declared.event.Event.TheVariants.{Cached}
+use Rattle.xet_events.specs.declared.event.PlannedBlock.{PlannedBlock}
+use Rattle.xet_events.specs.Events.{is_kept}
+use Rattle.xet_events.specs.Allowed.{IsMissing}
 use Rattle.xet_ties.specs.History.{block_at, fetches}
 use Rattle.xet_ties.specs.InCall.{Look}
 use Rattle.xet_ties.specs.Saids.{IsLookedData, planned_of}

@@ -6,7 +6,7 @@ use Rattle.std.proofs.lemmas.List.Elements.{All-cons, All-head, All-nil, All-tai
 use Rattle.std.proofs.lemmas.Option.{IfSome_then}
 use Rattle.xet_blocks.specs.declared.reconstruction_terms.xorb_block.XorbBlock.{XorbBlock}
 use Rattle.xet_blocks.specs.declared.reconstruction_terms.xorb_block.XorbBlockData.{XorbBlockData}
-use Rattle.xet_run.specs.declared.event.Event.{Event}
+use Rattle.xet_events.specs.declared.event.Event.{Event}
 use Rattle.xet_ties.specs.InCall.{EachGrew, Look}
 use Rattle.xet_ties.specs.Saids.{IsLookedData, IsTestedData}
 use Rattle.xet_ties.specs.Setup.{RunTold, Setup}

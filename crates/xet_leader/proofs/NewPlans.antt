@@ -8,13 +8,13 @@ use Rattle.std.proofs.lemmas.List.{map-append}
 use Rattle.std.proofs.lemmas.List.Folds.{list_any-append}
 use Rattle.xet_base.specs.declared.cas_types.FileRange.{FileRange}
 use Rattle.xet_base.specs.Lists.{first_some}
-use Rattle.xet_run.specs.declared.event.Event.{Event}
-use Rattle.xet_run.specs.declared.event.Event.TheVariants.{Planned, Admit, Fetched, Cached, Expired, Refreshed, Wrote, Fail, Cancel}
-use Rattle.xet_run.specs.declared.event.PlannedBlock.{PlannedBlock}
-use Rattle.xet_run.specs.declared.event.PlannedTerm.{PlannedTerm}
-use Rattle.xet_run.specs.Allowed.{IsAllowed, IsAllowedHistory, IsMissing}
-use Rattle.xet_run.specs.Events.{Task, admitted, ended, expires, has_more, is_admit, is_kept, is_plan, keeps, last_of, needs, plan_count, planned, tasks_in, tasks_of, written}
-use Rattle.xet_run.proofs.CallerLemmas.{any-push, first_some-push, flat-push, kept_along, last_of-append, planned-push}
+use Rattle.xet_events.specs.declared.event.Event.{Event}
+use Rattle.xet_events.specs.declared.event.Event.TheVariants.{Planned, Admit, Fetched, Cached, Expired, Refreshed, Wrote, Fail, Cancel}
+use Rattle.xet_events.specs.declared.event.PlannedBlock.{PlannedBlock}
+use Rattle.xet_events.specs.declared.event.PlannedTerm.{PlannedTerm}
+use Rattle.xet_events.specs.Allowed.{IsAllowed, IsAllowedHistory, IsMissing}
+use Rattle.xet_events.specs.Events.{Task, admitted, ended, expires, has_more, is_admit, is_kept, is_plan, keeps, last_of, needs, plan_count, planned, tasks_in, tasks_of, written}
+use Rattle.xet_events.proofs.CallerLemmas.{any-push, first_some-push, flat-push, kept_along, last_of-append, planned-push}
 use Rattle.xet_ties.specs.History.{actual_range, blocks_in, expiry_of, is_expired, range_in}
 use Rattle.xet_ties.proofs.CallerLemmas.{count-more, count-same, expired-push}
 

@@ -9,11 +9,11 @@ use Rattle.xet_base.specs.declared.unique_id.UniqueId.{UniqueId}
 use Rattle.xet_outside.specs.declared.plan.PlanAnswer.{PlanAnswer}
 use Rattle.xet_outside.specs.declared.plan.PlanAnswer.TheVariants.{Found, NoFile, PastEnd}
 use Rattle.xet_outside.specs.Plan.{shape}
-use Rattle.xet_run.specs.declared.event.Event.{Event}
-use Rattle.xet_run.specs.declared.event.PlannedBlock.{PlannedBlock}
-use Rattle.xet_run.specs.declared.event.PlannedTerm.{PlannedTerm}
-use Rattle.xet_run.specs.Allowed.{Adjoin, IsRunning}
-use Rattle.xet_run.specs.Events.{Task, last_of, planned, planned_end}
+use Rattle.xet_events.specs.declared.event.Event.{Event}
+use Rattle.xet_events.specs.declared.event.PlannedBlock.{PlannedBlock}
+use Rattle.xet_events.specs.declared.event.PlannedTerm.{PlannedTerm}
+use Rattle.xet_events.specs.Allowed.{Adjoin, IsRunning}
+use Rattle.xet_events.specs.Events.{Task, last_of, planned, planned_end}
 use Rattle.xet_history.specs.TrueHistory.{planned_block, planned_term, queries, SomeEndsEarly}
 use Rattle.xet_terms.specs.Managers.{IsManager, Manager, looked_ahead, cut_end, scheduled_end}
 use Rattle.xet_terms.specs.Queries.{CutFrom, end_from}

@@ -6,9 +6,9 @@ use Rattle.std.proofs.lemmas.List.{drop-drop, drop_all, length-map, take-append-
 use Rattle.std.proofs.lemmas.List.Elements.{All-head, All-tail}
 use Rattle.xet_base.proofs.CallerLemmas.{drop-nil, take-nil}
 use Rattle.xet_blocks.specs.declared.reconstruction_terms.file_term.FileTerm.{FileTerm}
-use Rattle.xet_run.specs.declared.event.Event.{Event}
-use Rattle.xet_run.specs.declared.event.PlannedTerm.{PlannedTerm}
-use Rattle.xet_run.specs.Events.{Task, planned, tasks_of}
+use Rattle.xet_events.specs.declared.event.Event.{Event}
+use Rattle.xet_events.specs.declared.event.PlannedTerm.{PlannedTerm}
+use Rattle.xet_events.specs.Events.{Task, planned, tasks_of}
 use Rattle.xet_history.specs.TrueHistory.{planned_term}
 use Rattle.xet_ties.specs.Saids.{planned_of}
 use Rattle.xet_ties.specs.Setup.{RunTold, Setup}

@@ -6,9 +6,9 @@ use Rattle.std.proofs.lemmas.Bool.Decides.{eqb_tells}
 use Rattle.std.proofs.lemmas.List.Folds.{list_any-append}
 use Rattle.std.proofs.Math.Bool.{or-false}
 use Rattle.xet_base.specs.declared.error.OutOfMemory.{OutOfMemory}
-use Rattle.xet_run.specs.declared.block_table.BlockId.{BlockId}
-use Rattle.xet_run.specs.declared.block_table.BlockTable.{BlockTable}
-use Rattle.xet_run.specs.BlockTables.{Keeps, is_block, kept_in}
+use Rattle.xet_events.specs.declared.block_table.BlockId.{BlockId}
+use Rattle.xet_events.specs.declared.block_table.BlockTable.{BlockTable}
+use Rattle.xet_events.specs.BlockTables.{Keeps, is_block, kept_in}
 use Rattle.xet_leader.specs.declared.missing_blocks.BlockAt.{BlockAt}
 use Rattle.xet_leader.specs.Lacking.{AreListed, base_of, lists, same_place, with_place}
 

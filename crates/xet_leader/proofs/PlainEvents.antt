@@ -3,9 +3,9 @@ use Rattle.std.proofs.Common.{◌≡◌, ℕ, ◌+◌, false, List, [], ◌∷�
 use Rattle.std.specs.Prelude.{All}
 use Rattle.std.proofs.lemmas.List.Elements.{All-cons, All-head, All-nil, All-tail}
 use Rattle.xet_blocks.specs.declared.reconstruction_terms.xorb_block.XorbBlock.{XorbBlock}
-use Rattle.xet_run.specs.declared.event.Event.{Event}
-use Rattle.xet_run.specs.Allowed.{IsRunning}
-use Rattle.xet_run.specs.Events.{error_in, expires, expiry_in, is_plan, keeps, tasks_in}
+use Rattle.xet_events.specs.declared.event.Event.{Event}
+use Rattle.xet_events.specs.Allowed.{IsRunning}
+use Rattle.xet_events.specs.Events.{error_in, expires, expiry_in, is_plan, keeps, tasks_in}
 use Rattle.xet_history.specs.TrueHistory.{queries_in}
 use Rattle.xet_terms.specs.Managers.{Manager}
 use Rattle.xet_ties.specs.History.{expiry_of}

@@ -14,7 +14,7 @@ use Rattle.xet_blocks.specs.Blocks.{PlanBlock, blocks_of, same_block, term_block
 use Rattle.xet_blocks.specs.TermBlocks.{xorb_block, xorb_blocks}
 use Rattle.xet_blocks.specs.Terms.{terms_from, terms_of}
 use Rattle.xet_blocks.proofs.CallerLemmas.{eq-same_block, same_block-true}
-use Rattle.xet_run.specs.declared.event.Event.{Event}
+use Rattle.xet_events.specs.declared.event.Event.{Event}
 use Rattle.xet_ties.specs.Setup.{RunTold, Setup}
 use Rattle.xet_ties.specs.Ties.{Slack}
 use Rattle.xet_leader.specs.declared.leader.LedPlan.{LedPlan}

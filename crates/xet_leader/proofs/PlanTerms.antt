@@ -15,8 +15,8 @@ use Rattle.xet_blocks.specs.PlanChecks.{IsAccepted, sizes_from}
 use Rattle.xet_blocks.specs.TermBlocks.{covered}
 use Rattle.xet_blocks.specs.Terms.{terms_from, terms_of}
 use Rattle.xet_blocks.proofs.CallerLemmas.{eq-same_block, same_block-true, tested}
-use Rattle.xet_run.specs.Allowed.{Adjoin}
-use Rattle.xet_run.specs.Events.{last_of}
+use Rattle.xet_events.specs.Allowed.{Adjoin}
+use Rattle.xet_events.specs.Events.{last_of}
 use Rattle.xet_history.specs.TrueHistory.{planned_term}
 use Rattle.xet_ties.specs.History.{actual_range}
 

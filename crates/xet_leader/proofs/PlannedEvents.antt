@@ -29,12 +29,12 @@ use Rattle.xet_blocks.specs.Blocks.{PlanBlock, blocks_of}
 use Rattle.xet_blocks.specs.PlanChecks.{failed_test}
 use Rattle.xet_blocks.specs.TermBlockCalls.{FromAnswer, FromTerms, FromTested}
 use Rattle.xet_blocks.specs.TermBlocks.{IsTermBlock, covered, xorb_block}
-use Rattle.xet_run.specs.declared.event.Event.{Event}
-use Rattle.xet_run.specs.declared.event.Event.TheVariants.{Planned}
-use Rattle.xet_run.specs.declared.event.PlannedBlock.{PlannedBlock}
-use Rattle.xet_run.specs.declared.event.PlannedTerm.{PlannedTerm}
-use Rattle.xet_run.specs.Events.{Task, expires, is_kept, plan_count, planned, tasks_of}
-use Rattle.xet_run.proofs.CallerLemmas.{first_some-push, planned-push}
+use Rattle.xet_events.specs.declared.event.Event.{Event}
+use Rattle.xet_events.specs.declared.event.Event.TheVariants.{Planned}
+use Rattle.xet_events.specs.declared.event.PlannedBlock.{PlannedBlock}
+use Rattle.xet_events.specs.declared.event.PlannedTerm.{PlannedTerm}
+use Rattle.xet_events.specs.Events.{Task, expires, is_kept, plan_count, planned, tasks_of}
+use Rattle.xet_events.proofs.CallerLemmas.{first_some-push, planned-push}
 use Rattle.xet_history.specs.TrueHistory.{planned_term}
 use Rattle.xet_ties.specs.History.{actual_range, blocks_in, range_in}
 use Rattle.xet_ties.specs.InCall.{EachGrew, Exchange}

@@ -6,10 +6,10 @@ use Rattle.std.specs.List.{list_any, sum_by}
 use Rattle.std.proofs.lemmas.List.{append-nil}
 use Rattle.xet_base.specs.declared.cas_types.FileRange.{FileRange}
 use Rattle.xet_error.specs.declared.error.FileReconstructionError.{FileReconstructionError}
-use Rattle.xet_run.specs.declared.event.Event.{Event}
-use Rattle.xet_run.specs.Allowed.{IsRunning}
-use Rattle.xet_run.specs.Events.{Task, error_in, expires, expiry_in, is_admit, is_kept, is_plan, is_stale, keeps, last_of, plan_count, planned, size, taken_in, tasks_in, tasks_of, written}
-use Rattle.xet_run.proofs.CallerLemmas.{any-push, error-push, flat-push, planned-push, stale-push, written-push}
+use Rattle.xet_events.specs.declared.event.Event.{Event}
+use Rattle.xet_events.specs.Allowed.{IsRunning}
+use Rattle.xet_events.specs.Events.{Task, error_in, expires, expiry_in, is_admit, is_kept, is_plan, is_stale, keeps, last_of, plan_count, planned, size, taken_in, tasks_in, tasks_of, written}
+use Rattle.xet_events.proofs.CallerLemmas.{any-push, error-push, flat-push, planned-push, stale-push, written-push}
 use Rattle.xet_history.specs.TrueHistory.{SomeEndsEarly, EndsEarly, planned_term, queries, queries_in}
 use Rattle.xet_terms.specs.Managers.{Manager}
 use Rattle.xet_ties.specs.History.{expiry_of, is_expired}

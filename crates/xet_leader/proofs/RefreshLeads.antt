@@ -12,8 +12,8 @@ use Rattle.xet_outside.specs.Told.{ClientTold}
 use Rattle.xet_error.specs.declared.error.FileReconstructionError.{FileReconstructionError}
 use Rattle.xet_blocks.specs.TermBlocks.{covered}
 use Rattle.xet_fetch.specs.Refreshes.{RefreshCause}
-use Rattle.xet_run.specs.declared.event.Event.{Event}
-use Rattle.xet_run.specs.declared.event.Event.TheVariants.{Refreshed}
+use Rattle.xet_events.specs.declared.event.Event.{Event}
+use Rattle.xet_events.specs.declared.event.Event.TheVariants.{Refreshed}
 use Rattle.xet_ties.specs.History.{range_at}
 use Rattle.xet_ties.specs.Setup.{RunTold, Setup}
 use Rattle.xet_ties.specs.steps.Moves.{heard_first}
@@ -33,7 +33,7 @@ use Rattle.xet_leader.proofs.RefreshTables.{asks_again, refresh_passes}
 use Rattle.xet_leader.proofs.RefreshedEvents.{at_place, led_absent, led_refreshed}
 use Rattle.xet_leader.proofs.WriterFaults.{any_unfailed}
 use Rattle.xet_leader.proofs.Halts.{calm_halted}
-use Rattle.xet_run.specs.Events.{expires}
+use Rattle.xet_events.specs.Events.{expires}
 
 -- what a refresh touches at a moment
 abbrev touched : ClientTold → Moment → Led → Touched

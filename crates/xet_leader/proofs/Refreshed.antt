@@ -2,9 +2,9 @@
 use Rattle.std.proofs.Common.{◌≡◌, ℕ, zero, suc, ◌+◌, ◌<◌, Bool, List, [], ◌∷◌, ◌++◌, length, take, drop, get_or, refl, sym, subst, ap, arith, Option, None, Some, Ok, Err}
 use Rattle.std.proofs.lemmas.Option.{slice_get-get_or}
 use Rattle.xet_error.specs.declared.error.FileReconstructionError.{FileReconstructionError}
-use Rattle.xet_run.specs.declared.event.Event.{Event}
-use Rattle.xet_run.specs.declared.event.Event.TheVariants.{Refreshed}
-use Rattle.xet_run.specs.Allowed.{IsAllowed, IsRunning}
+use Rattle.xet_events.specs.declared.event.Event.{Event}
+use Rattle.xet_events.specs.declared.event.Event.TheVariants.{Refreshed}
+use Rattle.xet_events.specs.Allowed.{IsAllowed, IsRunning}
 use Rattle.xet_ties.proofs.CallerLemmas.{drop_at, take_at}
 use Rattle.xet_leader.specs.Led.{AreStale}
 use Rattle.xet_leader.specs.Plans.{find_plan}

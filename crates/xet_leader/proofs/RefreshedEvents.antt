@@ -22,11 +22,11 @@ use Rattle.xet_blocks.specs.Blocks.{PlanBlock, block_ranges, blocks_of}
 use Rattle.xet_blocks.specs.PlanChecks.{failed_test}
 use Rattle.xet_blocks.specs.TermBlocks.{block_url, covered, urls_of}
 use Rattle.xet_fetch.specs.Refreshes.{Extent, blocks_test, extent_of, failed_refresh, first_difference, next_id, plan_extents, range_test, same_extent}
-use Rattle.xet_run.specs.declared.event.Event.{Event}
-use Rattle.xet_run.specs.declared.event.Event.TheVariants.{Refreshed}
-use Rattle.xet_run.specs.Allowed.{IsRunning}
-use Rattle.xet_run.specs.Events.{expires, is_stale, last_of}
-use Rattle.xet_run.proofs.CallerLemmas.{flat-push, last_of-append, stale-push}
+use Rattle.xet_events.specs.declared.event.Event.{Event}
+use Rattle.xet_events.specs.declared.event.Event.TheVariants.{Refreshed}
+use Rattle.xet_events.specs.Allowed.{IsRunning}
+use Rattle.xet_events.specs.Events.{expires, is_stale, last_of}
+use Rattle.xet_events.proofs.CallerLemmas.{flat-push, last_of-append, stale-push}
 use Rattle.xet_ties.specs.History.{expiry_of, is_expired}
 use Rattle.xet_ties.specs.Setup.{RunTold, Setup}
 use Rattle.xet_ties.specs.Ties.{Slack}

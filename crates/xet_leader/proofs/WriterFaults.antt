@@ -4,7 +4,7 @@ use Rattle.xet_error.specs.declared.error.FileReconstructionError.{FileReconstru
 use Rattle.xet_error.specs.declared.error.FileReconstructionError.TheVariants as error
 use Rattle.xet_writers.specs.Calls.{SinkCause}
 use Rattle.xet_parts.specs.Stops.{IsStopped}
-use Rattle.xet_run.specs.declared.event.Event.{Event}
+use Rattle.xet_events.specs.declared.event.Event.{Event}
 use Rattle.xet_ties.specs.RunCalls.{Unfailed}
 use Rattle.std.specs.Prelude.{List}
 

@@ -1,8 +1,8 @@
 -- What admitting the terms of a run does to its leader.
 use Rattle.std.specs.Prelude.{ℕ, ◌≡◌, ◌+◌, ◌-◌, List, Result, OnOk, IfErr, min}
 use Rattle.xet_error.specs.declared.error.FileReconstructionError.{FileReconstructionError}
-use Rattle.xet_run.specs.declared.event.Event.{Event}
-use Rattle.xet_run.specs.Budgets.{LimitTold}
+use Rattle.xet_events.specs.declared.event.Event.{Event}
+use Rattle.xet_events.specs.Limits.{LimitTold}
 use Rattle.xet_parts.specs.Admissions.{AdmitsErr, AdmitsOk}
 use Rattle.xet_ties.specs.Setup.{Setup}
 use Rattle.xet_leader.specs.Led.{Led}

@@ -5,7 +5,7 @@ use Rattle.xet_outside.specs.Told.{ClientTold, SignalTold}
 use Rattle.xet_error.specs.declared.error.FileReconstructionError.{FileReconstructionError}
 use Rattle.xet_error.specs.declared.error.FileReconstructionError.TheVariants as error
 use Rattle.xet_blocks.specs.declared.reconstruction_terms.file_term.TermBlock.{TermBlock}
-use Rattle.xet_run.specs.declared.event.Event.{Event}
+use Rattle.xet_events.specs.declared.event.Event.{Event}
 use Rattle.xet_terms.specs.Managers.{Manager}
 use Rattle.xet_terms.specs.declared.manager.PlanDue.{PlanDue}
 use Rattle.xet_ties.specs.steps.Parts.{plan_query}

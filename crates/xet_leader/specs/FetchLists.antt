@@ -1,8 +1,8 @@
 -- The blocks that a run is to fetch, against its history.
 use Rattle.std.specs.Prelude.{ℕ, ◌≡◌, ◌⊎◌, true, false, List, [], ◌∷◌}
-use Rattle.xet_run.specs.declared.event.Event.{Event}
-use Rattle.xet_run.specs.Allowed.{IsMissing}
-use Rattle.xet_run.specs.Events.{Task, is_kept}
+use Rattle.xet_events.specs.declared.event.Event.{Event}
+use Rattle.xet_events.specs.Allowed.{IsMissing}
+use Rattle.xet_events.specs.Events.{Task, is_kept}
 use Rattle.xet_ties.specs.Saids.{has_bytes}
 use Rattle.xet_ties.specs.steps.Windows.{open_terms}
 use Rattle.xet_leader.specs.declared.missing_blocks.BlockAt.{BlockAt}

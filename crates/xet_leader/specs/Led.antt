@@ -13,10 +13,11 @@ use Rattle.xet_blocks.specs.declared.reconstruction_terms.xorb_block.XorbBlockDa
 use Rattle.xet_blocks.specs.BlockChecks.{block_data}
 use Rattle.xet_blocks.specs.TermBlocks.{covered, xorb_blocks}
 use Rattle.xet_blocks.specs.Terms.{terms_of}
-use Rattle.xet_run.specs.declared.event.Event.{Event}
-use Rattle.xet_run.specs.Allowed.{IsRunning}
-use Rattle.xet_run.specs.Events.{expires, is_admit, is_kept, is_stale, plan_count, planned, planned_end, size, tasks_of}
-use Rattle.xet_run.specs.Events.{written}
+use Rattle.xet_events.specs.declared.event.Event.{Event}
+use Rattle.xet_events.specs.Allowed.{IsRunning}
+use Rattle.xet_events.specs.Events.{expires, is_admit, is_kept, is_stale, plan_count, planned, planned_end, size}
+use Rattle.xet_events.specs.Events.{tasks_of}
+use Rattle.xet_events.specs.Events.{written}
 use Rattle.xet_history.specs.TrueHistory.{SomeEndsEarly, planned_term, queries}
 use Rattle.xet_terms.specs.Managers.{IsManager, Manager, scheduled_end}
 use Rattle.xet_terms.specs.Queries.{end_from}

@@ -7,9 +7,9 @@ use Rattle.xet_outside.specs.Told.{CacheTold}
 use Rattle.xet_error.specs.declared.error.FileReconstructionError.{FileReconstructionError}
 use Rattle.xet_error.specs.declared.error.FileReconstructionError.TheVariants as error
 use Rattle.xet_blocks.specs.declared.reconstruction_terms.xorb_block.XorbBlock.{XorbBlock}
-use Rattle.xet_run.specs.declared.event.Event.{Event}
-use Rattle.xet_run.specs.declared.event.PlannedBlock.{PlannedBlock}
-use Rattle.xet_run.specs.Allowed.{IsMissing, IsRunning}
+use Rattle.xet_events.specs.declared.event.Event.{Event}
+use Rattle.xet_events.specs.declared.event.PlannedBlock.{PlannedBlock}
+use Rattle.xet_events.specs.Allowed.{IsMissing, IsRunning}
 use Rattle.xet_ties.specs.History.{block_at}
 use Rattle.xet_ties.specs.Setup.{RunTold, Setup}
 use Rattle.xet_ties.specs.Ties.{Slack}

@@ -4,9 +4,9 @@ use Rattle.xet_base.specs.Store.{Store}
 use Rattle.xet_outside.specs.Told.{SinkTold}
 use Rattle.xet_error.specs.declared.error.FileReconstructionError.{FileReconstructionError}
 use Rattle.xet_error.specs.declared.error.FileReconstructionError.TheVariants as error
-use Rattle.xet_run.specs.declared.event.Event.{Event}
-use Rattle.xet_run.specs.declared.event.PlannedBlock.{PlannedBlock}
-use Rattle.xet_run.specs.Events.{expires, written}
+use Rattle.xet_events.specs.declared.event.Event.{Event}
+use Rattle.xet_events.specs.declared.event.PlannedBlock.{PlannedBlock}
+use Rattle.xet_events.specs.Events.{expires, written}
 use Rattle.xet_writers.specs.Sequential.{Sequential}
 use Rattle.xet_ties.specs.Causes.{Cause}
 use Rattle.xet_ties.specs.RunCalls.{IsCancelled, IsUnspent, Unfailed}

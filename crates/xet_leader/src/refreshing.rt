@@ -1,6 +1,6 @@
 //! Asks for the URLs of stale plans again.
 ghost use Rattle.std.specs.Prelude.{◌<◌, length};
-ghost use Rattle.xet_run.specs.Allowed.{IsAllowed, IsRunning};
+ghost use Rattle.xet_events.specs.Allowed.{IsAllowed, IsRunning};
 ghost use Rattle.xet_leader.specs.Led.{AreStale};
 ghost use Rattle.xet_leader.specs.Refreshing.{RefreshCalls, RefreshLeads, RefreshTurn, RefreshedAt, RefreshedOne};
 

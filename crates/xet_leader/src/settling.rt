@@ -1,5 +1,5 @@
 //! What is settled after a round: its blocks are offered to the cache, and stale plans are asked for again.
-ghost use Rattle.xet_run.specs.Allowed.{IsRunning};
+ghost use Rattle.xet_events.specs.Allowed.{IsRunning};
 ghost use Rattle.xet_leader.specs.Led.{AreStale};
 ghost use Rattle.xet_leader.specs.Settling.{SettleLeads, SettleTurn};
 

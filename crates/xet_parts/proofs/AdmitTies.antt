@@ -4,12 +4,12 @@ use Rattle.std.specs.Prelude.{count_by}
 use Rattle.std.specs.Option.{option_or}
 use Rattle.std.proofs.lemmas.List.{append-nil}
 use Rattle.xet_error.specs.declared.error.FileReconstructionError.{FileReconstructionError}
-use Rattle.xet_run.specs.declared.event.Event.{Event}
-use Rattle.xet_run.specs.declared.event.Event.TheVariants.{Admit}
-use Rattle.xet_run.specs.Allowed.{IsRunning, MayAdmit}
-use Rattle.xet_run.specs.Budgets.{LimitTold}
-use Rattle.xet_run.specs.Events.{first_error, is_admit, planned}
-use Rattle.xet_run.proofs.CallerLemmas.{count_by-push, error-push, planned-push}
+use Rattle.xet_events.specs.declared.event.Event.{Event}
+use Rattle.xet_events.specs.declared.event.Event.TheVariants.{Admit}
+use Rattle.xet_events.specs.Allowed.{IsRunning, MayAdmit}
+use Rattle.xet_events.specs.Limits.{LimitTold}
+use Rattle.xet_events.specs.Events.{first_error, is_admit, planned}
+use Rattle.xet_events.proofs.CallerLemmas.{count_by-push, error-push, planned-push}
 use Rattle.xet_ties.specs.steps.Parts.{AdmitsCall}
 use Rattle.xet_ties.proofs.CallerLemmas.{admits_asked, admits_none, admits_one}
 use Rattle.xet_parts.specs.Admissions.{Admitted, AdmitsOk, GaveLimits, IsWaiting, admits}

@@ -2,10 +2,10 @@
 use Rattle.std.proofs.Common.{◌≡◌, ℕ, ◌+◌, ◌-◌, ◌<◌, List, [], ◌∷◌, ◌++◌, length, Ok, Err, refl, sym, subst, ◌∙◌, ap, arith, append_assoc}
 use Rattle.std.proofs.lemmas.List.{append-nil, map-append, length-append}
 use Rattle.xet_error.specs.declared.error.FileReconstructionError.TheVariants as error
-use Rattle.xet_run.specs.declared.event.Event.{Event}
-use Rattle.xet_run.specs.declared.event.Event.TheVariants.{Admit}
-use Rattle.xet_run.specs.Allowed.{IsAllowed}
-use Rattle.xet_run.specs.Budgets.{LimitCall, LimitTold}
+use Rattle.xet_events.specs.declared.event.Event.{Event}
+use Rattle.xet_events.specs.declared.event.Event.TheVariants.{Admit}
+use Rattle.xet_events.specs.Allowed.{IsAllowed}
+use Rattle.xet_events.specs.Limits.{LimitCall, LimitTold}
 use Rattle.xet_parts.specs.Admissions.{AdmitTermsCall, GaveLimits, admits}
 
 -- one limit more was given

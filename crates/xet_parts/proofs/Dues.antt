@@ -5,7 +5,7 @@ use Rattle.xet_base.specs.declared.cas_types.FileRange.{FileRange}
 use Rattle.xet_outside.specs.Told.{Rose, SignalTold}
 use Rattle.xet_error.specs.declared.error.FileReconstructionError.{FileReconstructionError}
 use Rattle.xet_error.specs.declared.error.FileReconstructionError.TheVariants as error
-use Rattle.xet_run.specs.declared.event.Event.{Event}
+use Rattle.xet_events.specs.declared.event.Event.{Event}
 use Rattle.xet_terms.specs.declared.manager.PlanDue.{PlanDue}
 use Rattle.xet_terms.specs.Managers.{IsManager, Manager, looked_ahead, scheduled_end}
 use Rattle.xet_terms.proofs.CallerLemmas.{covered, looked_goes_on, looked_same}

@@ -17,8 +17,8 @@ use Rattle.xet_blocks.specs.declared.reconstruction_terms.file_term.TermBlock.{T
 use Rattle.xet_blocks.specs.TermBlocks.{covered}
 use Rattle.xet_blocks.specs.TermBlockCalls.{QueryAnswered}
 use Rattle.xet_fetch.specs.Refreshes.{Extent, MayAsk, Refresh, RefreshCause, failed_refresh, plan_extents, refusal_of}
-use Rattle.xet_run.specs.declared.event.Event.{Event}
-use Rattle.xet_run.specs.Events.{is_stale}
+use Rattle.xet_events.specs.declared.event.Event.{Event}
+use Rattle.xet_events.specs.Events.{is_stale}
 use Rattle.xet_ties.specs.History.{range_at}
 use Rattle.xet_ties.specs.Saids.{InStep, IsPlanAccepted}
 use Rattle.xet_ties.specs.Setup.{IsOver, RunTold, Setup}

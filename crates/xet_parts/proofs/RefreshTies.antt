@@ -7,7 +7,7 @@ use Rattle.xet_outside.specs.declared.said.Said.TheVariants as said
 use Rattle.xet_outside.specs.Told.{ClientTold}
 use Rattle.xet_error.specs.declared.error.FileReconstructionError.{FileReconstructionError}
 use Rattle.xet_blocks.specs.declared.reconstruction_terms.file_term.TermBlock.{TermBlock}
-use Rattle.xet_run.specs.declared.event.Event.{Event}
+use Rattle.xet_events.specs.declared.event.Event.{Event}
 use Rattle.xet_ties.specs.History.{range_at}
 use Rattle.xet_ties.specs.Saids.{InStep, IsPlanAccepted}
 use Rattle.xet_ties.specs.Setup.{RunTold, Setup}

@@ -1,9 +1,9 @@
 -- A history without an error has no cancel.
 use Rattle.std.proofs.Common.{◌≡◌, false, List, [], ◌∷◌, None, refl}
 use Rattle.std.specs.List.{list_any}
-use Rattle.xet_run.specs.declared.event.Event.{Event}
-use Rattle.xet_run.specs.declared.event.Event.TheVariants.{Planned, Admit, Fetched, Cached, Expired, Refreshed, Wrote, Fail, Cancel}
-use Rattle.xet_run.specs.Events.{first_error, is_cancel}
+use Rattle.xet_events.specs.declared.event.Event.{Event}
+use Rattle.xet_events.specs.declared.event.Event.TheVariants.{Planned, Admit, Fetched, Cached, Expired, Refreshed, Wrote, Fail, Cancel}
+use Rattle.xet_events.specs.Events.{first_error, is_cancel}
 
 pub running_uncancelled : (es : List Event) → first_error es ≡ None → list_any is_cancel es ≡ false
 running_uncancelled [] h = refl

@@ -2,10 +2,10 @@
 use Rattle.std.specs.Prelude.{ℕ, ◌≡◌, ◌+◌, ◌<◌, List, [], ◌∷◌, ◌++◌, length, map, Result, IfOk, IfErr}
 use Rattle.xet_error.specs.declared.error.FileReconstructionError.{FileReconstructionError}
 use Rattle.xet_error.specs.declared.error.FileReconstructionError.TheVariants as error
-use Rattle.xet_run.specs.declared.event.Event.{Event}
-use Rattle.xet_run.specs.declared.event.Event.TheVariants.{Admit}
-use Rattle.xet_run.specs.Allowed.{IsAllowed}
-use Rattle.xet_run.specs.Budgets.{LimitCall, LimitTold}
+use Rattle.xet_events.specs.declared.event.Event.{Event}
+use Rattle.xet_events.specs.declared.event.Event.TheVariants.{Admit}
+use Rattle.xet_events.specs.Allowed.{IsAllowed}
+use Rattle.xet_events.specs.Limits.{LimitCall, LimitTold}
 
 -- a source was asked so often, and gave these limits one after another
 abbrev pub GaveLimits : LimitTold → LimitTold → List ℕ → Type 0

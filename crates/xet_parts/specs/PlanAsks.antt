@@ -8,8 +8,8 @@ use Rattle.xet_error.specs.declared.error.FileReconstructionError.TheVariants as
 use Rattle.xet_blocks.specs.declared.reconstruction_terms.file_term.TermBlock.{TermBlock}
 use Rattle.xet_blocks.specs.PlanQuery.{PlanQuery}
 use Rattle.xet_blocks.specs.TermBlockCalls.{FromSaid, TermBlockCall}
-use Rattle.xet_run.specs.declared.event.Event.{Event}
-use Rattle.xet_run.specs.Allowed.{IsAllowed}
+use Rattle.xet_events.specs.declared.event.Event.{Event}
+use Rattle.xet_events.specs.Allowed.{IsAllowed}
 use Rattle.xet_terms.specs.Managers.{Manager, PassesKnownEnd, accepted}
 use Rattle.xet_ties.specs.steps.Parts.{plan_event}
 

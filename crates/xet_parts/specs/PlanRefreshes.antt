@@ -5,9 +5,9 @@ use Rattle.xet_error.specs.declared.error.FileReconstructionError.{FileReconstru
 use Rattle.xet_error.specs.declared.error.FileReconstructionError.TheVariants as error
 use Rattle.xet_blocks.specs.declared.reconstruction_terms.file_term.TermBlock.{TermBlock}
 use Rattle.xet_fetch.specs.Refreshes.{IsRefreshed, MayAsk, Refresh, RefreshCause, next_id, refresh_of}
-use Rattle.xet_run.specs.declared.event.Event.{Event}
-use Rattle.xet_run.specs.declared.event.Event.TheVariants.{Refreshed}
-use Rattle.xet_run.specs.Events.{is_stale}
+use Rattle.xet_events.specs.declared.event.Event.{Event}
+use Rattle.xet_events.specs.declared.event.Event.TheVariants.{Refreshed}
+use Rattle.xet_events.specs.Events.{is_stale}
 
 -- what is asked again for a plan
 abbrev pub again : TermBlock → Bool → Refresh

@@ -1,7 +1,7 @@
 //! Records one event that is allowed.
 ghost use Rattle.std.specs.Prelude.{◌≡◌, ◌+◌, [], ◌∷◌, OnErr};
-ghost use Rattle.xet_run.specs.Allowed.{IsAllowed};
-ghost use Rattle.xet_run.specs.Events.{plan_count};
+ghost use Rattle.xet_events.specs.Allowed.{IsAllowed};
+ghost use Rattle.xet_events.specs.Events.{plan_count};
 ghost use Rattle.xet_ties.specs.steps.Records.{Recorded};
 
 use std::alloc::Global;

@@ -1,6 +1,6 @@
 //! Looks for a missing block in the cache.
 ghost use Rattle.std.specs.Prelude.{◌≡◌, OnErr};
-ghost use Rattle.xet_run.specs.Allowed.{IsAllowed};
+ghost use Rattle.xet_events.specs.Allowed.{IsAllowed};
 ghost use Rattle.xet_ties.specs.steps.Parts.{LookUpCall};
 
 use crate::event_calls::add_cached;

@@ -1,6 +1,6 @@
 //! Asks for the plan of a query.
 ghost use Rattle.std.specs.Prelude.{◌≡◌, ◌<◌, List, Option, Some, is_some, map, not, slice_get};
-ghost use Rattle.xet_run.specs.Allowed.{IsAllowed};
+ghost use Rattle.xet_events.specs.Allowed.{IsAllowed};
 ghost use Rattle.xet_history.specs.TrueHistory.{planned_term};
 ghost use Rattle.xet_terms.specs.Managers.{PassesKnownEnd, waiting_after};
 ghost use Rattle.xet_ties.specs.Saids.{planned_of};

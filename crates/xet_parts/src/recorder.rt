@@ -1,5 +1,5 @@
 //! Records what the lanes and the writer of a turn did.
-ghost use Rattle.xet_run.specs.Allowed.{AllowedAfter};
+ghost use Rattle.xet_events.specs.Allowed.{AllowedAfter};
 ghost use Rattle.xet_ties.specs.steps.Records.{Recorded, expired_event, expired_on, fetched_event, fetched_on};
 ghost use Rattle.xet_ties.specs.steps.Records.{wrote_event, wrote_of};
 

@@ -1,7 +1,7 @@
 //! Records the error by which a run ends.
 ghost use Rattle.std.specs.Prelude.{◌≡◌};
 ghost use Rattle.xet_error.specs.declared.error.FileReconstructionError.TheVariants as error;
-ghost use Rattle.xet_run.specs.Allowed.{IsRunning};
+ghost use Rattle.xet_events.specs.Allowed.{IsRunning};
 ghost use Rattle.xet_ties.specs.steps.Parts.{stop_event};
 ghost use Rattle.xet_parts.specs.Stops.{IsStopped};
 

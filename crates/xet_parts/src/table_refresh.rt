@@ -1,5 +1,5 @@
 //! Asks for the URLs of a plan again.
-ghost use Rattle.xet_run.specs.Allowed.{IsAllowed};
+ghost use Rattle.xet_events.specs.Allowed.{IsAllowed};
 ghost use Rattle.xet_parts.specs.PlanRefreshes.{RefreshPlanCall};
 
 use crate::event_calls::add_refreshed;

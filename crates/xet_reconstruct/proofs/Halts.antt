@@ -4,8 +4,8 @@ use Rattle.xet_outside.specs.Told.{Rose, SinkTold}
 use Rattle.xet_error.specs.declared.error.FileReconstructionError.{FileReconstructionError}
 use Rattle.xet_error.specs.declared.error.FileReconstructionError.TheVariants as error
 use Rattle.xet_error.specs.declared.error.Setting.{Setting}
-use Rattle.xet_run.specs.declared.event.Event.TheVariants.{Fail}
-use Rattle.xet_run.specs.Allowed.{IsAllowedHistory}
+use Rattle.xet_events.specs.declared.event.Event.TheVariants.{Fail}
+use Rattle.xet_events.specs.Allowed.{IsAllowedHistory}
 use Rattle.xet_writers.specs.Calls.{SinkCause}
 use Rattle.xet_ties.specs.Causes.{failing_setting}
 use Rattle.xet_ties.specs.Legal.{Legal}

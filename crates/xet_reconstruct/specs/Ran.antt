@@ -1,14 +1,14 @@
 -- A run whose history and source of limits are its own.
 use Rattle.std.specs.Prelude.{ℕ, List, Option, None, Some, Result}
 use Rattle.xet_error.specs.declared.error.FileReconstructionError.{FileReconstructionError}
-use Rattle.xet_run.specs.declared.budget_book.BookView.{BookView}
-use Rattle.xet_run.specs.declared.event.Event.{Event}
-use Rattle.xet_run.specs.Allowed.{IsAllowedHistory}
-use Rattle.xet_run.specs.Budgets.{LimitTold}
+use Rattle.xet_events.specs.declared.budget_book.BookView.{BookView}
+use Rattle.xet_events.specs.declared.event.Event.{Event}
+use Rattle.xet_events.specs.Allowed.{IsAllowedHistory}
+use Rattle.xet_events.specs.Limits.{LimitTold}
 use Rattle.xet_terms.specs.declared.reconstruction_config.ReconstructionConfig.{ReconstructionConfig}
 use Rattle.xet_ties.specs.RunCalls.{RunCall}
 use Rattle.xet_ties.specs.Setup.{RunTold, Setup}
-use Rattle.xet_run.specs.Books.{book_limit}
+use Rattle.xet_events.specs.Books.{book_limit}
 
 -- the same told with these limits
 abbrev pub limited : LimitTold → RunTold → RunTold

@@ -3,7 +3,7 @@ use Rattle.std.specs.Prelude.{false, List, None, map}
 use Rattle.xet_base.specs.declared.cas_types.FileRange.{FileRange}
 use Rattle.xet_base.specs.declared.merklehash.MerkleHash.{MerkleHash}
 use Rattle.xet_outside.specs.Told.{CacheTold, ClientTold, SignalTold, SinkTold}
-use Rattle.xet_run.specs.Budgets.{LimitTold}
+use Rattle.xet_events.specs.Limits.{LimitTold}
 use Rattle.xet_terms.specs.declared.reconstruction_config.ReconstructionConfig.{ReconstructionConfig}
 use Rattle.xet_ties.specs.Setup.{RunTold, Setup}
 

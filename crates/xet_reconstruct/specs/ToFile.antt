@@ -9,7 +9,7 @@ use Rattle.xet_outside.specs.Told.{Link, Rose, SinkTold, Took}
 use Rattle.xet_error.specs.declared.error.FileReconstructionError.{FileReconstructionError}
 use Rattle.xet_error.specs.declared.error.FileReconstructionError.TheVariants as error
 use Rattle.xet_error.specs.declared.error.Setting.{Setting}
-use Rattle.xet_run.specs.Budgets.{LimitTold}
+use Rattle.xet_events.specs.Limits.{LimitTold}
 use Rattle.xet_ties.specs.Causes.{failing_setting}
 use Rattle.xet_ties.specs.Legal.{Legal}
 use Rattle.xet_ties.specs.RunCalls.{DidNothing}

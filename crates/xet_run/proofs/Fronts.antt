@@ -1,14 +1,14 @@
 -- The terms at the front of the two queues.
 use Rattle.std.proofs.Common.{◌≡◌, ℕ, suc, zero, ◌+◌, ◌≤◌, ◌⊎◌, true, List, [], ◌∷◌, drop, Option, Some, None, refl, sym, subst, ◌∙◌, ap, arith}
 use Rattle.std.specs.Prelude.{map, count_by, slice_get, MatchOption, option_map}
-use Rattle.xet_run.specs.declared.event.Event.{Event}
-use Rattle.xet_run.specs.declared.index.WaitingTerm.{WaitingTerm}
-use Rattle.xet_run.specs.declared.index.UnfinishedTerm.{UnfinishedTerm}
-use Rattle.xet_run.specs.declared.index.Index.{Index}
-use Rattle.xet_run.specs.Events.{Task, size, planned, is_admit, written, unwritten, unfinished, is_kept}
-use Rattle.xet_run.specs.Allowed.{MayAdmit, MayWrite}
-use Rattle.xet_run.specs.BlockTables.{kept_in}
-use Rattle.xet_run.specs.steps.Index.{IsIndexed, waiting_of, unfinished_of}
+use Rattle.xet_events.specs.declared.event.Event.{Event}
+use Rattle.xet_events.specs.declared.index.WaitingTerm.{WaitingTerm}
+use Rattle.xet_events.specs.declared.index.UnfinishedTerm.{UnfinishedTerm}
+use Rattle.xet_events.specs.declared.index.Index.{Index}
+use Rattle.xet_events.specs.Events.{Task, size, planned, is_admit, written, unwritten, unfinished, is_kept}
+use Rattle.xet_events.specs.Allowed.{MayAdmit, MayWrite}
+use Rattle.xet_events.specs.BlockTables.{kept_in}
+use Rattle.xet_events.specs.Indexes.{IsIndexed, waiting_of, unfinished_of}
 
 front_of : {A B : Type 0} (f : A → B) (n : ℕ) (xs : List A) → slice_get (map f (drop n xs)) 0 ≡ option_map f (slice_get xs n)
 front_of f zero [] = refl

@@ -2,10 +2,10 @@
 use Rattle.std.proofs.Common.{◌≡◌, List, [], ◌∷◌, ◌++◌, refl, sym, ap, ◌∙◌}
 use Rattle.std.specs.Prelude.{Option, Some, None}
 use Rattle.std.specs.Result.{result_err}
-use Rattle.xet_run.specs.declared.run_book.RunBook.{RunBook}
-use Rattle.xet_run.specs.declared.run_call.RunCall.{RunCall}
-use Rattle.xet_run.specs.RunBooks.{answer_of}
-use Rattle.xet_run.specs.RunReplay.{book_after, book_after_all, all_replied, replied}
+use Rattle.xet_events.specs.declared.run_book.RunBook.{RunBook}
+use Rattle.xet_events.specs.declared.run_call.RunCall.{RunCall}
+use Rattle.xet_events.specs.RunBooks.{answer_of}
+use Rattle.xet_events.specs.RunReplay.{book_after, book_after_all, all_replied, replied}
 
 after_last : (b : RunBook) (cs : List RunCall) (c : RunCall) → book_after_all b (cs ++ c ∷ []) ≡ book_after (book_after_all b cs) c
 after_last b [] c = refl

@@ -9,17 +9,15 @@ use Rattle.std.proofs.lemmas.List.{append-nil}
 use Rattle.std.proofs.lemmas.Bool.{and_parts, and_from, not-true, not_from_false}
 use Rattle.xet_error.specs.declared.error.FileReconstructionError.{FileReconstructionError}
 use Rattle.xet_error.specs.declared.error.FileReconstructionError.TheVariants.{Cancelled}
-use Rattle.xet_run.specs.declared.event.Event.{Event}
-use Rattle.xet_run.specs.declared.event.Event.TheVariants.{Fetched, Cached, Expired, Refreshed, Fail, Cancel}
-use Rattle.xet_run.specs.declared.block_table.BlockTable.{BlockTable}
-use Rattle.xet_run.specs.declared.index.Index.{Index}
-use Rattle.xet_run.specs.Events.{Task, size, last_of, planned, plan_count, planned_end, tasks_in, is_plan, is_admit, admitted, written, taken_in, unwritten, ended, has_more, unfinished, keeps, is_kept, expiry_in, is_stale, first_error, error_in, is_cancel}
-use Rattle.xet_run.specs.Allowed.{IsAllowed, IsMissing}
-use Rattle.xet_run.specs.BlockTables.{Keeps, block_id, end_in, kept_in}
-use Rattle.xet_run.specs.steps.Index.{IsIndexed, waiting_of, unfinished_of, last_end, ends_after}
-use Rattle.xet_run.proofs.Push.{count_by-push, any-push, planned-push, written-push, error-push, stale-push}
-use Rattle.xet_run.proofs.Histories.{allowed_push}
-use Rattle.xet_run.proofs.Facts.{facts, admitted-same}
+use Rattle.xet_events.specs.declared.event.Event.{Event}
+use Rattle.xet_events.specs.declared.event.Event.TheVariants.{Fetched, Cached, Expired, Refreshed, Fail, Cancel}
+use Rattle.xet_events.specs.declared.block_table.BlockTable.{BlockTable}
+use Rattle.xet_events.specs.declared.index.Index.{Index}
+use Rattle.xet_events.specs.Events.{Task, size, last_of, planned, plan_count, planned_end, tasks_in, is_plan, is_admit, admitted, written, taken_in, unwritten, ended, has_more, unfinished, keeps, is_kept, expiry_in, is_stale, first_error, error_in, is_cancel}
+use Rattle.xet_events.specs.Allowed.{IsAllowed, IsMissing}
+use Rattle.xet_events.specs.BlockTables.{Keeps, block_id, end_in, kept_in}
+use Rattle.xet_events.specs.Indexes.{IsIndexed, waiting_of, unfinished_of, last_end, ends_after}
+use Rattle.xet_events.proofs.CallerLemmas.{count_by-push, any-push, planned-push, written-push, error-push, stale-push, allowed_push, facts, admitted-same}
 use Rattle.xet_run.proofs.Keys.{is_eq-nat, or_true, or_false}
 use Rattle.xet_run.proofs.Wanted.{wanted_is}
 

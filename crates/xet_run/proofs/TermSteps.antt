@@ -11,20 +11,18 @@ use Rattle.std.proofs.lemmas.List.Sums.{sum_by_push, sum_by-cons, sum_by-take-le
 use Rattle.std.proofs.lemmas.Bool.{ltb-true, ltb-false, lt-ltb, le-ltb, eq-eqb, ne_eqb, cases_eq}
 use Rattle.xet_error.specs.declared.error.FileReconstructionError.{FileReconstructionError}
 use Rattle.xet_base.specs.declared.cas_types.FileRange.{FileRange}
-use Rattle.xet_run.specs.declared.event.PlannedTerm.{PlannedTerm}
-use Rattle.xet_run.specs.declared.event.PlannedBlock.{PlannedBlock}
-use Rattle.xet_run.specs.declared.event.Event.{Event}
-use Rattle.xet_run.specs.declared.event.Event.TheVariants.{Planned, Admit, Wrote}
-use Rattle.xet_run.specs.declared.index.WaitingTerm.{WaitingTerm}
-use Rattle.xet_run.specs.declared.index.UnfinishedTerm.{UnfinishedTerm}
-use Rattle.xet_run.specs.declared.index.Index.{Index}
-use Rattle.xet_run.specs.Events.{Task, size, needs, last_of, planned, plan_count, planned_end, tasks_of, is_plan, is_admit, admitted, written, ended, has_more, unfinished, keeps, is_kept, first_error, is_cancel}
-use Rattle.xet_run.specs.Allowed.{MayWrite, IsAllowed}
-use Rattle.xet_run.specs.BlockTables.{end_in, is_block, kept_in}
-use Rattle.xet_run.specs.steps.Index.{IsIndexed, IsAdmitted, waiting_of, waiting_in, unfinished_of, finished, last_end, or_else, end_where}
-use Rattle.xet_run.proofs.Push.{count_by-push, any-push, planned-push, written-push, error-push, stale-push, end-push}
-use Rattle.xet_run.proofs.Histories.{allowed_push}
-use Rattle.xet_run.proofs.Facts.{facts, admitted-same, admitted-more, next_in, may_write}
+use Rattle.xet_events.specs.declared.event.PlannedTerm.{PlannedTerm}
+use Rattle.xet_events.specs.declared.event.PlannedBlock.{PlannedBlock}
+use Rattle.xet_events.specs.declared.event.Event.{Event}
+use Rattle.xet_events.specs.declared.event.Event.TheVariants.{Planned, Admit, Wrote}
+use Rattle.xet_events.specs.declared.index.WaitingTerm.{WaitingTerm}
+use Rattle.xet_events.specs.declared.index.UnfinishedTerm.{UnfinishedTerm}
+use Rattle.xet_events.specs.declared.index.Index.{Index}
+use Rattle.xet_events.specs.Events.{Task, size, needs, last_of, planned, plan_count, planned_end, tasks_of, is_plan, is_admit, admitted, written, ended, has_more, unfinished, keeps, is_kept, first_error, is_cancel}
+use Rattle.xet_events.specs.Allowed.{MayWrite, IsAllowed}
+use Rattle.xet_events.specs.BlockTables.{end_in, is_block, kept_in}
+use Rattle.xet_events.specs.Indexes.{IsIndexed, IsAdmitted, waiting_of, waiting_in, unfinished_of, finished, last_end, or_else, end_where}
+use Rattle.xet_events.proofs.CallerLemmas.{count_by-push, any-push, planned-push, written-push, error-push, stale-push, end-push, allowed_push, facts, admitted-same, admitted-more, next_in, may_write}
 use Rattle.xet_run.proofs.Keys.{or_false}
 
 or_nothing : (o : Option FileReconstructionError) → o ≡ option_or o None
@@ -285,26 +283,6 @@ planned_step plan query ts blocks es i j x a q is to fits =
       error_is = ap (λ (m : Index). m.first_error) is ∙ x.error_is ∙ or_nothing (first_error es) ∙ sym (error-push es e);
       cancelled_is = ap (λ (m : Index). m.cancelled) is ∙ x.cancelled_is ∙ or_false (list_any is_cancel es) ∙ sym (any-push is_cancel es e);
     }
-
--- the last element of a list
-pub last_is : {A : Type 0} (f : A → ℕ) (xs : List A) (d : ℕ) (x : A) → slice_get xs (length xs - 1) ≡ Some x → last_of d (map f xs) ≡ f x
-last_is f [] d x h = absurd (cc)
-last_is f (y ∷ []) d x h = ap f (let e : y ≡ x = cc in e)
-last_is f (y ∷ z ∷ zs) d x h =
-    let n : length (y ∷ z ∷ zs) - 1 ≡ suc (length (z ∷ zs) - 1) = omega arith in
-    last_is f (z ∷ zs) (f y) x (ap (λ (k : ℕ). slice_get (y ∷ z ∷ zs) k) (sym n) ∙ h)
-
-pub last_none : {A : Type 0} (f : A → ℕ) (xs : List A) (d : ℕ) → slice_get xs (length xs - 1) ≡ None → last_of d (map f xs) ≡ d
-last_none f [] d h = refl
-last_none f (y ∷ []) d h = absurd (cc)
-last_none f (y ∷ z ∷ zs) d h =
-    let n : length (y ∷ z ∷ zs) - 1 ≡ suc (length (z ∷ zs) - 1) = omega arith in
-    absurd (some (z ∷ zs) (length (z ∷ zs) - 1) (omega arith) (ap (λ (k : ℕ). slice_get (y ∷ z ∷ zs) k) (sym n) ∙ h))
-  where
-    some : {A : Type 0} (xs : List A) (k : ℕ) → k < length xs → slice_get xs k ≡ None → ⊥
-    some [] k l h = omega arith
-    some (x ∷ xs) zero l h = cc
-    some (x ∷ xs) (suc k) l h = some xs k (omega arith) h
 
 -- the sums of the counters fit
 pub counters_fit : (es : List Event) (i : Index) → IsIndexed es i → i.written + i.unwritten ≡ sum_by size (admitted es)

@@ -3,8 +3,8 @@ use Rattle.std.proofs.Common.{◌≡◌, ℕ, ◌+◌, ◌≤◌, ◌&&◌, ◌|
 use Rattle.std.specs.Prelude.{filter, nat_lt}
 use Rattle.std.specs.List.{list_any}
 use Rattle.std.proofs.lemmas.Bool.{ltb-true, lt-ltb}
-use Rattle.xet_run.specs.Events.{Task, size, needs, ended, has_more}
-use Rattle.xet_run.specs.steps.Index.{or_else, end_where, last_end, ends_after}
+use Rattle.xet_events.specs.Events.{Task, size, needs, ended, has_more}
+use Rattle.xet_events.specs.Indexes.{or_else, end_where, last_end, ends_after}
 
 -- the ends lie after the place where the first term stands
 pub last_end_from : (p b q : ℕ) (ts : List Task) (e : ℕ) → last_end p b (ended q ts) ≡ Some e → q ≤ e

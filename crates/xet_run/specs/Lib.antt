@@ -1,10 +1,3 @@
-pub mod Allowed
-pub mod BlockTables
-pub mod Books
 pub mod Budgets
 pub mod CoreCalls
-pub mod Events
-pub mod Laws
-pub mod RunBooks
-pub mod RunReplay
 pub mod steps

@@ -1,3 +1,2 @@
 -- Working words of private functions.
-pub mod Index
 pub mod RunLogs

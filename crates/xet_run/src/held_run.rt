@@ -1,12 +1,11 @@
 //! The state of a run, held for many calls.
 ghost use Rattle.std.specs.Prelude.{◌≡◌, ◌+◌, Some, OnOk, OnErr};
 
-use crate::call_log::{CallLog, ToldCalls};
-use crate::run_call::RunCall;
 use crate::run_state::{Logged, RunPass};
 use std::sync::MutexGuard;
 use std::sync::ledger::Ledger;
 use xet_base::OutOfMemory;
+use xet_events::{CallLog, RunCall, ToldCalls};
 
 /// The state of a run under its lock. Each call is one of `RunState`, by its contract, without taking the lock again.
 ///

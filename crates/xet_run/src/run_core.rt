@@ -1,20 +1,17 @@
 //! The core of a run: a history of events, each of which was allowed after those before it.
 ghost use Rattle.std.specs.Prelude.{◌≡◌, ◌+◌, ◌≤◌, [], true, false, MatchOption, option_map, slice_get, count_by};
-ghost use Rattle.xet_run.specs.Allowed.{IsAllowedHistory, IsRunning, IsMissing, MayAdmit, MayWrite};
+ghost use Rattle.xet_events.specs.Allowed.{IsAllowedHistory, IsRunning, IsMissing, MayAdmit, MayWrite};
 ghost use Rattle.xet_run.specs.CoreCalls.{Adds};
-ghost use Rattle.xet_run.specs.Events.{planned, plan_count, is_admit, is_kept, written, unwritten, first_error};
-ghost use Rattle.xet_run.specs.steps.Index.{waiting_of};
+ghost use Rattle.xet_events.specs.Events.{planned, plan_count, is_admit, is_kept, written, unwritten, first_error};
+ghost use Rattle.xet_events.specs.Indexes.{waiting_of};
 
-use crate::block_table::BlockId;
-use crate::core_refusal::CoreRefusal;
-use crate::event::Event;
-use crate::event_log::{EventLog, KeptEvents};
-use crate::index::{Index, WaitingTerm, adjoin};
-use crate::plan_source::PlanSource;
 use std::alloc::Global;
 use std::marker::Model;
 use xet_base::FileRange;
 use xet_error::FileReconstructionError;
+use xet_events::{
+    BlockId, CoreRefusal, Event, EventLog, Index, KeptEvents, PlanSource, WaitingTerm, adjoin,
+};
 
 /// A run's history: each of its events was allowed after those before it. Contracts see it as the list of its events.
 ///
@@ -37,11 +34,11 @@ pub struct RunCore<E: EventLog = KeptEvents> {
 
 impl<E: EventLog> Model for RunCore<E> {
     ghost use Rattle.std.specs.Prelude.{List};
-    ghost use Rattle.xet_run.specs.declared.event.Event.{Event};
+    ghost use Rattle.xet_events.specs.declared.event.Event.{Event};
 
     ghost Value = { List Event };
 
-    ghost use Rattle.xet_run.specs.steps.Index.{IsIndexed};
+    ghost use Rattle.xet_events.specs.Indexes.{IsIndexed};
 
     ghost view = { λ c. E.events c.log };
 
@@ -54,7 +51,7 @@ impl RunCore<KeptEvents> {
         ensures events { result.now ≡ self.now }
         ensures allowed { IsAllowedHistory self.now }
     {
-        self.log.kept.as_slice()
+        self.log.as_slice()
     }
 }
 
@@ -201,11 +198,11 @@ impl<E: EventLog> RunCore<E> {
     pub fn refreshed(&mut self, plan: u64) -> Result<(), CoreRefusal>
         ensures { Adds self.old self.new (Event.Refreshed plan) result }
     {
-        if self.index.first_error.is_some() || !self.index.stale.contains(&plan) {
+        if self.index.first_error.is_some() || !self.index.is_stale(plan) {
             return Err(CoreRefusal::NotAllowed);
         }
         self.log.reserve(1)?;
-        self.index.stale.remove(&plan);
+        self.index.refresh(plan);
         self.log.push_reserved(Event::Refreshed { plan });
         Ok(())
     }

@@ -3,20 +3,18 @@ ghost use Rattle.std.specs.Prelude.{◌≡◌, ℕ, ◌⊎◌, ◌+◌, ◌-◌,
 ghost use Rattle.std.specs.Prelude.{vec_capacity, length, IfOk, IsOk, OnOk, OnErr};
 ghost use Rattle.std.specs.Result.{result_err};
 ghost use Rattle.xet_error.specs.declared.error.FileReconstructionError.TheVariants as error;
-ghost use Rattle.xet_run.specs.declared.run_book.RunError.TheVariants as run_error;
-ghost use Rattle.xet_run.specs.RunReplay.{book_after, book_after_all, all_replied, opening, replied, IsReplayed};
+ghost use Rattle.xet_events.specs.declared.run_book.RunError.TheVariants as run_error;
+ghost use Rattle.xet_events.specs.RunReplay.{book_after, book_after_all, all_replied, opening, replied, IsReplayed};
 ghost use Rattle.xet_run.specs.steps.RunLogs.{log, Logs, LogsError, LogsNone, LogsState};
 
-use crate::call_log::{CallLog, KeptCalls, ToldCalls};
 use crate::held_run::HeldRun;
-use crate::run_book::{RunBook, RunError};
-use crate::run_call::RunCall;
 use std::alloc::Global;
 use std::marker::PhantomData;
 use std::sync::ledger::{Blank, Book, Ledger, Share};
 use std::sync::{Mutex, Wait};
 use xet_base::{List, MerkleHash, OutOfMemory};
 use xet_error::FileReconstructionError;
+use xet_events::{CallLog, KeptCalls, RunBook, RunCall, RunError, ToldCalls};
 
 /// What lies under the lock.
 #[derive(Drop)]
@@ -437,6 +435,6 @@ impl<L: Ledger> RunState<L, KeptCalls> {
         } = state.into_inner();
         let RunPass { mut share, .. } = pass;
         calls.audit(&mut share);
-        List::from_vec(history.kept)
+        history.into_list()
     }
 }

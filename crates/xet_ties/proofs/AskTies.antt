@@ -30,12 +30,12 @@ use Rattle.xet_blocks.specs.TermBlockCalls.{FromAnswer, FromTerms, FromTested, T
 use Rattle.xet_blocks.specs.TermBlocks.{IsTermBlock, covered, xorb_block}
 use Rattle.xet_blocks.specs.Terms.{terms_from, terms_of}
 use Rattle.xet_fetch.specs.Refreshes.{IsRefreshed, MayAsk, Refresh, plan_extents, refusal_of}
-use Rattle.xet_run.specs.declared.event.Event.{Event}
-use Rattle.xet_run.specs.declared.event.Event.TheVariants.{Planned, Refreshed}
-use Rattle.xet_run.specs.declared.event.PlannedBlock.{PlannedBlock}
-use Rattle.xet_run.specs.declared.event.PlannedTerm.{PlannedTerm}
-use Rattle.xet_run.specs.Events.{Task, is_stale, last_of, plan_count, planned, tasks_of}
-use Rattle.xet_run.proofs.CallerLemmas.{planned-push}
+use Rattle.xet_events.specs.declared.event.Event.{Event}
+use Rattle.xet_events.specs.declared.event.Event.TheVariants.{Planned, Refreshed}
+use Rattle.xet_events.specs.declared.event.PlannedBlock.{PlannedBlock}
+use Rattle.xet_events.specs.declared.event.PlannedTerm.{PlannedTerm}
+use Rattle.xet_events.specs.Events.{Task, is_stale, last_of, plan_count, planned, tasks_of}
+use Rattle.xet_events.proofs.CallerLemmas.{planned-push}
 use Rattle.xet_history.specs.TrueHistory.{IsTrueEvent, planned_block, planned_term, queries}
 use Rattle.xet_ties.specs.History.{actual_range, range_at}
 use Rattle.xet_ties.specs.InCall.{Exchange, Place}

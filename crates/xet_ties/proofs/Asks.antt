@@ -8,12 +8,12 @@ use Rattle.xet_base.specs.declared.cas_types.FileRange.{FileRange}
 use Rattle.xet_base.specs.declared.merklehash.MerkleHash.{MerkleHash}
 use Rattle.xet_base.specs.Lists.{first_some}
 use Rattle.xet_outside.specs.Told.{ClientTold, Query}
-use Rattle.xet_run.specs.declared.event.Event.{Event}
-use Rattle.xet_run.specs.declared.event.Event.TheVariants.{Planned, Admit, Fetched, Cached, Expired, Refreshed, Wrote, Fail, Cancel}
-use Rattle.xet_run.specs.declared.event.PlannedBlock.{PlannedBlock}
-use Rattle.xet_run.specs.declared.event.PlannedTerm.{PlannedTerm}
-use Rattle.xet_run.specs.Events.{is_stale}
-use Rattle.xet_run.proofs.CallerLemmas.{first_some-push}
+use Rattle.xet_events.specs.declared.event.Event.{Event}
+use Rattle.xet_events.specs.declared.event.Event.TheVariants.{Planned, Admit, Fetched, Cached, Expired, Refreshed, Wrote, Fail, Cancel}
+use Rattle.xet_events.specs.declared.event.PlannedBlock.{PlannedBlock}
+use Rattle.xet_events.specs.declared.event.PlannedTerm.{PlannedTerm}
+use Rattle.xet_events.specs.Events.{is_stale}
+use Rattle.xet_events.proofs.CallerLemmas.{first_some-push}
 use Rattle.xet_history.specs.Queries.{CutFrom}
 use Rattle.xet_history.specs.TrueHistory.{queries}
 use Rattle.xet_ties.specs.History.{IsWithin, actual_range, asked_by, asked_in, range_at, range_in, telling}

@@ -12,10 +12,10 @@ use Rattle.xet_outside.specs.declared.block.BlockBytes.{BlockBytes}
 use Rattle.xet_outside.specs.Plan.{block_of}
 use Rattle.xet_outside.specs.Told.{CacheEntry, CacheTold, Grew, Added, ClientTold, SinkTold}
 use Rattle.xet_blocks.specs.Blocks.{range_eq}
-use Rattle.xet_run.specs.declared.event.Event.{Event}
-use Rattle.xet_run.specs.declared.event.Event.TheVariants.{Cached}
-use Rattle.xet_run.specs.declared.event.PlannedBlock.{PlannedBlock}
-use Rattle.xet_run.proofs.CallerLemmas.{count_by-push}
+use Rattle.xet_events.specs.declared.event.Event.{Event}
+use Rattle.xet_events.specs.declared.event.Event.TheVariants.{Cached}
+use Rattle.xet_events.specs.declared.event.PlannedBlock.{PlannedBlock}
+use Rattle.xet_events.proofs.CallerLemmas.{count_by-push}
 use Rattle.xet_ties.specs.History.{IsNumberedNext, IsOneCached, IsRenewed, block_at, cached_in, fetched_in, kept_in, telling, IsWithin}
 use Rattle.xet_ties.specs.steps.Moves.{LookStep, PutEntry, PutStep}
 use Rattle.xet_ties.specs.Saids.{EventPassed}

@@ -9,8 +9,8 @@ use Rattle.xet_outside.specs.Told.{ClientTold, Grew, Query}
 use Rattle.xet_base.specs.declared.unique_id.UniqueId.{UniqueId}
 use Rattle.xet_blocks.specs.TermBlockCalls.{Answer, AskedAtMostOnce, FromSaid, QueryAnswered, TermBlockCall}
 use Rattle.xet_fetch.specs.Refreshes.{Answered, MayAsk, Refresh}
-use Rattle.xet_run.specs.declared.event.Event.{Event}
-use Rattle.xet_run.specs.Events.{is_stale}
+use Rattle.xet_events.specs.declared.event.Event.{Event}
+use Rattle.xet_events.specs.Events.{is_stale}
 use Rattle.xet_ties.specs.History.{range_at}
 use Rattle.xet_ties.specs.InCall.{Exchange}
 use Rattle.xet_ties.specs.Saids.{InStep, IsQueryAnswer}

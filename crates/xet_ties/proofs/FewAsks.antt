@@ -7,10 +7,10 @@ use Rattle.xet_base.specs.declared.cas_types.FileRange.{FileRange}
 use Rattle.xet_base.specs.declared.merklehash.MerkleHash.{MerkleHash}
 use Rattle.xet_outside.specs.Told.{ClientTold, Query}
 use Rattle.xet_outside.proofs.CallerLemmas.{count_by-cons}
-use Rattle.xet_run.specs.declared.event.Event.{Event}
-use Rattle.xet_run.specs.declared.event.Event.TheVariants.{Planned, Admit, Fetched, Cached, Expired, Refreshed, Wrote, Fail, Cancel}
-use Rattle.xet_run.specs.Allowed.{IsAllowedHistory}
-use Rattle.xet_run.specs.Events.{is_stale}
+use Rattle.xet_events.specs.declared.event.Event.{Event}
+use Rattle.xet_events.specs.declared.event.Event.TheVariants.{Planned, Admit, Fetched, Cached, Expired, Refreshed, Wrote, Fail, Cancel}
+use Rattle.xet_events.specs.Allowed.{IsAllowedHistory}
+use Rattle.xet_events.specs.Events.{is_stale}
 use Rattle.xet_history.specs.TrueHistory.{queries, queries_in}
 use Rattle.xet_ties.specs.Causes.{expired_answers}
 use Rattle.xet_ties.specs.History.{IsWithin, asked_by, asked_in, is_expiry, is_refresh, range_at, range_in, telling}

@@ -8,7 +8,7 @@ use Rattle.xet_outside.specs.Answers.{plans_in}
 use Rattle.xet_outside.specs.Told.{ClientTold}
 use Rattle.xet_outside.specs.declared.plan.PlanAnswer.TheVariants.{NoFile}
 use Rattle.xet_outside.specs.declared.said.Said.{Said}
-use Rattle.xet_run.specs.declared.event.Event.{Event}
+use Rattle.xet_events.specs.declared.event.Event.{Event}
 use Rattle.xet_ties.specs.Causes.{FirstSaysNone, IsMissingFile}
 use Rattle.xet_ties.specs.InCall.{EachExchange, Exchange, new_in}
 use Rattle.xet_ties.specs.Saids.{IsQueryAnswer}

@@ -18,7 +18,7 @@ use Rattle.xet_blocks.specs.declared.reconstruction_terms.xorb_block.XorbBlockDa
 use Rattle.xet_blocks.specs.BlockCalls.{failed_check}
 use Rattle.xet_blocks.specs.BlockChecks.{chunk_total, count_test, length_test, misplaced_after, order_test}
 use Rattle.xet_blocks.specs.Extracts.{begin_at, failed_term_test, term_size, test_at}
-use Rattle.xet_run.specs.declared.event.Event.{Event}
+use Rattle.xet_events.specs.declared.event.Event.{Event}
 use Rattle.xet_ties.specs.Causes.{BlockFails, BlockFailsIn, FirstFailed, IsBlockTest, IsCorrupted, PlanFails, QueryFailed, RefreshFails, SomeFailed, TermFails, TermFailsIn}
 use Rattle.xet_ties.specs.InCall.{EachExchange, Exchange, SomeOne, answers_of}
 use Rattle.xet_ties.specs.Saids.{AnswerOf, FirstSaid, IsPlanAccepted, IsPlanSaid}

@@ -8,10 +8,10 @@ use Rattle.xet_base.specs.declared.cas_types.FileRange.{FileRange}
 use Rattle.xet_base.specs.Store.{Store, bytes_of, file_of, window}
 use Rattle.xet_outside.specs.Told.{Took, TookPrefix}
 use Rattle.xet_outside.proofs.CallerLemmas.{count_by-cons}
-use Rattle.xet_run.specs.declared.event.Event.{Event}
-use Rattle.xet_run.specs.declared.event.Event.TheVariants.{Planned, Admit, Fetched, Cached, Expired, Refreshed, Wrote, Fail, Cancel}
-use Rattle.xet_run.specs.Events.{size, last_of, planned, is_plan, admitted, written, plan_count}
-use Rattle.xet_run.specs.Allowed.{IsAllowedHistory}
+use Rattle.xet_events.specs.declared.event.Event.{Event}
+use Rattle.xet_events.specs.declared.event.Event.TheVariants.{Planned, Admit, Fetched, Cached, Expired, Refreshed, Wrote, Fail, Cancel}
+use Rattle.xet_events.specs.Events.{size, last_of, planned, is_plan, admitted, written, plan_count}
+use Rattle.xet_events.specs.Allowed.{IsAllowedHistory}
 use Rattle.xet_history.specs.TrueHistory.{ReachesEnd, SomeEndsEarly, pieces, queries}
 use Rattle.xet_history.specs.Laws.{IsPrefix}
 use Rattle.xet_history.proofs.CallerLemmas.{pieces_reach, all_sized, pieces_are_prefix}

@@ -6,13 +6,13 @@ use Rattle.std.proofs.lemmas.Bool.{eq-eqb, ne_eqb}
 use Rattle.xet_outside.proofs.CallerLemmas.{count_by-cons}
 use Rattle.xet_outside.specs.Told.{ClientTold}
 use Rattle.xet_outside.specs.declared.served.Served.{Served}
-use Rattle.xet_run.specs.declared.event.Event.{Event}
-use Rattle.xet_run.specs.declared.event.Event.TheVariants.{Fetched, Expired}
-use Rattle.xet_run.specs.declared.event.PlannedBlock.{PlannedBlock}
+use Rattle.xet_events.specs.declared.event.Event.{Event}
+use Rattle.xet_events.specs.declared.event.Event.TheVariants.{Fetched, Expired}
+use Rattle.xet_events.specs.declared.event.PlannedBlock.{PlannedBlock}
 use Rattle.xet_ties.specs.History.{IsOnLane, block_at, entry_of, expired_by, expires_on, served_by, served_in, fetches}
 use Rattle.xet_ties.specs.InCall.{Place}
 use Rattle.xet_ties.specs.Ties.{EachLane, IsLane, IsPlannedEntry, IsServed, all_late, all_of, at_place, is_pair}
-use Rattle.xet_run.proofs.CallerLemmas.{count_by-push}
+use Rattle.xet_events.proofs.CallerLemmas.{count_by-push}
 use Rattle.xet_ties.proofs.Telling.{all_left, all_right, block_at-push, count-append, count-same, count-more, telling-push, telling-same}
 
 -- each lane from a number on stays tied

@@ -10,9 +10,9 @@ use Rattle.xet_outside.specs.Answers.{late_in, late_said}
 use Rattle.xet_outside.specs.Told.{ClientTold, Query}
 use Rattle.xet_outside.specs.declared.said.Said.{Said}
 use Rattle.xet_outside.specs.declared.served.Served.{Served}
-use Rattle.xet_run.specs.declared.event.Event.{Event}
-use Rattle.xet_run.specs.declared.event.Event.TheVariants.{Expired}
-use Rattle.xet_run.proofs.CallerLemmas.{flat-push}
+use Rattle.xet_events.specs.declared.event.Event.{Event}
+use Rattle.xet_events.specs.declared.event.Event.TheVariants.{Expired}
+use Rattle.xet_events.proofs.CallerLemmas.{flat-push}
 use Rattle.xet_ties.specs.History.{late_by, late_on}
 use Rattle.xet_ties.specs.InCall.{Exchange, Place, late_places, place_of}
 use Rattle.xet_ties.specs.Ties.{EachExpired, IsPlannedEntry, LatePlanned, NoneLate}

@@ -11,9 +11,9 @@ use Rattle.xet_outside.specs.Told.{ClientTold, Query, SinkTold, Took, TookPrefix
 use Rattle.xet_error.specs.declared.error.FileReconstructionError.{FileReconstructionError}
 use Rattle.xet_error.specs.declared.error.FileReconstructionError.TheVariants as error
 use Rattle.xet_error.specs.declared.error.Setting.{Setting}
-use Rattle.xet_run.specs.declared.event.Event.{Event}
-use Rattle.xet_run.specs.Allowed.{IsAllowedHistory}
-use Rattle.xet_run.specs.Events.{expires}
+use Rattle.xet_events.specs.declared.event.Event.{Event}
+use Rattle.xet_events.specs.Allowed.{IsAllowedHistory}
+use Rattle.xet_events.specs.Events.{expires}
 use Rattle.xet_blocks.specs.ServedChunks.{AllServed}
 use Rattle.xet_ties.specs.Causes.{Cause, failing_setting, late_answers}
 use Rattle.xet_ties.specs.History.{entry_of, fetched_in, telling, IsWithin}

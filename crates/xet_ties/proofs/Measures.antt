@@ -2,10 +2,10 @@
 use Rattle.std.proofs.Common.{◌≡◌, ℕ, zero, suc, ◌+◌, ◌-◌, ◌<◌, ◌≤◌, ◌==◌, ◌&&◌, ◌||◌, Bool, true, false, cond, List, [], ◌∷◌, ◌++◌, refl, sym, subst, ◌∙◌, ap, arith, Some}
 use Rattle.std.specs.Prelude.{count_by, slice_get}
 use Rattle.std.proofs.lemmas.Bool.{eq-eqb}
-use Rattle.xet_run.specs.declared.event.Event.{Event}
-use Rattle.xet_run.specs.declared.event.Event.TheVariants.{Fetched, Cached, Expired}
-use Rattle.xet_run.specs.Events.{expires, is_kept, keeps}
-use Rattle.xet_run.proofs.CallerLemmas.{any-push, count_by-push}
+use Rattle.xet_events.specs.declared.event.Event.{Event}
+use Rattle.xet_events.specs.declared.event.Event.TheVariants.{Fetched, Cached, Expired}
+use Rattle.xet_events.specs.Events.{expires, is_kept, keeps}
+use Rattle.xet_events.proofs.CallerLemmas.{any-push, count_by-push}
 use Rattle.xet_ties.specs.steps.Measures.{left, left_of}
 use Rattle.xet_ties.specs.steps.Records.{Place}
 

@@ -8,13 +8,13 @@ use Rattle.xet_base.specs.declared.merklehash.MerkleHash.{MerkleHash}
 use Rattle.xet_base.specs.Store.{Store}
 use Rattle.xet_outside.specs.Told.{AskCall, SignalTold, SinkTold, Took, Added}
 use Rattle.xet_error.specs.declared.error.FileReconstructionError.{FileReconstructionError}
-use Rattle.xet_run.specs.declared.event.Event.{Event}
-use Rattle.xet_run.specs.declared.event.Event.TheVariants.{Admit, Fail}
-use Rattle.xet_run.specs.Budgets.{LimitCall, LimitTold}
-use Rattle.xet_run.specs.Events.{expires, first_error, is_plan}
+use Rattle.xet_events.specs.declared.event.Event.{Event}
+use Rattle.xet_events.specs.declared.event.Event.TheVariants.{Admit, Fail}
+use Rattle.xet_events.specs.Limits.{LimitCall, LimitTold}
+use Rattle.xet_events.specs.Events.{expires, first_error, is_plan}
 use Rattle.xet_history.specs.Laws.{IsPrefix}
 use Rattle.xet_history.specs.TrueHistory.{pieces}
-use Rattle.xet_run.proofs.CallerLemmas.{error-push, flat-push}
+use Rattle.xet_events.proofs.CallerLemmas.{error-push, flat-push}
 use Rattle.xet_ties.specs.History.{fetched_in, IsNumberedNext, IsOneCached, IsRenewed, IsWithin, asked_in, limit_in, limits_of, round_in}
 use Rattle.xet_ties.proofs.Gains.{gained_as}
 use Rattle.xet_ties.specs.InCall.{EachExchange, Exchange, Look}

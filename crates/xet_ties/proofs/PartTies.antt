@@ -13,9 +13,9 @@ use Rattle.xet_outside.specs.Told.{AskCall, CacheTold, Grew, Rose, SignalTold}
 use Rattle.xet_blocks.specs.declared.reconstruction_terms.xorb_block.XorbBlock.{XorbBlock}
 use Rattle.xet_blocks.specs.declared.reconstruction_terms.xorb_block.XorbBlockData.{XorbBlockData}
 use Rattle.xet_fetch.specs.CachedBlocks.{FoundIn, IsOffered, Looked, LookedFor, entry_of, passes_cached, MaybeLooked}
-use Rattle.xet_run.specs.declared.event.Event.{Event}
-use Rattle.xet_run.specs.declared.event.PlannedBlock.{PlannedBlock}
-use Rattle.xet_run.proofs.CallerLemmas.{count_by-push}
+use Rattle.xet_events.specs.declared.event.Event.{Event}
+use Rattle.xet_events.specs.declared.event.PlannedBlock.{PlannedBlock}
+use Rattle.xet_events.proofs.CallerLemmas.{count_by-push}
 use Rattle.xet_ties.specs.History.{block_at}
 use Rattle.xet_ties.specs.Gains.{GrewBy, IsOfferOf, MayOffer}
 use Rattle.xet_ties.specs.steps.Moves.{LookStep, PutEntry}

@@ -10,13 +10,13 @@ use Rattle.xet_outside.specs.Told.{ClientTold, Query}
 use Rattle.xet_outside.specs.declared.plan.PlanAnswer.{PlanAnswer}
 use Rattle.xet_outside.specs.declared.plan.PlanAnswer.TheVariants.{Found, NoFile, PastEnd}
 use Rattle.xet_blocks.specs.declared.reconstruction_terms.file_term.FileTerm.{FileTerm}
-use Rattle.xet_run.specs.declared.event.Event.{Event}
-use Rattle.xet_run.specs.declared.event.Event.TheVariants.{Planned, Admit, Fetched, Cached, Expired, Refreshed, Wrote, Fail, Cancel}
-use Rattle.xet_run.specs.declared.event.PlannedBlock.{PlannedBlock}
-use Rattle.xet_run.specs.declared.event.PlannedTerm.{PlannedTerm}
-use Rattle.xet_run.specs.Allowed.{Adjoin, IsAllowed, IsAllowedHistory}
-use Rattle.xet_run.specs.Events.{Task, is_plan, last_of, plan_count, planned, tasks_in, tasks_of}
-use Rattle.xet_run.proofs.CallerLemmas.{ends, kept_along, planned-push}
+use Rattle.xet_events.specs.declared.event.Event.{Event}
+use Rattle.xet_events.specs.declared.event.Event.TheVariants.{Planned, Admit, Fetched, Cached, Expired, Refreshed, Wrote, Fail, Cancel}
+use Rattle.xet_events.specs.declared.event.PlannedBlock.{PlannedBlock}
+use Rattle.xet_events.specs.declared.event.PlannedTerm.{PlannedTerm}
+use Rattle.xet_events.specs.Allowed.{Adjoin, IsAllowed, IsAllowedHistory}
+use Rattle.xet_events.specs.Events.{Task, is_plan, last_of, plan_count, planned, tasks_in, tasks_of}
+use Rattle.xet_events.proofs.CallerLemmas.{ends, kept_along, planned-push}
 use Rattle.xet_history.specs.TrueHistory.{EndsEarly, SomeEndsEarly, planned_term, queries}
 use Rattle.xet_ties.specs.Cuts.{AdjoinFrom, AreParts, AskedCut, IsCut, IsSaidPiece, Part, PassesTests, Planning, PlansAll, SaidTerm, SomeTellsEnd, answer_terms, has_some, part_end, queries_of, some_said, terms_said, under, ReachOn}
 use Rattle.xet_ties.specs.History.{EachAfter, IsNumberedNext, IsWithin, asked_by, range_at}
@@ -26,7 +26,7 @@ use Rattle.xet_ties.specs.RunCalls.{IsFinished}
 use Rattle.xet_ties.specs.Saids.{AnswerOf, FirstSaid, IsEventSaid, IsMadeOf, IsMadeOfPlan, IsPiece, IsTaskPiece, has_bytes, some_of}
 use Rattle.xet_ties.specs.Setup.{RunTold, Setup}
 use Rattle.xet_ties.specs.Ties.{CutsRange, FirstAsked, FirstStarts, HeardAsked, IsLost, Slack, Stop, Ties, EndsLast, IsNextQuery}
-use Rattle.xet_run.specs.Events.{is_stale}
+use Rattle.xet_events.specs.Events.{is_stale}
 use Rattle.xet_ties.proofs.AskTies.{none_terms}
 use Rattle.xet_ties.proofs.Asks.{AreIn, asked_cut, none_in}
 use Rattle.xet_ties.proofs.Telling.{count-more, count-same}

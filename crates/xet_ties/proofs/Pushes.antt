@@ -16,13 +16,13 @@ use Rattle.xet_base.specs.Store.{Store, file_of}
 use Rattle.xet_outside.specs.declared.served.Served.{Served}
 use Rattle.xet_outside.specs.Told.{CacheTold, ClientTold, Counted, Query, SignalTold, SinkTold}
 use Rattle.xet_history.specs.Queries.{CutFrom}
-use Rattle.xet_run.specs.declared.event.Event.{Event}
-use Rattle.xet_run.specs.declared.event.Event.TheVariants.{Planned, Admit, Fetched, Cached, Expired, Refreshed, Wrote, Fail, Cancel}
-use Rattle.xet_run.specs.declared.event.PlannedBlock.{PlannedBlock}
-use Rattle.xet_run.specs.Budgets.{LimitTold}
-use Rattle.xet_run.specs.Events.{error_in, expires, first_error, Task, is_plan, is_stale, last_of, plan_count, planned, taken_in, tasks_in}
+use Rattle.xet_events.specs.declared.event.Event.{Event}
+use Rattle.xet_events.specs.declared.event.Event.TheVariants.{Planned, Admit, Fetched, Cached, Expired, Refreshed, Wrote, Fail, Cancel}
+use Rattle.xet_events.specs.declared.event.PlannedBlock.{PlannedBlock}
+use Rattle.xet_events.specs.Limits.{LimitTold}
+use Rattle.xet_events.specs.Events.{error_in, expires, first_error, Task, is_plan, is_stale, last_of, plan_count, planned, taken_in, tasks_in}
 use Rattle.xet_history.specs.TrueHistory.{Download, IsTrueEvent, IsTrueHistory, pieces, queries, queries_in, task_piece}
-use Rattle.xet_run.proofs.CallerLemmas.{count_by-push, error-push, flat-push, planned-push, stale-push, written-push}
+use Rattle.xet_events.proofs.CallerLemmas.{count_by-push, error-push, flat-push, planned-push, stale-push, written-push}
 use Rattle.xet_ties.specs.History.{asked_by, asked_in, cached_in, fetched_in, kept_in, limit_in, limits_of, range_at, telling, round_count, round_in}
 use Rattle.xet_ties.specs.InCall.{Exchange, Look, Place}
 use Rattle.xet_ties.specs.Saids.{IsTaskPiece, IsTested, has_bytes, some_of}

@@ -5,9 +5,9 @@ use Rattle.xet_base.specs.declared.cas_types.ChunkRange.{ChunkRange}
 use Rattle.xet_base.specs.declared.merklehash.MerkleHash.{MerkleHash}
 use Rattle.xet_outside.proofs.CallerLemmas.{count_by-cons}
 use Rattle.xet_outside.specs.declared.served.Served.{Served}
-use Rattle.xet_run.specs.declared.event.Event.{Event}
-use Rattle.xet_run.specs.declared.event.Event.TheVariants.{Fetched, Expired, Refreshed, Wrote}
-use Rattle.xet_run.specs.declared.event.PlannedBlock.{PlannedBlock}
+use Rattle.xet_events.specs.declared.event.Event.{Event}
+use Rattle.xet_events.specs.declared.event.Event.TheVariants.{Fetched, Expired, Refreshed, Wrote}
+use Rattle.xet_events.specs.declared.event.PlannedBlock.{PlannedBlock}
 use Rattle.xet_ties.specs.History.{block_at, entry_of, is_expired, range_at, round_in}
 use Rattle.xet_ties.specs.InCall.{Place}
 use Rattle.xet_ties.specs.Saids.{FirstRenewed, HasPassed}

@@ -4,11 +4,11 @@ use Rattle.std.proofs.Common.{◌≡◌, ℕ, ◌+◌, ◌≤◌, ◌==◌, ◌|
 use Rattle.std.specs.Prelude.{count_by, filter}
 use Rattle.std.specs.List.{list_any}
 use Rattle.std.proofs.lemmas.Bool.{eq-eqb, eqb-true}
-use Rattle.xet_run.specs.declared.event.Event.{Event}
-use Rattle.xet_run.specs.declared.event.Event.TheVariants.{Planned, Admit, Fetched, Cached, Expired, Refreshed, Wrote, Fail, Cancel}
-use Rattle.xet_run.specs.Allowed.{IsAllowed, IsAllowedHistory}
-use Rattle.xet_run.specs.Events.{expiry_in, is_stale, last_of}
-use Rattle.xet_run.proofs.CallerLemmas.{kept_along, stale-push}
+use Rattle.xet_events.specs.declared.event.Event.{Event}
+use Rattle.xet_events.specs.declared.event.Event.TheVariants.{Planned, Admit, Fetched, Cached, Expired, Refreshed, Wrote, Fail, Cancel}
+use Rattle.xet_events.specs.Allowed.{IsAllowed, IsAllowedHistory}
+use Rattle.xet_events.specs.Events.{expiry_in, is_stale, last_of}
+use Rattle.xet_events.proofs.CallerLemmas.{kept_along, stale-push}
 use Rattle.xet_ties.specs.History.{is_expiry, is_refresh}
 use Rattle.xet_ties.proofs.Telling.{count-more, count-same}
 

@@ -18,8 +18,8 @@ use Rattle.xet_outside.specs.declared.served.Served.{Served}
 use Rattle.xet_outside.proofs.CallerLemmas.{plans_both}
 use Rattle.xet_blocks.specs.TermBlocks.{covered}
 use Rattle.xet_fetch.specs.Refreshes.{plan_extents, refusal_of}
-use Rattle.xet_run.specs.declared.event.Event.{Event}
-use Rattle.xet_run.specs.Events.{plan_count}
+use Rattle.xet_events.specs.declared.event.Event.{Event}
+use Rattle.xet_events.specs.Events.{plan_count}
 use Rattle.xet_history.specs.TrueHistory.{queries}
 use Rattle.xet_ties.specs.Causes.{failing_setting}
 use Rattle.xet_ties.specs.History.{IsWithin}

@@ -1,8 +1,8 @@
 -- How many rounds show in a history after the events of one.
 use Rattle.std.proofs.Common.{◌≡◌, ◌⊎◌, ℕ, ◌+◌, ◌-◌, ◌≤◌, Bool, true, false, cond, List, [], ◌∷◌, ◌++◌, length, refl, sym, ◌∙◌, ap, arith, inl, inr}
 use Rattle.std.specs.Prelude.{map, not, ◌&&◌}
-use Rattle.xet_run.specs.declared.event.Event.{Event}
-use Rattle.xet_run.specs.Events.{last_of}
+use Rattle.xet_events.specs.declared.event.Event.{Event}
+use Rattle.xet_events.specs.Events.{last_of}
 use Rattle.xet_ties.specs.History.{ends_in_round, is_fetch, round_in}
 
 -- a round goes on, or the signal was asked for one

@@ -4,10 +4,10 @@ use Rattle.std.specs.Prelude.{count_by}
 use Rattle.std.proofs.lemmas.List.{append-nil}
 use Rattle.xet_outside.specs.Told.{ClientTold}
 use Rattle.xet_outside.proofs.CallerLemmas.{count_by-cons}
-use Rattle.xet_run.specs.declared.event.Event.{Event}
-use Rattle.xet_run.specs.declared.event.Event.TheVariants.{Expired}
-use Rattle.xet_run.specs.Events.{expires}
-use Rattle.xet_run.proofs.CallerLemmas.{count_by-push, same_numbers}
+use Rattle.xet_events.specs.declared.event.Event.{Event}
+use Rattle.xet_events.specs.declared.event.Event.TheVariants.{Expired}
+use Rattle.xet_events.specs.Events.{expires}
+use Rattle.xet_events.proofs.CallerLemmas.{count_by-push, same_numbers}
 use Rattle.xet_ties.specs.InCall.{Place}
 use Rattle.xet_ties.specs.Lanes.{Ask, DrewApart}
 use Rattle.xet_ties.specs.Ties.{all_late, at_place}

@@ -9,8 +9,8 @@ use Rattle.xet_base.specs.declared.cas_types.ChunkRange.{ChunkRange}
 use Rattle.xet_base.specs.declared.merklehash.MerkleHash.{MerkleHash}
 use Rattle.xet_outside.specs.Told.{ClientTold}
 use Rattle.xet_outside.specs.declared.served.Served.{Served}
-use Rattle.xet_run.specs.declared.event.Event.{Event}
-use Rattle.xet_run.specs.declared.event.Event.TheVariants.{Expired, Fetched, Wrote}
+use Rattle.xet_events.specs.declared.event.Event.{Event}
+use Rattle.xet_events.specs.declared.event.Event.TheVariants.{Expired, Fetched, Wrote}
 use Rattle.xet_ties.specs.History.{fetches}
 use Rattle.xet_ties.specs.Lanes.{Ask, DrewApart}
 use Rattle.xet_ties.specs.InCall.{Exchange}

@@ -9,9 +9,9 @@ use Rattle.xet_outside.specs.declared.said.Said.{Said}
 use Rattle.xet_outside.specs.declared.served.Served.{Served}
 use Rattle.xet_outside.specs.Told.{ClientTold}
 use Rattle.xet_outside.proofs.CallerLemmas.{count_by-cons}
-use Rattle.xet_run.specs.declared.event.Event.{Event}
-use Rattle.xet_run.specs.declared.event.Event.TheVariants.{Fetched}
-use Rattle.xet_run.specs.Events.{expires}
+use Rattle.xet_events.specs.declared.event.Event.{Event}
+use Rattle.xet_events.specs.declared.event.Event.TheVariants.{Fetched}
+use Rattle.xet_events.specs.Events.{expires}
 use Rattle.xet_ties.specs.History.{is_expired}
 use Rattle.xet_ties.specs.Lanes.{AreOf, Ask, DrewApart, EachDrew, entries_of}
 use Rattle.xet_ties.specs.Ties.{is_pair}

@@ -23,8 +23,8 @@ use Rattle.xet_blocks.specs.PlanChecks.{failed_test}
 use Rattle.xet_blocks.specs.TermBlockCalls.{FromAnswer, FromSaid, FromTerms, FromTested}
 use Rattle.xet_blocks.specs.TermBlocks.{covered}
 use Rattle.xet_fetch.specs.Refreshes.{plan_extents, refusal_of}
-use Rattle.xet_run.specs.declared.event.PlannedBlock.{PlannedBlock}
-use Rattle.xet_run.specs.declared.event.PlannedTerm.{PlannedTerm}
+use Rattle.xet_events.specs.declared.event.PlannedBlock.{PlannedBlock}
+use Rattle.xet_events.specs.declared.event.PlannedTerm.{PlannedTerm}
 use Rattle.xet_ties.specs.Causes.{BlockFails, BlockFailsIn, LaneFails, SomeFailed, TermFailsIn}
 use Rattle.xet_ties.specs.History.{entry_of}
 use Rattle.xet_ties.specs.InCall.{Exchange, SomeOne}

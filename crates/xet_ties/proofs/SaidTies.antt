@@ -19,9 +19,9 @@ use Rattle.xet_blocks.specs.declared.reconstruction_terms.xorb_block.XorbBlock.{
 use Rattle.xet_blocks.specs.declared.reconstruction_terms.xorb_block.XorbBlockData.{XorbBlockData}
 use Rattle.xet_blocks.specs.Blocks.{PlanBlock, blocks_of}
 use Rattle.xet_blocks.specs.TermBlocks.{xorb_block}
-use Rattle.xet_run.specs.declared.event.Event.{Event}
-use Rattle.xet_run.specs.declared.event.PlannedBlock.{PlannedBlock}
-use Rattle.xet_run.specs.declared.event.PlannedTerm.{PlannedTerm}
+use Rattle.xet_events.specs.declared.event.Event.{Event}
+use Rattle.xet_events.specs.declared.event.PlannedBlock.{PlannedBlock}
+use Rattle.xet_events.specs.declared.event.PlannedTerm.{PlannedTerm}
 use Rattle.xet_history.specs.TrueHistory.{planned_block, queries}
 use Rattle.xet_ties.specs.History.{EachAfter, IsNumberedNext, block_at, blocks_in, entry_of}
 use Rattle.xet_ties.specs.InCall.{Exchange}

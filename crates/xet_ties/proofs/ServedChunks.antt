@@ -26,12 +26,12 @@ use Rattle.xet_blocks.specs.declared.reconstruction_terms.file_term.FileTerm.{Fi
 use Rattle.xet_blocks.specs.declared.reconstruction_terms.xorb_block.XorbBlock.{XorbBlock}
 use Rattle.xet_blocks.specs.declared.reconstruction_terms.xorb_block.XorbBlockData.{XorbBlockData}
 use Rattle.xet_blocks.proofs.CallerLemmas.{served_chunks}
-use Rattle.xet_run.specs.declared.event.Event.{Event}
-use Rattle.xet_run.specs.declared.event.Event.TheVariants.{Planned, Admit, Fetched, Cached, Expired, Refreshed, Wrote, Fail, Cancel}
-use Rattle.xet_run.specs.declared.event.PlannedBlock.{PlannedBlock}
-use Rattle.xet_run.specs.declared.event.PlannedTerm.{PlannedTerm}
-use Rattle.xet_run.specs.Allowed.{IsAllowedHistory}
-use Rattle.xet_run.specs.Events.{Task, last_of, planned, tasks_in, tasks_of}
+use Rattle.xet_events.specs.declared.event.Event.{Event}
+use Rattle.xet_events.specs.declared.event.Event.TheVariants.{Planned, Admit, Fetched, Cached, Expired, Refreshed, Wrote, Fail, Cancel}
+use Rattle.xet_events.specs.declared.event.PlannedBlock.{PlannedBlock}
+use Rattle.xet_events.specs.declared.event.PlannedTerm.{PlannedTerm}
+use Rattle.xet_events.specs.Allowed.{IsAllowedHistory}
+use Rattle.xet_events.specs.Events.{Task, last_of, planned, tasks_in, tasks_of}
 use Rattle.xet_history.specs.Queries.{CutFrom}
 use Rattle.xet_history.specs.TrueHistory.{IsTrueEvent, planned_block, planned_term, queries, queries_end}
 use Rattle.xet_history.proofs.CallerLemmas.{pieces_cover, pieces_reach}

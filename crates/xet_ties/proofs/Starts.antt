@@ -8,16 +8,16 @@ use Rattle.xet_base.specs.declared.cas_types.FileRange.{FileRange}
 use Rattle.xet_base.specs.declared.merklehash.MerkleHash.{MerkleHash}
 use Rattle.xet_outside.specs.declared.served.Served.{Served}
 use Rattle.xet_outside.specs.Told.{ClientTold, SinkTold}
-use Rattle.xet_run.specs.Budgets.{LimitTold, LimitCall}
+use Rattle.xet_events.specs.Limits.{LimitTold, LimitCall}
 use Rattle.xet_error.specs.declared.error.FileReconstructionError.{FileReconstructionError}
 use Rattle.xet_error.specs.declared.error.Setting.TheVariants.{NoConnection, NoTries}
 use Rattle.std.proofs.lemmas.Bool.{ne_eqb}
 use Rattle.xet_terms.specs.declared.reconstruction_config.ReconstructionConfig.{ReconstructionConfig}
-use Rattle.xet_run.specs.declared.event.Event.{Event}
-use Rattle.xet_run.specs.declared.event.Event.TheVariants.{Cancel, Admit}
-use Rattle.xet_run.specs.Events.{expires, first_error}
+use Rattle.xet_events.specs.declared.event.Event.{Event}
+use Rattle.xet_events.specs.declared.event.Event.TheVariants.{Cancel, Admit}
+use Rattle.xet_events.specs.Events.{expires, first_error}
 use Rattle.xet_history.specs.TrueHistory.{IsTrueEvent}
-use Rattle.xet_run.proofs.CallerLemmas.{error-push}
+use Rattle.xet_events.proofs.CallerLemmas.{error-push}
 use Rattle.xet_ties.specs.History.{IsNumberedNext, IsOneCached, IsRenewed, IsOnLane, IsWithin}
 use Rattle.xet_ties.specs.steps.Moves.{no_slack, no_hidden, no_late, no_exchange}
 use Rattle.xet_ties.specs.Causes.{failing_setting}

@@ -5,12 +5,12 @@ use Rattle.std.specs.List.{flat_map}
 use Rattle.std.proofs.lemmas.List.Elements.{All-cons, All-head, All-nil, All-tail}
 use Rattle.xet_base.specs.declared.cas_types.FileRange.{FileRange}
 use Rattle.xet_base.specs.Lists.{first_some}
-use Rattle.xet_run.specs.declared.event.PlannedBlock.{PlannedBlock}
-use Rattle.xet_run.specs.Events.{last_of}
+use Rattle.xet_events.specs.declared.event.PlannedBlock.{PlannedBlock}
+use Rattle.xet_events.specs.Events.{last_of}
 use Rattle.std.proofs.lemmas.List.{append-nil}
 use Rattle.xet_outside.proofs.CallerLemmas.{count_by-cons}
-use Rattle.xet_run.specs.declared.event.Event.{Event}
-use Rattle.xet_run.proofs.CallerLemmas.{count_by-push, flat-push}
+use Rattle.xet_events.specs.declared.event.Event.{Event}
+use Rattle.xet_events.proofs.CallerLemmas.{count_by-push, flat-push}
 use Rattle.xet_ties.specs.History.{EachAfter, block_at, blocks_in, expiry_of, is_expired, range_at, range_in, telling}
 
 pub telling-after : {A : Type 0} (says : List Event → Event → List A) (before es : List Event) (e : Event) → telling says before (es ++ e ∷ []) ≡ telling says before es ++ says (before ++ es) e

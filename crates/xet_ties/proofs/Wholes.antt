@@ -12,9 +12,9 @@ use Rattle.xet_error.specs.declared.error.Corruption.TheVariants.{TermPastBlock}
 use Rattle.xet_blocks.specs.declared.reconstruction_terms.file_term.FileTerm.{FileTerm}
 use Rattle.xet_blocks.specs.declared.reconstruction_terms.xorb_block.XorbBlockData.{XorbBlockData}
 use Rattle.xet_blocks.specs.Extracts.{begin_at, end_test, failed_term_test, term_bytes_in, term_size, test_at}
-use Rattle.xet_run.specs.declared.event.Event.{Event}
-use Rattle.xet_run.specs.declared.event.PlannedTerm.{PlannedTerm}
-use Rattle.xet_run.specs.Events.{Task, planned, size}
+use Rattle.xet_events.specs.declared.event.Event.{Event}
+use Rattle.xet_events.specs.declared.event.PlannedTerm.{PlannedTerm}
+use Rattle.xet_events.specs.Events.{Task, planned, size}
 use Rattle.xet_ties.specs.InCall.{Exchange, Look}
 use Rattle.xet_ties.specs.RunCalls.{IsFinished, TookAll}
 use Rattle.xet_ties.specs.Saids.{IsTaskPiece, has_bytes, some_of}

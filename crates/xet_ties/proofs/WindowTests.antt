@@ -7,8 +7,8 @@ use Rattle.std.proofs.lemmas.List.{length-drop, take-append-drop}
 use Rattle.std.proofs.lemmas.List.Elements.{filter-append}
 use Rattle.std.proofs.lemmas.List.Folds.{concat-append}
 use Rattle.std.proofs.lemmas.List.Sums.{sum_by-append}
-use Rattle.xet_run.specs.declared.event.Event.{Event}
-use Rattle.xet_run.specs.Events.{Task, planned, size}
+use Rattle.xet_events.specs.declared.event.Event.{Event}
+use Rattle.xet_events.specs.Events.{Task, planned, size}
 use Rattle.xet_history.specs.Laws.{IsPrefix}
 use Rattle.xet_ties.specs.InCall.{Exchange, Look}
 use Rattle.xet_ties.specs.Saids.{IsTaskPiece, IsTested, has_bytes, some_of}

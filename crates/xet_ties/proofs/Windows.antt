@@ -8,11 +8,11 @@ use Rattle.std.proofs.lemmas.Bool.Decides.{nat_tests}
 use Rattle.std.proofs.lemmas.List.{append-nil}
 use Rattle.std.proofs.lemmas.List.Elements.{filter-append}
 use Rattle.std.proofs.lemmas.List.Sums.{sum_by-append, sum_by-cons}
-use Rattle.xet_run.specs.declared.event.Event.{Event}
-use Rattle.xet_run.specs.declared.event.Event.TheVariants.{Wrote}
-use Rattle.xet_run.specs.Allowed.{AllowedAfter, IsRunning, MayWrite}
-use Rattle.xet_run.specs.Events.{Task, admitted, ended, has_more, is_admit, is_kept, keeps, needs, planned, size, unfinished, written}
-use Rattle.xet_run.proofs.CallerLemmas.{any-push, error-push, planned-push, written-push}
+use Rattle.xet_events.specs.declared.event.Event.{Event}
+use Rattle.xet_events.specs.declared.event.Event.TheVariants.{Wrote}
+use Rattle.xet_events.specs.Allowed.{AllowedAfter, IsRunning, MayWrite}
+use Rattle.xet_events.specs.Events.{Task, admitted, ended, has_more, is_admit, is_kept, keeps, needs, planned, size, unfinished, written}
+use Rattle.xet_events.proofs.CallerLemmas.{any-push, error-push, planned-push, written-push}
 use Rattle.xet_ties.specs.steps.Records.{wrote_event, wrote_of}
 use Rattle.xet_ties.specs.steps.Windows.{IsAt, AreKept, end_has_bytes, is_wanted, open_terms}
 use Rattle.xet_ties.proofs.Telling.{count-same}

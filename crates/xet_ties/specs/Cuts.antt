@@ -9,7 +9,7 @@ use Rattle.xet_outside.specs.declared.plan.PlanAnswer.TheVariants.{Found, NoFile
 use Rattle.xet_blocks.specs.declared.reconstruction_terms.file_term.FileTerm.{FileTerm}
 use Rattle.xet_blocks.specs.PlanChecks.{failed_test}
 use Rattle.xet_blocks.specs.Terms.{terms_of}
-use Rattle.xet_run.specs.Events.{last_of}
+use Rattle.xet_events.specs.Events.{last_of}
 use Rattle.xet_history.specs.TrueHistory.{planned_term}
 use Rattle.xet_ties.specs.InCall.{Exchange, Look}
 use Rattle.xet_ties.specs.Saids.{IsCutAnswer, IsPiece, TermOfPlan}

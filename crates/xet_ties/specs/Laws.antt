@@ -28,11 +28,11 @@ use Rattle.xet_blocks.specs.ServedChunks.{AllServed}
 use Rattle.xet_blocks.specs.TermBlockCalls.{FromSaid, TermBlockCall}
 use Rattle.xet_fetch.specs.CachedBlocks.{IsOffered, entry_of, passes_cached}
 use Rattle.xet_fetch.specs.Refreshes.{Answered, IsRefreshed, MayAsk, Refresh}
-use Rattle.xet_run.specs.declared.event.Event.{Event}
-use Rattle.xet_run.specs.declared.event.Event.TheVariants.{Admit, Cached, Expired, Fetched, Refreshed}
-use Rattle.xet_run.specs.Allowed.{AllowedAfter, IsAllowedHistory, IsRunning}
-use Rattle.xet_run.specs.Budgets.{LimitCall, LimitTold}
-use Rattle.xet_run.specs.Events.{Task, expires, is_admit, is_kept, is_stale, needs, planned, size, unfinished}
+use Rattle.xet_events.specs.declared.event.Event.{Event}
+use Rattle.xet_events.specs.declared.event.Event.TheVariants.{Admit, Cached, Expired, Fetched, Refreshed}
+use Rattle.xet_events.specs.Allowed.{AllowedAfter, IsAllowedHistory, IsRunning}
+use Rattle.xet_events.specs.Limits.{LimitCall, LimitTold}
+use Rattle.xet_events.specs.Events.{Task, expires, is_admit, is_kept, is_stale, needs, planned, size, unfinished}
 use Rattle.xet_history.specs.Laws.{IsPrefix}
 use Rattle.xet_history.specs.TrueHistory.{pieces}
 use Rattle.xet_ties.specs.Causes.{BlockFailsIn, HaveExpired, IsCorrupted, IsMissingFile, SomeFailed, failing_setting}

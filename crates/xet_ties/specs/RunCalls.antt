@@ -7,8 +7,8 @@ use Rattle.xet_outside.specs.Told.{SinkTold, Took}
 use Rattle.xet_error.specs.declared.error.FileReconstructionError.{FileReconstructionError}
 use Rattle.xet_error.specs.declared.error.FileReconstructionError.TheVariants as error
 use Rattle.xet_error.specs.declared.error.Setting.{Setting}
-use Rattle.xet_run.specs.declared.event.Event.{Event}
-use Rattle.xet_run.specs.Events.{expires, is_admit, planned, unwritten, written}
+use Rattle.xet_events.specs.declared.event.Event.{Event}
+use Rattle.xet_events.specs.Events.{expires, is_admit, planned, unwritten, written}
 use Rattle.xet_history.specs.TrueHistory.{ReachesEnd}
 use Rattle.xet_ties.specs.Causes.{Cause, failing_setting}
 use Rattle.xet_ties.specs.Saids.{IsTaskPiece, some_of}

@@ -5,7 +5,7 @@ use Rattle.xet_base.specs.declared.merklehash.MerkleHash.{MerkleHash}
 use Rattle.xet_base.specs.Store.{Store, IsValid}
 use Rattle.xet_outside.specs.Plan.{block_of}
 use Rattle.xet_outside.specs.Told.{CacheEntry, CacheTold, ClientTold, Holds, SignalTold, SinkTold}
-use Rattle.xet_run.specs.Budgets.{LimitTold}
+use Rattle.xet_events.specs.Limits.{LimitTold}
 use Rattle.xet_history.specs.TrueHistory.{Download}
 
 -- ---- what a run is for

@@ -18,10 +18,10 @@ use Rattle.xet_outside.specs.Told.{Added, CacheEntry, CacheTold, ClientTold, Que
 use Rattle.xet_error.specs.declared.error.FileReconstructionError.{FileReconstructionError}
 use Rattle.xet_error.specs.declared.error.FileReconstructionError.TheVariants as error
 use Rattle.xet_blocks.specs.Blocks.{range_eq}
-use Rattle.xet_run.specs.declared.event.Event.{Event}
-use Rattle.xet_run.specs.declared.event.PlannedBlock.{PlannedBlock}
-use Rattle.xet_run.specs.Budgets.{LimitTold}
-use Rattle.xet_run.specs.Events.{Task, expires, first_error, is_stale, plan_count, planned, written}
+use Rattle.xet_events.specs.declared.event.Event.{Event}
+use Rattle.xet_events.specs.declared.event.PlannedBlock.{PlannedBlock}
+use Rattle.xet_events.specs.Limits.{LimitTold}
+use Rattle.xet_events.specs.Events.{Task, expires, first_error, is_stale, plan_count, planned, written}
 use Rattle.xet_history.specs.Laws.{IsPrefix}
 use Rattle.xet_history.specs.Queries.{CutFrom}
 use Rattle.xet_history.specs.TrueHistory.{EndsEarly, IsTrueHistory, SomeEndsEarly, pieces, queries}

@@ -7,8 +7,8 @@ use Rattle.xet_base.specs.Store.{Store}
 use Rattle.xet_outside.specs.Told.{Rose, SinkTold, Took}
 use Rattle.xet_error.specs.declared.error.FileReconstructionError.{FileReconstructionError}
 use Rattle.xet_error.specs.declared.error.FileReconstructionError.TheVariants as error
-use Rattle.xet_run.specs.declared.event.Event.{Event}
-use Rattle.xet_run.specs.Events.{written, expires}
+use Rattle.xet_events.specs.declared.event.Event.{Event}
+use Rattle.xet_events.specs.Events.{written, expires}
 use Rattle.xet_writers.specs.Calls.{SinkCause, finish_fault}
 use Rattle.xet_writers.specs.declared.queued_term.QueuedTerm.{QueuedTerm}
 use Rattle.xet_writers.specs.Queues.{ready_bytes, wanted}

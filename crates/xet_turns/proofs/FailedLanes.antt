@@ -18,7 +18,7 @@ use Rattle.xet_blocks.specs.declared.reconstruction_terms.xorb_block.XorbBlock.{
 use Rattle.xet_blocks.specs.declared.reconstruction_terms.xorb_block.XorbBlockData.{XorbBlockData}
 use Rattle.xet_blocks.specs.BlockCalls.{failed_check}
 use Rattle.xet_blocks.specs.TermBlocks.{xorb_blocks}
-use Rattle.xet_run.specs.declared.event.Event.{Event}
+use Rattle.xet_events.specs.declared.event.Event.{Event}
 use Rattle.xet_ties.specs.Causes.{BlockFailsIn, Cause, FirstFailed, IsBlockOrPassed, IsBlockTest, LaneFails, LowestRose, QueryFailed}
 use Rattle.xet_ties.specs.InCall.{AllBelow, answers_of, EachExchange, EachGrew, Exchange}
 use Rattle.xet_ties.specs.Lanes.{Ask, EachDrew, HoldsAsk, IsFor, bytes_of_ask, entries_of, error_faults}

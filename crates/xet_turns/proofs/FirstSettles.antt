@@ -2,7 +2,7 @@
 use Rattle.std.proofs.Common.{◌≡◌, ℕ, ◌<◌, Bool, List, [], ◌∷◌, length, map, refl, subst, arith}
 use Rattle.std.specs.Prelude.{get_or, slice_set}
 use Rattle.xet_outside.specs.Told.{CacheTold, ClientTold}
-use Rattle.xet_run.specs.declared.event.Event.{Event}
+use Rattle.xet_events.specs.declared.event.Event.{Event}
 use Rattle.xet_leader.specs.declared.missing_blocks.BlockAt.{BlockAt}
 use Rattle.xet_turns.specs.declared.outcomes.Outcome.{Outcome}
 use Rattle.xet_leader.specs.Led.{Led}

@@ -12,7 +12,7 @@ use Rattle.xet_blocks.specs.declared.reconstruction_terms.xorb_block.XorbBlock.{
 use Rattle.xet_blocks.specs.BlockCalls.{failed_check}
 use Rattle.xet_blocks.specs.TermBlocks.{xorb_blocks}
 use Rattle.xet_fetch.proofs.CallerLemmas.{honest_tables}
-use Rattle.xet_run.specs.declared.event.Event.{Event}
+use Rattle.xet_events.specs.declared.event.Event.{Event}
 use Rattle.xet_ties.specs.Setup.{IsOver, RunTold, Setup}
 use Rattle.xet_ties.specs.Ties.{Slack}
 use Rattle.xet_leader.specs.declared.leader.LedPlan.{LedPlan}

@@ -6,10 +6,10 @@ use Rattle.xet_error.specs.declared.error.FileReconstructionError.{FileReconstru
 use Rattle.xet_error.specs.declared.error.FileReconstructionError.TheVariants as error
 use Rattle.xet_blocks.specs.declared.reconstruction_terms.xorb_block.XorbBlock.{XorbBlock}
 use Rattle.xet_blocks.specs.declared.reconstruction_terms.xorb_block.XorbBlockData.{XorbBlockData}
-use Rattle.xet_run.specs.declared.event.Event.{Event}
-use Rattle.xet_run.specs.declared.event.Event.TheVariants.{Cached}
-use Rattle.xet_run.specs.Events.{written}
-use Rattle.xet_run.proofs.CallerLemmas.{written-push}
+use Rattle.xet_events.specs.declared.event.Event.{Event}
+use Rattle.xet_events.specs.declared.event.Event.TheVariants.{Cached}
+use Rattle.xet_events.specs.Events.{written}
+use Rattle.xet_events.proofs.CallerLemmas.{written-push}
 use Rattle.xet_writers.specs.Calls.{closed_by}
 use Rattle.xet_writers.specs.Sequential.{Sequential, told_of}
 use Rattle.xet_writers.proofs.CallerLemmas.{open_writer}

@@ -3,7 +3,7 @@ use Rattle.std.proofs.Common.{◌≡◌, ℕ, ◌+◌, ◌-◌, ◌^◌, min, �
 use Rattle.std.specs.Prelude.{OnOk, Result}
 use Rattle.xet_outside.specs.Told.{CacheTold, ClientTold, SinkTold}
 use Rattle.xet_error.specs.declared.error.FileReconstructionError.{FileReconstructionError}
-use Rattle.xet_run.specs.declared.event.Event.{Event}
+use Rattle.xet_events.specs.declared.event.Event.{Event}
 use Rattle.xet_writers.specs.Sequential.{Sequential}
 use Rattle.xet_turns.specs.declared.joining.Prepared.{Prepared}
 use Rattle.xet_leader.specs.declared.missing_blocks.BlockAt.{BlockAt}

@@ -4,10 +4,10 @@ use Rattle.std.specs.Prelude.{None, Option, Some, ◌&&◌, ◌==◌, ◌||◌, 
 use Rattle.std.specs.List.{flat_map}
 use Rattle.std.proofs.lemmas.Bool.{and_from, and_parts, cases_Bool, eq-eqb, eqb-true, leb-true, ltb-true, or_parts}
 use Rattle.std.proofs.lemmas.List.{append-nil}
-use Rattle.xet_run.specs.declared.event.Event.{Event}
-use Rattle.xet_run.specs.declared.event.Event.TheVariants.{Expired}
-use Rattle.xet_run.specs.Allowed.{AllowedAfter}
-use Rattle.xet_run.specs.Events.{expires}
+use Rattle.xet_events.specs.declared.event.Event.{Event}
+use Rattle.xet_events.specs.declared.event.Event.TheVariants.{Expired}
+use Rattle.xet_events.specs.Allowed.{AllowedAfter}
+use Rattle.xet_events.specs.Events.{expires}
 use Rattle.xet_ties.specs.declared.lane_step.LaneStep.{LaneStep}
 use Rattle.xet_ties.specs.declared.lane_step.LaneStep.TheVariants as step
 use Rattle.xet_ties.specs.Setup.{RunTold, Setup}

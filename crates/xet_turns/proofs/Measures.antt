@@ -7,13 +7,13 @@ use Rattle.std.proofs.Math.Nat.{mul-le-mul_left, mul-le-mul_right}
 use Rattle.std.proofs.lemmas.Bool.{and_parts, eqb-true, false≢true}
 use Rattle.std.proofs.lemmas.List.{append-nil, append_assoc, length-map, map-append}
 use Rattle.xet_base.specs.declared.cas_types.FileRange.{FileRange}
-use Rattle.xet_run.specs.declared.event.Event.{Event}
-use Rattle.xet_run.specs.declared.event.Event.TheVariants.{Admit, Cached, Expired, Fetched, Planned}
-use Rattle.xet_run.specs.declared.event.PlannedBlock.{PlannedBlock}
-use Rattle.xet_run.specs.declared.event.PlannedTerm.{PlannedTerm}
-use Rattle.xet_run.specs.Allowed.{IsMissing}
-use Rattle.xet_run.specs.Events.{Task, admitted, ended, expires, has_more, is_admit, is_kept, last_of, needs, planned, tasks_in, written}
-use Rattle.xet_run.proofs.CallerLemmas.{flat-push, last_of-append, planned-push}
+use Rattle.xet_events.specs.declared.event.Event.{Event}
+use Rattle.xet_events.specs.declared.event.Event.TheVariants.{Admit, Cached, Expired, Fetched, Planned}
+use Rattle.xet_events.specs.declared.event.PlannedBlock.{PlannedBlock}
+use Rattle.xet_events.specs.declared.event.PlannedTerm.{PlannedTerm}
+use Rattle.xet_events.specs.Allowed.{IsMissing}
+use Rattle.xet_events.specs.Events.{Task, admitted, ended, expires, has_more, is_admit, is_kept, last_of, needs, planned, tasks_in, written}
+use Rattle.xet_events.proofs.CallerLemmas.{flat-push, last_of-append, planned-push}
 use Rattle.xet_history.specs.TrueHistory.{queries, queries_end, queries_in}
 use Rattle.xet_terms.specs.Queries.{end_from}
 use Rattle.xet_ties.specs.Setup.{Setup}

@@ -2,7 +2,7 @@
 use Rattle.std.proofs.Common.{◌≡◌, ℕ, ◌<◌, true, List, sym, subst, ◌∙◌, ap, arith, inl, inr, ⊎_elim}
 use Rattle.std.proofs.lemmas.List.{take_all}
 use Rattle.xet_base.specs.declared.cas_types.FileRange.{FileRange}
-use Rattle.xet_run.specs.declared.event.Event.{Event}
+use Rattle.xet_events.specs.declared.event.Event.{Event}
 use Rattle.xet_history.specs.TrueHistory.{ReachesEnd, queries, queries_end}
 use Rattle.xet_terms.specs.Managers.{IsCovered, Manager, scheduled_end}
 use Rattle.xet_terms.specs.Queries.{end_from}

@@ -3,11 +3,11 @@ use Rattle.std.proofs.Common.{◌≡◌, ℕ, ◌+◌, ◌≤◌, Bool, List, []
 use Rattle.std.specs.Prelude.{Result, OnOk}
 use Rattle.xet_outside.specs.Told.{ClientTold, SignalTold, SinkTold}
 use Rattle.xet_error.specs.declared.error.FileReconstructionError.{FileReconstructionError}
-use Rattle.xet_run.specs.declared.event.Event.{Event}
-use Rattle.xet_run.specs.declared.event.Event.TheVariants.{Refreshed}
-use Rattle.xet_run.specs.Allowed.{IsRunning}
-use Rattle.xet_run.specs.Events.{written}
-use Rattle.xet_run.proofs.CallerLemmas.{written-push}
+use Rattle.xet_events.specs.declared.event.Event.{Event}
+use Rattle.xet_events.specs.declared.event.Event.TheVariants.{Refreshed}
+use Rattle.xet_events.specs.Allowed.{IsRunning}
+use Rattle.xet_events.specs.Events.{written}
+use Rattle.xet_events.proofs.CallerLemmas.{written-push}
 use Rattle.xet_writers.specs.Sequential.{Sequential}
 use Rattle.xet_ties.specs.Setup.{Setup}
 use Rattle.xet_leader.specs.declared.missing_blocks.BlockAt.{BlockAt}

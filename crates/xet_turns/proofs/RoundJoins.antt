@@ -8,9 +8,9 @@ use Rattle.std.proofs.lemmas.List.Sums.{sum_by-append, sum_by-cons}
 use Rattle.xet_outside.specs.Told.{ClientTold, SinkTold, Took}
 use Rattle.xet_error.specs.declared.error.FileReconstructionError.{FileReconstructionError}
 use Rattle.xet_error.specs.declared.error.FileReconstructionError.TheVariants as error
-use Rattle.xet_run.specs.declared.event.Event.{Event}
-use Rattle.xet_run.specs.Allowed.{IsMissing}
-use Rattle.xet_run.specs.Events.{Task, planned, size, taken_in, written}
+use Rattle.xet_events.specs.declared.event.Event.{Event}
+use Rattle.xet_events.specs.Allowed.{IsMissing}
+use Rattle.xet_events.specs.Events.{Task, planned, size, taken_in, written}
 use Rattle.xet_history.specs.Laws.{IsPrefix}
 use Rattle.xet_writers.specs.declared.queued_term.QueuedTerm.{QueuedTerm}
 use Rattle.xet_writers.specs.Calls.{SinkCause, closed_by}

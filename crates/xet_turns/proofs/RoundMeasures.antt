@@ -8,10 +8,10 @@ use Rattle.xet_outside.specs.Told.{SinkTold}
 use Rattle.xet_outside.proofs.CallerLemmas.{count_by-cons}
 use Rattle.xet_claims.specs.ClaimViews.{once_below, times}
 use Rattle.xet_error.specs.declared.error.FileReconstructionError.{FileReconstructionError}
-use Rattle.xet_run.specs.declared.event.Event.{Event}
-use Rattle.xet_run.specs.declared.event.Event.TheVariants.{Expired, Fetched, Wrote}
-use Rattle.xet_run.specs.Allowed.{AllowedAfter, IsAllowed}
-use Rattle.xet_run.specs.Events.{Task, expires, is_admit, is_kept, planned, size}
+use Rattle.xet_events.specs.declared.event.Event.{Event}
+use Rattle.xet_events.specs.declared.event.Event.TheVariants.{Expired, Fetched, Wrote}
+use Rattle.xet_events.specs.Allowed.{AllowedAfter, IsAllowed}
+use Rattle.xet_events.specs.Events.{Task, expires, is_admit, is_kept, planned, size}
 use Rattle.xet_ties.specs.declared.lane_step.LaneStep.{LaneStep}
 use Rattle.xet_ties.specs.declared.lane_step.LaneStep.TheVariants as step
 use Rattle.xet_ties.specs.Saids.{has_bytes}

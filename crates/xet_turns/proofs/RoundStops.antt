@@ -10,7 +10,7 @@ use Rattle.xet_base.specs.Store.{Store}
 use Rattle.xet_outside.specs.Told.{ClientTold, Rose}
 use Rattle.xet_error.specs.declared.error.FileReconstructionError.{FileReconstructionError}
 use Rattle.xet_error.specs.declared.error.FileReconstructionError.TheVariants as error
-use Rattle.xet_run.specs.declared.event.Event.{Event}
+use Rattle.xet_events.specs.declared.event.Event.{Event}
 use Rattle.xet_writers.specs.Calls.{SinkCause}
 use Rattle.xet_ties.specs.declared.lane_step.LaneStep.{LaneStep}
 use Rattle.xet_ties.specs.Causes.{Cause}

@@ -5,8 +5,8 @@ use Rattle.xet_outside.specs.Told.{ClientTold, SinkTold}
 use Rattle.xet_error.specs.declared.error.FileReconstructionError.{FileReconstructionError}
 use Rattle.xet_error.specs.declared.error.FileReconstructionError.TheVariants as error
 use Rattle.xet_error.specs.declared.error.Setting.{Setting}
-use Rattle.xet_run.specs.declared.event.Event.{Event}
-use Rattle.xet_run.specs.Allowed.{IsRunning}
+use Rattle.xet_events.specs.declared.event.Event.{Event}
+use Rattle.xet_events.specs.Allowed.{IsRunning}
 use Rattle.xet_writers.specs.Sequential.{Sequential}
 use Rattle.xet_terms.specs.Settings as settings
 use Rattle.xet_ties.specs.Causes.{failing_setting}

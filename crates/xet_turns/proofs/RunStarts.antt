@@ -5,7 +5,7 @@ use Rattle.xet_outside.specs.Told.{SinkTold}
 use Rattle.xet_error.specs.declared.error.FileReconstructionError.{FileReconstructionError}
 use Rattle.xet_error.specs.declared.error.FileReconstructionError.TheVariants as error
 use Rattle.xet_error.specs.declared.error.Setting.{Setting}
-use Rattle.xet_run.specs.declared.event.Event.{Event}
+use Rattle.xet_events.specs.declared.event.Event.{Event}
 use Rattle.xet_writers.specs.Calls.{SinkCause}
 use Rattle.xet_parts.specs.Stops.{IsStopped}
 use Rattle.xet_ties.specs.Causes.{failing_setting}

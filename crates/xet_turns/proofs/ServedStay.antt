@@ -7,10 +7,10 @@ use Rattle.std.proofs.lemmas.List.Elements.{All-head, All-tail}
 use Rattle.std.proofs.lemmas.List.Folds.{list_any-append}
 use Rattle.std.proofs.lemmas.Option.{slice_get_within}
 use Rattle.xet_outside.specs.Told.{ClientTold}
-use Rattle.xet_run.specs.declared.event.Event.{Event}
-use Rattle.xet_run.specs.Allowed.{IsMissing}
-use Rattle.xet_run.specs.declared.event.Event.TheVariants.{Fetched}
-use Rattle.xet_run.specs.Events.{Task, is_admit, is_kept, needs, planned}
+use Rattle.xet_events.specs.declared.event.Event.{Event}
+use Rattle.xet_events.specs.Allowed.{IsMissing}
+use Rattle.xet_events.specs.declared.event.Event.TheVariants.{Fetched}
+use Rattle.xet_events.specs.Events.{Task, is_admit, is_kept, needs, planned}
 use Rattle.xet_ties.specs.declared.lane_step.LaneStep.{LaneStep}
 use Rattle.xet_ties.specs.declared.lane_step.LaneStep.TheVariants as step
 use Rattle.xet_ties.specs.History.{fetches}

@@ -3,8 +3,8 @@ use Rattle.std.proofs.Common.{◌≡◌, Bool, List, Ok, Err, sym, subst}
 use Rattle.xet_outside.specs.Told.{ClientTold, SignalTold}
 use Rattle.xet_error.specs.declared.error.FileReconstructionError.{FileReconstructionError}
 use Rattle.xet_error.specs.declared.error.FileReconstructionError.TheVariants as error
-use Rattle.xet_run.specs.declared.event.Event.{Event}
-use Rattle.xet_run.specs.Budgets.{LimitTold}
+use Rattle.xet_events.specs.declared.event.Event.{Event}
+use Rattle.xet_events.specs.Limits.{LimitTold}
 use Rattle.xet_ties.specs.Setup.{RunTold, Setup}
 use Rattle.xet_leader.specs.declared.leader.Job.{Job}
 use Rattle.xet_leader.specs.Led.{Led, setup_of_job}

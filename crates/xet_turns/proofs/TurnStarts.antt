@@ -9,12 +9,12 @@ use Rattle.std.proofs.lemmas.Option.{slice_get_cases}
 use Rattle.xet_outside.specs.Told.{ClientTold, SignalTold}
 use Rattle.xet_error.specs.declared.error.FileReconstructionError.{FileReconstructionError}
 use Rattle.xet_blocks.specs.declared.reconstruction_terms.file_term.TermBlock.{TermBlock}
-use Rattle.xet_run.specs.declared.event.Event.{Event}
-use Rattle.xet_run.specs.declared.event.Event.TheVariants.{Admit}
-use Rattle.xet_run.specs.Allowed.{IsRunning, MayAdmit}
-use Rattle.xet_run.specs.Budgets.{LimitTold}
-use Rattle.xet_run.specs.Events.{Task, is_admit, planned, size, unwritten, written}
-use Rattle.xet_run.proofs.CallerLemmas.{written-push}
+use Rattle.xet_events.specs.declared.event.Event.{Event}
+use Rattle.xet_events.specs.declared.event.Event.TheVariants.{Admit}
+use Rattle.xet_events.specs.Allowed.{IsRunning, MayAdmit}
+use Rattle.xet_events.specs.Limits.{LimitTold}
+use Rattle.xet_events.specs.Events.{Task, is_admit, planned, size, unwritten, written}
+use Rattle.xet_events.proofs.CallerLemmas.{written-push}
 use Rattle.xet_terms.specs.Managers.{IsCovered}
 use Rattle.xet_ties.specs.RunCalls.{IsFinished}
 use Rattle.xet_ties.specs.Setup.{RunTold, Setup}

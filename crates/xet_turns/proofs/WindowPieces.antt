@@ -22,9 +22,9 @@ use Rattle.xet_blocks.proofs.CallerLemmas.{IsHonestTerm, honest_terms}
 use Rattle.xet_fetch.specs.CachedBlocks.{passes_cached}
 use Rattle.xet_fetch.specs.Laws.{PassesIn}
 use Rattle.xet_fetch.proofs.CallerLemmas.{cached_terms_pass}
-use Rattle.xet_run.specs.declared.event.Event.{Event}
-use Rattle.xet_run.specs.declared.event.PlannedBlock.{PlannedBlock}
-use Rattle.xet_run.specs.Events.{is_kept}
+use Rattle.xet_events.specs.declared.event.Event.{Event}
+use Rattle.xet_events.specs.declared.event.PlannedBlock.{PlannedBlock}
+use Rattle.xet_events.specs.Events.{is_kept}
 use Rattle.xet_history.specs.TrueHistory.{piece_in, planned_term, task_piece}
 use Rattle.xet_ties.specs.Causes.{TermFailsIn}
 use Rattle.xet_ties.specs.InCall.{Exchange, SomeOne}

@@ -9,9 +9,9 @@ use Rattle.std.proofs.lemmas.List.Sums.{sum_by-append, sum_by-cons}
 use Rattle.xet_base.specs.Store.{Store}
 use Rattle.xet_outside.specs.Plan.{block_of}
 use Rattle.xet_outside.specs.Told.{SinkTold, Took}
-use Rattle.xet_run.specs.declared.event.Event.{Event}
-use Rattle.xet_run.specs.declared.event.PlannedBlock.{PlannedBlock}
-use Rattle.xet_run.specs.Events.{Task, planned, size}
+use Rattle.xet_events.specs.declared.event.Event.{Event}
+use Rattle.xet_events.specs.declared.event.PlannedBlock.{PlannedBlock}
+use Rattle.xet_events.specs.Events.{Task, planned, size}
 use Rattle.xet_history.specs.Laws.{IsPrefix}
 use Rattle.xet_history.specs.TrueHistory.{piece_in, pieces, task_piece}
 use Rattle.xet_history.proofs.CallerLemmas.{all_sized}

@@ -5,11 +5,11 @@ use Rattle.std.specs.List.{sum_by}
 use Rattle.std.proofs.lemmas.Bool.Decides.{nat_tests}
 use Rattle.std.proofs.lemmas.List.{append-nil}
 use Rattle.std.proofs.lemmas.List.Sums.{sum_by-append, sum_by-cons}
-use Rattle.xet_run.specs.declared.event.Event.{Event}
-use Rattle.xet_run.specs.declared.event.Event.TheVariants.{Wrote}
-use Rattle.xet_run.specs.Allowed.{IsRunning}
-use Rattle.xet_run.specs.Events.{Task, expires, is_admit, planned, size, taken_in, written}
-use Rattle.xet_run.proofs.CallerLemmas.{planned-push}
+use Rattle.xet_events.specs.declared.event.Event.{Event}
+use Rattle.xet_events.specs.declared.event.Event.TheVariants.{Wrote}
+use Rattle.xet_events.specs.Allowed.{IsRunning}
+use Rattle.xet_events.specs.Events.{Task, expires, is_admit, planned, size, taken_in, written}
+use Rattle.xet_events.proofs.CallerLemmas.{planned-push}
 use Rattle.xet_terms.specs.Managers.{Manager}
 use Rattle.xet_ties.specs.Setup.{RunTold, Setup}
 use Rattle.xet_ties.specs.Ties.{Slack}

@@ -1,7 +1,7 @@
 -- What a run over an empty range does.
 use Rattle.std.specs.Prelude.{◌≡◌, List, None}
 use Rattle.xet_outside.specs.Told.{SinkTold}
-use Rattle.xet_run.specs.declared.event.Event.{Event}
+use Rattle.xet_events.specs.declared.event.Event.{Event}
 use Rattle.xet_ties.specs.Causes.{failing_setting}
 use Rattle.xet_ties.specs.RunCalls.{RunCall}
 use Rattle.xet_ties.specs.Setup.{IsEmptyRange, RunTold, Setup}

@@ -3,8 +3,8 @@ use Rattle.std.specs.Prelude.{ℕ, ◌≡◌, ◌<◌, ◌≤◌, List, length, 
 use Rattle.xet_base.specs.Store.{Store}
 use Rattle.xet_outside.specs.Told.{SinkTold}
 use Rattle.xet_error.specs.declared.error.FileReconstructionError.{FileReconstructionError}
-use Rattle.xet_run.specs.declared.event.Event.{Event}
-use Rattle.xet_run.specs.Events.{written}
+use Rattle.xet_events.specs.declared.event.Event.{Event}
+use Rattle.xet_events.specs.Events.{written}
 use Rattle.xet_writers.specs.Calls.{SinkCause}
 use Rattle.xet_writers.specs.Sequential.{FinishSequential, Sequential}
 use Rattle.xet_parts.specs.Stops.{IsStopped}

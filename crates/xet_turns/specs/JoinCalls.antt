@@ -2,7 +2,7 @@
 use Rattle.std.specs.Prelude.{ℕ, zero, suc, ◌≡◌, List, Ok, Result, IfErr, IfOk, OnOk}
 use Rattle.xet_outside.specs.Told.{CacheTold, ClientTold, SignalTold, SinkTold}
 use Rattle.xet_error.specs.declared.error.FileReconstructionError.{FileReconstructionError}
-use Rattle.xet_run.specs.declared.event.Event.{Event}
+use Rattle.xet_events.specs.declared.event.Event.{Event}
 use Rattle.xet_writers.specs.Sequential.{Sequential}
 use Rattle.xet_ties.specs.Setup.{RunTold, Setup}
 use Rattle.xet_ties.specs.steps.Parts.{PollCall}

@@ -1,7 +1,7 @@
 -- A run up to its end.
 use Rattle.std.specs.Prelude.{◌≡◌, false, [], None, OnOk, IfErr}
 use Rattle.xet_outside.specs.Told.{SinkTold}
-use Rattle.xet_run.specs.Events.{written}
+use Rattle.xet_events.specs.Events.{written}
 use Rattle.xet_writers.specs.Sequential.{Sequential}
 use Rattle.xet_ties.specs.RunCalls.{IsFinished}
 use Rattle.xet_ties.specs.Setup.{RunTold, Setup}

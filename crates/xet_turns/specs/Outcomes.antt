@@ -3,7 +3,7 @@ use Rattle.std.specs.Prelude.{ℕ, ◌≡◌, ◌⊎◌, ◌++◌, Bool, true, f
 use Rattle.std.specs.List.{flat_map}
 use Rattle.xet_error.specs.declared.error.FileReconstructionError.{FileReconstructionError}
 use Rattle.xet_error.specs.declared.error.FileReconstructionError.TheVariants as error
-use Rattle.xet_run.specs.declared.event.Event.{Event}
+use Rattle.xet_events.specs.declared.event.Event.{Event}
 use Rattle.xet_ties.specs.steps.Records.{Recorded, places_of}
 use Rattle.xet_ties.specs.steps.Rounds.{got_of}
 use Rattle.xet_lanes.specs.declared.joined.Joined.{Joined}

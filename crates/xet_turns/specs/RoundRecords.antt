@@ -1,8 +1,8 @@
 -- What a whole join records.
 use Rattle.std.specs.Prelude.{ℕ, List, [], ◌++◌, map, Result, Ok, Err}
 use Rattle.xet_error.specs.declared.error.FileReconstructionError.{FileReconstructionError}
-use Rattle.xet_run.specs.declared.event.Event.{Event}
-use Rattle.xet_run.specs.Allowed.{AllowedAfter}
+use Rattle.xet_events.specs.declared.event.Event.{Event}
+use Rattle.xet_events.specs.Allowed.{AllowedAfter}
 use Rattle.xet_ties.specs.declared.lane_step.LaneStep.{LaneStep}
 use Rattle.xet_ties.specs.steps.Records.{expired_on, fetched_on, lane_events, wrote_of}
 use Rattle.xet_lanes.specs.declared.joined.LaneEnd.{LaneEnd}

@@ -4,8 +4,8 @@ use Rattle.std.specs.Prelude.{Some, None, Result, IfOk, IfErr}
 use Rattle.std.specs.List.{AllZip}
 use Rattle.xet_base.specs.Store.{Store}
 use Rattle.xet_error.specs.declared.error.FileReconstructionError.{FileReconstructionError}
-use Rattle.xet_run.specs.declared.event.Event.{Event}
-use Rattle.xet_run.specs.Events.{Task, is_kept, planned, size}
+use Rattle.xet_events.specs.declared.event.Event.{Event}
+use Rattle.xet_events.specs.Events.{Task, is_kept, planned, size}
 use Rattle.xet_history.specs.TrueHistory.{planned_term, task_piece}
 use Rattle.xet_writers.specs.Calls.{closed_by}
 use Rattle.xet_writers.specs.Sequential.{Sequential, told_of}

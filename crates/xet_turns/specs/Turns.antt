@@ -2,9 +2,9 @@
 use Rattle.std.specs.Prelude.{◌≡◌, ◌⊎◌, ◌+◌, ◌<◌, ◌≤◌, ◌==◌, ◌&&◌, Bool, true, false, not, List, Result, Ok, OnOk, IfOk}
 use Rattle.xet_outside.specs.Told.{ClientTold, SignalTold, SinkTold}
 use Rattle.xet_error.specs.declared.error.FileReconstructionError.{FileReconstructionError}
-use Rattle.xet_run.specs.declared.event.Event.{Event}
-use Rattle.xet_run.specs.Budgets.{LimitTold}
-use Rattle.xet_run.specs.Events.{written}
+use Rattle.xet_events.specs.declared.event.Event.{Event}
+use Rattle.xet_events.specs.Limits.{LimitTold}
+use Rattle.xet_events.specs.Events.{written}
 use Rattle.xet_writers.specs.Sequential.{Sequential}
 use Rattle.xet_ties.specs.RunCalls.{IsFinished}
 use Rattle.xet_ties.specs.Setup.{RunTold, Setup}

@@ -1,7 +1,7 @@
 -- What a join, and the settling of what it left, do to a run.
 use Rattle.std.specs.Prelude.{◌≡◌, Bool, List, ◌∷◌, OnOk}
 use Rattle.xet_outside.specs.Told.{CacheTold, ClientTold, SinkTold}
-use Rattle.xet_run.specs.declared.event.Event.{Event}
+use Rattle.xet_events.specs.declared.event.Event.{Event}
 use Rattle.xet_writers.specs.Sequential.{Sequential}
 use Rattle.xet_ties.specs.Setup.{RunTold, Setup}
 use Rattle.xet_turns.specs.declared.outcomes.Outcome.{Outcome}

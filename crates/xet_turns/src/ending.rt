@@ -1,5 +1,5 @@
 //! Ends a run.
-ghost use Rattle.xet_run.specs.Allowed.{IsRunning};
+ghost use Rattle.xet_events.specs.Allowed.{IsRunning};
 ghost use Rattle.xet_turns.specs.Ending.{EndLeads, EndTurn, LastCall, RecordedEnd, WriterEnd};
 
 use std::alloc::Global;

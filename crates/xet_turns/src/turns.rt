@@ -1,6 +1,6 @@
 //! Takes turns, until all is written.
 ghost use Rattle.std.specs.Prelude.{◌≡◌, ◌<◌, ◌≤◌, ◌^◌, List, length, map};
-ghost use Rattle.xet_run.specs.Allowed.{IsRunning};
+ghost use Rattle.xet_events.specs.Allowed.{IsRunning};
 ghost use Rattle.xet_ties.specs.Setup.{told_of};
 ghost use Rattle.xet_outside.specs.Told.{ClientTold, SignalTold};
 ghost use Rattle.xet_leader.specs.Led.{AreStale, IsLedManager, setup_of_job};

@@ -7,9 +7,9 @@ use Rattle.xet_store.specs.Taps.{TapTold}
 use Rattle.xet_error.specs.declared.error.FileReconstructionError.{FileReconstructionError}
 use Rattle.xet_error.specs.declared.error.Setting.{Setting}
 use Rattle.xet_blocks.specs.ServedChunks.{AllServed}
-use Rattle.xet_run.specs.declared.budget_book.BookView.{BookView}
+use Rattle.xet_events.specs.declared.budget_book.BookView.{BookView}
 use Rattle.std.specs.Arc.{arc_value}
-use Rattle.xet_run.specs.Budgets.{LimitTold}
+use Rattle.xet_events.specs.Limits.{LimitTold}
 use Rattle.xet_ties.specs.LegalWords.{IsExact}
 use Rattle.xet_ties.specs.RunCalls.{Unfailed}
 use Rattle.xet_ties.specs.Setup.{CacheTells}

@@ -8,8 +8,8 @@ use Rattle.xet_claims.specs.declared.claims.Claims.{Claims}
 use Rattle.xet_claims.specs.ClaimPasses.{IsPassOf, pass_view}
 use Rattle.xet_claims.specs.ClaimViews.{gained, missed, newcomer, saw}
 use Rattle.xet_error.specs.declared.error.FileReconstructionError.{FileReconstructionError}
-use Rattle.xet_run.specs.declared.run_call.RunCall.{RunCall}
-use Rattle.xet_run.specs.declared.run_call.RunCall.TheVariants as call
+use Rattle.xet_events.specs.declared.run_call.RunCall.{RunCall}
+use Rattle.xet_events.specs.declared.run_call.RunCall.TheVariants as call
 use Rattle.xet_ties.specs.declared.lane_step.LaneStep.{LaneStep}
 use Rattle.xet_ties.specs.Lanes.{Ask, LaneDrew}
 use Rattle.xet_lanes.specs.declared.drawing.Next.{Next}

@@ -3,10 +3,10 @@ use Rattle.std.specs.Prelude.{ℕ, ◌≡◌, ◌⊎◌, ◌+◌, List, [], ◌�
 use Rattle.std.specs.Result.{result_err}
 use Rattle.xet_error.specs.declared.error.FileReconstructionError.{FileReconstructionError}
 use Rattle.xet_error.specs.declared.error.FileReconstructionError.TheVariants as error
-use Rattle.xet_run.specs.declared.run_book.RunError.{RunError}
-use Rattle.xet_run.specs.declared.run_book.RunError.TheVariants as run_error
-use Rattle.xet_run.specs.declared.run_call.RunCall.{RunCall}
-use Rattle.xet_run.specs.declared.run_call.RunCall.TheVariants as call
+use Rattle.xet_events.specs.declared.run_book.RunError.{RunError}
+use Rattle.xet_events.specs.declared.run_book.RunError.TheVariants as run_error
+use Rattle.xet_events.specs.declared.run_call.RunCall.{RunCall}
+use Rattle.xet_events.specs.declared.run_call.RunCall.TheVariants as call
 
 -- the history under the lock, how many calls a pass made, and its last one
 pub record Log : Type 0 where

@@ -1,7 +1,7 @@
 -- What is left of the tries of blocks that aren't kept.
 use Rattle.std.specs.Prelude.{ℕ, ◌+◌, ◌-◌, cond, List, map, count_by}
-use Rattle.xet_run.specs.declared.event.Event.{Event}
-use Rattle.xet_run.specs.Events.{expires, is_kept}
+use Rattle.xet_events.specs.declared.event.Event.{Event}
+use Rattle.xet_events.specs.Events.{expires, is_kept}
 use Rattle.xet_ties.specs.steps.Parts.{total}
 use Rattle.xet_ties.specs.steps.Records.{Place}
 

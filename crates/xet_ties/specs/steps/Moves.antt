@@ -9,9 +9,9 @@ use Rattle.xet_outside.specs.declared.said.Said.{Said}
 use Rattle.xet_outside.specs.declared.served.Served.{Served}
 use Rattle.xet_outside.specs.Answers.{IsPaired, bytes_in, late_in, plans_in}
 use Rattle.xet_outside.specs.Told.{Added, CacheEntry, CacheTold, ClientTold, Counted, Grew, Query}
-use Rattle.xet_run.specs.declared.event.Event.{Event}
-use Rattle.xet_run.specs.declared.event.PlannedBlock.{PlannedBlock}
-use Rattle.xet_run.specs.Events.{error_in, expires, is_plan, taken_in, tasks_in}
+use Rattle.xet_events.specs.declared.event.Event.{Event}
+use Rattle.xet_events.specs.declared.event.PlannedBlock.{PlannedBlock}
+use Rattle.xet_events.specs.Events.{error_in, expires, is_plan, taken_in, tasks_in}
 use Rattle.xet_history.specs.TrueHistory.{IsTrueEvent, queries_in}
 use Rattle.xet_ties.specs.Gains.{IsServedEntry}
 use Rattle.xet_ties.specs.History.{IsOneCached, IsRenewed, IsWithin, asked_in, cached_in, fetched_in, limit_in}

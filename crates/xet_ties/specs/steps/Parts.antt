@@ -20,12 +20,12 @@ use Rattle.xet_blocks.specs.PlanQuery.{PlanQuery}
 use Rattle.xet_blocks.specs.TermBlocks.{covered}
 use Rattle.xet_fetch.specs.CachedBlocks.{LookKeeps, LookOk, MaybeLooked}
 use Rattle.xet_fetch.specs.Refreshes.{Refresh, plan_extents}
-use Rattle.xet_run.specs.declared.event.Event.{Event}
-use Rattle.xet_run.specs.declared.event.Event.TheVariants.{Cached, Cancel, Fail, Planned}
-use Rattle.xet_run.specs.declared.event.PlannedBlock.{PlannedBlock}
-use Rattle.xet_run.specs.declared.event.PlannedTerm.{PlannedTerm}
-use Rattle.xet_run.specs.Budgets.{LimitTold}
-use Rattle.xet_run.specs.Events.{plan_count}
+use Rattle.xet_events.specs.declared.event.Event.{Event}
+use Rattle.xet_events.specs.declared.event.Event.TheVariants.{Cached, Cancel, Fail, Planned}
+use Rattle.xet_events.specs.declared.event.PlannedBlock.{PlannedBlock}
+use Rattle.xet_events.specs.declared.event.PlannedTerm.{PlannedTerm}
+use Rattle.xet_events.specs.Limits.{LimitTold}
+use Rattle.xet_events.specs.Events.{plan_count}
 use Rattle.xet_history.specs.TrueHistory.{planned_term}
 use Rattle.xet_ties.specs.Gains.{MayOffer}
 use Rattle.xet_ties.specs.InCall.{Look}

@@ -6,11 +6,11 @@ use Rattle.xet_error.specs.declared.error.FileReconstructionError.{FileReconstru
 use Rattle.xet_error.specs.declared.error.FileReconstructionError.TheVariants as error
 use Rattle.xet_outside.specs.declared.served.Served.{Served}
 use Rattle.xet_outside.specs.Told.{served_of}
-use Rattle.xet_run.specs.declared.event.Event.{Event}
-use Rattle.xet_run.specs.declared.event.Event.TheVariants.{Fetched, Expired, Wrote}
-use Rattle.xet_run.specs.declared.event.PlannedBlock.{PlannedBlock}
-use Rattle.xet_run.specs.Allowed.{IsMissing}
-use Rattle.xet_run.specs.Events.{expires, is_kept}
+use Rattle.xet_events.specs.declared.event.Event.{Event}
+use Rattle.xet_events.specs.declared.event.Event.TheVariants.{Fetched, Expired, Wrote}
+use Rattle.xet_events.specs.declared.event.PlannedBlock.{PlannedBlock}
+use Rattle.xet_events.specs.Allowed.{IsMissing}
+use Rattle.xet_events.specs.Events.{expires, is_kept}
 use Rattle.xet_ties.specs.History.{block_at, entry_of, is_expired}
 pub use Rattle.xet_ties.specs.InCall.{Place}
 use Rattle.xet_ties.specs.Lanes.{Ask}

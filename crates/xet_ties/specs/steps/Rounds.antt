@@ -13,9 +13,9 @@ use Rattle.xet_error.specs.declared.error.FileReconstructionError.TheVariants as
 use Rattle.xet_blocks.specs.BlockCalls.{failed_check}
 use Rattle.xet_blocks.specs.BlockChecks.{block_data}
 use Rattle.xet_blocks.specs.declared.reconstruction_terms.xorb_block.XorbBlockData.{XorbBlockData}
-use Rattle.xet_run.specs.declared.event.Event.{Event}
-use Rattle.xet_run.specs.declared.event.PlannedBlock.{PlannedBlock}
-use Rattle.xet_run.specs.Allowed.{IsMissing}
+use Rattle.xet_events.specs.declared.event.Event.{Event}
+use Rattle.xet_events.specs.declared.event.PlannedBlock.{PlannedBlock}
+use Rattle.xet_events.specs.Allowed.{IsMissing}
 use Rattle.xet_ties.specs.History.{block_at}
 use Rattle.xet_ties.specs.InCall.{EachGrew, Exchange, SomeOne}
 use Rattle.xet_ties.specs.Lanes.{Ask, HidesNone, HoldsAsk, IsFor, any_faults, bytes_of_ask}

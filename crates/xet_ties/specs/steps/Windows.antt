@@ -1,9 +1,9 @@
 -- The terms of a run from the first one on that isn't written.
 use Rattle.std.specs.Prelude.{ℕ, ◌≡◌, ◌-◌, ◌≤◌, ◌&&◌, Bool, true, List, [], ◌∷◌, take, drop, count_by}
 use Rattle.std.specs.List.{sum_by}
-use Rattle.xet_run.specs.declared.event.Event.{Event}
+use Rattle.xet_events.specs.declared.event.Event.{Event}
 use Rattle.xet_ties.specs.Saids.{has_bytes}
-use Rattle.xet_run.specs.Events.{Task, is_admit, is_kept, needs, planned, size, written}
+use Rattle.xet_events.specs.Events.{Task, is_admit, is_kept, needs, planned, size, written}
 
 -- the first planned terms, so many, are wholly written, and no byte more; they are admitted
 pub record IsAt (es : List Event) (finished : ℕ) : Type 0 where

@@ -2,7 +2,7 @@ use Rattle.xet_ties.proofs.AskTies.{ask_ties, refresh_ties}
 use Rattle.std.proofs.Common.{[], ◌∷◌, ◌++◌, refl}
 use Rattle.xet_outside.specs.declared.plan.PlanAnswer.TheVariants.{Found}
 use Rattle.xet_outside.specs.declared.said.Said.TheVariants as said
-use Rattle.xet_run.specs.declared.event.Event.TheVariants.{Refreshed}
+use Rattle.xet_events.specs.declared.event.Event.TheVariants.{Refreshed}
 use Rattle.xet_ties.specs.steps.Moves.{heard_first}
 use Rattle.xet_ties.specs.steps.Parts.{plan_event}
 use Rattle.xet_ties.proofs.Heard.{grew_first}

@@ -1,9 +1,9 @@
 use Rattle.std.proofs.Common.{◌≡◌, ◌+◌, ◌≤◌, ◌<◌, None, Some, true, false, sym, ◌∙◌, rules, arith}
 use Rattle.std.specs.Prelude.{option_map, slice_get}
 use Rattle.std.proofs.lemmas.Bool.{both_ways, leb-true, leb-false}
-use Rattle.xet_run.specs.Events.{unfinished, written}
-use Rattle.xet_run.specs.BlockTables.{kept_in}
-use Rattle.xet_run.specs.steps.Index.{unfinished_of}
+use Rattle.xet_events.specs.Events.{unfinished, written}
+use Rattle.xet_events.specs.BlockTables.{kept_in}
+use Rattle.xet_events.specs.Indexes.{unfinished_of}
 use Rattle.xet_run.proofs.Fronts.{unfinished_front, may_write_is, may_write_back}
 use Rattle.xet_run.proofs.run_core.RunCore.may_write.Goals as goal
 

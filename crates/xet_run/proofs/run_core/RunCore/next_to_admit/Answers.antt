@@ -1,7 +1,7 @@
 use Rattle.std.proofs.Common.{◌≡◌, ◌+◌, ◌≤◌, ◌<◌, ◌^◌, None, Some, sym, ◌∙◌, inl, inr, rules, arith, ⊎_elim}
 use Rattle.std.specs.Prelude.{option_map, slice_get, count_by}
-use Rattle.xet_run.specs.Events.{planned, is_admit, unwritten}
-use Rattle.xet_run.specs.steps.Index.{waiting_of}
+use Rattle.xet_events.specs.Events.{planned, is_admit, unwritten}
+use Rattle.xet_events.specs.Indexes.{waiting_of}
 use Rattle.xet_run.proofs.Fronts.{waiting_front, may_admit, may_admit_back}
 use Rattle.xet_run.proofs.run_core.RunCore.next_to_admit.Goals as goal
 

@@ -1,7 +1,0 @@
-use Rattle.xet_run.proofs.Plans.{one_more}
-use Rattle.xet_run.proofs.plan_source.copied_blocks.Goals as goal
-
-pub loop-at-preserved : goal.loop-at-preserved
-loop-at-preserved g c =
-    let more = one_more (g.S.PlanSource.blocks c.args.source.now) c.loop-at.at c.in_ok-block.field-0 c.in_ok-block.ensures in
-    cc (more, c.in_ok-push.ensures.ok, c.loop-at.invariant)
