@@ -11,17 +11,17 @@ use Rattle.xet_base.specs.Lists.{firsts}
 use Rattle.xet_outside.specs.declared.plan.PlanTerm.{PlanTerm}
 use Rattle.xet_outside.specs.Plan.{Shape}
 use Rattle.xet_blocks.specs.declared.reconstruction_terms.block_list.OfferedBlock.{OfferedBlock}
-use Rattle.xet_blocks.specs.declared.reconstruction_terms.xorb_block.XorbBlock.{XorbBlock}
-use Rattle.xet_blocks.specs.declared.reconstruction_terms.xorb_block.XorbReference.{XorbReference}
-use Rattle.xet_blocks.specs.Blocks.{PlanBlock, blocks_of, same_block, term_block}
+use Rattle.xet_offers.specs.declared.reconstruction_terms.xorb_block.XorbBlock.{XorbBlock}
+use Rattle.xet_offers.specs.declared.reconstruction_terms.xorb_block.XorbReference.{XorbReference}
+use Rattle.xet_offers.specs.Blocks.{PlanBlock, blocks_of, same_block, term_block}
 use Rattle.xet_blocks.specs.steps.Planning.{HasChunks, HasRanges, IsUnfinished, PlacedTerm, finished, numbered_block, own_references, plan_block, unsorted_block, unsorted_blocks, with_references}
 use Rattle.xet_blocks.proofs.PlacedTerms.{placed_term}
 use Rattle.xet_blocks.specs.TermBlocks.{by_start, reference_of, with_reference, xorb_block, xorb_blocks}
-use Rattle.xet_blocks.specs.Chain.{last_end}
-use Rattle.xet_blocks.specs.PlanChecks.{unordered}
+use Rattle.xet_offers.specs.Chain.{last_end}
+use Rattle.xet_offers.specs.PlanChecks.{unordered}
 use Rattle.xet_base.specs.Ranges.{Ascend}
 use Rattle.xet_outside.specs.declared.plan.FetchRange.{FetchRange}
-use Rattle.xet_blocks.proofs.EqualBlocks.{eq-same_block, same_block-chain, same_block-true}
+use Rattle.xet_offers.proofs.CallerLemmas.{eq-same_block, same_block-chain, same_block-true}
 
 -- ---- a stable sort by the starts
 

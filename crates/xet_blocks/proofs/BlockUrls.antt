@@ -19,11 +19,10 @@ use Rattle.xet_outside.specs.declared.plan.PlanTerm.{PlanTerm}
 use Rattle.xet_outside.specs.declared.plan.PlanXorb.{PlanXorb}
 use Rattle.xet_outside.specs.Plan.{XorbShape, shape, xorb_shape}
 use Rattle.xet_error.specs.declared.error.Corruption.TheVariants.{NoRange}
-use Rattle.xet_blocks.specs.Blocks.{PlanBlock, block_of_term, block_ranges, blocks_of, entry_blocks, lies_in, range_eq, same_block, term_block}
+use Rattle.xet_offers.specs.Blocks.{PlanBlock, block_of_term, block_ranges, blocks_of, entry_blocks, lies_in, range_eq, same_block, term_block}
 use Rattle.xet_blocks.specs.Laws.{UrlOfFirst, entry_of_term, first_term}
 use Rattle.xet_blocks.specs.TermBlocks.{block_url}
-use Rattle.xet_blocks.proofs.EqualBlocks.{eq-same_block, same_block-true}
-use Rattle.xet_blocks.proofs.Lookups.{any-map, find-map, find_passes, firsts_all}
+use Rattle.xet_offers.proofs.CallerLemmas.{any-map, eq-same_block, find-map, find_passes, firsts_all, same_block-true}
 use Rattle.xet_blocks.proofs.TrimmedTerms.{none_from_map, tested}
 
 -- ---- what is found

@@ -16,21 +16,17 @@ use Rattle.xet_outside.specs.declared.plan.FetchRange.{FetchRange}
 use Rattle.xet_outside.specs.declared.plan.Plan.{Plan}
 use Rattle.xet_outside.specs.declared.plan.PlanTerm.{PlanTerm}
 use Rattle.xet_outside.specs.declared.plan.PlanXorb.{PlanXorb}
-use Rattle.xet_outside.specs.Plan.{Shape, shape, xorb_shape}
+use Rattle.xet_outside.specs.Plan.{Shape, shape}
 use Rattle.xet_blocks.specs.declared.reconstruction_terms.plan_blocks.TermStart.{TermStart}
 use Rattle.xet_blocks.specs.declared.reconstruction_terms.plan_blocks.PlanBlocks.{PlanBlocks}
 use Rattle.xet_blocks.specs.declared.reconstruction_terms.block_list.OfferedBlock.{OfferedBlock}
-use Rattle.xet_blocks.specs.Blocks.{PlanBlock, block_of_term, block_ranges, blocks_of, entry_blocks, lies_in, range_eq, same_block, start_index, term_block}
-use Rattle.xet_blocks.specs.steps.Offers.{Candidate, Offered, candidates, entry_candidates, offer_of_term, ranges_block, xorb_offers, xorb_place}
+use Rattle.xet_offers.specs.Blocks.{PlanBlock, block_of_term, block_ranges, blocks_of, entry_blocks, lies_in, range_eq, same_block, start_index, term_block}
+use Rattle.xet_offers.specs.Offers.{Candidate, Offered, candidates, entry_candidates, offer_of_term, ranges_block, xorb_offers, xorb_place}
 use Rattle.xet_blocks.specs.steps.BlockKeys.{IsBlockOf, key_of, place_of_key, same_key}
 use Rattle.xet_blocks.specs.steps.Planning.{HasChunks, HasRanges, IsNumbered, IsOfTerm, IsPlaced, IsPlanned, IsToldApart, number_in, plan_block}
 use Rattle.xet_blocks.specs.TermBlocks.{block_url}
-use Rattle.xet_blocks.specs.PlanChecks.{failed_ranges, ranges_test, unordered}
-use Rattle.xet_error.specs.declared.error.Corruption.TheVariants.{Ranges}
-use Rattle.xet_blocks.proofs.Lookups.{find-append, find-map, find_passes, position-map}
-use Rattle.xet_blocks.proofs.TermOffers.{block_of_offer, candidate_of, found_candidate, places_tell}
-use Rattle.xet_blocks.proofs.OfferOrder.{any_by_chunks, eq-same_ranges, numbers_tell, offer_ascends, offer_starts, same_ranges-true}
-use Rattle.xet_blocks.proofs.EqualBlocks.{same_block-chain, same_block-own}
+use Rattle.xet_offers.specs.PlanChecks.{ranges_test, unordered}
+use Rattle.xet_offers.proofs.CallerLemmas.{any_by_chunks, block_of_offer, candidate_of, eq-same_ranges, find-append, find-map, find_passes, found_candidate, numbers_tell, offer_ascends, offer_starts, places_tell, position-map, same_block-chain, same_block-own, same_ranges-true}
 
 -- ---- numbers of blocks
 
@@ -393,18 +389,3 @@ has_offer p multi t o h = ap is_none (block_of_offer p multi t ∙ ap (λ f. opt
 
 pub has_no_offer : (p : Plan) (multi : Bool) (t : PlanTerm) → offer_of_term p multi t ≡ None → is_none (block_of_term (shape p) multi t) ≡ true
 has_no_offer p multi t h = ap is_none (block_of_offer p multi t ∙ ap (λ f. option_map (λ (o : Offered). ranges_block t.xorb o.block) f) h)
-
--- ---- the entries of a xorb
-
--- the first entry whose ranges don't ascend fails the xorb, and a xorb without one passes
-pub entries_fail : (x : PlanXorb) (xs : List PlanXorb) (k : ℕ) → Some k ≡ position (λ (e : FetchEntry). unordered 0 e.ranges) x.fetch → first_some (map failed_ranges (map xorb_shape (x ∷ xs))) ≡ Some (Ranges x.xorb k)
-entries_fail x xs k h =
-    let at : failed_ranges (xorb_shape x) ≡ Some (Ranges x.xorb k) =
-    ap (λ f. option_map (λ i. Ranges x.xorb i) f) (position-map (λ (e : FetchEntry). e.ranges) (λ l. unordered 0 l) x.fetch ∙ sym h) in
-    ap (λ f. first_some (f ∷ map failed_ranges (map xorb_shape xs))) at
-
-pub entries_pass : (x : PlanXorb) (xs : List PlanXorb) → None ≡ position (λ (e : FetchEntry). unordered 0 e.ranges) x.fetch → first_some (map failed_ranges (map xorb_shape (x ∷ xs))) ≡ first_some (map failed_ranges (map xorb_shape xs))
-entries_pass x xs h =
-    let at : failed_ranges (xorb_shape x) ≡ None =
-    ap (λ f. option_map (λ i. Ranges x.xorb i) f) (position-map (λ (e : FetchEntry). e.ranges) (λ l. unordered 0 l) x.fetch ∙ sym h) in
-    ap (λ f. first_some (f ∷ map failed_ranges (map xorb_shape xs))) at

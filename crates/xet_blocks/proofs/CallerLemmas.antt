@@ -1,7 +1,5 @@
 -- What proofs of the crates above may cite of this crate's words.
 
--- equal blocks
-pub use Rattle.xet_blocks.proofs.EqualBlocks.{eq-same_block, same_block-true}
 -- an honest plan: it is accepted, its blocks and terms pass their tests, and its pieces join to the window
 pub use Rattle.xet_blocks.proofs.HonestPlanTests.{honest_accepted}
 pub use Rattle.xet_blocks.proofs.HonestBlockTests.{IsHonestTerm, honest_block_passes, honest_terms, whole_terms}

@@ -9,8 +9,8 @@ use Rattle.xet_base.specs.declared.cas_types.ChunkRange.{ChunkRange}
 use Rattle.xet_base.specs.Lists.{first_some}
 use Rattle.xet_base.specs.Ranges.{Ascend, Covers}
 use Rattle.xet_base.proofs.CallerLemmas.{slice_range-join}
-use Rattle.xet_blocks.specs.declared.reconstruction_terms.xorb_block.XorbReference.{XorbReference}
-use Rattle.xet_blocks.specs.Chain.{bridges, leads, sum_by_term, sum_at, last_end}
+use Rattle.xet_offers.specs.declared.reconstruction_terms.xorb_block.XorbReference.{XorbReference}
+use Rattle.xet_offers.specs.Chain.{bridges, leads, sum_by_term, sum_at, last_end}
 use Rattle.xet_blocks.specs.Laws.{IsSized, ChainsSum}
 
 -- the lengths of the ranges' chunks before a number

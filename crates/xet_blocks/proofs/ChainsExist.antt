@@ -5,10 +5,10 @@ use Rattle.std.proofs.lemmas.Bool.{eqb-true, eq-eqb}
 use Rattle.std.proofs.lemmas.List.Elements.{All-append, All-cons, All-head, All-nil, All-tail}
 use Rattle.xet_base.specs.declared.cas_types.ChunkRange.{ChunkRange}
 use Rattle.xet_base.specs.Lists.{first_some}
-use Rattle.xet_blocks.specs.declared.reconstruction_terms.xorb_block.XorbReference.{XorbReference}
-use Rattle.xet_blocks.specs.Chain.{HasChain, Links, chain_sum, last_end, leads, sum_at, sum_by_term}
+use Rattle.xet_offers.specs.declared.reconstruction_terms.xorb_block.XorbReference.{XorbReference}
+use Rattle.xet_offers.specs.Chain.{HasChain, Links, chain_sum, last_end, leads, sum_at, sum_by_term}
 use Rattle.xet_blocks.specs.Laws.{ChainsExist}
-use Rattle.xet_blocks.proofs.ReachedSums.{IsSome_term, final, final_is, pick, size}
+use Rattle.xet_offers.proofs.CallerLemmas.{IsSome_term, final, final_is, pick, size}
 
 links-append : (rs : List ChunkRange) (p q e : ℕ) (ts : List XorbReference) (t : XorbReference) → Links rs p ts q → t.term_chunks.start ≡ q → leads rs t.term_chunks.end e ≡ true → Links rs p (ts ++ t ∷ []) e
 links-append rs p q e [] t l s h = (s ∙ sym l, e, h, refl)

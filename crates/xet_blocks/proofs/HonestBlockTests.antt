@@ -26,8 +26,8 @@ use Rattle.xet_outside.specs.Told.{Holds}
 use Rattle.xet_outside.proofs.CallerLemmas.{FirstFits, Full, IsPlanTerm, full_chunks_of, offset_fits, plan_terms_are}
 use Rattle.xet_error.specs.declared.error.Corruption.TheVariants.{TermPastBlock}
 use Rattle.xet_blocks.specs.declared.reconstruction_terms.file_term.FileTerm.{FileTerm}
-use Rattle.xet_blocks.specs.Blocks.{PlanBlock, block_ranges, blocks_of, start_index}
-use Rattle.xet_blocks.specs.BlockChecks.{block_data, chunk_total, failed_block_test, is_misplaced, misplaced_after, numbers_in}
+use Rattle.xet_offers.specs.Blocks.{PlanBlock, block_ranges, blocks_of, start_index}
+use Rattle.xet_offers.specs.BlockChecks.{block_data, chunk_total, failed_block_test, is_misplaced, misplaced_after, numbers_in}
 use Rattle.xet_blocks.specs.Extracts.{failed_term_test, term_bytes_in, term_size, test_at}
 use Rattle.xet_blocks.specs.Terms.{file_term, piece_of, terms_from, terms_of}
 use Rattle.xet_blocks.proofs.JoinedPieces.{IsListed, all_listed}

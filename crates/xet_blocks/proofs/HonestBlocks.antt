@@ -18,9 +18,8 @@ use Rattle.xet_outside.specs.declared.plan.FetchRange.{FetchRange}
 use Rattle.xet_outside.specs.Plan.{plan_of, plan_terms, plan_xorb, fetch_range, ranges_of, touched_numbers}
 use Rattle.xet_base.specs.Ranges.{Ascend, Covers}
 use Rattle.xet_outside.proofs.CallerLemmas.{IsPlanTerm, plan_terms_are, runs_ascend, runs_cover}
-use Rattle.xet_blocks.proofs.EqualBlocks.{eq-same_block, same_block-chain, same_block-true}
-use Rattle.xet_blocks.proofs.Lookups.{find-map}
-use Rattle.xet_blocks.specs.Blocks.{PlanBlock, block_ranges, same_block, lies_in, entry_blocks, plan_xorb_of, block_of_term, term_block, blocks_of}
+use Rattle.xet_offers.proofs.CallerLemmas.{eq-same_block, find-map, same_block-chain, same_block-true}
+use Rattle.xet_offers.specs.Blocks.{PlanBlock, block_ranges, same_block, lies_in, entry_blocks, plan_xorb_of, block_of_term, term_block, blocks_of}
 
 -- ---- the xorb of a term
 

@@ -18,8 +18,8 @@ use Rattle.xet_outside.specs.Plan.{plan_of, plan_terms, plan_offset, plan_xorb, 
 use Rattle.xet_base.specs.Ranges.{Ascend}
 use Rattle.xet_outside.proofs.CallerLemmas.{FirstFits, IsPlanTerm, last_length, offset_fits, plan_terms_are, plan_within, term_bytes}
 use Rattle.xet_error.specs.declared.error.Corruption.TheVariants.{Ranges, NoXorb, NoRange, Offset, Position, Trim}
-use Rattle.xet_blocks.specs.Blocks.{plan_xorb_of, block_of_term}
-use Rattle.xet_blocks.specs.PlanChecks.{sizes, sizes_from, ends, unordered, failed_ranges, ranges_test, no_xorb_test, no_range_test, offset_test, position_test, trim_test}
+use Rattle.xet_offers.specs.Blocks.{plan_xorb_of, block_of_term}
+use Rattle.xet_offers.specs.PlanChecks.{sizes, sizes_from, ends, unordered, failed_ranges, ranges_test, no_xorb_test, no_range_test, offset_test, position_test, trim_test}
 use Rattle.xet_blocks.specs.Laws.{HonestAccepted}
 use Rattle.xet_blocks.proofs.HonestBlocks.{xorb_found, block_found, numbers_ascend}
 

@@ -13,7 +13,7 @@ use Rattle.xet_outside.specs.Plan.{Shape}
 use Rattle.xet_outside.specs.declared.plan.PlanTerm.{PlanTerm}
 use Rattle.xet_outside.specs.Plan.{plan_of, plan_terms, plan_offset, block_of}
 use Rattle.xet_outside.proofs.CallerLemmas.{FirstFits, IsPlanTerm, offset_fits, plan_terms_are, planned_window, term_bytes}
-use Rattle.xet_blocks.specs.Blocks.{PlanBlock, block_ranges, same_block, term_block, blocks_of, start_index}
+use Rattle.xet_offers.specs.Blocks.{PlanBlock, block_ranges, same_block, term_block, blocks_of, start_index}
 use Rattle.xet_blocks.specs.Terms.{file_term, terms_from, piece_of, term_piece}
 use Rattle.xet_blocks.specs.Laws.{IsPieceSized, PiecesJoin, PiecesSized}
 use Rattle.xet_blocks.proofs.TermChunks.{chunks_at, bytes_at}

@@ -17,16 +17,15 @@ use Rattle.xet_outside.specs.Plan.{Shape, block_of, lengths, plan_of, plan_terms
 use Rattle.xet_outside.proofs.CallerLemmas.{IsPlanTerm, plan_terms_are, sum_lengths}
 use Rattle.xet_error.specs.declared.error.Corruption.{Corruption}
 use Rattle.xet_error.specs.declared.error.Corruption.TheVariants.{BlockLength}
-use Rattle.xet_blocks.specs.declared.reconstruction_terms.xorb_block.XorbReference.{XorbReference}
-use Rattle.xet_blocks.specs.Blocks.{PlanBlock, block_ranges, blocks_of, same_block, term_block}
-use Rattle.xet_blocks.specs.BlockChecks.{count_test, failed_block_test, length_test, order_test}
-use Rattle.xet_blocks.specs.Chain.{chain_sum}
+use Rattle.xet_offers.specs.declared.reconstruction_terms.xorb_block.XorbReference.{XorbReference}
+use Rattle.xet_offers.specs.Blocks.{PlanBlock, block_ranges, blocks_of, same_block, term_block}
+use Rattle.xet_offers.specs.BlockChecks.{count_test, failed_block_test, length_test, order_test}
+use Rattle.xet_offers.specs.Chain.{chain_sum, known_size}
 use Rattle.xet_blocks.specs.Laws.{IsSized, KnownSizes}
-use Rattle.xet_blocks.specs.TermBlocks.{known_size, reference_of, references}
+use Rattle.xet_blocks.specs.TermBlocks.{reference_of, references}
 use Rattle.xet_blocks.proofs.ChainSums.{chains_sum}
-use Rattle.xet_blocks.proofs.EqualBlocks.{same_block-true}
+use Rattle.xet_offers.proofs.CallerLemmas.{firsts_all, same_block-true}
 use Rattle.xet_blocks.proofs.HonestBlocks.{IsBlockOf, block_found}
-use Rattle.xet_blocks.proofs.Lookups.{firsts_all}
 use Rattle.xet_blocks.proofs.BlockReferences.{all_by_start}
 
 -- the lengths of some chunks are some of the lengths

@@ -17,7 +17,7 @@ use Rattle.xet_outside.specs.declared.plan.PlanTerm.{PlanTerm}
 use Rattle.xet_outside.specs.Plan.{Shape, cut_term, ends_before, lengths, placed_terms, plan_of, plan_terms, touches}
 use Rattle.xet_outside.specs.declared.served.Served.{Served}
 use Rattle.xet_outside.proofs.CallerLemmas.{Full, count_by-cons, count_by-no, count_by-yes, full_chunks_of, has_chunks, keeps, skips, skips_past, touched_past}
-use Rattle.xet_blocks.specs.Blocks.{PlanBlock, block_ranges, blocks_of, same_block, term_block}
+use Rattle.xet_offers.specs.Blocks.{PlanBlock, block_ranges, blocks_of, same_block, term_block}
 use Rattle.xet_blocks.specs.Laws.{IsServedBlock, IsServedTerm, ServedChunks}
 use Rattle.xet_blocks.specs.Terms.{terms_from, terms_of}
 use Rattle.xet_blocks.specs.declared.reconstruction_terms.file_term.FileTerm.{FileTerm}

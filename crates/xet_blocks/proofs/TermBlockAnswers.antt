@@ -21,17 +21,17 @@ use Rattle.xet_blocks.specs.declared.reconstruction_terms.file_term.TermBlock.{T
 use Rattle.xet_blocks.specs.declared.reconstruction_terms.plan_blocks.PlanBlocks.{PlanBlocks}
 use Rattle.xet_blocks.specs.declared.reconstruction_terms.plan_blocks.TermStart.{TermStart}
 use Rattle.xet_blocks.specs.declared.reconstruction_terms.block_list.OfferedBlock.{OfferedBlock}
-use Rattle.xet_blocks.specs.declared.reconstruction_terms.retrieval_urls.RetrievalUrl.{RetrievalUrl}
-use Rattle.xet_blocks.specs.declared.reconstruction_terms.retrieval_urls.TermBlockRetrievalURLs.{TermBlockRetrievalURLs}
-use Rattle.xet_blocks.specs.Blocks.{PlanBlock, transfer_sum}
+use Rattle.xet_offers.specs.declared.reconstruction_terms.retrieval_urls.RetrievalUrl.{RetrievalUrl}
+use Rattle.xet_offers.specs.declared.reconstruction_terms.retrieval_urls.TermBlockRetrievalURLs.{TermBlockRetrievalURLs}
+use Rattle.xet_offers.specs.Blocks.{PlanBlock, transfer_sum}
 use Rattle.xet_blocks.specs.steps.Planning.{Fit, IsMadeOf, IsPlanned, PlacedTerm, numbered_block, plan_block, retrieval_url, term_start, terms_at, with_starts}
 use Rattle.xet_blocks.specs.PlanQuery.{PlanQuery}
-use Rattle.xet_blocks.specs.Refusals.{IsRefusal}
+use Rattle.xet_offers.specs.Refusals.{IsRefusal}
 use Rattle.xet_blocks.specs.TermBlockCalls.{Answer, FromAnswer, FromSaid, FromTerms, FromTested, TermBlockCall, TermBlockCause}
-use Rattle.xet_blocks.specs.TermBlocks.{IsTermBlock, block_url, covered}
+use Rattle.xet_offers.specs.PlanChecks.{covered, ends, entry_tests, failed_test, no_range_test, no_xorb_test, offset_test, place_tests, position_test, ranges_test, sizes, sizes_from, trim_test}
+use Rattle.xet_blocks.specs.TermBlocks.{IsTermBlock, block_url}
 use Rattle.xet_blocks.specs.Terms.{file_term, terms_from}
-use Rattle.xet_blocks.specs.PlanChecks.{ends, entry_tests, failed_test, no_range_test, no_xorb_test, offset_test, place_tests, position_test, ranges_test, sizes, sizes_from, trim_test}
-use Rattle.xet_blocks.proofs.TermEnds.{sizes_from-zero, too_far}
+use Rattle.xet_offers.proofs.CallerLemmas.{sizes_from-zero, too_far}
 use Rattle.xet_blocks.proofs.BlockReferences.{numbered_blocks}
 use Rattle.xet_blocks.proofs.PlacedTerms.{placed_term, with_starts-map}
 

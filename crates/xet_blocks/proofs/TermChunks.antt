@@ -11,7 +11,7 @@ use Rattle.xet_base.specs.Lists.{placed, starts}
 use Rattle.xet_base.proofs.CallerLemmas.{length-slice_range}
 use Rattle.xet_outside.specs.Plan.{lengths}
 use Rattle.xet_base.specs.Ranges.{Ascend, Covers}
-use Rattle.xet_blocks.specs.Blocks.{start_index}
+use Rattle.xet_offers.specs.Blocks.{start_index}
 
 abbrev chunks_in' : List (List ℕ) → List ChunkRange → List (List ℕ)
 chunks_in' xs rs = flat_map (λ r. slice_range xs r.start r.end) rs

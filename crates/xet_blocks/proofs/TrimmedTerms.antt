@@ -14,7 +14,7 @@ use Rattle.xet_error.specs.declared.error.Corruption.TheVariants.{Position, Trim
 use Rattle.xet_blocks.specs.declared.reconstruction_terms.file_term.FileTerm.{FileTerm}
 use Rattle.xet_blocks.specs.Laws.{TrimsLastAlone, trim_last}
 use Rattle.xet_blocks.specs.Terms.{file_term, terms_from}
-use Rattle.xet_blocks.specs.PlanChecks.{IsAccepted, ends, sizes_from, ranges_test, no_xorb_test, no_range_test, offset_test, position_test, trim_test}
+use Rattle.xet_offers.specs.PlanChecks.{IsAccepted, ends, sizes_from, ranges_test, no_xorb_test, no_range_test, offset_test, position_test, trim_test}
 
 -- ---- what an accepted plan passes
 

@@ -6,10 +6,10 @@ use Rattle.xet_base.specs.declared.merklehash.MerkleHash.{MerkleHash}
 use Rattle.xet_base.specs.declared.cas_types.FileRange.{FileRange}
 use Rattle.xet_base.specs.declared.cas_types.ChunkRange.{ChunkRange}
 use Rattle.xet_base.specs.Ranges.{Ascend, Covers}
-use Rattle.xet_blocks.specs.declared.reconstruction_terms.xorb_block.XorbReference.{XorbReference}
+use Rattle.xet_offers.specs.declared.reconstruction_terms.xorb_block.XorbReference.{XorbReference}
 use Rattle.std.specs.Cmp.{IsEquivalence}
-use Rattle.xet_blocks.specs.BlockEquality.{same_xorb_block}
-use Rattle.xet_blocks.specs.Chain.{HasChain, chain_sum}
+use Rattle.xet_offers.specs.BlockEquality.{same_xorb_block}
+use Rattle.xet_offers.specs.Chain.{HasChain, chain_sum, known_size}
 use Rattle.xet_base.specs.Store.{Store, IsValid, window}
 use Rattle.xet_base.specs.Hashes.{hash_eq}
 use Rattle.xet_base.specs.Worked.{cut}
@@ -17,13 +17,13 @@ use Rattle.xet_outside.specs.declared.plan.FetchEntry.{FetchEntry}
 use Rattle.xet_outside.specs.declared.plan.Plan.{Plan}
 use Rattle.xet_outside.specs.declared.plan.PlanTerm.{PlanTerm}
 use Rattle.xet_outside.specs.Plan.{Shape, block_of, plan_of, shape}
-use Rattle.xet_blocks.specs.Blocks.{PlanBlock, block_ranges, blocks_of, lies_in, same_block, term_block}
-use Rattle.xet_blocks.specs.TermBlocks.{block_url, known_size, references}
+use Rattle.xet_offers.specs.Blocks.{PlanBlock, block_ranges, blocks_of, lies_in, same_block, term_block}
+use Rattle.xet_blocks.specs.TermBlocks.{block_url, references}
 use Rattle.xet_blocks.specs.declared.reconstruction_terms.file_term.FileTerm.{FileTerm}
 use Rattle.xet_outside.specs.declared.served.Served.{Served}
 use Rattle.xet_blocks.specs.ServedChunks.{AllServed}
 use Rattle.xet_blocks.specs.Terms.{terms_of, term_piece}
-use Rattle.xet_blocks.specs.PlanChecks.{IsAccepted}
+use Rattle.xet_offers.specs.PlanChecks.{IsAccepted}
 
 -- the pieces of an honest plan's terms, each cut from its block, join to the window
 abbrev pub PiecesJoin : Type 0

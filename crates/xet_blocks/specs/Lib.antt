@@ -1,15 +1,7 @@
-pub mod BlockCalls
-pub mod BlockChecks
-pub mod BlockEquality
-pub mod Blocks
-pub mod Chain
-pub mod ChunkOffsets
 pub mod DataTasks
 pub mod Extracts
 pub mod Laws
-pub mod PlanChecks
 pub mod PlanQuery
-pub mod Refusals
 pub mod ServedChunks
 pub mod steps
 pub mod TermBlockCalls

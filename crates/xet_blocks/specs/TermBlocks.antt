@@ -1,20 +1,18 @@
 -- What a query's answer is made into: the block list with its references, sizes and URLs.
-use Rattle.std.specs.Prelude.{◌≡◌, ℕ, ◌+◌, ◌-◌, ◌^◌, Bool, cond, List, [], ◌∷◌, map, filter, sum, min, nat_le, nat_lt}
-use Rattle.std.specs.Prelude.{Option, Some, None, find, option_map, unwrap_or}
+use Rattle.std.specs.Prelude.{◌≡◌, ℕ, ◌-◌, ◌^◌, Bool, cond, List, [], ◌∷◌, map, filter, min, nat_le}
+use Rattle.std.specs.Prelude.{None, find, option_map, unwrap_or}
 use Rattle.std.specs.List.{enumerate_from, flat_map}
-use Rattle.xet_base.specs.declared.cas_types.FileRange.{FileRange}
-use Rattle.xet_base.specs.declared.cas_types.ChunkRange.{ChunkRange}
 use Rattle.xet_outside.specs.Plan.{Shape, shape}
 use Rattle.xet_outside.specs.declared.plan.Plan.{Plan}
 use Rattle.xet_outside.specs.declared.plan.PlanTerm.{PlanTerm}
-use Rattle.xet_blocks.specs.declared.reconstruction_terms.xorb_block.XorbReference.{XorbReference}
-use Rattle.xet_blocks.specs.declared.reconstruction_terms.xorb_block.XorbBlock.{XorbBlock}
-use Rattle.xet_blocks.specs.declared.reconstruction_terms.retrieval_urls.RetrievalUrl.{RetrievalUrl}
+use Rattle.xet_offers.specs.declared.reconstruction_terms.xorb_block.XorbReference.{XorbReference}
+use Rattle.xet_offers.specs.declared.reconstruction_terms.xorb_block.XorbBlock.{XorbBlock}
+use Rattle.xet_offers.specs.declared.reconstruction_terms.retrieval_urls.RetrievalUrl.{RetrievalUrl}
 use Rattle.xet_blocks.specs.declared.reconstruction_terms.file_term.TermBlock.{TermBlock}
-use Rattle.xet_blocks.specs.Blocks.{PlanBlock, block_ranges, same_block, entry_blocks, term_block, blocks_of}
-use Rattle.xet_blocks.specs.Blocks.{transfer_sum}
-use Rattle.xet_blocks.specs.Chain.{chain_sum}
-use Rattle.xet_blocks.specs.PlanChecks.{sizes}
+use Rattle.xet_offers.specs.Blocks.{PlanBlock, block_ranges, same_block, entry_blocks, term_block, blocks_of}
+use Rattle.xet_offers.specs.Blocks.{transfer_sum}
+use Rattle.xet_offers.specs.Chain.{known_size}
+use Rattle.xet_offers.specs.PlanChecks.{covered}
 use Rattle.xet_blocks.specs.PlanQuery.{PlanQuery}
 use Rattle.xet_blocks.specs.Terms.{terms_of}
 
@@ -37,12 +35,6 @@ reference_of t = record { term_chunks = t.range; uncompressed_size = t.unpacked_
 abbrev pub references : Shape → Bool → PlanBlock → List XorbReference
 references p multi b = by_start (map reference_of (filter (λ t. same_block b (term_block p multi t)) p.terms))
 
--- the size of a block where its terms tell it: a chain of them reaches its end, and the sum of all sizes is a `usize`
-abbrev pub known_size : List ChunkRange → List XorbReference → Option ℕ
-known_size [] ts = Some 0
-known_size (r ∷ rs) ts =
-    cond (nat_lt (sum (map (λ t. t.uncompressed_size) ts)) (2 ^ 64)) (chain_sum (r ∷ rs) ts) None
-
 -- a block of the plan by its number, before it is fetched
 abbrev pub xorb_block : Shape → Bool → ℕ × PlanBlock → XorbBlock
 xorb_block p multi b = record {
@@ -57,10 +49,6 @@ xorb_block p multi b = record {
 -- the blocks of a plan by their numbers
 abbrev pub xorb_blocks : Shape → Bool → List XorbBlock
 xorb_blocks p multi = map (xorb_block p multi) (enumerate_from 0 (blocks_of p multi))
-
--- the bytes of the file from the query's start to the end of the last term, which is cut at the query's end
-abbrev pub covered : Shape → FileRange → FileRange
-covered p q = record { start = q.start; end = min (q.start + sum (sizes p)) q.end }
 
 -- the blocks that a plan's entries offer, each with its entry's URL, in order
 abbrev pub offered_blocks : Plan → Bool → List (List ℕ × PlanBlock)

@@ -9,7 +9,7 @@ use Rattle.xet_outside.specs.declared.block.BlockBytes.{BlockBytes}
 use Rattle.xet_outside.specs.Plan.{block_of}
 use Rattle.xet_base.specs.Store.{Store}
 use Rattle.xet_blocks.specs.declared.reconstruction_terms.file_term.FileTerm.{FileTerm}
-use Rattle.xet_blocks.specs.Blocks.{PlanBlock, term_block, same_block, blocks_of, block_ranges, start_index}
+use Rattle.xet_offers.specs.Blocks.{PlanBlock, term_block, same_block, blocks_of, block_ranges, start_index}
 
 -- a term at a place of the file, with its offset
 abbrev pub file_term : Shape → FileRange → Bool → ℕ → ℕ → PlanTerm → FileTerm

@@ -4,13 +4,13 @@ ghost use Rattle.xet_base.specs.Worked.{cut, file_of_repeats, file_of_two_ends, 
 ghost use Rattle.xet_outside.specs.Plan.{plan_of};
 ghost use Rattle.xet_outside.specs.Worked.{chunk_range};
 ghost use Rattle.xet_error.specs.declared.error.Corruption.TheVariants.{Offset, Trim};
-ghost use Rattle.xet_blocks.specs.Blocks.{block_ranges, blocks_of, transfer_sum};
-ghost use Rattle.xet_blocks.specs.Chain.{chain_sum};
+ghost use Rattle.xet_offers.specs.Blocks.{block_ranges, blocks_of, transfer_sum};
+ghost use Rattle.xet_offers.specs.Chain.{chain_sum};
 ghost use Rattle.xet_blocks.specs.Laws.{BlocksEqual, ChainsExist, ChainsSum, HonestAccepted, KnownSizes, PiecesJoin};
 ghost use Rattle.xet_blocks.specs.Laws.{PiecesSized, ServedChunks, TrimsLastAlone, UrlOfFirst};
 ghost use Rattle.xet_blocks.specs.TermBlocks.{by_start, xorb_blocks};
 ghost use Rattle.xet_blocks.specs.Terms.{terms_of};
-ghost use Rattle.xet_blocks.specs.PlanChecks.{failed_test};
+ghost use Rattle.xet_offers.specs.PlanChecks.{failed_test};
 ghost use Rattle.xet_blocks.specs.Worked.{blocks_of_nine_bytes, file_term, plan_of_lengths, reference};
 ghost use Rattle.xet_blocks.specs.Worked.{two_entries_of_one_xorb};
 
@@ -108,7 +108,6 @@ pub fn told_sizes()
 {}
 
 /// Equality of blocks is an equivalence.
-#[tactic(auto, using(crate::specs::BlockEquality::blocks_equal))]
 pub fn blocks_equal()
     ensures { BlocksEqual }
 {}

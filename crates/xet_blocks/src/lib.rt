@@ -6,10 +6,10 @@ pub mod laws;
 pub mod reconstruction_terms;
 
 pub use fetch_policy::{FetchPolicy, PrefetchView, Steady};
-pub use reconstruction_terms::chunk_offsets::ChunkOffsets;
 pub use reconstruction_terms::file_term::{
     DataSource, FileTerm, TermBlock, retrieve_file_term_block,
 };
-pub use reconstruction_terms::retrieval_urls::{RetrievalUrl, TermBlockRetrievalURLs};
-pub use reconstruction_terms::xorb_block::{XorbBlock, XorbBlockData, XorbReference};
 pub use xet_error::{Corruption, FileReconstructionError, Result, Setting, WriterFault};
+pub use xet_offers::{
+    ChunkOffsets, RetrievalUrl, TermBlockRetrievalURLs, XorbBlock, XorbBlockData, XorbReference,
+};

@@ -17,15 +17,16 @@ use Rattle.xet_outside.specs.declared.plan.PlanTerm.{PlanTerm}
 use Rattle.xet_outside.specs.Plan.{Shape}
 use Rattle.xet_error.specs.declared.error.Corruption.TheVariants.{Offset, OffsetCount, TermPastBlock}
 use Rattle.xet_blocks.specs.declared.reconstruction_terms.file_term.FileTerm.{FileTerm}
-use Rattle.xet_blocks.specs.declared.reconstruction_terms.xorb_block.XorbReference.{XorbReference}
-use Rattle.xet_blocks.specs.Blocks.{PlanBlock, block_ranges, blocks_of, same_block, start_index, term_block}
-use Rattle.xet_blocks.specs.BlockChecks.{block_data, chunk_total, failed_block_test, length_test, numbers_in, order_test}
+use Rattle.xet_offers.specs.declared.reconstruction_terms.xorb_block.XorbReference.{XorbReference}
+use Rattle.xet_offers.specs.Blocks.{PlanBlock, block_ranges, blocks_of, same_block, start_index, term_block}
+use Rattle.xet_offers.specs.BlockChecks.{block_data, chunk_total, failed_block_test, length_test, numbers_in, order_test}
 use Rattle.xet_fetch.specs.CachedBlocks.{ends_within, has_reference, is_sound}
 use Rattle.xet_blocks.specs.Extracts.{end_test, failed_term_test, term_size, test_at}
 use Rattle.xet_fetch.specs.Laws.{CachedTermsPass, PassesIn}
 use Rattle.xet_blocks.specs.TermBlocks.{by_start, reference_of, references, with_reference}
 use Rattle.xet_blocks.specs.Terms.{file_term, terms_from}
-use Rattle.xet_blocks.proofs.CallerLemmas.{same_block-true, tested}
+use Rattle.xet_offers.proofs.CallerLemmas.{same_block-true}
+use Rattle.xet_blocks.proofs.CallerLemmas.{tested}
 
 -- ---- references
 

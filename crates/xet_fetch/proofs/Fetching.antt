@@ -31,16 +31,15 @@ use Rattle.xet_error.specs.declared.error.FileReconstructionError.{FileReconstru
 use Rattle.xet_error.specs.declared.error.FileReconstructionError.TheVariants as error
 use Rattle.xet_error.specs.declared.error.Setting.TheVariants as setting
 use Rattle.xet_error.specs.Errors.{of_client_error}
-use Rattle.xet_blocks.specs.declared.reconstruction_terms.retrieval_urls.RetrievalUrl.{RetrievalUrl}
-use Rattle.xet_blocks.specs.declared.reconstruction_terms.retrieval_urls.TermBlockRetrievalURLs.{TermBlockRetrievalURLs}
-use Rattle.xet_blocks.specs.declared.reconstruction_terms.xorb_block.XorbBlock.{XorbBlock}
-use Rattle.xet_blocks.specs.declared.reconstruction_terms.xorb_block.XorbBlockData.{XorbBlockData}
-use Rattle.xet_blocks.specs.Blocks.{block_ranges, blocks_of}
-use Rattle.xet_blocks.specs.BlockCalls.{IsRequestOf, failed_check}
-use Rattle.xet_blocks.specs.PlanChecks.{failed_test}
-use Rattle.xet_blocks.specs.Refusals.{IsRefusal}
+use Rattle.xet_offers.specs.declared.reconstruction_terms.retrieval_urls.RetrievalUrl.{RetrievalUrl}
+use Rattle.xet_offers.specs.declared.reconstruction_terms.retrieval_urls.TermBlockRetrievalURLs.{TermBlockRetrievalURLs}
+use Rattle.xet_offers.specs.declared.reconstruction_terms.xorb_block.XorbBlock.{XorbBlock}
+use Rattle.xet_offers.specs.declared.reconstruction_terms.xorb_block.XorbBlockData.{XorbBlockData}
+use Rattle.xet_offers.specs.Blocks.{block_ranges, blocks_of}
+use Rattle.xet_offers.specs.BlockCalls.{IsRequestOf, failed_check}
+use Rattle.xet_offers.specs.PlanChecks.{covered, failed_test}
+use Rattle.xet_offers.specs.Refusals.{IsRefusal}
 use Rattle.xet_blocks.specs.TermBlockCalls.{AskedAtMostOnce, QueryAnswered}
-use Rattle.xet_blocks.specs.TermBlocks.{covered}
 use Rattle.xet_fetch.specs.declared.block_fetch.Fetched.{Fetched}
 use Rattle.xet_fetch.specs.declared.fetch_settings.FetchSettings.{FetchSettings}
 use Rattle.xet_fetch.specs.CachedBlocks.{FoundIn, IsOffered, LookCall, LookedFor}

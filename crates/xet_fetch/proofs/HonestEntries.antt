@@ -22,17 +22,19 @@ use Rattle.xet_outside.specs.Plan.{Shape, block_of, chunks_in, lengths, plan_of,
 use Rattle.xet_outside.specs.Told.{Holds}
 use Rattle.xet_error.specs.declared.error.Corruption.TheVariants.{TermPastBlock}
 use Rattle.xet_blocks.specs.declared.reconstruction_terms.file_term.FileTerm.{FileTerm}
-use Rattle.xet_blocks.specs.declared.reconstruction_terms.xorb_block.XorbReference.{XorbReference}
-use Rattle.xet_blocks.specs.Blocks.{PlanBlock, block_ranges, blocks_of, same_block, start_index, term_block}
-use Rattle.xet_blocks.specs.BlockChecks.{block_data, failed_block_test, numbers_in}
+use Rattle.xet_offers.specs.declared.reconstruction_terms.xorb_block.XorbReference.{XorbReference}
+use Rattle.xet_offers.specs.Blocks.{PlanBlock, block_ranges, blocks_of, same_block, start_index, term_block}
+use Rattle.xet_offers.specs.BlockChecks.{block_data, failed_block_test, numbers_in}
 use Rattle.xet_fetch.specs.CachedBlocks.{ends_within, has_reference}
 use Rattle.xet_blocks.specs.Extracts.{failed_term_test, term_size, test_at}
 use Rattle.xet_fetch.specs.Laws.{EntriesReturn, HonestEntriesPass}
-use Rattle.xet_blocks.specs.TermBlocks.{known_size, reference_of, references}
+use Rattle.xet_offers.specs.Chain.{known_size}
+use Rattle.xet_blocks.specs.TermBlocks.{reference_of, references}
 use Rattle.xet_blocks.specs.Terms.{file_term}
 use Rattle.xet_blocks.specs.Laws.{TellsLength}
 use Rattle.xet_fetch.proofs.CachedTerms.{Refers, all_refer, all_sorted, counted, length-numbers_in, place_passes}
-use Rattle.xet_blocks.proofs.CallerLemmas.{IsHonestTerm, honest_block_passes, known_sizes, length_passes, same_block-true, sized_passes, whole_terms}
+use Rattle.xet_offers.proofs.CallerLemmas.{same_block-true}
+use Rattle.xet_blocks.proofs.CallerLemmas.{IsHonestTerm, honest_block_passes, known_sizes, length_passes, sized_passes, whole_terms}
 
 -- a whole term that passes its test in an entry has all its bytes there
 refers_by : (t : FileTerm) (rs : List ChunkRange) (e : BlockBytes) (r : XorbReference) → failed_block_test rs None e ≡ None → t.xorb_block_start_index ≡ start_index rs r.term_chunks.start

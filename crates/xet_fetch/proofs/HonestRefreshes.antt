@@ -28,15 +28,15 @@ use Rattle.xet_outside.proofs.CallerLemmas.{count_by-cons, sum_lengths}
 use Rattle.xet_error.specs.declared.error.Corruption.TheVariants.{RefreshBlocks, RefreshRange}
 use Rattle.xet_error.specs.declared.error.FileReconstructionError.TheVariants as error
 use Rattle.xet_blocks.specs.declared.reconstruction_terms.file_term.FileTerm.{FileTerm}
-use Rattle.xet_blocks.specs.declared.reconstruction_terms.xorb_block.XorbBlock.{XorbBlock}
-use Rattle.xet_blocks.specs.Blocks.{PlanBlock, block_ranges, blocks_of, range_eq}
+use Rattle.xet_offers.specs.declared.reconstruction_terms.xorb_block.XorbBlock.{XorbBlock}
+use Rattle.xet_offers.specs.Blocks.{PlanBlock, block_ranges, blocks_of, range_eq}
 use Rattle.xet_blocks.specs.Extracts.{term_size}
 use Rattle.xet_fetch.specs.Laws.{HonestTables}
 use Rattle.xet_fetch.specs.Refreshes.{Extent, blocks_test, extent_of, first_difference, plan_extents, range_test, refusal_of, same_extent}
 use Rattle.xet_blocks.specs.Terms.{term_piece, terms_of}
-use Rattle.xet_blocks.specs.PlanChecks.{failed_test, sizes}
-use Rattle.xet_blocks.specs.TermBlocks.{covered, xorb_block, xorb_blocks}
-use Rattle.xet_blocks.specs.BlockCalls.{failed_check}
+use Rattle.xet_offers.specs.PlanChecks.{covered, failed_test, sizes}
+use Rattle.xet_blocks.specs.TermBlocks.{xorb_block, xorb_blocks}
+use Rattle.xet_offers.specs.BlockCalls.{failed_check}
 use Rattle.xet_blocks.specs.Laws.{TellsLength}
 use Rattle.xet_blocks.proofs.CallerLemmas.{honest_accepted}
 use Rattle.xet_blocks.proofs.CallerLemmas.{honest_block_passes, known_sizes, length_passes, pieces_join, pieces_sized, sized_passes}

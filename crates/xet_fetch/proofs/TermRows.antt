@@ -10,7 +10,7 @@ use Rattle.xet_outside.specs.Plan.{Shape}
 use Rattle.xet_error.specs.declared.error.Corruption.TheVariants.{Trim}
 use Rattle.xet_blocks.specs.declared.reconstruction_terms.file_term.FileTerm.{FileTerm}
 use Rattle.xet_blocks.specs.Terms.{terms_from, terms_of}
-use Rattle.xet_blocks.specs.PlanChecks.{IsAccepted, sizes, sizes_from}
+use Rattle.xet_offers.specs.PlanChecks.{IsAccepted, sizes, sizes_from}
 use Rattle.xet_blocks.proofs.CallerLemmas.{tested}
 
 -- ---- where the terms end, and where the last one begins

@@ -18,10 +18,10 @@ use Rattle.xet_error.specs.declared.error.Corruption.{Corruption}
 use Rattle.xet_error.specs.declared.error.FileReconstructionError.{FileReconstructionError}
 use Rattle.xet_error.specs.declared.error.FileReconstructionError.TheVariants as error
 use Rattle.xet_error.specs.declared.error.Setting.TheVariants as setting
-use Rattle.xet_blocks.specs.declared.reconstruction_terms.retrieval_urls.TermBlockRetrievalURLs.{TermBlockRetrievalURLs}
-use Rattle.xet_blocks.specs.declared.reconstruction_terms.xorb_block.XorbBlock.{XorbBlock}
-use Rattle.xet_blocks.specs.BlockCalls.{failed_check}
-use Rattle.xet_blocks.specs.BlockChecks.{block_data}
+use Rattle.xet_offers.specs.declared.reconstruction_terms.retrieval_urls.TermBlockRetrievalURLs.{TermBlockRetrievalURLs}
+use Rattle.xet_offers.specs.declared.reconstruction_terms.xorb_block.XorbBlock.{XorbBlock}
+use Rattle.xet_offers.specs.BlockCalls.{failed_check}
+use Rattle.xet_offers.specs.BlockChecks.{block_data}
 use Rattle.xet_blocks.specs.TermBlocks.{urls_of}
 use Rattle.xet_fetch.specs.declared.block_fetch.Fetched.{Fetched}
 use Rattle.xet_fetch.specs.Refreshes.{Refresh, next_id, refusal_of}

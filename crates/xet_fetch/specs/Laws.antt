@@ -15,19 +15,20 @@ use Rattle.xet_outside.specs.Answers.{AnswerToQuery}
 use Rattle.xet_outside.specs.Told.{Holds, IsHonest, Query}
 use Rattle.xet_blocks.specs.declared.reconstruction_terms.file_term.FileTerm.{FileTerm}
 use Rattle.xet_blocks.specs.declared.reconstruction_terms.file_term.TermBlock.{TermBlock}
-use Rattle.xet_blocks.specs.declared.reconstruction_terms.retrieval_urls.TermBlockRetrievalURLs.{TermBlockRetrievalURLs}
-use Rattle.xet_blocks.specs.declared.reconstruction_terms.xorb_block.XorbBlock.{XorbBlock}
+use Rattle.xet_offers.specs.declared.reconstruction_terms.retrieval_urls.TermBlockRetrievalURLs.{TermBlockRetrievalURLs}
+use Rattle.xet_offers.specs.declared.reconstruction_terms.xorb_block.XorbBlock.{XorbBlock}
 use Rattle.xet_blocks.specs.PlanQuery.{PlanQuery}
-use Rattle.xet_blocks.specs.Blocks.{PlanBlock, block_ranges, blocks_of}
-use Rattle.xet_blocks.specs.BlockCalls.{RequestCall, Requested}
-use Rattle.xet_blocks.specs.BlockChecks.{block_data}
+use Rattle.xet_offers.specs.Blocks.{PlanBlock, block_ranges, blocks_of}
+use Rattle.xet_offers.specs.BlockCalls.{RequestCall, Requested}
+use Rattle.xet_offers.specs.BlockChecks.{block_data}
 use Rattle.xet_fetch.specs.CachedBlocks.{entry_of, is_sound}
 use Rattle.xet_blocks.specs.Extracts.{failed_term_test}
 use Rattle.xet_fetch.specs.Refreshes.{Refresh, refresh_of}
 use Rattle.xet_fetch.specs.Fetches.{IsHonestFor, TableKeeps, refresh_queries, refresh_query, refreshed}
-use Rattle.xet_blocks.specs.TermBlocks.{IsTermBlock, known_size, references}
+use Rattle.xet_offers.specs.Chain.{known_size}
+use Rattle.xet_blocks.specs.TermBlocks.{IsTermBlock, references}
 use Rattle.xet_blocks.specs.Terms.{terms_of}
-use Rattle.xet_blocks.specs.PlanChecks.{IsAccepted}
+use Rattle.xet_offers.specs.PlanChecks.{IsAccepted}
 
 -- a term passes its test in any entry that passes the tests of its block
 abbrev pub PassesIn : Shape → Bool → BlockBytes → FileTerm → Type 0

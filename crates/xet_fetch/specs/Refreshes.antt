@@ -17,12 +17,12 @@ use Rattle.xet_error.specs.declared.error.Corruption.{Corruption}
 use Rattle.xet_error.specs.declared.error.Corruption.TheVariants.{RefreshPastEnd, RefreshRange, RefreshBlocks}
 use Rattle.xet_error.specs.declared.error.FileReconstructionError.{FileReconstructionError}
 use Rattle.xet_error.specs.declared.error.FileReconstructionError.TheVariants as error
-use Rattle.xet_blocks.specs.declared.reconstruction_terms.retrieval_urls.RetrievalUrl.{RetrievalUrl}
-use Rattle.xet_blocks.specs.declared.reconstruction_terms.retrieval_urls.TermBlockRetrievalURLs.{TermBlockRetrievalURLs}
-use Rattle.xet_blocks.specs.declared.reconstruction_terms.xorb_block.XorbBlock.{XorbBlock}
-use Rattle.xet_blocks.specs.Blocks.{block_ranges, blocks_of, range_eq}
-use Rattle.xet_blocks.specs.TermBlocks.{covered, urls_of}
-use Rattle.xet_blocks.specs.PlanChecks.{failed_test}
+use Rattle.xet_offers.specs.declared.reconstruction_terms.retrieval_urls.RetrievalUrl.{RetrievalUrl}
+use Rattle.xet_offers.specs.declared.reconstruction_terms.retrieval_urls.TermBlockRetrievalURLs.{TermBlockRetrievalURLs}
+use Rattle.xet_offers.specs.declared.reconstruction_terms.xorb_block.XorbBlock.{XorbBlock}
+use Rattle.xet_offers.specs.Blocks.{block_ranges, blocks_of, range_eq}
+use Rattle.xet_offers.specs.PlanChecks.{covered, failed_test}
+use Rattle.xet_blocks.specs.TermBlocks.{urls_of}
 use Rattle.xet_blocks.specs.TermBlockCalls.{AskedAtMostOnce, QueryAnswered}
 
 -- ---- tests

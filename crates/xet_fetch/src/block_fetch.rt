@@ -1,6 +1,6 @@
 //! Gets a block's data: from a cache, or from a connection by tries and refreshes.
 ghost use Rattle.std.specs.Prelude.{◌≡◌, ◌<◌, length, slice_get, Some};
-ghost use Rattle.xet_blocks.specs.declared.reconstruction_terms.xorb_block.XorbBlock.{XorbBlock};
+ghost use Rattle.xet_offers.specs.declared.reconstruction_terms.xorb_block.XorbBlock.{XorbBlock};
 ghost use Rattle.xet_fetch.specs.Fetches.{FetchesCall};
 ghost use Rattle.xet_fetch.specs.Refreshes.{refresh_of};
 ghost use Rattle.xet_fetch.specs.RetrieveData.{DataCall, IsFetchable, RetrieveCall};

@@ -1,8 +1,8 @@
 //! Blocks that come from a cache, and go into one.
 ghost use Rattle.std.specs.Prelude.{◌≡◌, ◌-◌, ◌^◌, IfOk, OnOk, OnErr, min, map};
 ghost use Rattle.std.specs.List.{list_all};
-ghost use Rattle.xet_blocks.specs.Blocks.{start_index};
-ghost use Rattle.xet_blocks.specs.BlockChecks.{numbers_in};
+ghost use Rattle.xet_offers.specs.Blocks.{start_index};
+ghost use Rattle.xet_offers.specs.BlockChecks.{numbers_in};
 ghost use Rattle.xet_fetch.specs.CachedBlocks.{CheckCachedCall, IsOffered, LookCall, OfferCall, ends_within, entry_of};
 ghost use Rattle.xet_fetch.specs.CachedBlocks.{has_reference};
 

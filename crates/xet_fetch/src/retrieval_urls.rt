@@ -2,7 +2,7 @@
 ghost use Rattle.std.specs.Prelude.{◌≡◌, ◌∷◌, [], map};
 ghost use lib.Pointwise.{pointwise};
 ghost use Rattle.xet_base.specs.Lists.{first_some};
-ghost use Rattle.xet_blocks.specs.Blocks.{range_eq};
+ghost use Rattle.xet_offers.specs.Blocks.{range_eq};
 ghost use Rattle.xet_fetch.specs.Refreshes.{FreshCall, RefreshCall, blocks_test, extent_of, first_difference, next_id};
 ghost use Rattle.xet_fetch.specs.Refreshes.{range_test, same_extent};
 

@@ -27,7 +27,7 @@ use Rattle.xet_error.specs.declared.error.FileReconstructionError.{FileReconstru
 use Rattle.xet_error.specs.declared.error.FileReconstructionError.TheVariants as error
 use Rattle.xet_error.specs.declared.error.Setting.TheVariants.{NoConnection}
 use Rattle.xet_error.specs.Errors.{corruption_number}
-use Rattle.xet_blocks.specs.declared.reconstruction_terms.xorb_block.XorbBlock.{XorbBlock}
+use Rattle.xet_offers.specs.declared.reconstruction_terms.xorb_block.XorbBlock.{XorbBlock}
 use Rattle.xet_reconstruct.specs.Laws.{AreHonest, HonestAnswersPass}
 use Rattle.xet_ties.specs.Causes.{Cause, LaneFails, NoneAtEnd, NothingElse, PlanFails, RefreshFails, LowestRose, SomeFailed, expired_answers, failing_size, total_expiries}
 use Rattle.xet_ties.specs.Causes as causes

@@ -12,7 +12,7 @@ use Rattle.xet_base.specs.Store.{Store, IsValid, bytes_of, window}
 use Rattle.xet_base.proofs.CallerLemmas.{slice_range-join}
 use Rattle.xet_outside.specs.Plan.{Shape, plan_of, block_of}
 use Rattle.xet_blocks.specs.declared.reconstruction_terms.file_term.FileTerm.{FileTerm}
-use Rattle.xet_blocks.specs.Blocks.{PlanBlock, blocks_of, block_ranges}
+use Rattle.xet_offers.specs.Blocks.{PlanBlock, blocks_of, block_ranges}
 use Rattle.xet_blocks.specs.Terms.{terms_of, term_piece, piece_of}
 use Rattle.xet_history.specs.Queries.{CutFrom}
 use Rattle.xet_blocks.proofs.CallerLemmas.{pieces_join, pieces_sized}

@@ -9,7 +9,7 @@ use Rattle.xet_base.specs.Store.{Store}
 use Rattle.xet_outside.specs.declared.block.BlockBytes.{BlockBytes}
 use Rattle.xet_outside.specs.Plan.{plan_of, block_of}
 use Rattle.xet_blocks.specs.declared.reconstruction_terms.file_term.FileTerm.{FileTerm}
-use Rattle.xet_blocks.specs.Blocks.{PlanBlock, blocks_of, block_ranges}
+use Rattle.xet_offers.specs.Blocks.{PlanBlock, blocks_of, block_ranges}
 use Rattle.xet_blocks.specs.Terms.{terms_of}
 use Rattle.xet_events.specs.declared.event.PlannedTerm.{PlannedTerm}
 use Rattle.xet_events.specs.declared.event.PlannedBlock.{PlannedBlock}

@@ -4,9 +4,9 @@ use Rattle.xet_base.specs.declared.error.OutOfMemory.{OutOfMemory}
 use Rattle.xet_outside.specs.Told.{ClientTold}
 use Rattle.xet_outside.specs.declared.block.BlockRequest.{BlockRequest}
 use Rattle.xet_error.specs.declared.error.FileReconstructionError.{FileReconstructionError}
-use Rattle.xet_blocks.specs.declared.reconstruction_terms.retrieval_urls.RetrievalUrl.{RetrievalUrl}
-use Rattle.xet_blocks.specs.declared.reconstruction_terms.retrieval_urls.TermBlockRetrievalURLs.{TermBlockRetrievalURLs}
-use Rattle.xet_blocks.specs.declared.reconstruction_terms.xorb_block.XorbBlock.{XorbBlock}
+use Rattle.xet_offers.specs.declared.reconstruction_terms.retrieval_urls.RetrievalUrl.{RetrievalUrl}
+use Rattle.xet_offers.specs.declared.reconstruction_terms.retrieval_urls.TermBlockRetrievalURLs.{TermBlockRetrievalURLs}
+use Rattle.xet_offers.specs.declared.reconstruction_terms.xorb_block.XorbBlock.{XorbBlock}
 use Rattle.xet_ties.specs.declared.lane_step.LaneStep.{LaneStep}
 use Rattle.xet_ties.specs.declared.lane_step.LaneStep.TheVariants as step
 use Rattle.xet_ties.specs.Lanes.{Ask, StepDid}

@@ -10,10 +10,10 @@ use Rattle.xet_outside.specs.declared.block.BlockRequest.{BlockRequest}
 use Rattle.xet_outside.proofs.CallerLemmas.{count_by-cons}
 use Rattle.xet_error.specs.declared.error.FileReconstructionError.{FileReconstructionError}
 use Rattle.xet_error.specs.declared.error.FileReconstructionError.TheVariants as error
-use Rattle.xet_blocks.specs.declared.reconstruction_terms.retrieval_urls.RetrievalUrl.{RetrievalUrl}
-use Rattle.xet_blocks.specs.declared.reconstruction_terms.retrieval_urls.TermBlockRetrievalURLs.{TermBlockRetrievalURLs}
-use Rattle.xet_blocks.specs.declared.reconstruction_terms.xorb_block.XorbBlock.{XorbBlock}
-use Rattle.xet_blocks.specs.BlockCalls.{IsBeyond, IsRequestOf}
+use Rattle.xet_offers.specs.declared.reconstruction_terms.retrieval_urls.RetrievalUrl.{RetrievalUrl}
+use Rattle.xet_offers.specs.declared.reconstruction_terms.retrieval_urls.TermBlockRetrievalURLs.{TermBlockRetrievalURLs}
+use Rattle.xet_offers.specs.declared.reconstruction_terms.xorb_block.XorbBlock.{XorbBlock}
+use Rattle.xet_offers.specs.BlockCalls.{IsBeyond, IsRequestOf}
 use Rattle.xet_events.specs.declared.event.Event.{Event}
 use Rattle.xet_events.specs.declared.event.PlannedBlock.{PlannedBlock}
 use Rattle.xet_events.specs.Allowed.{IsMissing}

@@ -14,9 +14,9 @@ use Rattle.xet_base.specs.Store.{IsValid, Store}
 use Rattle.xet_outside.specs.Plan.{Shape, block_of, plan_of, shape}
 use Rattle.xet_outside.specs.Told.{Holds}
 use Rattle.xet_blocks.specs.declared.reconstruction_terms.file_term.FileTerm.{FileTerm}
-use Rattle.xet_blocks.specs.declared.reconstruction_terms.xorb_block.XorbBlock.{XorbBlock}
-use Rattle.xet_blocks.specs.declared.reconstruction_terms.xorb_block.XorbBlockData.{XorbBlockData}
-use Rattle.xet_blocks.specs.Blocks.{PlanBlock, block_ranges, blocks_of}
+use Rattle.xet_offers.specs.declared.reconstruction_terms.xorb_block.XorbBlock.{XorbBlock}
+use Rattle.xet_offers.specs.declared.reconstruction_terms.xorb_block.XorbBlockData.{XorbBlockData}
+use Rattle.xet_offers.specs.Blocks.{PlanBlock, block_ranges, blocks_of}
 use Rattle.xet_blocks.specs.TermBlocks.{xorb_block}
 use Rattle.xet_blocks.specs.Terms.{terms_of}
 use Rattle.xet_blocks.proofs.CallerLemmas.{IsHonestTerm, honest_terms}

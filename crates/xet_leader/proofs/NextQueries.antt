@@ -29,7 +29,7 @@ use Rattle.xet_parts.specs.PlanAsks.{PlansAllowed}
 use Rattle.xet_leader.specs.Led.{IsLedManager, IsManagerOf}
 use Rattle.xet_leader.proofs.PlanTerms.{plan_adjoins}
 use Rattle.std.proofs.lemmas.List.{length-map}
-use Rattle.xet_blocks.specs.Blocks.{blocks_of}
+use Rattle.xet_offers.specs.Blocks.{blocks_of}
 use Rattle.xet_blocks.specs.Terms.{terms_of}
 use Rattle.xet_leader.proofs.LongQueries.{looked_long}
 use Rattle.std.proofs.lemmas.List.Elements.{All-take}

@@ -9,11 +9,11 @@ use Rattle.xet_base.proofs.CallerLemmas.{firsts_keeps, place_within}
 use Rattle.xet_outside.specs.Plan.{Shape, shape}
 use Rattle.xet_outside.specs.declared.plan.PlanTerm.{PlanTerm}
 use Rattle.xet_blocks.specs.declared.reconstruction_terms.file_term.FileTerm.{FileTerm}
-use Rattle.xet_blocks.specs.declared.reconstruction_terms.xorb_block.XorbBlock.{XorbBlock}
-use Rattle.xet_blocks.specs.Blocks.{PlanBlock, blocks_of, same_block, term_block}
+use Rattle.xet_offers.specs.declared.reconstruction_terms.xorb_block.XorbBlock.{XorbBlock}
+use Rattle.xet_offers.specs.Blocks.{PlanBlock, blocks_of, same_block, term_block}
 use Rattle.xet_blocks.specs.TermBlocks.{xorb_block, xorb_blocks}
 use Rattle.xet_blocks.specs.Terms.{terms_from, terms_of}
-use Rattle.xet_blocks.proofs.CallerLemmas.{eq-same_block, same_block-true}
+use Rattle.xet_offers.proofs.CallerLemmas.{eq-same_block, same_block-true}
 use Rattle.xet_events.specs.declared.event.Event.{Event}
 use Rattle.xet_ties.specs.Setup.{RunTold, Setup}
 use Rattle.xet_ties.specs.Ties.{Slack}

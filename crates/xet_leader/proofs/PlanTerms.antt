@@ -10,11 +10,11 @@ use Rattle.xet_base.proofs.CallerLemmas.{firsts_keeps, place_within}
 use Rattle.xet_outside.specs.declared.plan.PlanTerm.{PlanTerm}
 use Rattle.xet_outside.specs.Plan.{Shape}
 use Rattle.xet_error.specs.declared.error.Corruption.TheVariants.{Trim}
-use Rattle.xet_blocks.specs.Blocks.{PlanBlock, blocks_of, same_block, term_block}
-use Rattle.xet_blocks.specs.PlanChecks.{IsAccepted, sizes_from}
-use Rattle.xet_blocks.specs.TermBlocks.{covered}
+use Rattle.xet_offers.specs.Blocks.{PlanBlock, blocks_of, same_block, term_block}
+use Rattle.xet_offers.specs.PlanChecks.{covered, IsAccepted, sizes_from}
 use Rattle.xet_blocks.specs.Terms.{terms_from, terms_of}
-use Rattle.xet_blocks.proofs.CallerLemmas.{eq-same_block, same_block-true, tested}
+use Rattle.xet_offers.proofs.CallerLemmas.{eq-same_block, same_block-true}
+use Rattle.xet_blocks.proofs.CallerLemmas.{tested}
 use Rattle.xet_events.specs.Allowed.{Adjoin}
 use Rattle.xet_events.specs.Events.{last_of}
 use Rattle.xet_history.specs.TrueHistory.{planned_term}

@@ -24,11 +24,11 @@ use Rattle.xet_error.specs.declared.error.Corruption.{Corruption}
 use Rattle.xet_error.specs.declared.error.FileReconstructionError.{FileReconstructionError}
 use Rattle.xet_blocks.specs.declared.reconstruction_terms.file_term.FileTerm.{FileTerm}
 use Rattle.xet_blocks.specs.declared.reconstruction_terms.file_term.TermBlock.{TermBlock}
-use Rattle.xet_blocks.specs.declared.reconstruction_terms.xorb_block.XorbBlock.{XorbBlock}
-use Rattle.xet_blocks.specs.Blocks.{PlanBlock, blocks_of}
-use Rattle.xet_blocks.specs.PlanChecks.{failed_test}
+use Rattle.xet_offers.specs.declared.reconstruction_terms.xorb_block.XorbBlock.{XorbBlock}
+use Rattle.xet_offers.specs.Blocks.{PlanBlock, blocks_of}
+use Rattle.xet_offers.specs.PlanChecks.{covered, failed_test}
 use Rattle.xet_blocks.specs.TermBlockCalls.{FromAnswer, FromTerms, FromTested}
-use Rattle.xet_blocks.specs.TermBlocks.{IsTermBlock, covered, xorb_block}
+use Rattle.xet_blocks.specs.TermBlocks.{IsTermBlock, xorb_block}
 use Rattle.xet_events.specs.declared.event.Event.{Event}
 use Rattle.xet_events.specs.declared.event.Event.TheVariants.{Planned}
 use Rattle.xet_events.specs.declared.event.PlannedBlock.{PlannedBlock}

@@ -18,10 +18,11 @@ use Rattle.xet_outside.specs.declared.plan.PlanTerm.{PlanTerm}
 use Rattle.xet_outside.specs.Plan.{Shape, plan_of, shape}
 use Rattle.xet_outside.specs.Told.{IsHonest}
 use Rattle.xet_blocks.specs.declared.reconstruction_terms.file_term.TermBlock.{TermBlock}
-use Rattle.xet_blocks.specs.declared.reconstruction_terms.xorb_block.XorbBlock.{XorbBlock}
-use Rattle.xet_blocks.specs.Blocks.{PlanBlock, block_ranges, blocks_of, same_block, term_block, transfer_sum}
+use Rattle.xet_offers.specs.declared.reconstruction_terms.xorb_block.XorbBlock.{XorbBlock}
+use Rattle.xet_offers.specs.Blocks.{PlanBlock, block_ranges, blocks_of, same_block, term_block, transfer_sum}
 use Rattle.xet_blocks.specs.PlanQuery.{PlanQuery}
-use Rattle.xet_blocks.specs.TermBlocks.{IsTermBlock, covered, urls_of, xorb_block, xorb_blocks}
+use Rattle.xet_offers.specs.PlanChecks.{covered}
+use Rattle.xet_blocks.specs.TermBlocks.{IsTermBlock, urls_of, xorb_block, xorb_blocks}
 use Rattle.xet_blocks.specs.Terms.{terms_of}
 use Rattle.xet_fetch.specs.Refreshes.{Extent, extent_of, plan_extents, refusal_of}
 use Rattle.xet_fetch.proofs.CallerLemmas.{honest_tables}

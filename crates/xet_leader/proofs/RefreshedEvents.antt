@@ -16,11 +16,11 @@ use Rattle.xet_error.specs.declared.error.Corruption.TheVariants.{RefreshBlocks,
 use Rattle.xet_error.specs.declared.error.FileReconstructionError.{FileReconstructionError}
 use Rattle.xet_error.specs.declared.error.FileReconstructionError.TheVariants as error
 use Rattle.xet_blocks.specs.declared.reconstruction_terms.file_term.TermBlock.{TermBlock}
-use Rattle.xet_blocks.specs.declared.reconstruction_terms.retrieval_urls.RetrievalUrl.{RetrievalUrl}
-use Rattle.xet_blocks.specs.declared.reconstruction_terms.xorb_block.XorbBlock.{XorbBlock}
-use Rattle.xet_blocks.specs.Blocks.{PlanBlock, block_ranges, blocks_of}
-use Rattle.xet_blocks.specs.PlanChecks.{failed_test}
-use Rattle.xet_blocks.specs.TermBlocks.{block_url, covered, urls_of}
+use Rattle.xet_offers.specs.declared.reconstruction_terms.retrieval_urls.RetrievalUrl.{RetrievalUrl}
+use Rattle.xet_offers.specs.declared.reconstruction_terms.xorb_block.XorbBlock.{XorbBlock}
+use Rattle.xet_offers.specs.Blocks.{PlanBlock, block_ranges, blocks_of}
+use Rattle.xet_offers.specs.PlanChecks.{covered, failed_test}
+use Rattle.xet_blocks.specs.TermBlocks.{block_url, urls_of}
 use Rattle.xet_fetch.specs.Refreshes.{Extent, blocks_test, extent_of, failed_refresh, first_difference, next_id, plan_extents, range_test, same_extent}
 use Rattle.xet_events.specs.declared.event.Event.{Event}
 use Rattle.xet_events.specs.declared.event.Event.TheVariants.{Refreshed}

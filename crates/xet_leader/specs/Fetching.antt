@@ -4,7 +4,7 @@ use Rattle.std.specs.Prelude.{IfOk, IfErr, slice_get}
 use Rattle.xet_base.specs.declared.cas_types.ChunkRange.{ChunkRange}
 use Rattle.xet_base.specs.declared.merklehash.MerkleHash.{MerkleHash}
 use Rattle.xet_error.specs.declared.error.FileReconstructionError.{FileReconstructionError}
-use Rattle.xet_blocks.specs.BlockCalls.{IsRequestOf}
+use Rattle.xet_offers.specs.BlockCalls.{IsRequestOf}
 use Rattle.xet_events.specs.declared.event.Event.{Event}
 use Rattle.xet_events.specs.declared.event.PlannedBlock.{PlannedBlock}
 use Rattle.xet_ties.specs.Lanes.{Ask, IsFor}

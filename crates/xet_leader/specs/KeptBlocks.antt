@@ -1,7 +1,7 @@
 -- A block of a plan that is another one from now on, and one that keeps data.
 use Rattle.std.specs.Prelude.{ℕ, List, Some, slice_set}
-use Rattle.xet_blocks.specs.declared.reconstruction_terms.xorb_block.XorbBlock.{XorbBlock}
-use Rattle.xet_blocks.specs.declared.reconstruction_terms.xorb_block.XorbBlockData.{XorbBlockData}
+use Rattle.xet_offers.specs.declared.reconstruction_terms.xorb_block.XorbBlock.{XorbBlock}
+use Rattle.xet_offers.specs.declared.reconstruction_terms.xorb_block.XorbBlockData.{XorbBlockData}
 use Rattle.xet_leader.specs.declared.leader.LedPlan.{LedPlan}
 
 -- the plan whose block of this number is this one

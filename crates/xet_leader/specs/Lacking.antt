@@ -4,7 +4,7 @@ use Rattle.std.specs.Prelude.{take, drop, length, Option, Some, None, slice_get}
 use Rattle.std.specs.List.{flat_map, list_any}
 use Rattle.xet_base.specs.declared.cas_types.FileRange.{FileRange}
 use Rattle.xet_blocks.specs.declared.reconstruction_terms.file_term.FileTerm.{FileTerm}
-use Rattle.xet_blocks.specs.declared.reconstruction_terms.xorb_block.XorbBlock.{XorbBlock}
+use Rattle.xet_offers.specs.declared.reconstruction_terms.xorb_block.XorbBlock.{XorbBlock}
 use Rattle.xet_events.specs.declared.block_table.BlockTable.{BlockTable}
 use Rattle.xet_events.specs.BlockTables.{kept_in}
 use Rattle.xet_leader.specs.declared.leader.LedPlan.{LedPlan}

@@ -2,7 +2,7 @@
 use Rattle.std.specs.Prelude.{ℕ, ◌-◌, ◌&&◌, cond, List, [], ◌∷◌, length, nat_le, nat_lt, Option, Some, None, Result}
 use Rattle.std.specs.Prelude.{option_and_then, slice_get}
 use Rattle.xet_error.specs.declared.error.FileReconstructionError.{FileReconstructionError}
-use Rattle.xet_blocks.specs.declared.reconstruction_terms.xorb_block.XorbBlock.{XorbBlock}
+use Rattle.xet_offers.specs.declared.reconstruction_terms.xorb_block.XorbBlock.{XorbBlock}
 use Rattle.xet_leader.specs.declared.leader.LedPlan.{LedPlan}
 
 -- the place of the plan of this number, where numbers follow one another

@@ -1,7 +1,7 @@
 //! Looks for the blocks that are missing into the cache.
 ghost use Rattle.std.specs.Prelude.{◌≡◌, ◌<◌, ◌∷◌, ◌++◌, [], Some, IfErr, IfOk, OnErr, OnOk, cond, length, slice_get};
 ghost use Rattle.xet_error.specs.declared.error.FileReconstructionError.TheVariants as error;
-ghost use Rattle.xet_blocks.specs.declared.reconstruction_terms.xorb_block.XorbBlock.{XorbBlock};
+ghost use Rattle.xet_offers.specs.declared.reconstruction_terms.xorb_block.XorbBlock.{XorbBlock};
 ghost use Rattle.xet_events.specs.Allowed.{IsAllowed, IsRunning};
 ghost use Rattle.xet_leader.specs.FetchLists.{Each};
 ghost use Rattle.xet_leader.specs.Looks.{CanLook, CanLookAll, CanRequest, EndsShort, IsLedBy, LookLeads, LookTurn};

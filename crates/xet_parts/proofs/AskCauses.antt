@@ -17,7 +17,7 @@ use Rattle.xet_error.specs.declared.error.Corruption.{Corruption}
 use Rattle.xet_error.specs.declared.error.FileReconstructionError.{FileReconstructionError}
 use Rattle.xet_error.specs.declared.error.FileReconstructionError.TheVariants as error
 use Rattle.xet_blocks.specs.declared.reconstruction_terms.file_term.TermBlock.{TermBlock}
-use Rattle.xet_blocks.specs.PlanChecks.{failed_test}
+use Rattle.xet_offers.specs.PlanChecks.{failed_test}
 use Rattle.xet_blocks.specs.TermBlockCalls.{Answer, FromAnswer, FromSaid, FromTerms, FromTested, QueryAnswered, TermBlockCause, TermBlockCall}
 use Rattle.xet_blocks.proofs.CallerLemmas.{honest_accepted}
 use Rattle.xet_events.specs.declared.event.Event.{Event}

@@ -7,9 +7,9 @@ use Rattle.xet_base.specs.Store.{IsValid, Store}
 use Rattle.xet_outside.specs.Plan.{block_of}
 use Rattle.xet_outside.specs.Told.{CacheEntry, CacheTold, Grew}
 use Rattle.xet_error.specs.declared.error.FileReconstructionError.{FileReconstructionError}
-use Rattle.xet_blocks.specs.declared.reconstruction_terms.xorb_block.XorbBlock.{XorbBlock}
-use Rattle.xet_blocks.specs.declared.reconstruction_terms.xorb_block.XorbBlockData.{XorbBlockData}
-use Rattle.xet_blocks.specs.BlockChecks.{block_data}
+use Rattle.xet_offers.specs.declared.reconstruction_terms.xorb_block.XorbBlock.{XorbBlock}
+use Rattle.xet_offers.specs.declared.reconstruction_terms.xorb_block.XorbBlockData.{XorbBlockData}
+use Rattle.xet_offers.specs.BlockChecks.{block_data}
 use Rattle.xet_fetch.specs.CachedBlocks.{IsOffered, entry_of}
 use Rattle.xet_fetch.proofs.CallerLemmas.{entries_return}
 use Rattle.xet_ties.specs.Setup.{CacheTells, IsHonestEntry}

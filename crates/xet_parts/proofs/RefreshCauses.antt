@@ -14,7 +14,7 @@ use Rattle.xet_error.specs.declared.error.Corruption.TheVariants.{RefreshPastEnd
 use Rattle.xet_error.specs.declared.error.FileReconstructionError.{FileReconstructionError}
 use Rattle.xet_error.specs.declared.error.FileReconstructionError.TheVariants as error
 use Rattle.xet_blocks.specs.declared.reconstruction_terms.file_term.TermBlock.{TermBlock}
-use Rattle.xet_blocks.specs.TermBlocks.{covered}
+use Rattle.xet_offers.specs.PlanChecks.{covered}
 use Rattle.xet_blocks.specs.TermBlockCalls.{QueryAnswered}
 use Rattle.xet_fetch.specs.Refreshes.{Extent, MayAsk, Refresh, RefreshCause, failed_refresh, plan_extents, refusal_of}
 use Rattle.xet_events.specs.declared.event.Event.{Event}

@@ -13,14 +13,14 @@ use Rattle.xet_outside.specs.Plan.{Shape, block_of, plan_of, shape}
 use Rattle.xet_outside.specs.Told.{Holds}
 use Rattle.xet_error.specs.declared.error.Corruption.{Corruption}
 use Rattle.xet_blocks.specs.declared.reconstruction_terms.file_term.FileTerm.{FileTerm}
-use Rattle.xet_blocks.specs.declared.reconstruction_terms.xorb_block.XorbBlock.{XorbBlock}
-use Rattle.xet_blocks.specs.declared.reconstruction_terms.xorb_block.XorbBlockData.{XorbBlockData}
-use Rattle.xet_blocks.specs.BlockCalls.{failed_check}
-use Rattle.xet_blocks.specs.BlockChecks.{block_data}
-use Rattle.xet_blocks.specs.Blocks.{PlanBlock, block_ranges, blocks_of}
+use Rattle.xet_offers.specs.declared.reconstruction_terms.xorb_block.XorbBlock.{XorbBlock}
+use Rattle.xet_offers.specs.declared.reconstruction_terms.xorb_block.XorbBlockData.{XorbBlockData}
+use Rattle.xet_offers.specs.BlockCalls.{failed_check}
+use Rattle.xet_offers.specs.BlockChecks.{block_data}
+use Rattle.xet_offers.specs.Blocks.{PlanBlock, block_ranges, blocks_of}
 use Rattle.xet_blocks.specs.Extracts.{failed_term_test, term_bytes_in}
-use Rattle.xet_blocks.specs.PlanChecks.{failed_test}
-use Rattle.xet_blocks.specs.TermBlocks.{covered, xorb_block, xorb_blocks}
+use Rattle.xet_offers.specs.PlanChecks.{covered, failed_test}
+use Rattle.xet_blocks.specs.TermBlocks.{xorb_block, xorb_blocks}
 use Rattle.xet_blocks.specs.Terms.{piece_of, term_piece, terms_of}
 use Rattle.xet_blocks.proofs.CallerLemmas.{IsHonestTerm, honest_accepted, honest_terms, pieces_join}
 use Rattle.xet_fetch.specs.Fetches.{IsHonestFor}

@@ -11,7 +11,7 @@ use Rattle.xet_outside.specs.Plan.{block_of, shape}
 use Rattle.xet_outside.specs.Told.{Holds, IsHonest}
 use Rattle.xet_error.specs.declared.error.Corruption.{Corruption}
 use Rattle.xet_blocks.specs.declared.reconstruction_terms.file_term.FileTerm.{FileTerm}
-use Rattle.xet_blocks.specs.declared.reconstruction_terms.xorb_block.XorbBlock.{XorbBlock}
+use Rattle.xet_offers.specs.declared.reconstruction_terms.xorb_block.XorbBlock.{XorbBlock}
 use Rattle.xet_blocks.specs.Terms.{terms_of}
 use Rattle.xet_ties.specs.Causes.{SomeFailed}
 use Rattle.xet_ties.specs.InCall.{Exchange, Look, SomeOne}

@@ -21,13 +21,13 @@ use Rattle.xet_outside.proofs.CallerLemmas.{query_after}
 use Rattle.xet_error.specs.declared.error.Corruption.{Corruption}
 use Rattle.xet_error.specs.declared.error.FileReconstructionError.{FileReconstructionError}
 use Rattle.xet_blocks.specs.declared.reconstruction_terms.file_term.TermBlock.{TermBlock}
-use Rattle.xet_blocks.specs.declared.reconstruction_terms.retrieval_urls.RetrievalUrl.{RetrievalUrl}
-use Rattle.xet_blocks.specs.declared.reconstruction_terms.xorb_block.XorbBlock.{XorbBlock}
-use Rattle.xet_blocks.specs.Blocks.{PlanBlock, blocks_of, same_block, term_block}
-use Rattle.xet_blocks.specs.PlanChecks.{failed_test}
+use Rattle.xet_offers.specs.declared.reconstruction_terms.retrieval_urls.RetrievalUrl.{RetrievalUrl}
+use Rattle.xet_offers.specs.declared.reconstruction_terms.xorb_block.XorbBlock.{XorbBlock}
+use Rattle.xet_offers.specs.Blocks.{PlanBlock, blocks_of, same_block, term_block}
+use Rattle.xet_offers.specs.PlanChecks.{covered, failed_test}
 use Rattle.xet_blocks.specs.PlanQuery.{PlanQuery}
 use Rattle.xet_blocks.specs.TermBlockCalls.{FromAnswer, FromTerms, FromTested, TermBlockCall}
-use Rattle.xet_blocks.specs.TermBlocks.{IsTermBlock, covered, xorb_block}
+use Rattle.xet_blocks.specs.TermBlocks.{IsTermBlock, xorb_block}
 use Rattle.xet_blocks.specs.Terms.{terms_from, terms_of}
 use Rattle.xet_fetch.specs.Refreshes.{IsRefreshed, MayAsk, Refresh, plan_extents, refusal_of}
 use Rattle.xet_events.specs.declared.event.Event.{Event}

@@ -11,7 +11,7 @@ use Rattle.xet_outside.proofs.CallerLemmas.{count_by-cons}
 use Rattle.xet_outside.specs.declared.block.BlockBytes.{BlockBytes}
 use Rattle.xet_outside.specs.Plan.{block_of}
 use Rattle.xet_outside.specs.Told.{CacheEntry, CacheTold, Grew, Added, ClientTold, SinkTold}
-use Rattle.xet_blocks.specs.Blocks.{range_eq}
+use Rattle.xet_offers.specs.Blocks.{range_eq}
 use Rattle.xet_events.specs.declared.event.Event.{Event}
 use Rattle.xet_events.specs.declared.event.Event.TheVariants.{Cached}
 use Rattle.xet_events.specs.declared.event.PlannedBlock.{PlannedBlock}

@@ -13,10 +13,10 @@ use Rattle.xet_outside.specs.declared.plan.PlanAnswer.TheVariants.{Found}
 use Rattle.xet_error.specs.declared.error.Corruption.{Corruption}
 use Rattle.xet_error.specs.declared.error.Corruption.TheVariants.{BlockLength, OffsetCount, OffsetOrder, TermPastBlock}
 use Rattle.xet_blocks.specs.declared.reconstruction_terms.file_term.FileTerm.{FileTerm}
-use Rattle.xet_blocks.specs.declared.reconstruction_terms.xorb_block.XorbBlock.{XorbBlock}
-use Rattle.xet_blocks.specs.declared.reconstruction_terms.xorb_block.XorbBlockData.{XorbBlockData}
-use Rattle.xet_blocks.specs.BlockCalls.{failed_check}
-use Rattle.xet_blocks.specs.BlockChecks.{chunk_total, count_test, length_test, misplaced_after, order_test}
+use Rattle.xet_offers.specs.declared.reconstruction_terms.xorb_block.XorbBlock.{XorbBlock}
+use Rattle.xet_offers.specs.declared.reconstruction_terms.xorb_block.XorbBlockData.{XorbBlockData}
+use Rattle.xet_offers.specs.BlockCalls.{failed_check}
+use Rattle.xet_offers.specs.BlockChecks.{chunk_total, count_test, length_test, misplaced_after, order_test}
 use Rattle.xet_blocks.specs.Extracts.{begin_at, failed_term_test, term_size, test_at}
 use Rattle.xet_events.specs.declared.event.Event.{Event}
 use Rattle.xet_ties.specs.Causes.{BlockFails, BlockFailsIn, FirstFailed, IsBlockTest, IsCorrupted, PlanFails, QueryFailed, RefreshFails, SomeFailed, TermFails, TermFailsIn}

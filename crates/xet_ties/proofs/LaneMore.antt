@@ -24,8 +24,8 @@ use Rattle.xet_outside.specs.Plan.{block_of}
 use Rattle.xet_outside.specs.declared.plan.PlanAnswer.{PlanAnswer}
 use Rattle.xet_error.specs.declared.error.Corruption.{Corruption}
 use Rattle.xet_error.specs.Errors.{of_client_error}
-use Rattle.xet_blocks.specs.BlockCalls.{failed_check}
-use Rattle.xet_blocks.specs.Refusals.{IsRefusal}
+use Rattle.xet_offers.specs.BlockCalls.{failed_check}
+use Rattle.xet_offers.specs.Refusals.{IsRefusal}
 use Rattle.xet_ties.specs.Setup.{ClientGoesOn}
 use Rattle.std.proofs.lemmas.Grind.{flat_map-append}
 use Rattle.xet_error.specs.declared.error.FileReconstructionError.TheVariants as error

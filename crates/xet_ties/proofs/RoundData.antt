@@ -8,8 +8,8 @@ use Rattle.xet_outside.specs.declared.block.BlockBytes.{BlockBytes}
 use Rattle.xet_outside.specs.declared.said.Said.{Said}
 use Rattle.xet_outside.specs.declared.served.Served.{Served}
 use Rattle.xet_outside.specs.Told.{ClientTold}
-use Rattle.xet_blocks.specs.BlockChecks.{block_data}
-use Rattle.xet_blocks.specs.declared.reconstruction_terms.xorb_block.XorbBlockData.{XorbBlockData}
+use Rattle.xet_offers.specs.BlockChecks.{block_data}
+use Rattle.xet_offers.specs.declared.reconstruction_terms.xorb_block.XorbBlockData.{XorbBlockData}
 use Rattle.xet_events.specs.declared.event.Event.{Event}
 use Rattle.xet_ties.specs.InCall.{EachExchange, Exchange, Place}
 use Rattle.xet_ties.specs.Lanes.{AreAt, AreOf, Ask, IsFor, IsOf}

@@ -30,8 +30,8 @@ use Rattle.xet_ties.proofs.Recording.{tie_rest}
 use Rattle.xet_ties.proofs.RoundData.{are_paired}
 use Rattle.xet_ties.proofs.RoundLates.{round_tries}
 use Rattle.std.proofs.lemmas.List.Elements.{All-append, All-cons, All-head, All-map, All-nil, All-tail, All-weaker}
-use Rattle.xet_blocks.specs.declared.reconstruction_terms.xorb_block.XorbBlock.{XorbBlock}
-use Rattle.xet_blocks.specs.declared.reconstruction_terms.xorb_block.XorbBlockData.{XorbBlockData}
+use Rattle.xet_offers.specs.declared.reconstruction_terms.xorb_block.XorbBlock.{XorbBlock}
+use Rattle.xet_offers.specs.declared.reconstruction_terms.xorb_block.XorbBlockData.{XorbBlockData}
 use Rattle.xet_ties.proofs.Telling.{all_left, all_right}
 use Rattle.xet_ties.proofs.RoundAsks.{asked_may, some_same}
 

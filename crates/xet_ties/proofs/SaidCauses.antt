@@ -17,11 +17,10 @@ use Rattle.xet_error.specs.declared.error.Corruption.{Corruption}
 use Rattle.xet_error.specs.declared.error.FileReconstructionError.{FileReconstructionError}
 use Rattle.xet_error.specs.declared.error.FileReconstructionError.TheVariants as error
 use Rattle.xet_blocks.specs.declared.reconstruction_terms.file_term.TermBlock.{TermBlock}
-use Rattle.xet_blocks.specs.declared.reconstruction_terms.xorb_block.XorbBlock.{XorbBlock}
-use Rattle.xet_blocks.specs.BlockCalls.{failed_check}
-use Rattle.xet_blocks.specs.PlanChecks.{failed_test}
+use Rattle.xet_offers.specs.declared.reconstruction_terms.xorb_block.XorbBlock.{XorbBlock}
+use Rattle.xet_offers.specs.BlockCalls.{failed_check}
+use Rattle.xet_offers.specs.PlanChecks.{covered, failed_test}
 use Rattle.xet_blocks.specs.TermBlockCalls.{FromAnswer, FromSaid, FromTerms, FromTested}
-use Rattle.xet_blocks.specs.TermBlocks.{covered}
 use Rattle.xet_fetch.specs.Refreshes.{plan_extents, refusal_of}
 use Rattle.xet_events.specs.declared.event.PlannedBlock.{PlannedBlock}
 use Rattle.xet_events.specs.declared.event.PlannedTerm.{PlannedTerm}

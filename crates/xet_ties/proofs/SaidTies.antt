@@ -15,9 +15,9 @@ use Rattle.xet_outside.specs.declared.plan.PlanAnswer.TheVariants.{Found, PastEn
 use Rattle.xet_outside.specs.declared.said.Said.{Said}
 use Rattle.xet_outside.specs.declared.served.Served.{Served}
 use Rattle.xet_outside.proofs.CallerLemmas.{answer_after}
-use Rattle.xet_blocks.specs.declared.reconstruction_terms.xorb_block.XorbBlock.{XorbBlock}
-use Rattle.xet_blocks.specs.declared.reconstruction_terms.xorb_block.XorbBlockData.{XorbBlockData}
-use Rattle.xet_blocks.specs.Blocks.{PlanBlock, blocks_of}
+use Rattle.xet_offers.specs.declared.reconstruction_terms.xorb_block.XorbBlock.{XorbBlock}
+use Rattle.xet_offers.specs.declared.reconstruction_terms.xorb_block.XorbBlockData.{XorbBlockData}
+use Rattle.xet_offers.specs.Blocks.{PlanBlock, blocks_of}
 use Rattle.xet_blocks.specs.TermBlocks.{xorb_block}
 use Rattle.xet_events.specs.declared.event.Event.{Event}
 use Rattle.xet_events.specs.declared.event.PlannedBlock.{PlannedBlock}

@@ -17,14 +17,14 @@ use Rattle.xet_outside.specs.declared.block.BlockBytes.{BlockBytes}
 use Rattle.xet_outside.specs.declared.plan.PlanAnswer.{PlanAnswer}
 use Rattle.xet_outside.specs.declared.plan.PlanAnswer.TheVariants.{Found}
 use Rattle.xet_outside.specs.declared.served.Served.{Served}
-use Rattle.xet_blocks.specs.Blocks.{PlanBlock, block_ranges, blocks_of}
+use Rattle.xet_offers.specs.Blocks.{PlanBlock, block_ranges, blocks_of}
 use Rattle.xet_blocks.specs.Laws.{IsServedBlock, IsServedTerm}
 use Rattle.xet_blocks.specs.ServedChunks.{AllServed, IsServedIn, file_chunks}
 use Rattle.xet_blocks.specs.TermBlocks.{xorb_block}
 use Rattle.xet_blocks.specs.Terms.{terms_of}
 use Rattle.xet_blocks.specs.declared.reconstruction_terms.file_term.FileTerm.{FileTerm}
-use Rattle.xet_blocks.specs.declared.reconstruction_terms.xorb_block.XorbBlock.{XorbBlock}
-use Rattle.xet_blocks.specs.declared.reconstruction_terms.xorb_block.XorbBlockData.{XorbBlockData}
+use Rattle.xet_offers.specs.declared.reconstruction_terms.xorb_block.XorbBlock.{XorbBlock}
+use Rattle.xet_offers.specs.declared.reconstruction_terms.xorb_block.XorbBlockData.{XorbBlockData}
 use Rattle.xet_blocks.proofs.CallerLemmas.{served_chunks}
 use Rattle.xet_events.specs.declared.event.Event.{Event}
 use Rattle.xet_events.specs.declared.event.Event.TheVariants.{Planned, Admit, Fetched, Cached, Expired, Refreshed, Wrote, Fail, Cancel}

@@ -17,11 +17,10 @@ use Rattle.xet_error.specs.declared.error.FileReconstructionError.{FileReconstru
 use Rattle.xet_error.specs.declared.error.FileReconstructionError.TheVariants as error
 use Rattle.xet_error.specs.declared.error.Setting.{Setting}
 use Rattle.xet_error.specs.declared.error.Setting.TheVariants.{GreatestBelowLeast, LeastZero, NoConnection, NoTries}
-use Rattle.xet_blocks.specs.BlockCalls.{failed_check}
-use Rattle.xet_blocks.specs.BlockChecks.{block_data}
+use Rattle.xet_offers.specs.BlockCalls.{failed_check}
+use Rattle.xet_offers.specs.BlockChecks.{block_data}
 use Rattle.xet_blocks.specs.Extracts.{failed_term_test}
-use Rattle.xet_blocks.specs.PlanChecks.{failed_test}
-use Rattle.xet_blocks.specs.TermBlocks.{covered}
+use Rattle.xet_offers.specs.PlanChecks.{failed_test, covered}
 use Rattle.xet_fetch.specs.Refreshes.{plan_extents, refusal_of}
 use Rattle.xet_ties.specs.InCall.{AllBelow, Exchange, SomeOne, answers_of, expired_said, new_in}
 use Rattle.xet_ties.specs.Saids.{AllPassed, BlockOfPlan, EntryPassed, IsBlockAnswer, IsPlanAccepted, IsPlanSaid}

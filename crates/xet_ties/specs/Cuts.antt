@@ -7,7 +7,7 @@ use Rattle.xet_outside.specs.Told.{Query}
 use Rattle.xet_outside.specs.declared.plan.PlanAnswer.{PlanAnswer}
 use Rattle.xet_outside.specs.declared.plan.PlanAnswer.TheVariants.{Found, NoFile, PastEnd}
 use Rattle.xet_blocks.specs.declared.reconstruction_terms.file_term.FileTerm.{FileTerm}
-use Rattle.xet_blocks.specs.PlanChecks.{failed_test}
+use Rattle.xet_offers.specs.PlanChecks.{failed_test}
 use Rattle.xet_blocks.specs.Terms.{terms_of}
 use Rattle.xet_events.specs.Events.{last_of}
 use Rattle.xet_history.specs.TrueHistory.{planned_term}

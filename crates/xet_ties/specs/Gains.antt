@@ -4,8 +4,8 @@ use Rattle.std.specs.Prelude.{count_by, length, nat_eq}
 use Rattle.xet_base.specs.declared.cas_types.ChunkRange.{ChunkRange}
 use Rattle.xet_outside.specs.declared.served.Served.{Served}
 use Rattle.xet_outside.specs.Told.{Added, CacheEntry, CacheTold}
-use Rattle.xet_blocks.specs.declared.reconstruction_terms.xorb_block.XorbBlock.{XorbBlock}
-use Rattle.xet_blocks.specs.declared.reconstruction_terms.xorb_block.XorbBlockData.{XorbBlockData}
+use Rattle.xet_offers.specs.declared.reconstruction_terms.xorb_block.XorbBlock.{XorbBlock}
+use Rattle.xet_offers.specs.declared.reconstruction_terms.xorb_block.XorbBlockData.{XorbBlockData}
 use Rattle.xet_fetch.specs.CachedBlocks.{entry_of}
 use Rattle.xet_ties.specs.InCall.{Exchange, Look, SomeOne, served_of_all}
 use Rattle.xet_ties.specs.Saids.{BlockOfPlan, IsServedData}

@@ -14,14 +14,14 @@ use Rattle.xet_outside.specs.declared.plan.PlanAnswer.{PlanAnswer}
 use Rattle.xet_outside.specs.declared.plan.PlanAnswer.TheVariants.{Found, PastEnd, NoFile}
 use Rattle.xet_outside.specs.declared.served.Served.{Served}
 use Rattle.xet_blocks.specs.declared.reconstruction_terms.file_term.FileTerm.{FileTerm}
-use Rattle.xet_blocks.specs.declared.reconstruction_terms.xorb_block.XorbBlock.{XorbBlock}
-use Rattle.xet_blocks.specs.declared.reconstruction_terms.xorb_block.XorbBlockData.{XorbBlockData}
-use Rattle.xet_blocks.specs.BlockCalls.{failed_check}
-use Rattle.xet_blocks.specs.BlockChecks.{block_data}
-use Rattle.xet_blocks.specs.Blocks.{blocks_of}
+use Rattle.xet_offers.specs.declared.reconstruction_terms.xorb_block.XorbBlock.{XorbBlock}
+use Rattle.xet_offers.specs.declared.reconstruction_terms.xorb_block.XorbBlockData.{XorbBlockData}
+use Rattle.xet_offers.specs.BlockCalls.{failed_check}
+use Rattle.xet_offers.specs.BlockChecks.{block_data}
+use Rattle.xet_offers.specs.Blocks.{blocks_of}
 use Rattle.xet_blocks.specs.Extracts.{failed_term_test, term_bytes_in}
-use Rattle.xet_blocks.specs.PlanChecks.{failed_test}
-use Rattle.xet_blocks.specs.TermBlocks.{covered, xorb_blocks}
+use Rattle.xet_offers.specs.PlanChecks.{failed_test, covered}
+use Rattle.xet_blocks.specs.TermBlocks.{xorb_blocks}
 use Rattle.xet_blocks.specs.Terms.{terms_of}
 use Rattle.xet_fetch.specs.CachedBlocks.{passes_cached}
 use Rattle.xet_fetch.specs.Refreshes.{plan_extents, refusal_of}

@@ -17,7 +17,7 @@ use Rattle.xet_outside.specs.Plan.{block_of}
 use Rattle.xet_outside.specs.Told.{Added, CacheEntry, CacheTold, ClientTold, Query, SignalTold, SinkTold, Took}
 use Rattle.xet_error.specs.declared.error.FileReconstructionError.{FileReconstructionError}
 use Rattle.xet_error.specs.declared.error.FileReconstructionError.TheVariants as error
-use Rattle.xet_blocks.specs.Blocks.{range_eq}
+use Rattle.xet_offers.specs.Blocks.{range_eq}
 use Rattle.xet_events.specs.declared.event.Event.{Event}
 use Rattle.xet_events.specs.declared.event.PlannedBlock.{PlannedBlock}
 use Rattle.xet_events.specs.Limits.{LimitTold}

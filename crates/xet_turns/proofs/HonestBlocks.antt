@@ -8,8 +8,8 @@ use Rattle.xet_base.specs.Store.{IsValid, Store}
 use Rattle.xet_outside.specs.declared.plan.Plan.{Plan}
 use Rattle.xet_outside.specs.Plan.{block_of, plan_of, shape}
 use Rattle.xet_outside.specs.Told.{Holds}
-use Rattle.xet_blocks.specs.declared.reconstruction_terms.xorb_block.XorbBlock.{XorbBlock}
-use Rattle.xet_blocks.specs.BlockCalls.{failed_check}
+use Rattle.xet_offers.specs.declared.reconstruction_terms.xorb_block.XorbBlock.{XorbBlock}
+use Rattle.xet_offers.specs.BlockCalls.{failed_check}
 use Rattle.xet_blocks.specs.TermBlocks.{xorb_blocks}
 use Rattle.xet_fetch.proofs.CallerLemmas.{honest_tables}
 use Rattle.xet_events.specs.declared.event.Event.{Event}

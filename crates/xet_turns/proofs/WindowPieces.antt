@@ -11,12 +11,13 @@ use Rattle.xet_base.specs.Store.{Store}
 use Rattle.xet_outside.specs.Plan.{Shape, block_of, plan_of, shape}
 use Rattle.xet_error.specs.declared.error.Corruption.{Corruption}
 use Rattle.xet_blocks.specs.declared.reconstruction_terms.file_term.FileTerm.{FileTerm}
-use Rattle.xet_blocks.specs.declared.reconstruction_terms.xorb_block.XorbBlock.{XorbBlock}
-use Rattle.xet_blocks.specs.declared.reconstruction_terms.xorb_block.XorbBlockData.{XorbBlockData}
-use Rattle.xet_blocks.specs.BlockChecks.{block_data}
-use Rattle.xet_blocks.specs.Blocks.{PlanBlock, block_ranges, blocks_of}
+use Rattle.xet_offers.specs.declared.reconstruction_terms.xorb_block.XorbBlock.{XorbBlock}
+use Rattle.xet_offers.specs.declared.reconstruction_terms.xorb_block.XorbBlockData.{XorbBlockData}
+use Rattle.xet_offers.specs.BlockChecks.{block_data}
+use Rattle.xet_offers.specs.Blocks.{PlanBlock, block_ranges, blocks_of}
 use Rattle.xet_blocks.specs.Extracts.{failed_term_test, term_bytes_in}
-use Rattle.xet_blocks.specs.TermBlocks.{known_size, references, xorb_block, xorb_blocks}
+use Rattle.xet_offers.specs.Chain.{known_size}
+use Rattle.xet_blocks.specs.TermBlocks.{references, xorb_block, xorb_blocks}
 use Rattle.xet_blocks.specs.Terms.{terms_of}
 use Rattle.xet_blocks.proofs.CallerLemmas.{IsHonestTerm, honest_terms}
 use Rattle.xet_fetch.specs.CachedBlocks.{passes_cached}

@@ -6,7 +6,7 @@ use Rattle.xet_error.specs.declared.error.Corruption.{Corruption}
 use Rattle.xet_error.specs.declared.error.FileReconstructionError.{FileReconstructionError}
 use Rattle.xet_error.specs.declared.error.FileReconstructionError.TheVariants as error
 use Rattle.xet_blocks.specs.declared.reconstruction_terms.file_term.FileTerm.{FileTerm}
-use Rattle.xet_blocks.specs.declared.reconstruction_terms.xorb_block.XorbBlockData.{XorbBlockData}
+use Rattle.xet_offers.specs.declared.reconstruction_terms.xorb_block.XorbBlockData.{XorbBlockData}
 use Rattle.xet_blocks.specs.DataTasks.{kept_of}
 use Rattle.xet_blocks.specs.Extracts.{failed_term_test, term_bytes_in, term_size}
 use Rattle.xet_writers.specs.Calls.{closed_by}

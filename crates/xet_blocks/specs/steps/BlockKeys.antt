@@ -4,7 +4,7 @@ use Rattle.std.specs.declared.alloc.Global.{Global}
 use Rattle.xet_blocks.specs.declared.reconstruction_terms.block_list.BlockKey.{BlockKey}
 use Rattle.xet_blocks.specs.declared.reconstruction_terms.block_list.OfferedBlock.{OfferedBlock}
 use Rattle.xet_base.specs.declared.merklehash.MerkleHash.{MerkleHash}
-use Rattle.xet_blocks.specs.steps.Offers.{Offered}
+use Rattle.xet_offers.specs.Offers.{Offered}
 
 -- the block is that of an offer of the xorb with this hash and number
 pub record IsBlockOf (h : MerkleHash) (at : ℕ) (o : Offered) (b : OfferedBlock) : Type 0 where

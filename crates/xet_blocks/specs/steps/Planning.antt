@@ -12,17 +12,17 @@ use Rattle.xet_blocks.specs.declared.reconstruction_terms.file_term.TermBlock.{T
 use Rattle.xet_blocks.specs.declared.reconstruction_terms.plan_blocks.PlanBlocks.{PlanBlocks}
 use Rattle.xet_blocks.specs.declared.reconstruction_terms.plan_blocks.TermStart.{TermStart}
 use Rattle.xet_blocks.specs.declared.reconstruction_terms.block_list.OfferedBlock.{OfferedBlock}
-use Rattle.xet_blocks.specs.declared.reconstruction_terms.retrieval_urls.RetrievalUrl.{RetrievalUrl}
-use Rattle.xet_blocks.specs.declared.reconstruction_terms.retrieval_urls.TermBlockRetrievalURLs.{TermBlockRetrievalURLs}
-use Rattle.xet_blocks.specs.declared.reconstruction_terms.xorb_block.XorbBlock.{XorbBlock}
-use Rattle.xet_blocks.specs.declared.reconstruction_terms.xorb_block.XorbReference.{XorbReference}
-use Rattle.xet_blocks.specs.Blocks.{PlanBlock, block_ranges, blocks_of, same_block, start_index, term_block}
-use Rattle.xet_blocks.specs.Blocks.{transfer_sum}
-use Rattle.xet_blocks.specs.Chain.{last_end}
+use Rattle.xet_offers.specs.declared.reconstruction_terms.retrieval_urls.RetrievalUrl.{RetrievalUrl}
+use Rattle.xet_offers.specs.declared.reconstruction_terms.retrieval_urls.TermBlockRetrievalURLs.{TermBlockRetrievalURLs}
+use Rattle.xet_offers.specs.declared.reconstruction_terms.xorb_block.XorbBlock.{XorbBlock}
+use Rattle.xet_offers.specs.declared.reconstruction_terms.xorb_block.XorbReference.{XorbReference}
+use Rattle.xet_offers.specs.Blocks.{PlanBlock, block_ranges, blocks_of, same_block, start_index, term_block}
+use Rattle.xet_offers.specs.Blocks.{transfer_sum}
+use Rattle.xet_offers.specs.Chain.{last_end, known_size}
 use Rattle.xet_blocks.specs.steps.BlockKeys.{IsBlockOf, key_of, same_key}
-use Rattle.xet_blocks.specs.steps.Offers.{Offered, offer_of_term, ranges_block, xorb_place}
-use Rattle.xet_blocks.specs.PlanChecks.{unordered}
-use Rattle.xet_blocks.specs.TermBlocks.{block_url, by_start, known_size, reference_of}
+use Rattle.xet_offers.specs.Offers.{Offered, offer_of_term, ranges_block, xorb_place}
+use Rattle.xet_offers.specs.PlanChecks.{unordered}
+use Rattle.xet_blocks.specs.TermBlocks.{block_url, by_start, reference_of}
 
 -- the block as one of the plan
 abbrev pub plan_block : OfferedBlock → PlanBlock

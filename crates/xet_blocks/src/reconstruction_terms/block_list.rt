@@ -4,12 +4,12 @@ ghost use Rattle.std.specs.Prelude.{slice_index_or};
 ghost use Rattle.xet_blocks.specs.declared.reconstruction_terms.block_list.BlockKey.{BlockKey};
 ghost use Rattle.xet_blocks.specs.steps.BlockKeys.{IsBlockOf, key_of, number_at, place_of_key, row_at, rows_of};
 ghost use Rattle.xet_blocks.specs.steps.BlockKeys.{same_key};
-ghost use Rattle.xet_blocks.specs.steps.Offers.{offered};
+ghost use Rattle.xet_offers.specs.Offers.{offered};
 
-use crate::reconstruction_terms::listed_offers::Offer;
 use std::alloc::Global;
 use std::marker::Model;
 use xet_base::{MerkleHash, OutOfMemory, SharedText};
+use xet_offers::Offer;
 use xet_outside::FetchRange;
 
 /// What tells a term's block from others: the number of its xorb, and its number among the blocks that the xorb

@@ -5,22 +5,22 @@ ghost use Rattle.xet_outside.specs.Plan.{shape};
 ghost use Rattle.xet_error.specs.declared.error.FileReconstructionError.TheVariants as error;
 ghost use Rattle.xet_blocks.specs.DataTasks.{FromKept, kept_of};
 ghost use Rattle.xet_blocks.specs.Extracts.{ExtractCall, failed_term_test};
-ghost use Rattle.xet_blocks.specs.PlanChecks.{entry_tests};
-ghost use Rattle.xet_blocks.specs.Refusals.{IsRefusal};
+ghost use Rattle.xet_offers.specs.PlanChecks.{entry_tests};
+ghost use Rattle.xet_offers.specs.Refusals.{IsRefusal};
 ghost use Rattle.xet_blocks.specs.TermBlockCalls.{FromTerms, TermBlockCall};
 ghost use Rattle.xet_blocks.specs.steps.Planning.{Fit, HasChunks, HasRanges, IsMadeOf, IsPlanned};
 ghost use Rattle.xet_blocks.specs.steps.TermPlaces.{IsPlaceOf};
 
 use crate::reconstruction_terms::plan_blocks::PlanBlocks;
-use crate::reconstruction_terms::plan_checks::{check_entries, check_places, check_xorbs};
-use crate::reconstruction_terms::plan_offers::PlanOffers;
-use crate::reconstruction_terms::retrieval_urls::TermBlockRetrievalURLs;
-use crate::reconstruction_terms::xorb_block::{XorbBlock, XorbBlockData};
 use bytes::Bytes;
 use std::alloc::Global;
 use std::ops::Range;
 use xet_base::{ChunkRange, FileRange, List, MerkleHash, OutOfMemory, UniqueId};
 use xet_error::{Corruption, FileReconstructionError, Result};
+use xet_offers::{
+    PlanOffers, TermBlockRetrievalURLs, XorbBlock, XorbBlockData, check_entries, check_places,
+    check_xorbs,
+};
 use xet_outside::{Client, Plan, PlanAnswer};
 
 /// A term of a plan: some bytes of the file, and where they stand in a block.

@@ -3,25 +3,22 @@ ghost use Rattle.std.specs.Prelude.{◌≡◌, ◌+◌, ◌-◌, ◌^◌, ◌<�
 ghost use Rattle.std.specs.Prelude.{min};
 ghost use Rattle.std.specs.List.{enumerate_from};
 ghost use Rattle.xet_outside.specs.Plan.{shape};
-ghost use Rattle.xet_blocks.specs.Blocks.{range_bytes, transfer_sum};
-ghost use Rattle.xet_blocks.specs.Refusals.{IsRefusal};
-ghost use Rattle.xet_blocks.specs.steps.Offers.{offered, xorb_place};
+ghost use Rattle.xet_offers.specs.Blocks.{range_bytes, transfer_sum};
+ghost use Rattle.xet_offers.specs.Refusals.{IsRefusal};
+ghost use Rattle.xet_offers.specs.Offers.{offered, xorb_place};
 ghost use Rattle.xet_blocks.specs.steps.Planning.{Fit, HasChunks, HasRanges, IsNumbered, IsPlaced, IsPlanned};
 ghost use Rattle.xet_blocks.specs.steps.Planning.{IsToldApart, IsUnfinished, finished, numbered_block, plan_block};
 ghost use Rattle.xet_blocks.specs.steps.Planning.{retrieval_url, terms_at, unsorted_blocks, with_starts};
 ghost use Rattle.xet_blocks.specs.TermBlocks.{by_start};
-ghost use Rattle.xet_blocks.specs.PlanChecks.{no_range_test, ranges_test};
+ghost use Rattle.xet_offers.specs.PlanChecks.{no_range_test, ranges_test};
 
 use crate::reconstruction_terms::block_list::{BlockList, OfferedBlock};
 use crate::reconstruction_terms::file_term::FileTerm;
-use crate::reconstruction_terms::listed_offers::Offer;
-use crate::reconstruction_terms::plan_offers::PlanOffers;
-use crate::reconstruction_terms::retrieval_urls::RetrievalUrl;
-use crate::reconstruction_terms::xorb_block::{XorbBlock, XorbReference};
 use std::alloc::Global;
 use std::mem;
 use xet_base::{ChunkRange, FileRange, HttpRange, List, OutOfMemory, ShortList};
 use xet_error::{Corruption, FileReconstructionError};
+use xet_offers::{Offer, PlanOffers, RetrievalUrl, XorbBlock, XorbReference};
 use xet_outside::{FetchRange, Plan, PlanTerm};
 
 /// Where a term starts: the number of its block, and how many of the block's chunks come before it.

@@ -10,11 +10,11 @@ use Rattle.xet_outside.specs.Told.{BlockCall, ClientTold}
 use Rattle.xet_error.specs.declared.error.FileReconstructionError.{FileReconstructionError}
 use Rattle.xet_error.specs.declared.error.FileReconstructionError.TheVariants as error
 use Rattle.xet_error.specs.Errors.{of_client_error}
-use Rattle.xet_blocks.specs.declared.reconstruction_terms.retrieval_urls.TermBlockRetrievalURLs.{TermBlockRetrievalURLs}
-use Rattle.xet_blocks.specs.declared.reconstruction_terms.xorb_block.XorbBlock.{XorbBlock}
-use Rattle.xet_blocks.specs.BlockCalls.{IsRequestOf, failed_check}
-use Rattle.xet_blocks.specs.BlockChecks.{block_data}
-use Rattle.xet_blocks.specs.Refusals.{IsRefusal}
+use Rattle.xet_offers.specs.declared.reconstruction_terms.retrieval_urls.TermBlockRetrievalURLs.{TermBlockRetrievalURLs}
+use Rattle.xet_offers.specs.declared.reconstruction_terms.xorb_block.XorbBlock.{XorbBlock}
+use Rattle.xet_offers.specs.BlockCalls.{IsRequestOf, failed_check}
+use Rattle.xet_offers.specs.BlockChecks.{block_data}
+use Rattle.xet_offers.specs.Refusals.{IsRefusal}
 use Rattle.xet_fetch.specs.declared.block_fetch.Fetched.{Fetched}
 use Rattle.xet_fetch.specs.Fetches.{FetchesFail, FetchesKeep, GaveData, TableKeeps, Tried}
 use Rattle.xet_fetch.specs.Refreshes.{Refresh}

@@ -14,10 +14,10 @@ use Rattle.xet_outside.specs.Told.{AskCall, CacheTold, ClientTold, Query, Signal
 use Rattle.xet_error.specs.declared.error.FileReconstructionError.{FileReconstructionError}
 use Rattle.xet_error.specs.declared.error.FileReconstructionError.TheVariants as error
 use Rattle.xet_blocks.specs.declared.reconstruction_terms.file_term.TermBlock.{TermBlock}
-use Rattle.xet_blocks.specs.declared.reconstruction_terms.xorb_block.XorbBlock.{XorbBlock}
-use Rattle.xet_blocks.specs.declared.reconstruction_terms.xorb_block.XorbBlockData.{XorbBlockData}
+use Rattle.xet_offers.specs.declared.reconstruction_terms.xorb_block.XorbBlock.{XorbBlock}
+use Rattle.xet_offers.specs.declared.reconstruction_terms.xorb_block.XorbBlockData.{XorbBlockData}
 use Rattle.xet_blocks.specs.PlanQuery.{PlanQuery}
-use Rattle.xet_blocks.specs.TermBlocks.{covered}
+use Rattle.xet_offers.specs.PlanChecks.{covered}
 use Rattle.xet_fetch.specs.CachedBlocks.{LookKeeps, LookOk, MaybeLooked}
 use Rattle.xet_fetch.specs.Refreshes.{Refresh, plan_extents}
 use Rattle.xet_events.specs.declared.event.Event.{Event}

@@ -1,6 +1,6 @@
 use Rattle.std.proofs.Common.{◌≡◌, ◌-◌, ◌^◌, take}
 use Rattle.std.specs.Prelude.{min}
-use Rattle.xet_blocks.specs.Blocks.{start_index}
+use Rattle.xet_offers.specs.Blocks.{start_index}
 use Rattle.xet_fetch.proofs.cached_block.chunks_before.Given as goal
 
 abbrev pub invariant-loop-range : goal.invariant-loop-range

@@ -2,7 +2,7 @@ use Rattle.std.proofs.Common.{◌≡◌, ◌+◌, ◌-◌, ◌^◌, ◌<◌, ◌
 use Rattle.std.specs.Prelude.{nat_le, Option}
 use Rattle.std.proofs.lemmas.Grind.{common_steps}
 use Rattle.std.proofs.lemmas.Option.{slice_get_cases, slice_get_past}
-use Rattle.xet_blocks.specs.Blocks.{start_index}
+use Rattle.xet_offers.specs.Blocks.{start_index}
 use Rattle.xet_fetch.specs.CachedBlocks.{ends_within}
 use Rattle.xet_fetch.proofs.cached_block.has_reference.Goals as goal
 

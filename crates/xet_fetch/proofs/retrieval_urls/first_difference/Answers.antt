@@ -1,5 +1,5 @@
 use Rattle.std.proofs.Common.{◌≡◌, ◌<◌, true, length, sym, ◌∙◌, ap, rules}
-use Rattle.xet_blocks.specs.declared.reconstruction_terms.xorb_block.XorbBlock.{XorbBlock}
+use Rattle.xet_offers.specs.declared.reconstruction_terms.xorb_block.XorbBlock.{XorbBlock}
 use Rattle.xet_fetch.specs.Refreshes.{extent_of, same_extent}
 use Rattle.xet_fetch.proofs.Differences.{difference_from, difference_later, difference_long}
 use Rattle.xet_fetch.proofs.retrieval_urls.first_difference.Goals as goal

@@ -1,9 +1,8 @@
 use Rattle.std.proofs.Common.{◌≡◌, ◌∙◌, ◌<◌, arith, length, rules, None}
 use Rattle.xet_base.specs.Lists.{first_some}
 use Rattle.xet_outside.specs.Plan.{shape}
-use Rattle.xet_blocks.specs.PlanChecks.{place_tests}
+use Rattle.xet_offers.specs.PlanChecks.{covered, place_tests}
 use Rattle.xet_blocks.specs.PlanQuery.{PlanQuery}
-use Rattle.xet_blocks.specs.TermBlocks.{covered}
 use Rattle.xet_blocks.proofs.TermBlockAnswers.{from_made, made_is, planned_fits, planned_starts}
 use Rattle.xet_blocks.proofs.reconstruction_terms.file_term.answer_plan.Goals as goal
 

@@ -4,8 +4,8 @@ use Rattle.xet_base.specs.Lists.{first_some}
 use Rattle.xet_outside.specs.Plan.{shape}
 use Rattle.xet_error.specs.declared.error.FileReconstructionError.{FileReconstructionError}
 use Rattle.xet_blocks.specs.declared.reconstruction_terms.plan_blocks.PlanBlocks.{PlanBlocks}
-use Rattle.xet_blocks.specs.PlanChecks.{entry_tests, ranges_test}
-use Rattle.xet_blocks.specs.Refusals.{IsRefusal}
+use Rattle.xet_offers.specs.PlanChecks.{entry_tests, ranges_test}
+use Rattle.xet_offers.specs.Refusals.{IsRefusal}
 use Rattle.xet_blocks.proofs.TermBlockAnswers.{blocks_planned, blocks_refuse, xorbs_refuse}
 use Rattle.xet_blocks.proofs.reconstruction_terms.file_term.plan_blocks.Goals as goal
 

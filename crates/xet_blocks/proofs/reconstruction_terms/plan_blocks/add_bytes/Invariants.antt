@@ -1,6 +1,6 @@
 use Rattle.std.proofs.Common.{◌≡◌, ◌+◌, ◌-◌, ◌^◌, take}
 use Rattle.std.specs.Prelude.{min}
-use Rattle.xet_blocks.specs.Blocks.{range_bytes}
+use Rattle.xet_offers.specs.Blocks.{range_bytes}
 use Rattle.xet_blocks.proofs.reconstruction_terms.plan_blocks.add_bytes.Given as goal
 
 abbrev pub invariant-loop-range : goal.invariant-loop-range

@@ -1,7 +1,7 @@
 use Rattle.std.proofs.Common.{◌∙◌, ◌<◌, List, ap, subst, sym}
 use Rattle.std.specs.Prelude.{All}
 use Rattle.std.specs.List.Sorted.{IsNonDecreasingBy}
-use Rattle.xet_blocks.specs.declared.reconstruction_terms.xorb_block.XorbReference.{XorbReference}
+use Rattle.xet_offers.specs.declared.reconstruction_terms.xorb_block.XorbReference.{XorbReference}
 use Rattle.xet_blocks.specs.TermBlocks.{by_start}
 use Rattle.xet_blocks.proofs.BlockReferences.{all_by_start, by_start_rises, start}
 use Rattle.xet_blocks.proofs.reconstruction_terms.plan_blocks.finish_block.Goals as goal

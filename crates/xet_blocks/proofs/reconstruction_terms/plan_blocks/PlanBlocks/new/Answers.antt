@@ -4,12 +4,12 @@ use Rattle.std.proofs.lemmas.List.{get_or-map, take_all, take_more}
 use Rattle.xet_outside.specs.declared.plan.PlanTerm.{PlanTerm}
 use Rattle.xet_outside.specs.Plan.{shape}
 use Rattle.xet_error.specs.declared.error.Corruption.TheVariants.{NoRange}
-use Rattle.xet_blocks.specs.Blocks.{block_of_term}
-use Rattle.xet_blocks.specs.PlanChecks.{no_range_test}
+use Rattle.xet_offers.specs.Blocks.{block_of_term}
+use Rattle.xet_offers.specs.PlanChecks.{no_range_test}
 use Rattle.xet_blocks.specs.steps.BlockKeys.{IsBlockOf}
-use Rattle.xet_blocks.specs.steps.Offers.{offered, offer_of_term, xorb_place}
+use Rattle.xet_offers.specs.Offers.{offered, offer_of_term, xorb_place}
 use Rattle.xet_blocks.proofs.BlockWalk.{has_no_offer, has_offer, starts_in_offer, told_apart, walk_more, walk_planned}
-use Rattle.xet_blocks.proofs.FirstFailures.{first_here, first_more, first_never, refuses}
+use Rattle.xet_offers.proofs.CallerLemmas.{first_here, first_more, first_never, refuses}
 use Rattle.xet_blocks.proofs.reconstruction_terms.plan_blocks.PlanBlocks.new.Goals as goal
 
 -- what the code reads past the terms

@@ -2,7 +2,7 @@ use Rattle.std.proofs.Common.{◌≡◌, ◌+◌, drop, take}
 use Rattle.std.specs.Prelude.{is_none}
 use Rattle.std.specs.List.{position_or_len}
 use Rattle.xet_outside.specs.Plan.{shape}
-use Rattle.xet_blocks.specs.Blocks.{block_of_term}
+use Rattle.xet_offers.specs.Blocks.{block_of_term}
 use Rattle.xet_blocks.proofs.BlockWalk.{IsWalk}
 use Rattle.xet_blocks.proofs.reconstruction_terms.plan_blocks.PlanBlocks.new.Given as goal
 

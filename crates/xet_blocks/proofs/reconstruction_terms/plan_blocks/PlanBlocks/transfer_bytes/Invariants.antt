@@ -1,6 +1,6 @@
 use Rattle.std.proofs.Common.{◌≡◌, ◌-◌, ◌^◌, map, take}
 use Rattle.std.specs.Prelude.{min}
-use Rattle.xet_blocks.specs.Blocks.{transfer_sum}
+use Rattle.xet_offers.specs.Blocks.{transfer_sum}
 use Rattle.xet_blocks.specs.steps.Planning.{plan_block}
 use Rattle.xet_blocks.proofs.reconstruction_terms.plan_blocks.PlanBlocks.transfer_bytes.Given as goal
 

@@ -1,0 +1,10 @@
+pub mod BlockCalls
+pub mod BlockChecks
+pub mod BlockEquality
+pub mod Blocks
+pub mod Chain
+pub mod ChunkOffsets
+pub mod Offers
+pub mod PlanChecks
+pub mod Refusals
+pub mod steps
