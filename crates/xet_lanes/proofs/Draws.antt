@@ -1,9 +1,7 @@
 -- One more drawn number keeps what is said of a lane's steps.
 use Rattle.std.proofs.Common.{ℕ, ◌≡◌, ◌⊎◌, ◌-◌, ◌<◌, true, false, List, [], ◌∷◌, ◌++◌, length, map, zero, suc, refl, sym, ap, ◌∙◌, subst, arith, length-append, Option, Some, None, get_or, inl, inr}
-use Rattle.std.specs.Prelude.{All, Bool, IfSome, IsSome, Result, Ok, Err, slice_get}
+use Rattle.std.specs.Prelude.{Bool, IfSome, IsSome, Result, Ok, Err, slice_get}
 use Rattle.std.specs.Result.{is_err}
-use Rattle.std.proofs.lemmas.List.{map-append}
-use Rattle.std.proofs.lemmas.List.Elements.{All-push}
 use Rattle.xet_base.specs.declared.error.OutOfMemory.{OutOfMemory}
 use Rattle.xet_outside.specs.Told.{ClientTold}
 use Rattle.xet_error.specs.declared.error.FileReconstructionError.{FileReconstructionError}
@@ -12,11 +10,11 @@ use Rattle.xet_claims.specs.ClaimViews.{gained, halted, missed, saw}
 use Rattle.xet_events.specs.declared.run_call.RunCall.{RunCall}
 use Rattle.xet_events.specs.declared.run_call.RunCall.TheVariants as call
 use Rattle.xet_ties.specs.declared.lane_step.LaneStep.{LaneStep}
-use Rattle.xet_ties.specs.Lanes.{AreAt, Ask, IsFor, LaneDid, LaneDrew}
-use Rattle.xet_lanes.specs.declared.lane.Fetch.{Fetch}
-use Rattle.xet_lanes.specs.Fetches.{LaneCall, NoneFailed, NoneFailedBefore, ask_of, error_at, last_error}
+use Rattle.xet_ties.specs.Lanes.{AreAt, Ask, LaneDid, LaneDrew}
+use Rattle.xet_lane.specs.declared.lane.Fetch.{Fetch}
+use Rattle.xet_lane.specs.Fetches.{LaneCall, NoneFailed, NoneFailedBefore, ask_of, error_at, last_error}
+use Rattle.xet_lane.proofs.CallerLemmas.{before_none, before_snoc, last_snoc, more_drawn, none_snoc, none_yet, one_more}
 use Rattle.xet_lanes.specs.steps.Drawn.{HasEnded, HasStopped, HasTold, calm_check, told_last}
-use Rattle.xet_lanes.proofs.LaneSteps.{before_none, before_snoc, last_snoc, more_drawn, none_snoc, none_yet, one_more}
 
 -- as many steps as numbers, none of them failed
 pub record Drawing (fs : List Ask) (b n : ClientTold) (drawn : List ℕ) (steps : List LaneStep) : Type 0 where
@@ -208,11 +206,3 @@ drew_one v w k e = ap (λ (v : View). v.drawn) e
 
 pub drew_and_halted : (v w x : View) (k : ℕ) → w ≡ gained v k → x ≡ halted w → x.drawn ≡ v.drawn ++ k ∷ []
 drew_and_halted v w x k e h = ap (λ (v : View). v.drawn) h ∙ drew_one v w k e
-
--- one more fetch
-pub asks_more : (fs gs : List Fetch) (f : Fetch) → gs ≡ fs ++ f ∷ [] → All IsFor (map ask_of fs) → IsFor (ask_of f)
-    → All IsFor (map ask_of gs)
-asks_more fs gs f e h own =
-    let g : map ask_of gs ≡ map ask_of fs ++ ask_of f ∷ [] =
-    ap (λ l. map ask_of l) e ∙ map-append ask_of fs (f ∷ []) in
-    subst (λ (l : List Ask). All IsFor l) (sym g) (All-push IsFor (map ask_of fs) (ask_of f) h own)

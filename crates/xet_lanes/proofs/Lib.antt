@@ -1,9 +1,4 @@
 mod BothHalves
 mod Draws
-mod ErrorCauses
-mod FirstErrors
-mod LaneSteps
 mod NewJobs
-mod Requests
 mod RoundEnds
-pub mod CallerLemmas

@@ -14,10 +14,11 @@ use Rattle.xet_claims.specs.ClaimViews.{mark_of, once_below, raised_of, times}
 use Rattle.xet_writers.specs.Sequential.{Sequential}
 use Rattle.xet_ties.specs.Lanes.{Ask, EachDrew}
 use Rattle.xet_ties.specs.Setup.{most_lanes}
-use Rattle.xet_lanes.specs.declared.joined.Joined.{Joined}
-use Rattle.xet_lanes.specs.declared.joined.LaneEnd.{LaneEnd}
-use Rattle.xet_lanes.specs.Fetches.{NoneFailedBefore}
-use Rattle.xet_lanes.specs.Rounds.{End, IsWhole, LanesDrew, NoneEndedBadly, RoundCall, RoundTold, ended, steps_of}
+use Rattle.xet_lane.specs.declared.joined.Joined.{Joined}
+use Rattle.xet_lane.specs.declared.joined.LaneEnd.{LaneEnd}
+use Rattle.xet_lane.specs.Fetches.{NoneFailedBefore}
+use Rattle.xet_lane.specs.Ends.{End, NoneEndedBadly, ended, steps_of}
+use Rattle.xet_lanes.specs.Rounds.{IsWhole, LanesDrew, RoundCall, RoundTold}
 use Rattle.xet_lanes.specs.steps.Drawn.{AllDrew, Work, claims_of, ends_of}
 
 -- ---- the passes

@@ -1,4 +1,2 @@
-pub mod Fetches
-pub mod JoinErrors
 pub mod Rounds
 pub mod steps

@@ -1,31 +1,13 @@
 -- What one join does: the lanes of a round, which draw its fetches, and the writing beside them.
-use Rattle.std.specs.Prelude.{ℕ, ◌≡◌, Bool, false, List, [], ◌∷◌, length, map, None, Result, All, IfOk, OnErr}
+use Rattle.std.specs.Prelude.{ℕ, ◌≡◌, List, length, map, Result, All, IfOk, OnErr}
 use Rattle.std.specs.List.{AllZip}
 use Rattle.xet_base.specs.declared.error.OutOfMemory.{OutOfMemory}
 use Rattle.xet_outside.specs.Told.{ClientTold, SinkTold}
 use Rattle.xet_writers.specs.Sequential.{ReadyCall, Sequential}
-use Rattle.xet_ties.specs.declared.lane_step.LaneStep.{LaneStep}
 use Rattle.xet_ties.specs.Lanes.{Ask, DrewApart}
-use Rattle.xet_lanes.specs.declared.joined.Joined.{Joined}
-use Rattle.xet_lanes.specs.declared.joined.LaneEnd.{LaneEnd}
-use Rattle.xet_lanes.specs.Fetches.{NoneFailed, NoneFailedBefore, last_error}
-
--- what a lane hands back: its steps, and whether memory ran out besides
-pub record End : Type 0 where
-  pub steps : List LaneStep
-  pub short : Bool
-
-abbrev pub ended : LaneEnd → End
-ended e = record { steps = e.steps.items; short = e.short }
-
--- the steps of each lane
-abbrev pub steps_of : List End → List (List LaneStep)
-steps_of es = map (λ (e : End). e.steps) es
-
--- memory sufficed, and no step failed
-abbrev pub NoneEndedBadly : List End → Type 0
-NoneEndedBadly [] = Unit {0}
-NoneEndedBadly (e ∷ es) = (e.short ≡ false) × (last_error e.steps ≡ None) × NoneEndedBadly es
+use Rattle.xet_lane.specs.declared.joined.Joined.{Joined}
+use Rattle.xet_lane.specs.Fetches.{NoneFailed, NoneFailedBefore}
+use Rattle.xet_lane.specs.Ends.{End, NoneEndedBadly, ended, steps_of}
 
 -- a lane made a step for each of its numbers, and none failed
 abbrev pub IsWhole : List ℕ → End → Type 0

@@ -4,17 +4,16 @@ ghost use Rattle.xet_claims.specs.ClaimPasses.{IsFresh, IsPassOf, pass_view};
 ghost use Rattle.xet_claims.specs.ClaimViews.{halted};
 ghost use Rattle.xet_events.specs.declared.run_call.RunCall.TheVariants as call;
 ghost use Rattle.xet_ties.specs.Lanes.{IsFor, LaneDrew};
-ghost use Rattle.xet_lanes.specs.Fetches.{NoneFailedBefore, ask_of};
+ghost use Rattle.xet_lane.specs.Fetches.{NoneFailedBefore, ask_of};
 ghost use Rattle.xet_lanes.specs.steps.Drawn.{AllDrew, AllReady, HasEnded, HasSeen, HasStopped, HasTold, IsNext, work};
 
-use crate::gate::Gate;
 use crate::jobs::LaneJob;
-use crate::lane::{Fetch, Lane, give_back, last_error};
 use std::alloc::Global;
 use std::sync::Wait;
 use std::sync::ledger::Ledger;
 use xet_claims::{ClaimPass, Claims};
 use xet_error::FileReconstructionError;
+use xet_lane::{Fetch, Gate, Lane};
 use xet_outside::Client;
 use xet_run::{RunError, RunPass, RunState};
 
@@ -154,7 +153,7 @@ fn draw_all<R: Wait, C: Client, G: Gate, L: Ledger>(
         if made.is_err() {
             return stop_short(rt, claims, state, claim, run);
         }
-        if let Some(error) = last_error(lane.steps()) {
+        if let Some(error) = lane.last_error() {
             return stop_others(rt, claims, state, claim, run, error);
         }
     }
@@ -183,3 +182,8 @@ pub(crate) fn draw_alone<R: Wait, C: Client, G: Gate, L: Ledger>(
     job.steps = steps;
     job.short = short;
 }
+
+/// Ties, for proofs alone, a reference that was handed back to the parameter that lent it.
+fn give_back<C>(client: &mut C)
+    ensures { client.new ≡ client.old }
+{}

@@ -2,15 +2,15 @@
 ghost use Rattle.std.specs.Prelude.{◌≡◌, ◌<◌, All, length, map};
 ghost use Rattle.std.specs.Thread.{IsSend, IsSync};
 ghost use Rattle.xet_ties.specs.Lanes.{IsFor};
-ghost use Rattle.xet_lanes.specs.Fetches.{ask_of};
+ghost use Rattle.xet_lane.specs.Fetches.{ask_of};
 ghost use Rattle.xet_lanes.specs.steps.Drawn.{AllDrew, AllReady, work};
 
 use crate::drawing::{Shared, draw_alone};
-use crate::gate::Gate;
 use crate::jobs::LaneJob;
 use std::sync::Wait;
 use std::sync::ledger::Ledger;
 use std::thread::{Threads, join_mut};
+use xet_lane::Gate;
 use xet_outside::Client;
 
 /// The lanes draw from the claims and work side by side. One lane works in the caller's thread.

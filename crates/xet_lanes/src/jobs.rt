@@ -2,14 +2,14 @@
 ghost use Rattle.std.specs.Prelude.{◌≡◌, ◌+◌, ◌<◌, ◌≤◌, [], All, IfOk, OnErr, map, vec_capacity, vec_len};
 ghost use Rattle.xet_claims.specs.ClaimPasses.{IsPassOf, pass_view};
 ghost use Rattle.xet_claims.specs.ClaimViews.{newcomer};
-ghost use Rattle.xet_lanes.specs.Rounds.{ended};
+ghost use Rattle.xet_lane.specs.Ends.{ended};
 ghost use Rattle.xet_lanes.specs.steps.Drawn.{AllReady, claims_of, ends_of, work};
 
-use crate::joined::LaneEnd;
 use std::alloc::Global;
 use std::sync::ledger::Ledger;
 use xet_base::OutOfMemory;
 use xet_claims::{ClaimPass, Claims};
+use xet_lane::LaneEnd;
 use xet_run::RunPass;
 use xet_ties::LaneStep;
 

@@ -3,15 +3,10 @@
 #![tactic(auto)]
 
 pub mod drawing;
-pub mod gate;
 mod halves;
 mod jobs;
-pub mod joined;
-pub mod lane;
 pub mod round;
 
-pub use gate::{Gate, OpenGate};
-pub use joined::{Joined, LaneEnd};
-pub use lane::{Fetch, Lane};
 pub use round::fetch_and_write;
+pub use xet_lane::{Fetch, Gate, Joined, Lane, LaneEnd, OpenGate};
 pub use xet_ties::LaneStep;

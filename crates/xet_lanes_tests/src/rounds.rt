@@ -1,7 +1,7 @@
 //! Rounds of one join over a run of its own.
 ghost use Rattle.std.specs.Prelude.{◌^◌, ◌≡◌, ◌<◌, All, IfOk, length, map};
 ghost use Rattle.xet_ties.specs.Lanes.{IsFor};
-ghost use Rattle.xet_lanes.specs.Fetches.{ask_of};
+ghost use Rattle.xet_lane.specs.Fetches.{ask_of};
 
 use crate::meeting::Waiting;
 use crate::one_byte::OneByte;

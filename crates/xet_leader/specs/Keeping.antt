@@ -8,7 +8,7 @@ use Rattle.xet_ties.specs.declared.lane_step.LaneStep.{LaneStep}
 use Rattle.xet_ties.specs.declared.lane_step.LaneStep.TheVariants as step
 use Rattle.xet_ties.specs.steps.Records.{places_of}
 use Rattle.xet_ties.specs.steps.Rounds.{got_of}
-use Rattle.xet_lanes.specs.declared.joined.LaneEnd.{LaneEnd}
+use Rattle.xet_lane.specs.declared.joined.LaneEnd.{LaneEnd}
 use Rattle.xet_leader.specs.ByNumber.{change_at, change_plan}
 use Rattle.xet_leader.specs.declared.keeping.RoundPlaces.{RoundPlaces}
 use Rattle.xet_leader.specs.declared.leader.LedPlan.{LedPlan}

@@ -2,7 +2,7 @@
 ghost use Rattle.std.specs.Prelude.{◌≡◌, ◌+◌, ◌-◌, ◌^◌, All, IfErr, IfOk, OnOk, map, min};
 ghost use Rattle.xet_error.specs.declared.error.FileReconstructionError.TheVariants as error;
 ghost use Rattle.xet_ties.specs.Lanes.{IsFor};
-ghost use Rattle.xet_lanes.specs.Fetches.{ask_of};
+ghost use Rattle.xet_lane.specs.Fetches.{ask_of};
 ghost use Rattle.xet_leader.specs.FetchLists.{Each};
 ghost use Rattle.xet_leader.specs.Fetching.{AddsFetch, AreFetches, FetchLeads, IsFetch};
 ghost use Rattle.xet_leader.specs.Looks.{CanRequest};
@@ -15,7 +15,7 @@ use std::collections::VecDeque;
 use xet_base::List;
 use xet_blocks::FetchPolicy;
 use xet_error::{FileReconstructionError, Result};
-use xet_lanes::Fetch;
+use xet_lane::Fetch;
 
 /// A fetch of each of these blocks, by its own request, in their order. They are numbered from the leader's count of
 /// fetches on; numbers stop at `u64::MAX`. `OutOfMemory` where memory was refused.

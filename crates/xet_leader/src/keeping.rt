@@ -11,7 +11,7 @@ use std::collections::VecDeque;
 use std::mem;
 use xet_base::{List, OutOfMemory};
 use xet_blocks::{FetchPolicy, XorbBlock, XorbBlockData};
-use xet_lanes::LaneEnd;
+use xet_lane::LaneEnd;
 use xet_ties::LaneStep;
 
 /// The blocks of the steps of a round.

@@ -7,4 +7,4 @@ mod order;
 mod placing;
 
 pub use file_reconstructor::FileReconstructor;
-pub use xet_lanes::{Gate, Lane, LaneStep, OpenGate};
+pub use xet_lane::{Gate, Lane, LaneStep, OpenGate};

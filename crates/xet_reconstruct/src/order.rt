@@ -10,7 +10,7 @@ use std::sync::Wait;
 use std::thread::Threads;
 use xet_blocks::FetchPolicy;
 use xet_error::Result;
-use xet_lanes::OpenGate;
+use xet_lane::OpenGate;
 use xet_outside::{CancelSignal, ChunkCache, Client, Sink};
 use xet_run::{BudgetSource, RunCore, ToldEvents};
 

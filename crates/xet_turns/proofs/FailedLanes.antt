@@ -27,9 +27,9 @@ use Rattle.xet_ties.specs.Setup.{AllTell, IsOver, RunTold, Setup}
 use Rattle.xet_ties.specs.steps.Rounds.{AreLaneEnds, FailsAsk, IsLaneEnd, IsMissingAsk, LaneFailure, NoneBelow}
 use Rattle.xet_ties.specs.Ties.{EachServed, FirstAsked, FirstUnfailed, IsFaultless, Slack, Ties, is_pair}
 use Rattle.xet_ties.proofs.CallerLemmas.{accepted_more, below_passed, fetch_entry, is_check, others_passed, rose_since, tells_now}
-use Rattle.xet_lanes.specs.Fetches.{error_at, last_error}
-use Rattle.xet_lanes.specs.Rounds.{End, steps_of}
-use Rattle.xet_lanes.proofs.CallerLemmas.{FailedLane}
+use Rattle.xet_lane.specs.Fetches.{error_at, last_error}
+use Rattle.xet_lane.specs.Ends.{End, steps_of}
+use Rattle.xet_lane.proofs.CallerLemmas.{FailedLane}
 use Rattle.xet_leader.specs.Led.{IsLed, IsLedPlan, Led, bare}
 use Rattle.xet_turns.specs.Rounds.{IsLedAsk}
 use Rattle.xet_turns.proofs.HonestBlocks.{IsHonestOf, led_honest}

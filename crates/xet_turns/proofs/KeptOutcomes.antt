@@ -8,7 +8,7 @@ use Rattle.xet_error.specs.declared.error.FileReconstructionError.TheVariants as
 use Rattle.xet_ties.specs.declared.lane_step.LaneStep.{LaneStep}
 use Rattle.xet_ties.specs.steps.Records.{Place, places_in, places_of}
 use Rattle.xet_ties.specs.steps.Rounds.{got_in}
-use Rattle.xet_lanes.specs.declared.joined.LaneEnd.{LaneEnd}
+use Rattle.xet_lane.specs.declared.joined.LaneEnd.{LaneEnd}
 use Rattle.xet_turns.specs.Advances.{advanced}
 use Rattle.xet_leader.specs.declared.keeping.RoundPlaces.{RoundPlaces}
 use Rattle.xet_turns.specs.declared.outcomes.Outcome.{Outcome}

@@ -15,10 +15,10 @@ use Rattle.xet_ties.specs.declared.lane_step.LaneStep.TheVariants as step
 use Rattle.xet_ties.specs.Lanes.{AreAt, AreOf, Ask, EachDrew, HidesNone, IsOf, StepCause, any_faults, entries_of, error_faults, error_hides, faults_in, may_hide}
 use Rattle.xet_ties.specs.Setup.{AllTell}
 use Rattle.xet_ties.specs.Ties.{EachUnfailed, FirstUnfailed}
-use Rattle.xet_lanes.specs.Fetches.{NoneFailedBefore, error_at, error_in, last_error}
-use Rattle.xet_lanes.specs.JoinErrors.{lacks_memory, wants_memory}
-use Rattle.xet_lanes.specs.Rounds.{End, NoneEndedBadly, steps_of}
-use Rattle.xet_lanes.proofs.CallerLemmas.{NoErrorBelow}
+use Rattle.xet_lane.specs.Fetches.{NoneFailedBefore, error_at, error_in, last_error}
+use Rattle.xet_lane.specs.JoinErrors.{lacks_memory, wants_memory}
+use Rattle.xet_lane.specs.Ends.{End, NoneEndedBadly, steps_of}
+use Rattle.xet_lane.proofs.CallerLemmas.{NoErrorBelow}
 use Rattle.xet_ties.specs.steps.Rounds.{EachHides, NoneBelow, calm_after}
 use Rattle.xet_turns.proofs.HonestBlocks.{IsHonestOf}
 

@@ -9,8 +9,8 @@ use Rattle.xet_ties.specs.Lanes.{IsFor}
 use Rattle.xet_ties.specs.Setup.{RunTold, Setup}
 use Rattle.xet_ties.specs.steps.Records.{blocks_all, key_of}
 use Rattle.xet_ties.specs.Ties.{Slack, is_one}
-use Rattle.xet_lanes.specs.declared.lane.Fetch.{Fetch}
-use Rattle.xet_lanes.specs.Fetches.{ask_of}
+use Rattle.xet_lane.specs.declared.lane.Fetch.{Fetch}
+use Rattle.xet_lane.specs.Fetches.{ask_of}
 use Rattle.xet_leader.specs.ByNumber.{plan_index}
 use Rattle.xet_leader.specs.declared.leader.LedPlan.{LedPlan}
 use Rattle.xet_leader.specs.declared.missing_blocks.BlockAt.{BlockAt}

@@ -26,10 +26,11 @@ use Rattle.xet_ties.specs.steps.Records.{Place, Recorded, places_of, wrote_of}
 use Rattle.xet_ties.specs.steps.Rounds.{blocks_at, got_of}
 use Rattle.xet_ties.specs.Ties.{Slack, Ties, has_one}
 use Rattle.xet_ties.proofs.CallerLemmas.{grew_none, some_sum, tasks_sized}
-use Rattle.xet_lanes.specs.declared.joined.Joined.{Joined}
-use Rattle.xet_lanes.specs.Fetches.{ask_of}
-use Rattle.xet_lanes.specs.Rounds.{LanesDrew, RoundTold, ended}
-use Rattle.xet_lanes.proofs.CallerLemmas.{no_error}
+use Rattle.xet_lane.specs.declared.joined.Joined.{Joined}
+use Rattle.xet_lane.specs.Fetches.{ask_of}
+use Rattle.xet_lane.specs.Ends.{ended}
+use Rattle.xet_lane.proofs.CallerLemmas.{no_error}
+use Rattle.xet_lanes.specs.Rounds.{LanesDrew, RoundTold}
 use Rattle.xet_turns.specs.Advances.{advanced}
 use Rattle.xet_leader.specs.declared.missing_blocks.BlockAt.{BlockAt}
 use Rattle.xet_turns.specs.declared.outcomes.Outcome.{Outcome}
@@ -57,7 +58,7 @@ use Rattle.xet_turns.proofs.WindowWriters.{HoldsPieces, holds_pieces}
 use Rattle.xet_turns.proofs.WroteEvents.{are_writes, planned_same, sizes_sum}
 use Rattle.xet_leader.specs.Looks.{polls_for}
 use Rattle.xet_leader.specs.Fetching.{AreFetches}
-use Rattle.xet_lanes.specs.declared.lane.Fetch.{Fetch}
+use Rattle.xet_lane.specs.declared.lane.Fetch.{Fetch}
 use Rattle.xet_leader.specs.declared.leader.LedPlan.{LedPlan}
 
 -- ---- the window's bytes

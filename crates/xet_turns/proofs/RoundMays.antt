@@ -16,9 +16,9 @@ use Rattle.xet_ties.specs.steps.Records.{wrote_of}
 use Rattle.xet_ties.specs.steps.Windows.{IsAt}
 use Rattle.xet_ties.specs.Ties.{FirstAsked}
 use Rattle.xet_ties.proofs.CallerLemmas.{round_allowed, wrote_allowed}
-use Rattle.xet_lanes.specs.declared.joined.Joined.{Joined}
-use Rattle.xet_lanes.specs.declared.lane.Fetch.{Fetch}
-use Rattle.xet_lanes.specs.Fetches.{ask_of}
+use Rattle.xet_lane.specs.declared.joined.Joined.{Joined}
+use Rattle.xet_lane.specs.declared.lane.Fetch.{Fetch}
+use Rattle.xet_lane.specs.Fetches.{ask_of}
 use Rattle.xet_lanes.specs.Rounds.{RoundTold}
 use Rattle.xet_leader.specs.declared.missing_blocks.BlockAt.{BlockAt}
 use Rattle.xet_leader.specs.FetchLists.{Each, IsFetchList}

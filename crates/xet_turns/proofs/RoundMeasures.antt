@@ -18,11 +18,12 @@ use Rattle.xet_ties.specs.Saids.{has_bytes}
 use Rattle.xet_ties.specs.Setup.{RunTold, Setup}
 use Rattle.xet_ties.specs.steps.Records.{expired_on, fetched_on, lane_events, wrote_of}
 use Rattle.xet_ties.proofs.CallerLemmas.{count-append, round_allowed}
-use Rattle.xet_lanes.specs.declared.joined.Joined.{Joined}
-use Rattle.xet_lanes.specs.declared.lane.Fetch.{Fetch}
-use Rattle.xet_lanes.specs.Fetches.{NoneFailed, ask_of}
-use Rattle.xet_lanes.specs.Rounds.{End, IsWhole, NoneEndedBadly, RoundTold, ended, steps_of}
-use Rattle.xet_lanes.proofs.CallerLemmas.{no_error}
+use Rattle.xet_lane.specs.declared.joined.Joined.{Joined}
+use Rattle.xet_lane.specs.declared.lane.Fetch.{Fetch}
+use Rattle.xet_lane.specs.Fetches.{NoneFailed, ask_of}
+use Rattle.xet_lane.specs.Ends.{End, NoneEndedBadly, ended, steps_of}
+use Rattle.xet_lane.proofs.CallerLemmas.{no_error}
+use Rattle.xet_lanes.specs.Rounds.{IsWhole, RoundTold}
 use Rattle.xet_turns.specs.Advances.{advanced}
 use Rattle.xet_leader.specs.declared.leader.LedPlan.{LedPlan}
 use Rattle.xet_leader.specs.declared.missing_blocks.BlockAt.{BlockAt}

@@ -8,7 +8,7 @@ use Rattle.xet_events.specs.Allowed.{AllowedAfter}
 use Rattle.xet_ties.specs.declared.lane_step.LaneStep.{LaneStep}
 use Rattle.xet_ties.specs.steps.Records.{Recorded, lane_events, wrote_of}
 use Rattle.xet_ties.proofs.CallerLemmas.{allowed_first, allowed_rest}
-use Rattle.xet_lanes.specs.declared.joined.LaneEnd.{LaneEnd}
+use Rattle.xet_lane.specs.declared.joined.LaneEnd.{LaneEnd}
 use Rattle.xet_turns.specs.RoundRecords.{lanes_events, lanes_of, window_events}
 
 -- ---- one list of events after another

@@ -21,9 +21,10 @@ use Rattle.xet_ties.specs.steps.Parts.{total}
 use Rattle.xet_ties.specs.steps.Records.{wrote_of}
 use Rattle.xet_ties.specs.Ties.{FirstUnfailed, IsFaultless, MayLeave, NoneLate, Slack, Ties, all_of}
 use Rattle.xet_ties.proofs.CallerLemmas.{none_hidden, none_late, tells_now, tie_written}
-use Rattle.xet_lanes.specs.JoinErrors.{end_error, first_error, lacks_memory, memory_was_short, wants_memory}
-use Rattle.xet_lanes.specs.Rounds.{End, LanesDrew, steps_of}
-use Rattle.xet_lanes.proofs.CallerLemmas.{FailedLane, error_cause}
+use Rattle.xet_lane.specs.JoinErrors.{end_error, first_error, lacks_memory, memory_was_short, wants_memory}
+use Rattle.xet_lane.specs.Ends.{End, steps_of}
+use Rattle.xet_lane.proofs.CallerLemmas.{FailedLane, error_cause}
+use Rattle.xet_lanes.specs.Rounds.{LanesDrew}
 use Rattle.xet_leader.specs.Led.{IsLed, Led}
 use Rattle.xet_turns.specs.RoundRecords.{lanes_events, window_events}
 use Rattle.xet_turns.specs.Rounds.{AreLedAsks, RoundLeft}

@@ -9,10 +9,11 @@ use Rattle.xet_writers.specs.Calls.{closed_by}
 use Rattle.xet_writers.specs.Queues.{ready_bytes}
 use Rattle.xet_writers.specs.Sequential.{ReadyCall, Sequential, WindowCall, told_of}
 use Rattle.xet_ties.specs.Setup.{RunTold, Setup}
-use Rattle.xet_lanes.specs.declared.joined.Joined.{Joined}
-use Rattle.xet_lanes.specs.declared.lane.Fetch.{Fetch}
-use Rattle.xet_lanes.specs.Fetches.{ask_of}
-use Rattle.xet_lanes.specs.Rounds.{LanesDrew, RoundTold, ended}
+use Rattle.xet_lane.specs.declared.joined.Joined.{Joined}
+use Rattle.xet_lane.specs.declared.lane.Fetch.{Fetch}
+use Rattle.xet_lane.specs.Fetches.{ask_of}
+use Rattle.xet_lane.specs.Ends.{ended}
+use Rattle.xet_lanes.specs.Rounds.{LanesDrew, RoundTold}
 use Rattle.xet_leader.specs.declared.missing_blocks.BlockAt.{BlockAt}
 use Rattle.xet_turns.specs.declared.outcomes.Outcome.{Outcome}
 use Rattle.xet_leader.specs.FetchLists.{IsFetchList}

@@ -6,10 +6,10 @@ use Rattle.xet_error.specs.declared.error.FileReconstructionError.TheVariants as
 use Rattle.xet_events.specs.declared.event.Event.{Event}
 use Rattle.xet_ties.specs.steps.Records.{Recorded, places_of}
 use Rattle.xet_ties.specs.steps.Rounds.{got_of}
-use Rattle.xet_lanes.specs.declared.joined.Joined.{Joined}
-use Rattle.xet_lanes.specs.declared.joined.LaneEnd.{LaneEnd}
-use Rattle.xet_lanes.specs.JoinErrors.{first_error}
-use Rattle.xet_lanes.specs.Rounds.{ended}
+use Rattle.xet_lane.specs.declared.joined.Joined.{Joined}
+use Rattle.xet_lane.specs.declared.joined.LaneEnd.{LaneEnd}
+use Rattle.xet_lane.specs.JoinErrors.{first_error}
+use Rattle.xet_lane.specs.Ends.{ended}
 use Rattle.xet_turns.specs.Advances.{advanced}
 use Rattle.xet_leader.specs.declared.leader.LedPlan.{LedPlan}
 use Rattle.xet_turns.specs.declared.outcomes.Outcome.{Outcome}

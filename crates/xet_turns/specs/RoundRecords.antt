@@ -5,8 +5,8 @@ use Rattle.xet_events.specs.declared.event.Event.{Event}
 use Rattle.xet_events.specs.Allowed.{AllowedAfter}
 use Rattle.xet_ties.specs.declared.lane_step.LaneStep.{LaneStep}
 use Rattle.xet_ties.specs.steps.Records.{expired_on, fetched_on, lane_events, wrote_of}
-use Rattle.xet_lanes.specs.declared.joined.LaneEnd.{LaneEnd}
-use Rattle.xet_lanes.specs.Rounds.{ended, steps_of}
+use Rattle.xet_lane.specs.declared.joined.LaneEnd.{LaneEnd}
+use Rattle.xet_lane.specs.Ends.{ended, steps_of}
 
 -- the steps of each lane
 abbrev pub lanes_of : List LaneEnd → List (List LaneStep)

@@ -12,10 +12,10 @@ use Rattle.xet_events.specs.declared.run_call.RunCall.{RunCall}
 use Rattle.xet_events.specs.declared.run_call.RunCall.TheVariants as call
 use Rattle.xet_ties.specs.declared.lane_step.LaneStep.{LaneStep}
 use Rattle.xet_ties.specs.Lanes.{Ask, LaneDrew}
+use Rattle.xet_lane.specs.Fetches.{NoneFailed, NoneFailedBefore, last_error}
+use Rattle.xet_lane.specs.Ends.{End}
 use Rattle.xet_lanes.specs.declared.drawing.Next.{Next}
 use Rattle.xet_lanes.specs.declared.drawing.Next.TheVariants as next
-use Rattle.xet_lanes.specs.Fetches.{NoneFailed, NoneFailedBefore, last_error}
-use Rattle.xet_lanes.specs.Rounds.{End}
 
 -- ---- one lane
 

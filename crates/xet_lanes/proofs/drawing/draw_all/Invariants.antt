@@ -1,6 +1,6 @@
 use Rattle.std.proofs.Common.{false, ◌≡◌, map}
 use Rattle.xet_claims.specs.ClaimPasses.{IsFresh, IsPassOf, pass_view}
-use Rattle.xet_lanes.specs.Fetches.{ask_of}
+use Rattle.xet_lane.specs.Fetches.{ask_of}
 use Rattle.xet_lanes.proofs.Draws.{Drawing}
 use Rattle.xet_lanes.proofs.drawing.draw_all.Given as goal
 

@@ -1,6 +1,6 @@
 use Rattle.std.proofs.Common.{◌≡◌, ◌+◌, length, map}
 use Rattle.std.specs.Prelude.{vec_capacity}
-use Rattle.xet_lanes.specs.Rounds.{ended}
+use Rattle.xet_lane.specs.Ends.{ended}
 use Rattle.xet_lanes.specs.steps.Drawn.{claims_of, ends_of, work}
 use Rattle.xet_lanes.proofs.jobs.take_apart.Given as goal
 

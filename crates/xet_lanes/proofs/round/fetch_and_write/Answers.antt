@@ -1,7 +1,8 @@
 use Rattle.std.proofs.Common.{rules, ◌≡◌, ◌∙◌, ap, sym, subst, map, length, List}
 use Rattle.std.proofs.lemmas.List.{length-map}
-use Rattle.xet_lanes.specs.Fetches.{ask_of}
-use Rattle.xet_lanes.specs.Rounds.{End, LanesDrew, ended}
+use Rattle.xet_lane.specs.Fetches.{ask_of}
+use Rattle.xet_lane.specs.Ends.{End, ended}
+use Rattle.xet_lanes.specs.Rounds.{LanesDrew}
 use Rattle.xet_lanes.proofs.RoundEnds.{no_lanes, round_past}
 use Rattle.xet_lanes.proofs.round.fetch_and_write.Goals as goal
 

@@ -4,7 +4,7 @@ use Rattle.std.proofs.lemmas.List.{length-map}
 use Rattle.xet_claims.specs.declared.claims.ClaimPass.{ClaimPass}
 use Rattle.xet_claims.specs.ClaimPasses.{IsPassOf, drawn_of, misses_of, raised_count, stopped_count, weight_of}
 use Rattle.xet_claims.specs.ClaimViews.{times}
-use Rattle.xet_lanes.specs.Fetches.{ask_of}
+use Rattle.xet_lane.specs.Fetches.{ask_of}
 use Rattle.xet_lanes.proofs.RoundEnds.{drew_ends, drew_parts, drew_passes, drew_some, drew_weight, lanes_drew}
 use Rattle.xet_lanes.proofs.round.join_lanes.Goals as goal
 

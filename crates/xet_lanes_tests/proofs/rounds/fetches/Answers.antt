@@ -1,4 +1,4 @@
-use Rattle.xet_lanes.proofs.CallerLemmas.{asks_more, own_request}
+use Rattle.xet_lane.proofs.CallerLemmas.{asks_more, own_request}
 use Rattle.xet_lanes_tests.proofs.rounds.fetches.Goals as goal
 
 pub loop-number-preserved : goal.loop-number-preserved

@@ -1,5 +1,5 @@
 use Rattle.std.proofs.Common.{refl, rules}
-use Rattle.xet_lanes.proofs.CallerLemmas.{made_by}
+use Rattle.xet_lane.proofs.CallerLemmas.{made_by}
 use Rattle.xet_leader.proofs.AskedBlocks.{read_block}
 use Rattle.xet_leader.proofs.fetching.fetch_of.Goals as goal
 

@@ -1,8 +1,8 @@
 use Rattle.std.proofs.Common.{◌≡◌, List, rules, subst, sym}
 use Rattle.std.specs.Prelude.{All, map}
 use Rattle.xet_ties.specs.Lanes.{IsFor}
-use Rattle.xet_lanes.specs.declared.lane.Fetch.{Fetch}
-use Rattle.xet_lanes.specs.Fetches.{ask_of}
+use Rattle.xet_lane.specs.declared.lane.Fetch.{Fetch}
+use Rattle.xet_lane.specs.Fetches.{ask_of}
 use Rattle.xet_turns.proofs.RoundAsks.{fetches_for}
 use Rattle.xet_turns.proofs.round.fetch_blocks.Goals as goal
 

@@ -1,14 +1,17 @@
 -- The requests of blocks by the tables of their plans.
-use Rattle.std.proofs.Common.{◌≡◌, ◌<◌, [], length, get_or, refl, Option, Some, None}
+use Rattle.std.proofs.Common.{◌≡◌, ◌<◌, List, [], ◌∷◌, ◌++◌, length, map, get_or, refl, sym, ap, ◌∙◌, subst, Option, Some, None}
+use Rattle.std.proofs.lemmas.List.{map-append}
+use Rattle.std.proofs.lemmas.List.Elements.{All-push}
 use Rattle.std.proofs.lemmas.Option.{slice_get-get_or}
-use Rattle.std.specs.Prelude.{slice_get, MatchOption}
+use Rattle.std.specs.Prelude.{All, slice_get, MatchOption}
 use Rattle.xet_outside.specs.declared.block.BlockRequest.{BlockRequest}
 use Rattle.xet_offers.specs.BlockCalls.{IsRequestOf}
 use Rattle.xet_offers.specs.declared.reconstruction_terms.retrieval_urls.RetrievalUrl.{RetrievalUrl}
 use Rattle.xet_offers.specs.declared.reconstruction_terms.retrieval_urls.TermBlockRetrievalURLs.{TermBlockRetrievalURLs}
 use Rattle.xet_offers.specs.declared.reconstruction_terms.xorb_block.XorbBlock.{XorbBlock}
-use Rattle.xet_ties.specs.Lanes.{IsFor}
-use Rattle.xet_lanes.specs.Fetches.{ask, request_by, request_of}
+use Rattle.xet_ties.specs.Lanes.{Ask, IsFor}
+use Rattle.xet_lane.specs.declared.lane.Fetch.{Fetch}
+use Rattle.xet_lane.specs.Fetches.{ask, ask_of, request_by, request_of}
 
 -- a request that was made by a table is the one of it
 pub request_made : (x : XorbBlock) (t : TermBlockRetrievalURLs) (r : BlockRequest) → IsRequestOf x t r
@@ -39,3 +42,11 @@ own_request x t = go (slice_get t.retrieval_urls x.xorb_block_index)
     go : (o : Option RetrievalUrl) → IsFor (ask x (request_by x t o))
     go None = record { xorb = refl; chunks = refl; index = refl }
     go (Some u) = record { xorb = refl; chunks = refl; index = refl }
+
+-- one more fetch
+pub asks_more : (fs gs : List Fetch) (f : Fetch) → gs ≡ fs ++ f ∷ [] → All IsFor (map ask_of fs) → IsFor (ask_of f)
+    → All IsFor (map ask_of gs)
+asks_more fs gs f e h own =
+    let g : map ask_of gs ≡ map ask_of fs ++ ask_of f ∷ [] =
+    ap (λ l. map ask_of l) e ∙ map-append ask_of fs (f ∷ []) in
+    subst (λ (l : List Ask). All IsFor l) (sym g) (All-push IsFor (map ask_of fs) (ask_of f) h own)

@@ -1,8 +1,8 @@
 use Rattle.std.proofs.Common.{◌≡◌, ◌<◌, ◌≤◌, ◌∙◌, sym, get_or, length, true, false, rules}
-use Rattle.xet_lanes.specs.JoinErrors.{lacks_memory}
-use Rattle.xet_lanes.specs.Rounds.{ended}
-use Rattle.xet_lanes.proofs.FirstErrors.{lacking, none_lacks, not_lacking}
-use Rattle.xet_lanes.proofs.joined.some_lacks_memory.Goals as goal
+use Rattle.xet_lane.specs.JoinErrors.{lacks_memory}
+use Rattle.xet_lane.specs.Ends.{ended}
+use Rattle.xet_lane.proofs.FirstErrors.{lacking, none_lacks, not_lacking}
+use Rattle.xet_lane.proofs.joined.some_lacks_memory.Goals as goal
 
 pub returns-then-lacks_memory : goal.returns-then-lacks_memory
 returns-then-lacks_memory c =

@@ -6,9 +6,9 @@ use Rattle.std.specs.List.{list_any}
 use Rattle.std.proofs.lemmas.List.{drop_all, drop_more}
 use Rattle.xet_base.specs.Lists.{first_some}
 use Rattle.xet_error.specs.declared.error.FileReconstructionError.{FileReconstructionError}
-use Rattle.xet_lanes.specs.declared.joined.LaneEnd.{LaneEnd}
-use Rattle.xet_lanes.specs.JoinErrors.{end_error, lacks_memory}
-use Rattle.xet_lanes.specs.Rounds.{ended}
+use Rattle.xet_lane.specs.declared.joined.LaneEnd.{LaneEnd}
+use Rattle.xet_lane.specs.JoinErrors.{end_error, lacks_memory}
+use Rattle.xet_lane.specs.Ends.{ended}
 
 abbrev pub lack_from : ℕ → List LaneEnd → Bool
 lack_from i es = list_any lacks_memory (map ended (drop i es))

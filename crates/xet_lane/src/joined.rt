@@ -2,8 +2,8 @@
 ghost use Rattle.std.specs.Prelude.{◌≡◌, map};
 ghost use Rattle.std.specs.List.{list_any};
 ghost use Rattle.xet_base.specs.Lists.{first_some};
-ghost use Rattle.xet_lanes.specs.JoinErrors.{end_error, first_error, lacks_memory, wants_memory};
-ghost use Rattle.xet_lanes.specs.Rounds.{ended};
+ghost use Rattle.xet_lane.specs.JoinErrors.{end_error, first_error, lacks_memory, wants_memory};
+ghost use Rattle.xet_lane.specs.Ends.{ended};
 
 use crate::lane::last_error;
 use xet_error::{FileReconstructionError, Result};

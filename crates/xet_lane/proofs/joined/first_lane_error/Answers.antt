@@ -1,9 +1,9 @@
 use Rattle.std.proofs.Common.{◌≡◌, ◌<◌, ◌≤◌, ◌∙◌, sym, get_or, length, true, false, rules}
 use Rattle.std.specs.Option.{is_some}
-use Rattle.xet_lanes.specs.JoinErrors.{end_error}
-use Rattle.xet_lanes.specs.Rounds.{ended}
-use Rattle.xet_lanes.proofs.FirstErrors.{error_here, no_error_here, no_errors}
-use Rattle.xet_lanes.proofs.joined.first_lane_error.Goals as goal
+use Rattle.xet_lane.specs.JoinErrors.{end_error}
+use Rattle.xet_lane.specs.Ends.{ended}
+use Rattle.xet_lane.proofs.FirstErrors.{error_here, no_error_here, no_errors}
+use Rattle.xet_lane.proofs.joined.first_lane_error.Goals as goal
 
 pub returns-then-is_some : goal.returns-then-is_some
 returns-then-is_some c =

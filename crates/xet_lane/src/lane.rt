@@ -1,7 +1,7 @@
 //! A connection, and the fetches that it made in one round.
 ghost use Rattle.std.specs.Prelude.{◌≡◌, [], IfOk};
 ghost use Rattle.xet_ties.specs.Lanes.{AnswerStep, IsFor};
-ghost use Rattle.xet_lanes.specs.Fetches.{LaneCall, NoneFailed, ask, ask_of, error_in, last_error};
+ghost use Rattle.xet_lane.specs.Fetches.{LaneCall, NoneFailed, ask, ask_of, error_in, last_error};
 
 use crate::gate::Gate;
 use std::alloc::Global;
@@ -106,7 +106,7 @@ impl<'a, C: Client> Lane<'a, C> {
     }
 
     /// A lane with no steps, and room for so many, where memory allows it.
-    pub(crate) fn with_room(alloc: Global, client: &'a mut C, steps: usize) -> Lane<'a, C>
+    pub fn with_room(alloc: Global, client: &'a mut C, steps: usize) -> Lane<'a, C>
         ensures same_reference { result.client.ghost_name ≡ client.entry.ghost_name }
         ensures client { result.client.now ≡ client.old }
         ensures steps { result.steps.items ≡ [] }
@@ -122,6 +122,13 @@ impl<'a, C: Client> Lane<'a, C> {
         ensures { result.now ≡ self.now.steps.items }
     {
         self.steps.as_slice()
+    }
+
+    /// The error of the last step, where it failed.
+    pub fn last_error(&self) -> Option<FileReconstructionError>
+        ensures { result ≡ last_error self.now.steps.items }
+    {
+        last_error(self.steps.as_slice())
     }
 
     /// Asks the connection once for a block, between the two calls of the gate, and adds a step. None of the steps
@@ -157,7 +164,7 @@ impl<'a, C: Client> Lane<'a, C> {
 
     /// Asks for the block of a fetch, as `fetch` does, by its own request, which is made for that alone. `OutOfMemory`
     /// besides where the request couldn't be made.
-    pub(crate) fn make<G: Gate>(
+    pub fn make<G: Gate>(
         &mut self,
         alloc: Global,
         wanted: &Fetch,
@@ -175,7 +182,7 @@ impl<'a, C: Client> Lane<'a, C> {
     }
 
     /// The connection and the steps.
-    pub(crate) fn into_parts(self) -> (&'a mut C, Vec<LaneStep>)
+    pub fn into_parts(self) -> (&'a mut C, Vec<LaneStep>)
         ensures same_reference { result.0.ghost_name ≡ self.entry.client.ghost_name }
         ensures client { result.0.now ≡ self.entry.client.now }
         ensures steps { result.1.items ≡ self.entry.steps.items }
@@ -184,8 +191,3 @@ impl<'a, C: Client> Lane<'a, C> {
         (client, steps)
     }
 }
-
-/// Ties, for proofs alone, a reference that was handed back to the parameter that lent it.
-pub(crate) fn give_back<C>(client: &mut C)
-    ensures { client.new ≡ client.old }
-{}

@@ -6,8 +6,8 @@ use Rattle.std.specs.Result.{result_err}
 use Rattle.xet_base.specs.Lists.{first_some}
 use Rattle.xet_error.specs.declared.error.FileReconstructionError.{FileReconstructionError}
 use Rattle.xet_error.specs.declared.error.FileReconstructionError.TheVariants as error
-use Rattle.xet_lanes.specs.JoinErrors.{end_error, first_error, lacks_memory, memory_was_short, wants_memory}
-use Rattle.xet_lanes.specs.Rounds.{End, NoneEndedBadly}
+use Rattle.xet_lane.specs.JoinErrors.{end_error, first_error, lacks_memory, memory_was_short, wants_memory}
+use Rattle.xet_lane.specs.Ends.{End, NoneEndedBadly}
 
 -- the last steps of the first lanes, so many, didn't fail
 abbrev pub NoErrorBelow : ℕ → List End → Type 0

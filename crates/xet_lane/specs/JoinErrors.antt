@@ -5,8 +5,8 @@ use Rattle.std.specs.Result.{result_err}
 use Rattle.xet_base.specs.Lists.{first_some}
 use Rattle.xet_error.specs.declared.error.FileReconstructionError.{FileReconstructionError}
 use Rattle.xet_error.specs.declared.error.FileReconstructionError.TheVariants as error
-use Rattle.xet_lanes.specs.Fetches.{last_error}
-use Rattle.xet_lanes.specs.Rounds.{End}
+use Rattle.xet_lane.specs.Fetches.{last_error}
+use Rattle.xet_lane.specs.Ends.{End}
 
 -- the error is want of memory
 abbrev pub wants_memory : Option FileReconstructionError → Bool

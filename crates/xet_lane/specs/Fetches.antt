@@ -10,7 +10,7 @@ use Rattle.xet_offers.specs.declared.reconstruction_terms.xorb_block.XorbBlock.{
 use Rattle.xet_ties.specs.declared.lane_step.LaneStep.{LaneStep}
 use Rattle.xet_ties.specs.declared.lane_step.LaneStep.TheVariants as step
 use Rattle.xet_ties.specs.Lanes.{Ask, StepDid}
-use Rattle.xet_lanes.specs.declared.lane.Fetch.{Fetch}
+use Rattle.xet_lane.specs.declared.lane.Fetch.{Fetch}
 
 -- ---- fetches
 

@@ -12,7 +12,7 @@ use Rattle.xet_ties.specs.declared.lane_step.LaneStep.{LaneStep}
 use Rattle.xet_ties.specs.declared.lane_step.LaneStep.TheVariants as step
 use Rattle.xet_ties.specs.Lanes.{AnswerStep, AreOf, Ask, HidesNone, IsFor, IsHidden, LaneDid, StepDid, entries_in, entries_of, lates_in, lates_of, may_hide}
 use Rattle.xet_ties.proofs.CallerLemmas.{one_more as lane_more, step_did}
-use Rattle.xet_lanes.specs.Fetches.{LaneCall, NoneFailed, NoneFailedBefore, error_at, error_in, last_error}
+use Rattle.xet_lane.specs.Fetches.{LaneCall, NoneFailed, NoneFailedBefore, error_at, error_in, last_error}
 
 -- a step was added
 pub one_step : (a : Ask) (b n : ClientTold) (xs ys : List LaneStep) (answer : Result BlockAnswer ClientError) (s : LaneStep)

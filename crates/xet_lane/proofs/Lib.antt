@@ -1,0 +1,5 @@
+mod ErrorCauses
+mod FirstErrors
+mod LaneSteps
+mod Requests
+pub mod CallerLemmas
