@@ -4,7 +4,7 @@ use Rattle.std.specs.Prelude.{get_or, slice_set}
 use Rattle.xet_outside.specs.Told.{CacheTold, ClientTold}
 use Rattle.xet_events.specs.declared.event.Event.{Event}
 use Rattle.xet_leader.specs.declared.missing_blocks.BlockAt.{BlockAt}
-use Rattle.xet_turns.specs.declared.outcomes.Outcome.{Outcome}
+use Rattle.xet_stages.specs.declared.outcomes.Outcome.{Outcome}
 use Rattle.xet_leader.specs.Led.{Led}
 use Rattle.xet_leader.specs.Plans.{Answer}
 use Rattle.xet_leader.specs.Settling.{Reached, SettleLeads, SettleTurn}

@@ -20,7 +20,7 @@ use Rattle.xet_ties.proofs.CallerLemmas.{none_hidden, none_late, poll_ties, stea
 use Rattle.xet_turns.specs.declared.joining.Prepared.{Prepared}
 use Rattle.xet_leader.specs.declared.leader.LedPlan.{LedPlan}
 use Rattle.xet_leader.specs.declared.missing_blocks.BlockAt.{BlockAt}
-use Rattle.xet_turns.specs.declared.outcomes.Outcome.{Outcome}
+use Rattle.xet_stages.specs.declared.outcomes.Outcome.{Outcome}
 use Rattle.xet_leader.specs.FetchLists.{IsFetchList}
 use Rattle.xet_turns.specs.JoinCalls.{CanJoin, JoinLeads, PolledFor, PrepareLeads, Touching}
 use Rattle.xet_turns.specs.Joins.{CanRound, RoundLeads}
@@ -28,10 +28,10 @@ use Rattle.xet_leader.specs.Lacking.{missing_of}
 use Rattle.xet_leader.specs.Led.{IsLed, Led}
 use Rattle.xet_leader.specs.Looks.{IsLedBy, LookLeads, LookTurn, LooksFrom, to_fetch, to_round}
 use Rattle.xet_leader.specs.Plans.{Answer}
-use Rattle.xet_turns.specs.Measures.{LeavesLess, LeavesSame, measure}
-use Rattle.xet_turns.specs.RunWindows.{WindowLeads}
+use Rattle.xet_stages.specs.Measures.{LeavesLess, LeavesSame, measure}
+use Rattle.xet_stages.specs.RunWindows.{WindowLeads}
 use Rattle.xet_leader.specs.Steady.{IsFailing, IsGoing, IsIdle, IsSteady, Loose, Moment, no_loose}
-use Rattle.xet_turns.proofs.Measures.{measure_rest}
+use Rattle.xet_stages.proofs.CallerLemmas.{measure_rest}
 use Rattle.xet_leader.proofs.CallerLemmas.{led_more, tells_more_heard}
 
 -- ---- the signal

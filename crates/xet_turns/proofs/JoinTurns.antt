@@ -7,7 +7,7 @@ use Rattle.xet_events.specs.declared.event.Event.{Event}
 use Rattle.xet_writers.specs.Sequential.{Sequential}
 use Rattle.xet_turns.specs.declared.joining.Prepared.{Prepared}
 use Rattle.xet_leader.specs.declared.missing_blocks.BlockAt.{BlockAt}
-use Rattle.xet_turns.specs.declared.outcomes.Outcome.{Outcome}
+use Rattle.xet_stages.specs.declared.outcomes.Outcome.{Outcome}
 use Rattle.xet_leader.specs.Admission.{SameCounts}
 use Rattle.xet_turns.specs.JoinCalls.{Joining, Touching}
 use Rattle.xet_turns.specs.Joins.{RoundTurn}

@@ -20,7 +20,7 @@ use Rattle.xet_ties.specs.steps.Rounds.{blocks_at}
 use Rattle.xet_ties.specs.steps.Windows.{AreKept}
 use Rattle.xet_ties.proofs.CallerLemmas.{IsStill, count-same, running-push}
 use Rattle.xet_leader.specs.FetchLists.{Each}
-use Rattle.xet_turns.specs.RoundRecords.{expired_events, fetched_events, lanes_events}
+use Rattle.xet_stages.specs.RoundRecords.{expired_events, fetched_events, lanes_events}
 use Rattle.xet_leader.proofs.CallerLemmas.{each_append}
 
 -- ---- what holds of each of them

@@ -11,18 +11,18 @@ use Rattle.xet_events.proofs.CallerLemmas.{written-push}
 use Rattle.xet_writers.specs.Sequential.{Sequential}
 use Rattle.xet_ties.specs.Setup.{Setup}
 use Rattle.xet_leader.specs.declared.missing_blocks.BlockAt.{BlockAt}
-use Rattle.xet_turns.specs.declared.outcomes.Outcome.{Outcome}
+use Rattle.xet_stages.specs.declared.outcomes.Outcome.{Outcome}
 use Rattle.xet_leader.specs.Admission.{SameCounts}
 use Rattle.xet_turns.specs.JoinCalls.{CanJoin, JoinLead, JoinLeads, Joining}
 use Rattle.xet_turns.specs.Joins.{to_settle}
 use Rattle.xet_leader.specs.Led.{AreStale, Led}
-use Rattle.xet_turns.specs.Measures.{measure}
+use Rattle.xet_stages.specs.Measures.{measure}
 use Rattle.xet_leader.specs.Plans.{Answer, find_plan}
 use Rattle.xet_leader.specs.Refreshing.{RefreshedEach, RefreshedThere, Touched}
 use Rattle.xet_leader.specs.Settling.{BothSettled, OfferedShort, Reached, SettleLeads, SettleTurn}
 use Rattle.xet_leader.specs.Steady.{IsIdle, LeadCall, LeadPart, Loose, Moment, no_loose}
 use Rattle.xet_turns.specs.Works.{CanWork, FirstSettled, WorkCall, WorkLeads, seen_at}
-use Rattle.xet_turns.proofs.Measures.{measure_rest}
+use Rattle.xet_stages.proofs.CallerLemmas.{measure_rest}
 
 -- ---- parts that leave the sink and write no byte
 

@@ -31,18 +31,18 @@ use Rattle.xet_lane.specs.Fetches.{ask_of}
 use Rattle.xet_lane.specs.Ends.{ended}
 use Rattle.xet_lane.proofs.CallerLemmas.{no_error}
 use Rattle.xet_lanes.specs.Rounds.{LanesDrew, RoundTold}
-use Rattle.xet_turns.specs.Advances.{advanced}
+use Rattle.xet_stages.specs.Advances.{advanced}
 use Rattle.xet_leader.specs.declared.missing_blocks.BlockAt.{BlockAt}
-use Rattle.xet_turns.specs.declared.outcomes.Outcome.{Outcome}
+use Rattle.xet_stages.specs.declared.outcomes.Outcome.{Outcome}
 use Rattle.xet_leader.specs.Expiries.{spends}
 use Rattle.xet_leader.specs.FetchLists.{Each}
 use Rattle.xet_turns.specs.Joins.{FetchRefused, FetchedBeside, IsPrepared, RoundLeads, RoundStops, RoundTurn, fetched_led, to_settle}
 use Rattle.xet_leader.specs.Led.{IsLed, Led}
 use Rattle.xet_leader.specs.Offering.{AreServed, due_of}
-use Rattle.xet_turns.specs.Outcomes.{KeepFails, OutcomeFails, OutcomeStops, TookOutcome, is_spent, join_error, join_events}
-use Rattle.xet_turns.specs.RoundRecords.{lanes_events, lanes_of, window_events}
-use Rattle.xet_turns.specs.Rounds.{AreLedAsks, RoundLeft, plans_after, plans_kept}
-use Rattle.xet_turns.specs.RunWindows.{IsWindow}
+use Rattle.xet_stages.specs.Outcomes.{KeepFails, OutcomeFails, OutcomeStops, TookOutcome, is_spent, join_error, join_events, plans_after, plans_kept}
+use Rattle.xet_stages.specs.RoundRecords.{lanes_events, lanes_of, window_events}
+use Rattle.xet_turns.specs.Rounds.{AreLedAsks, RoundLeft}
+use Rattle.xet_stages.specs.RunWindows.{IsWindow}
 use Rattle.xet_leader.specs.Steady.{IsFailing, IsGoing, IsIdle, IsSteady, Loose, Moment}
 use Rattle.xet_leader.proofs.CallerLemmas.{memory_fails, led_more, tells_more_heard}
 use Rattle.xet_turns.proofs.LaneEvents.{blocks_same, join_plans_none, round_still, still_all}

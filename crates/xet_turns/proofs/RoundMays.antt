@@ -26,8 +26,8 @@ use Rattle.xet_leader.specs.Fetching.{AreFetches}
 use Rattle.xet_turns.specs.Joins.{CanRound, FetchedBeside}
 use Rattle.xet_leader.specs.Led.{Led}
 use Rattle.xet_leader.specs.Looks.{CanRequest, to_round}
-use Rattle.xet_turns.specs.RoundRecords.{RoundMayBe, lanes_events, lanes_of, window_events}
-use Rattle.xet_turns.specs.RunWindows.{IsWindow}
+use Rattle.xet_stages.specs.RoundRecords.{RoundMayBe, lanes_events, lanes_of, window_events}
+use Rattle.xet_stages.specs.RunWindows.{IsWindow}
 use Rattle.xet_leader.specs.Steady.{IsGoing, Moment}
 use Rattle.xet_leader.proofs.CallerLemmas.{can_request, is_at}
 use Rattle.xet_turns.proofs.LaneEvents.{are_kept_more, round_still, still_all}

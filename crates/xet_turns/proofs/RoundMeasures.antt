@@ -24,23 +24,22 @@ use Rattle.xet_lane.specs.Fetches.{NoneFailed, ask_of}
 use Rattle.xet_lane.specs.Ends.{End, NoneEndedBadly, ended, steps_of}
 use Rattle.xet_lane.proofs.CallerLemmas.{no_error}
 use Rattle.xet_lanes.specs.Rounds.{IsWhole, RoundTold}
-use Rattle.xet_turns.specs.Advances.{advanced}
+use Rattle.xet_stages.specs.Advances.{advanced}
 use Rattle.xet_leader.specs.declared.leader.LedPlan.{LedPlan}
 use Rattle.xet_leader.specs.declared.missing_blocks.BlockAt.{BlockAt}
-use Rattle.xet_turns.specs.declared.outcomes.Outcome.{Outcome}
+use Rattle.xet_stages.specs.declared.outcomes.Outcome.{Outcome}
 use Rattle.xet_leader.specs.FetchLists.{Each, IsFetchList, IsKeptOrListed, place_of}
 use Rattle.xet_leader.specs.Fetching.{AreFetches}
 use Rattle.xet_turns.specs.Joins.{FetchedBeside, IsPrepared, fetched_led}
 use Rattle.xet_leader.specs.Lacking.{lists}
 use Rattle.xet_leader.specs.Led.{IsCounted, Led}
-use Rattle.xet_turns.specs.Measures.{LeavesLess, measure, unfinished_terms}
-use Rattle.xet_turns.specs.Outcomes.{TookOutcome}
-use Rattle.xet_turns.specs.RoundRecords.{expired_events, fetched_events, lanes_events, lanes_of, window_events}
-use Rattle.xet_turns.specs.Rounds.{plans_after}
-use Rattle.xet_turns.specs.RunWindows.{IsWindow}
+use Rattle.xet_stages.specs.Measures.{LeavesLess, measure, unfinished_terms}
+use Rattle.xet_stages.specs.Outcomes.{TookOutcome, plans_after}
+use Rattle.xet_stages.specs.RoundRecords.{expired_events, fetched_events, lanes_events, lanes_of, window_events}
+use Rattle.xet_stages.specs.RunWindows.{IsWindow}
 use Rattle.xet_leader.specs.Steady.{Moment}
 use Rattle.xet_turns.proofs.LaneEvents.{lanes_each, late_each, round_each, served_each, wrote_each}
-use Rattle.xet_turns.proofs.Measures.{PlansNone, measure_expired, measure_fetched, measure_finished, measure_rest, none_rises}
+use Rattle.xet_stages.proofs.CallerLemmas.{PlansNone, measure_expired, measure_fetched, measure_finished, measure_rest, none_rises}
 use Rattle.xet_leader.proofs.CallerLemmas.{each_append}
 use Rattle.xet_turns.proofs.RoundAsks.{are_led_asks}
 

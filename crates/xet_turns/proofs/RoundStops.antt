@@ -26,7 +26,7 @@ use Rattle.xet_lane.specs.Ends.{End, steps_of}
 use Rattle.xet_lane.proofs.CallerLemmas.{FailedLane, error_cause}
 use Rattle.xet_lanes.specs.Rounds.{LanesDrew}
 use Rattle.xet_leader.specs.Led.{IsLed, Led}
-use Rattle.xet_turns.specs.RoundRecords.{lanes_events, window_events}
+use Rattle.xet_stages.specs.RoundRecords.{lanes_events, window_events}
 use Rattle.xet_turns.specs.Rounds.{AreLedAsks, RoundLeft}
 use Rattle.xet_leader.specs.Steady.{IsFailing}
 use Rattle.xet_turns.proofs.FailedLanes.{IsHeardJoin, honest_ask, lane_cause, never_calm, never_spent, own_asks}

@@ -27,8 +27,9 @@ use Rattle.xet_ties.proofs.CallerLemmas.{fetched_once, new_pairs, round_allowed,
 use Rattle.xet_leader.specs.Expiries.{stale_after}
 use Rattle.xet_leader.specs.Keeping.{given_of}
 use Rattle.xet_leader.specs.Led.{IsAnswerData, IsLed, IsLedPlan, IsReady, Led, bare}
-use Rattle.xet_turns.specs.RoundRecords.{expired_events, fetched_events}
-use Rattle.xet_turns.specs.Rounds.{AreLedAsks, IsLedAsk, IsLedAt, IsSpent, RoundLeft, plans_after, plans_kept}
+use Rattle.xet_stages.specs.RoundRecords.{expired_events, fetched_events}
+use Rattle.xet_turns.specs.Rounds.{AreLedAsks, IsLedAsk, IsLedAt, IsSpent, RoundLeft}
+use Rattle.xet_stages.specs.Outcomes.{plans_after, plans_kept}
 use Rattle.xet_turns.proofs.HonestBlocks.{led_honest}
 use Rattle.xet_turns.proofs.LateLed.{led_late, led_spent}
 use Rattle.xet_leader.proofs.CallerLemmas.{led_more, tells_more_heard}

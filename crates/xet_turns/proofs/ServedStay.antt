@@ -31,7 +31,7 @@ use Rattle.xet_leader.specs.Lacking.{first_of}
 use Rattle.xet_leader.specs.Led.{FollowOn, IsLed, Led}
 use Rattle.xet_leader.specs.Offering.{AreServed, IsServed}
 use Rattle.xet_leader.specs.Plans.{block_in, block_there, find_plan}
-use Rattle.xet_turns.specs.RoundRecords.{expired_events, fetched_events, lanes_events}
+use Rattle.xet_stages.specs.RoundRecords.{expired_events, fetched_events, lanes_events}
 use Rattle.xet_leader.proofs.CallerLemmas.{TermOf, all_terms, some_plan, is_at, kept_is, open_is, each_append, each_weaker, numbered_at}
 
 -- ---- they were missing

@@ -6,9 +6,10 @@ use Rattle.xet_error.specs.declared.error.FileReconstructionError.{FileReconstru
 use Rattle.xet_writers.specs.Sequential.{Sequential}
 use Rattle.xet_ties.specs.Setup.{Setup}
 use Rattle.xet_leader.specs.Led.{Led}
-use Rattle.xet_turns.specs.Measures.{measure}
+use Rattle.xet_stages.specs.Measures.{measure}
 use Rattle.xet_leader.specs.Steady.{LeadCall, Moment, no_loose}
-use Rattle.xet_turns.specs.Turns.{IsSteadyRun, LeadRun, SoFar, StartCall, TurnCall}
+use Rattle.xet_turns.specs.Turns.{IsSteadyRun, LeadRun, SoFar, TurnCall}
+use Rattle.xet_stages.specs.TurnStarts.{StartCall}
 use Rattle.xet_turns.specs.Works.{CanWork, WorkCall}
 use Rattle.xet_turns.proofs.RoundEnds.{part_call}
 

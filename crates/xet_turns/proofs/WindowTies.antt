@@ -20,7 +20,7 @@ use Rattle.xet_ties.specs.Setup.{RunTold, Setup}
 use Rattle.xet_ties.specs.Ties.{Ties}
 use Rattle.xet_ties.proofs.CallerLemmas.{tie_window, window_tested}
 use Rattle.xet_leader.specs.Led.{Led}
-use Rattle.xet_turns.specs.RunWindows.{IsWindow}
+use Rattle.xet_stages.specs.RunWindows.{IsWindow}
 use Rattle.xet_leader.specs.Steady.{IsGoing, Loose, Moment}
 
 -- ---- pieces of a store

@@ -7,7 +7,7 @@ use Rattle.xet_writers.specs.declared.queued_term.QueuedTerm.{QueuedTerm}
 use Rattle.xet_writers.specs.Queues.{ready, ready_bytes}
 use Rattle.xet_writers.specs.Sequential.{Sequential}
 use Rattle.xet_writers.proofs.CallerLemmas.{ready_more}
-use Rattle.xet_turns.specs.Windows.{with_piece, with_pieces}
+use Rattle.xet_stages.specs.Windows.{with_piece, with_pieces}
 
 -- it has these ready bytes besides, all its terms are ready, and but for its queue and the next place it is as it was
 pub record HoldsPieces {S : Type 0} (v w : Sequential S) (ps : List (List ℕ)) : Type 0 where

@@ -7,10 +7,10 @@ use Rattle.xet_writers.specs.Sequential.{Sequential}
 use Rattle.xet_ties.specs.Setup.{RunTold, Setup}
 use Rattle.xet_ties.specs.steps.Parts.{PollCall}
 use Rattle.xet_turns.specs.declared.joining.Prepared.{Prepared}
-use Rattle.xet_turns.specs.declared.outcomes.Outcome.{Outcome}
+use Rattle.xet_stages.specs.declared.outcomes.Outcome.{Outcome}
 use Rattle.xet_turns.specs.Joins.{IsPrepared, to_settle}
 use Rattle.xet_leader.specs.Led.{Led}
-use Rattle.xet_turns.specs.Measures.{LeavesLess, LeavesSame}
+use Rattle.xet_stages.specs.Measures.{LeavesLess, LeavesSame}
 use Rattle.xet_leader.specs.Offering.{AreServed}
 use Rattle.xet_leader.specs.Plans.{Answer}
 use Rattle.xet_leader.specs.Steady.{IsFailing, IsSteady, Moment, no_loose}

@@ -3,7 +3,7 @@ use Rattle.std.specs.Prelude.{ℕ, ◌≡◌, ◌⊎◌, ◌+◌, ◌-◌, ◌^�
 use Rattle.xet_outside.specs.Told.{SignalTold, SinkTold}
 use Rattle.xet_error.specs.declared.error.FileReconstructionError.{FileReconstructionError}
 use Rattle.xet_turns.specs.declared.joining.Prepared.{Prepared}
-use Rattle.xet_turns.specs.declared.outcomes.Outcome.{Outcome}
+use Rattle.xet_stages.specs.declared.outcomes.Outcome.{Outcome}
 use Rattle.xet_leader.specs.Admission.{SameCounts}
 use Rattle.xet_turns.specs.JoinCalls.{Joining, PolledFor, Touching}
 use Rattle.xet_turns.specs.Joins.{RoundTurn}

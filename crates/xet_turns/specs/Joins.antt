@@ -15,17 +15,17 @@ use Rattle.xet_lane.specs.Fetches.{ask_of}
 use Rattle.xet_lane.specs.Ends.{ended}
 use Rattle.xet_lanes.specs.Rounds.{LanesDrew, RoundTold}
 use Rattle.xet_leader.specs.declared.missing_blocks.BlockAt.{BlockAt}
-use Rattle.xet_turns.specs.declared.outcomes.Outcome.{Outcome}
+use Rattle.xet_stages.specs.declared.outcomes.Outcome.{Outcome}
 use Rattle.xet_leader.specs.FetchLists.{IsFetchList}
 use Rattle.xet_leader.specs.Fetching.{AreFetches}
 use Rattle.xet_leader.specs.Led.{Led}
 use Rattle.xet_leader.specs.Looks.{to_round}
-use Rattle.xet_turns.specs.Measures.{LeavesLess}
+use Rattle.xet_stages.specs.Measures.{LeavesLess}
 use Rattle.xet_leader.specs.Offering.{AreServed, due_of}
-use Rattle.xet_turns.specs.Outcomes.{OutcomeFails, TookOutcome}
-use Rattle.xet_turns.specs.RunWindows.{IsWindow}
+use Rattle.xet_stages.specs.Outcomes.{OutcomeFails, TookOutcome}
+use Rattle.xet_stages.specs.RunWindows.{IsWindow}
 use Rattle.xet_leader.specs.Steady.{IsFailing, IsGoing, IsIdle, IsSteady, Loose, Moment}
-use Rattle.xet_turns.specs.Windows.{with_pieces}
+use Rattle.xet_stages.specs.Windows.{with_pieces}
 
 -- ---- the fetches, and the writing
 

@@ -1,15 +1,9 @@
-pub mod Advances
 pub mod EmptyRuns
 pub mod Ending
 pub mod JoinCalls
 pub mod JoinTurns
 pub mod Joins
 pub mod LoopRuns
-pub mod Measures
-pub mod Outcomes
-pub mod RoundRecords
 pub mod Rounds
-pub mod RunWindows
 pub mod Turns
-pub mod Windows
 pub mod Works

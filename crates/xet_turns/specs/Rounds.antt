@@ -15,10 +15,10 @@ use Rattle.xet_ties.specs.steps.Records.{asks_for, blocks_all, key_of, places_of
 use Rattle.xet_ties.specs.steps.Rounds.{AfterRound, IsMissingAsk}
 use Rattle.xet_ties.specs.Ties.{Slack, Ties, is_one, is_pair}
 use Rattle.xet_leader.specs.declared.leader.LedPlan.{LedPlan}
-use Rattle.xet_leader.specs.Expiries.{counted, spends, stale_after}
-use Rattle.xet_leader.specs.Keeping.{given_of, kept}
+use Rattle.xet_leader.specs.Expiries.{spends, stale_after}
 use Rattle.xet_leader.specs.Led.{IsLed, Led}
-use Rattle.xet_turns.specs.RoundRecords.{lanes_events}
+use Rattle.xet_stages.specs.Outcomes.{plans_after, plans_kept}
+use Rattle.xet_stages.specs.RoundRecords.{lanes_events}
 
 -- ---- before
 
@@ -53,13 +53,6 @@ pub record IsSpent (tries : ℕ) (es : List Event) : Type 0 where
   pub plan : ℕ
   pub block : ℕ
   pub many : tries ≤ count_by (expires plan block) es
-
--- the plans after the lanes' served blocks are kept, and after their expired ones are counted besides
-abbrev pub plans_kept : List (List LaneStep) → List LedPlan → List LedPlan
-plans_kept steps ls = kept (flat_map given_of steps) ls
-
-abbrev pub plans_after : List (List LaneStep) → List LedPlan → List LedPlan
-plans_after steps ls = counted (flat_map places_of steps) (plans_kept steps ls)
 
 -- what is told then is tied to the history with all that the lanes did; and where each expired block has tries left,
 -- the leader is led whose plans keep and count it

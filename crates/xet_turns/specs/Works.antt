@@ -4,11 +4,11 @@ use Rattle.xet_outside.specs.Told.{CacheTold, ClientTold, SinkTold}
 use Rattle.xet_events.specs.declared.event.Event.{Event}
 use Rattle.xet_writers.specs.Sequential.{Sequential}
 use Rattle.xet_ties.specs.Setup.{RunTold, Setup}
-use Rattle.xet_turns.specs.declared.outcomes.Outcome.{Outcome}
+use Rattle.xet_stages.specs.declared.outcomes.Outcome.{Outcome}
 use Rattle.xet_leader.specs.Admission.{SameCounts}
 use Rattle.xet_turns.specs.JoinCalls.{Joining}
 use Rattle.xet_leader.specs.Led.{Led}
-use Rattle.xet_turns.specs.Measures.{LeavesLess}
+use Rattle.xet_stages.specs.Measures.{LeavesLess}
 use Rattle.xet_leader.specs.Plans.{Answer}
 use Rattle.xet_leader.specs.Settling.{SettleLeads, SettleTurn}
 use Rattle.xet_leader.specs.Steady.{IsSteady, LeadCall, Moment, no_loose}

@@ -6,9 +6,7 @@ ghost use Rattle.xet_turns.specs.JoinCalls.{CanJoin, JoinLeads, PolledFor, Prepa
 ghost use Rattle.xet_turns.specs.JoinTurns.{JoinTurn, PrepareTurn};
 ghost use Rattle.xet_leader.specs.Looks.{IsLedBy};
 
-use crate::outcomes::Outcome;
-use crate::queueing::window;
-use crate::round::{Around, run_round};
+use crate::round::run_round;
 use std::alloc::Global;
 use std::sync::Wait;
 use std::sync::ledger::Ledger;
@@ -23,6 +21,7 @@ use xet_leader::missing_blocks::BlockAt;
 use xet_outside::{CancelSignal, ChunkCache, Client, Sink};
 use xet_parts::poll;
 use xet_run::{EventLog, RunCore, RunPass};
+use xet_stages::{Around, Outcome, window};
 use xet_writers::SequentialWriter;
 
 /// What a round is to do.

@@ -4,10 +4,7 @@ ghost use Rattle.xet_leader.specs.FetchLists.{Each};
 ghost use Rattle.xet_leader.specs.Looks.{CanRequest};
 ghost use Rattle.xet_turns.specs.Joins.{CanRound, FetchTurn, RoundLeads, RoundTurn};
 
-use crate::accounts::record_blocks;
-use crate::outcomes::{Outcome, take_outcome};
 use crate::reporting::report;
-use std::alloc::Global;
 use std::sync::Wait;
 use std::sync::ledger::Ledger;
 use std::thread::Threads;
@@ -19,21 +16,9 @@ use xet_leader::fetching::{count_fetches, fetches};
 use xet_leader::leader::Leader;
 use xet_leader::missing_blocks::BlockAt;
 use xet_outside::{Client, Sink};
-use xet_run::{EventLog, RunCore, RunPass, RunState};
+use xet_run::{EventLog, RunCore, RunPass};
+use xet_stages::{Around, Outcome, record_blocks, take_outcome};
 use xet_writers::SequentialWriter;
-
-/// What a run lends to its parts.
-#[derive(Drop)]
-pub struct Around<'a, R, G, L: Ledger> {
-    /// Starts threads and waits.
-    pub rt: &'a R,
-    /// Where memory is taken.
-    pub alloc: Global,
-    /// What is called round each block fetch.
-    pub gate: &'a G,
-    /// What the run's threads know of it together.
-    pub state: &'a RunState<L>,
-}
 
 /// Fetches these blocks by the connections, each with a lane of its own, while the writer writes what it holds: the
 /// next terms, of these lengths in bytes. Where there is one connection alone, which answers at once, they are written

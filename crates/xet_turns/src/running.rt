@@ -9,7 +9,6 @@ ghost use Rattle.xet_turns.specs.LoopRuns.{IsFresh, RunLed};
 
 use crate::empty::run_empty;
 use crate::ending::end_run;
-use crate::round::Around;
 use crate::turns::lead;
 use std::alloc::Global;
 use std::marker::Brand;
@@ -23,6 +22,7 @@ use xet_leader::leader::{Job, Leader};
 use xet_outside::{CancelSignal, ChunkCache, Client, Sink};
 use xet_progress::ItemProgressUpdater;
 use xet_run::{BudgetSource, EventLog, RunCore, RunState};
+use xet_stages::Around;
 use xet_writers::SequentialWriter;
 
 /// What a run is asked for.

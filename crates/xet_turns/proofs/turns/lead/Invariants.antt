@@ -1,7 +1,7 @@
 use Rattle.std.proofs.Common.{◌≡◌}
 use Rattle.xet_ties.specs.Setup.{told_of}
 use Rattle.xet_leader.specs.Led.{setup_of_job}
-use Rattle.xet_turns.specs.Measures.{measure}
+use Rattle.xet_stages.specs.Measures.{measure}
 use Rattle.xet_leader.specs.Steady.{Moment}
 use Rattle.xet_turns.specs.Turns.{SoFar}
 use Rattle.xet_turns.proofs.turns.lead.Given as goal

@@ -1,0 +1,7 @@
+pub mod Advances
+pub mod Measures
+pub mod Outcomes
+pub mod RoundRecords
+pub mod RunWindows
+pub mod TurnStarts
+pub mod Windows
