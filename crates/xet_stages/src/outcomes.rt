@@ -9,7 +9,7 @@ use std::alloc::Global;
 use xet_base::List;
 use xet_blocks::FetchPolicy;
 use xet_error::{FileReconstructionError, Result};
-use xet_lanes::{Joined, LaneEnd};
+use xet_lane::{Joined, LaneEnd};
 use xet_leader::expiries::count_expired;
 use xet_leader::keeping::keep_served;
 use xet_leader::leader::Leader;

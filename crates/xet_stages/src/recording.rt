@@ -6,7 +6,7 @@ ghost use Rattle.xet_stages.specs.RoundRecords.{RoundMayBe, expired_events, fetc
 ghost use Rattle.xet_stages.specs.RoundRecords.{window_events};
 
 use xet_error::Result;
-use xet_lanes::{Joined, LaneEnd};
+use xet_lane::{Joined, LaneEnd};
 use xet_parts::{record_expired, record_fetched, record_window};
 use xet_run::{EventLog, RunCore};
 
