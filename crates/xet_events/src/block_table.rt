@@ -5,7 +5,7 @@ ghost use Rattle.xet_events.specs.BlockTables.{Ends, Keeps, Marks, SameMarks, bl
 use std::alloc::{AllocError, Global};
 
 /// A block of a plan, by their numbers.
-#[derive(Clone, Copy, PartialEq, Eq, Debug)]
+#[derive(Clone, Copy)]
 pub struct BlockId {
     /// The plan's number.
     pub plan: u64,
@@ -14,7 +14,7 @@ pub struct BlockId {
 }
 
 /// What is noted of a block.
-#[derive(Clone, Copy, PartialEq, Eq, Debug)]
+#[derive(Clone, Copy)]
 pub struct BlockMark {
     /// Where its last nonempty admitted term ends among the admitted bytes.
     pub end: Option<u64>,

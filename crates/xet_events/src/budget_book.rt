@@ -9,7 +9,7 @@ use std::sync::{Arc, Mutex, Wait};
 use xet_base::OutOfMemory;
 
 /// How a limit of unwritten bytes follows the running downloads. All numbers are in bytes.
-#[derive(Clone, Copy, PartialEq, Eq, Debug)]
+#[derive(Clone, Copy)]
 pub struct BudgetSettings {
     /// What is allowed in any case.
     pub base: u64,
@@ -22,7 +22,7 @@ pub struct BudgetSettings {
 /// The running downloads, and the limit that follows them.
 ///
 /// In place of the process-wide semaphore of `xet-data`, which grows with the active downloads.
-#[derive(Clone, Copy, PartialEq, Eq, Debug)]
+#[derive(Clone, Copy)]
 pub struct BookState {
     settings: BudgetSettings,
     running: u64,

@@ -17,7 +17,7 @@ pub trait BudgetSource {
 }
 
 /// One limit for good.
-#[derive(Clone, Copy, PartialEq, Eq, Debug)]
+#[derive(Clone, Copy)]
 pub struct FixedBudget {
     /// The limit, in bytes.
     pub limit: u64,

@@ -7,7 +7,7 @@ use thiserror::Error;
 use xet_base::OutOfMemory as NoMemory;
 
 /// Why a core didn't add an event. It prints its variant's name.
-#[derive(Clone, Copy, PartialEq, Eq, Debug, Drop, Error)]
+#[derive(Clone, Copy, Debug, Drop, Error)]
 pub enum CoreRefusal {
     /// The event isn't allowed after the history.
     #[error("NotAllowed")]

@@ -3,7 +3,7 @@ use xet_base::{ChunkRange, FileRange, List, MerkleHash, ShortList};
 use xet_error::FileReconstructionError;
 
 /// A term of a plan, as the core knows it. Its length is that of its bytes of the file.
-#[derive(Clone, Copy, PartialEq, Eq, Debug)]
+#[derive(Clone, Copy)]
 pub struct PlannedTerm {
     /// Its bytes of the file, half open.
     pub byte_range: FileRange,
@@ -16,7 +16,7 @@ pub struct PlannedTerm {
 }
 
 /// A block of a plan: some chunks of a xorb, which are fetched at once.
-#[derive(Drop, Debug)]
+#[derive(Drop)]
 pub struct PlannedBlock {
     /// The xorb.
     pub xorb: MerkleHash,
@@ -26,7 +26,7 @@ pub struct PlannedBlock {
 
 /// One step of a run. A block is named by its plan and by its number among the plan's blocks. Lanes are numbered from
 /// 0, plans from 1, in the order of their Planned events.
-#[derive(Drop, Debug)]
+#[derive(Drop)]
 pub enum Event {
     /// A query was answered, with so many terms and blocks: none where it lies past the file's end.
     Planned {

@@ -16,7 +16,7 @@ use std::collections::{BTreeSet, VecDeque};
 use xet_error::FileReconstructionError;
 
 /// A planned term that isn't admitted yet.
-#[derive(Clone, Copy, Debug)]
+#[derive(Clone, Copy)]
 pub struct WaitingTerm {
     /// Its block.
     pub id: BlockId,
@@ -25,7 +25,7 @@ pub struct WaitingTerm {
 }
 
 /// An admitted term that isn't wholly written, with the place of its end among the admitted bytes.
-#[derive(Clone, Copy, Debug)]
+#[derive(Clone, Copy)]
 pub struct UnfinishedTerm {
     /// Its block.
     pub id: BlockId,

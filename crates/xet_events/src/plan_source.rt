@@ -35,7 +35,7 @@ pub trait PlanSource {
 }
 
 /// A plan in two lists.
-#[derive(Drop, Debug)]
+#[derive(Drop)]
 pub struct ListedPlan {
     /// Its terms.
     pub terms: List<PlannedTerm>,

@@ -35,7 +35,7 @@ impl From<FileReconstructionError> for RunError {
 /// scheduled. Both counts stop at `u64::MAX`.
 ///
 /// In the Rust crate: the fields of `file_reconstruction::run_state::RunState`.
-#[derive(Clone, Copy, PartialEq, Eq, Debug)]
+#[derive(Clone, Copy)]
 pub struct RunBook {
     pub(crate) error: Option<FileReconstructionError>,
     pub(crate) cancelled: bool,

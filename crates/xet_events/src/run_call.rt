@@ -3,7 +3,7 @@ use crate::run_book::RunError;
 use xet_error::FileReconstructionError;
 
 /// A call on the state of a run. The checks and `Scheduled` hold the reply.
-#[derive(Clone, Copy, PartialEq, Eq, Debug, Drop)]
+#[derive(Clone, Copy, PartialEq, Eq, Drop)]
 pub enum RunCall {
     /// An error was set.
     SetError(FileReconstructionError),

@@ -3,7 +3,7 @@ ghost use Rattle.std.specs.Prelude.{◌≡◌, ◌-◌, ◌≤◌};
 ghost use Rattle.xet_run.specs.Budgets.{AdmitCall};
 
 /// So many bytes of a budget, which it gave.
-#[derive(Debug, Drop)]
+#[derive(Drop)]
 pub struct Admission {
     /// How many bytes.
     pub length: u64,
@@ -12,7 +12,7 @@ pub struct Admission {
 /// The bytes that were admitted and not released.
 ///
 /// In place of the semaphore of `xet-data`.
-#[derive(Debug, Drop)]
+#[derive(Drop)]
 pub struct Budget {
     unwritten: u64,
 }

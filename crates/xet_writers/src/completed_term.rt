@@ -4,7 +4,7 @@ use xet_base::{FileRange, Keyed};
 use xet_run::Admission;
 
 /// A term that waits for its bytes.
-#[derive(Drop, Debug)]
+#[derive(Drop)]
 pub struct WantedTerm {
     /// The term's bytes by their places, half open.
     pub byte_range: FileRange,
@@ -23,7 +23,7 @@ impl Keyed<u64> for WantedTerm {
 /// A term with its bytes.
 ///
 /// In the Rust crate: `file_reconstruction::data_writer::unordered_writer::CompletedTerm`.
-#[derive(Drop, Debug)]
+#[derive(Drop)]
 pub struct CompletedTerm {
     /// The term's bytes by their places, half open.
     pub byte_range: FileRange,

@@ -4,7 +4,7 @@ use xet_base::{FileRange, Keyed};
 use xet_run::Admission;
 
 /// A term that waits for its turn.
-#[derive(Drop, Debug)]
+#[derive(Drop)]
 pub struct QueuedTerm {
     /// The term's bytes by their places, half open.
     pub byte_range: FileRange,
