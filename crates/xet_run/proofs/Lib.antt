@@ -1,3 +1,4 @@
+mod Additions
 mod Fronts
 mod Keys
 mod Replays
