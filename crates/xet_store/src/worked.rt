@@ -1,5 +1,5 @@
 //! The worked store: a small store on which tests and examples stand.
-ghost use Rattle.std.specs.Prelude.{◌≡◌, IfOk, map};
+ghost use Rattle.std.specs.Prelude.{◌≡◌, ◌++◌, ◌∷◌, [], IfOk, OnOk, map};
 ghost use Rattle.xet_base.specs.Worked.{worked, x1};
 ghost use Rattle.xet_store.specs.Refusals.{stored_term};
 
@@ -28,32 +28,60 @@ pub const FILE_OF_TWO_ENDS: MerkleHash = MerkleHash([0xee; 32]);
 pub fn worked_store(alloc: Global) -> Result<MemStore, StoreRefused>
     ensures { IfOk result (λ store. store ≡ worked) }
 {
-    let mut store = MemStore::new(alloc);
-    let hello = chunks(alloc, &["Hello", ", ", "world", "!"])?;
-    store.add_xorb(
-        alloc,
-        Xorb {
-            hash: X1,
-            chunks: hello,
-        },
-    )?;
-    let letters = chunks(alloc, &["ab", "cde"])?;
-    store.add_xorb(
-        alloc,
-        Xorb {
-            hash: X2,
-            chunks: letters,
-        },
-    )?;
-    store.add_file(alloc, FILE_OF_ALL, terms(alloc, &[(0, 4)])?)?;
-    store.add_file(
+    let mut store = worked_xorbs(alloc)?;
+    put_file(&mut store, alloc, FILE_OF_ALL, &[(0, 4)])?;
+    put_file(
+        &mut store,
         alloc,
         FILE_OF_REPEATS,
-        terms(alloc, &[(2, 4), (0, 1), (0, 3)])?,
+        &[(2, 4), (0, 1), (0, 3)],
     )?;
-    store.add_file(alloc, FILE_OF_NOTHING, terms(alloc, &[])?)?;
-    store.add_file(alloc, FILE_OF_TWO_ENDS, terms(alloc, &[(0, 1), (3, 4)])?)?;
+    put_file(&mut store, alloc, FILE_OF_NOTHING, &[])?;
+    put_file(&mut store, alloc, FILE_OF_TWO_ENDS, &[(0, 1), (3, 4)])?;
     Ok(store)
+}
+
+// Its xorbs, and no files.
+fn worked_xorbs(alloc: Global) -> Result<MemStore, StoreRefused>
+    ensures { IfOk result (λ store. store ≡ record { xorbs = worked.xorbs; files = [] }) }
+{
+    let mut store = MemStore::new(alloc);
+    put_xorb(&mut store, alloc, X1, &["Hello", ", ", "world", "!"])?;
+    put_xorb(&mut store, alloc, X2, &["ab", "cde"])?;
+    Ok(store)
+}
+
+// Adds a xorb whose chunks are the bytes of some texts.
+fn put_xorb(
+    store: &mut MemStore,
+    alloc: Global,
+    hash: MerkleHash,
+    texts: &[&str],
+) -> Result<(), StoreRefused>
+    ensures { OnOk result (store.new ≡ record store.old {
+      xorbs = store.old.xorbs ++ record { hash = hash; chunks = map (λ t. t.now) texts.now } ∷ [];
+    }) }
+{
+    let chunks = chunks(alloc, texts)?;
+    store.add_xorb(alloc, Xorb { hash, chunks })
+}
+
+// Adds a file of terms of the first xorb.
+fn put_file(
+    store: &mut MemStore,
+    alloc: Global,
+    hash: MerkleHash,
+    ranges: &[(u32, u32)],
+) -> Result<(), StoreRefused>
+    ensures { OnOk result (store.new ≡ record store.old {
+      files = store.old.files ++ record {
+        hash = hash;
+        terms = map (λ r. record { xorb = x1; from = r.0; to = r.1 }) ranges.now;
+      } ∷ [];
+    }) }
+{
+    let terms = terms(alloc, ranges)?;
+    store.add_file(alloc, hash, terms)
 }
 
 // The bytes of some texts.
