@@ -26,7 +26,7 @@ use xet_outside::{Client, Plan, PlanAnswer};
 /// A term of a plan: some bytes of the file, and where they stand in a block.
 ///
 /// In the Rust crate: `file_reconstruction::reconstruction_terms::file_term::FileTerm`.
-#[derive(Clone, Copy, PartialEq, Eq, Debug)]
+#[derive(Clone, Copy, PartialEq, Eq)]
 pub struct FileTerm {
     /// The term's bytes by their places in the file, half open. It may have none.
     pub byte_range: FileRange,
@@ -43,7 +43,7 @@ pub struct FileTerm {
 /// Where a term's bytes come from.
 ///
 /// In the Rust crate: the future that `FileTerm::get_data_task` answers.
-#[derive(Drop, Debug)]
+#[derive(Drop)]
 pub enum DataSource {
     /// The block with this number in the plan is to be fetched first.
     Wanted(usize),
@@ -120,7 +120,7 @@ fn cut(bytes: &Bytes, place: Range<usize>) -> std::result::Result<Bytes, OutOfMe
 /// The terms of one plan, and the blocks that they are cut from.
 ///
 /// In the Rust crate: the triple that `retrieve_file_term_block` answers.
-#[derive(Drop, Debug)]
+#[derive(Drop)]
 pub struct TermBlock {
     /// The bytes of the file from the first term's start to before the last one's end.
     pub byte_range: FileRange,
