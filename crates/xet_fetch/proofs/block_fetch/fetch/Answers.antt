@@ -1,4 +1,5 @@
 use Rattle.std.proofs.Common.{◌≡◌, ◌<◌, ◌≤◌, ℕ, Err, rules}
+use Rattle.xet_base.proofs.CallerLemmas.{err-of}
 use Rattle.xet_error.specs.declared.error.FileReconstructionError.{FileReconstructionError}
 use Rattle.xet_fetch.specs.Refreshes.{refresh_of}
 use Rattle.xet_fetch.proofs.Fetching.{fetch_done, fetch_fails, fetch_more, fetch_none, fetch_start}
@@ -11,7 +12,7 @@ returns-in_err-fetched g c =
     let tries : ℕ = c.args.settings.now.tries in
     let below : k < tries = search rules in
     let fault : FileReconstructionError = c.in_err-fetched.field-0.0 in
-    let e : c.from_residual.result ≡ Err fault = search rules in
+    let e : c.from_residual.result ≡ Err fault = err-of _ _ c.from_residual.ensures in
     rw e (fetch_fails c.args.block.now c.args.urls.now c.loop-attempt.urls c.try_once.new.urls c.args.blocks.now c.args.settings.now.multirange (told c.args.client.now) (told c.loop-attempt.client) (told c.try_once.new.client)
     k tries c.loop-attempt.invariant below fault (rw c.in_err-fetched.was at c.try_once.ensures))
 

@@ -1,5 +1,6 @@
 use Rattle.std.proofs.Common.{◌≡◌, ◌∷◌, [], Ok, Err, Some, None, map, rules}
 use Rattle.xet_base.specs.Lists.{first_some}
+use Rattle.xet_base.proofs.CallerLemmas.{err-of}
 use Rattle.xet_error.specs.declared.error.FileReconstructionError.{FileReconstructionError}
 use Rattle.xet_blocks.specs.declared.reconstruction_terms.file_term.TermBlock.{TermBlock}
 use Rattle.xet_fetch.specs.Refreshes.{Refresh, blocks_test, extent_of, range_test}
@@ -13,7 +14,7 @@ returns-in_err-made g c =
     let n = g.C.Client.told c.retrieve_file_term_block.new.client in
     let r : Refresh = record { file = c.args.file_hash; range = c.args.byte_range; multirange = c.args.multirange; blocks = map extent_of c.args.blocks.now } in
     let fault : FileReconstructionError = c.in_err-made.field-0.0 in
-    let e : c.from_residual.result ≡ Err fault = search rules in
+    let e : c.from_residual.result ≡ Err fault = err-of _ _ c.from_residual.ensures in
     rw e (fresh_err b n r c.null-id.result fault c.in_err-made.ensures)
 
 pub returns-in-Some-failed_refresh : goal.returns-in-Some-failed_refresh

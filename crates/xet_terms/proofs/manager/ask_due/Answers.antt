@@ -1,5 +1,6 @@
 use Rattle.std.proofs.Common.{◌≡◌, ◌+◌, ◌<◌, ◌≤◌, Ok, Err, ap, length, arith, rules}
 use Rattle.std.proofs.lemmas.Option.{slice_get_within}
+use Rattle.xet_base.proofs.CallerLemmas.{err-of}
 use Rattle.xet_error.specs.declared.error.FileReconstructionError.{FileReconstructionError}
 use Rattle.xet_terms.specs.Managers.{Manager}
 use Rattle.xet_terms.specs.NextTerms.{AskCall}
@@ -9,7 +10,7 @@ use Rattle.xet_terms.proofs.manager.ask_due.Goals as goal
 pub returns-in_err-look_ahead : goal.returns-in_err-look_ahead
 returns-in_err-look_ahead g c =
     let fault : FileReconstructionError = c.in_err-look_ahead.field-0.0 in
-    let e : c.from_residual.result ≡ Err fault = search rules in
+    let e : c.from_residual.result ≡ Err fault = err-of _ _ c.from_residual.ensures in
     rw e (due_memory c.args.manager.now c.reopen.new.self c.look_ahead.new.self (g.C.Client.told c.args.client.now) fault c.reopen.ensures.queries c.in_err-look_ahead.ensures.kept c.in_err-look_ahead.ensures.memory)
 
 pub due-init : goal.due-init
@@ -43,7 +44,7 @@ returns-in_err-ask g c =
     let told = g.C.Client.told in
     let some = c.in-Some.ensures.some in
     let fault : FileReconstructionError = c.in_err-ask.field-0.0 in
-    let e : c.from_residual-in_err-ask.result ≡ Err fault = search rules in
+    let e : c.from_residual-in_err-ask.result ≡ Err fault = err-of _ _ c.from_residual-in_err-ask.ensures in
     rw e (asking_fails c.args.manager.now c.due.manager c.due-in-due.new.self c.ask.new.self (told c.args.client.now) (told c.due.client) (told c.ask.new.client) c.in-Some.due.query c.in-Some.due.id fault
     c.due.invariant some.0 some.1 some.2 c.in_err-ask.ensures)
 

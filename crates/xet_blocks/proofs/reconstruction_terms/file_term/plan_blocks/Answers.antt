@@ -1,6 +1,7 @@
 use Rattle.std.proofs.Common.{◌≡◌, rules, subst, sym, Err, None, Result}
 use Rattle.std.specs.Prelude.{IfErr}
 use Rattle.xet_base.specs.Lists.{first_some}
+use Rattle.xet_base.proofs.CallerLemmas.{err-of}
 use Rattle.xet_outside.specs.Plan.{shape}
 use Rattle.xet_error.specs.declared.error.FileReconstructionError.{FileReconstructionError}
 use Rattle.xet_blocks.specs.declared.reconstruction_terms.plan_blocks.PlanBlocks.{PlanBlocks}
@@ -14,7 +15,7 @@ returns-in_err-xorbs-clause-refused c =
     let plan = c.args.plan.now in
     let multi = c.args.multirange in
     let passed : ranges_test (shape plan) multi ≡ None = search rules in
-    let e : c.from_residual-in_err-xorbs.result ≡ Err c.in_err-xorbs.field-0.0 = search rules in
+    let e : c.from_residual-in_err-xorbs.result ≡ Err c.in_err-xorbs.field-0.0 = err-of _ _ c.from_residual-in_err-xorbs.ensures in
     subst (λ (r : Result PlanBlocks FileReconstructionError). IfErr r (IsRefusal (first_some (entry_tests (shape plan) multi)))) (sym e)
     (xorbs_refuse plan c.in_ok-offers.offers.plan.now multi c.in_err-xorbs.field-0.0 c.in_ok-offers.ensures.plan passed c.in_err-xorbs.ensures.refused)
 

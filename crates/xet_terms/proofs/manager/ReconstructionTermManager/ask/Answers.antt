@@ -1,4 +1,5 @@
 use Rattle.std.proofs.Common.{◌≡◌, Ok, Err, Option, subst, rules}
+use Rattle.xet_base.proofs.CallerLemmas.{err-of}
 use Rattle.xet_error.specs.declared.error.FileReconstructionError.{FileReconstructionError}
 use Rattle.xet_blocks.specs.declared.reconstruction_terms.file_term.TermBlock.{TermBlock}
 use Rattle.xet_terms.specs.Managers.{Manager}
@@ -15,7 +16,7 @@ returns-in_err-answer g c =
     let q = c.args.due.query in
     let id = c.args.due.id in
     let fault : FileReconstructionError = c.in_err-answer.field-0.0 in
-    let e : c.from_residual.result ≡ Err fault = search rules in
+    let e : c.from_residual.result ≡ Err fault = err-of _ _ c.from_residual.ensures in
     let call : TermBlockCall b n (record { file = c.self.inside.file_hash; range = q; multirange = c.self.inside.multirange; id = id }) (Err fault) = c.in_err-answer.ensures in
     rw e (ask_err c.args.self.now b n q id fault (subst (λ (m : Manager). TermBlockCall b n (query_of m q id) (Err fault)) c.self.view_is call))
 
