@@ -25,7 +25,7 @@ pub struct FileXorbDependency {
 /// A call of the tracker, with its arguments.
 ///
 /// The Rust crate has no such type.
-#[derive(Drop, Debug)]
+#[derive(Drop)]
 pub enum TrackerStep {
     /// `register_new_file`.
     RegisterNewFile {
@@ -101,7 +101,7 @@ pub enum TrackerReply {
 /// A call of the tracker and its answer.
 ///
 /// The Rust crate has no such type.
-#[derive(Drop, Debug)]
+#[derive(Drop)]
 pub struct TrackerCall {
     /// The call.
     pub step: TrackerStep,
