@@ -9,7 +9,7 @@ use std::marker::Model;
 use std::sync::Arc;
 
 /// A text that is never changed. Contracts see it as its bytes in UTF-8. Copies share memory.
-#[derive(Drop, Debug)]
+#[derive(Drop)]
 pub struct SharedText {
     text: Arc<Text>,
 }

@@ -9,7 +9,7 @@ use std::marker::Model;
 /// items.
 ///
 /// For lists of which a program holds many and which seldom have two items, as the ranges of a block.
-#[derive(Drop, Debug)]
+#[derive(Drop)]
 pub struct ShortList<T> {
     kept: Kept<T>,
 }

@@ -14,7 +14,7 @@ use xet_store::{Sink, Source, Tap};
 use xet_track_command::track;
 
 /// What the words ask for.
-#[derive(Clone, Copy, PartialEq, Eq, Debug)]
+#[derive(Clone, Copy, PartialEq, Eq)]
 pub enum Command {
     /// `--help`
     Help,

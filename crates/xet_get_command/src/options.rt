@@ -9,7 +9,7 @@ use xet_run::BudgetSettings;
 use xet_terms::ReconstructionConfig;
 
 /// An option of `get`. Sizes are in bytes.
-#[derive(Clone, Copy, PartialEq, Eq, Debug)]
+#[derive(Clone, Copy, PartialEq, Eq)]
 pub enum GetOption {
     /// `multi`: each fetch entry is one block of all its ranges.
     Multi,
@@ -32,7 +32,7 @@ pub enum GetOption {
 }
 
 /// The options of `get` as the words say them, each at most once. Sizes are in bytes.
-#[derive(Clone, Copy, PartialEq, Eq, Debug)]
+#[derive(Clone, Copy, PartialEq, Eq)]
 pub struct Options {
     /// How many connections, at most 64.
     pub lanes: Option<u64>,

@@ -7,7 +7,7 @@ use xet_base::{FileRange, MerkleHash};
 use xet_room::number;
 
 /// The file, the range of its bytes that `get` is to print, and how it is to be fetched.
-#[derive(Clone, Copy, PartialEq, Eq, Debug)]
+#[derive(Clone, Copy, PartialEq, Eq)]
 pub struct Wanted {
     /// The file's hash.
     pub file: MerkleHash,

@@ -12,7 +12,7 @@ pub trait Gate {
 }
 
 /// Lets every fetch pass.
-#[derive(Clone, Copy, PartialEq, Eq, Debug)]
+#[derive(Clone, Copy, PartialEq, Eq)]
 pub struct OpenGate;
 
 impl Gate for OpenGate {

@@ -12,7 +12,7 @@ use xet_ties::LaneStep;
 /// What a lane hands back.
 ///
 /// The Rust crate has no such type.
-#[derive(Drop, Debug)]
+#[derive(Drop)]
 pub struct LaneEnd {
     /// Its steps, in order. Only the last may have failed.
     pub steps: Vec<LaneStep>,
@@ -23,7 +23,7 @@ pub struct LaneEnd {
 /// What one join came to.
 ///
 /// The Rust crate has no such type.
-#[derive(Drop, Debug)]
+#[derive(Drop)]
 pub struct Joined {
     /// The lanes, in the order of the connections.
     pub ends: Vec<LaneEnd>,

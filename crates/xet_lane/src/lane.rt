@@ -14,7 +14,7 @@ use xet_ties::LaneStep;
 /// One fetch of a round.
 ///
 /// In place of the tasks that `xet-data` spawns for the blocks of a file.
-#[derive(Drop, Debug)]
+#[derive(Drop)]
 pub struct Fetch<'a> {
     /// The number of the fetch, from 0 over the whole run. The gate is told it.
     pub number: u64,

@@ -31,7 +31,7 @@ pub(crate) struct Shared<'a, R, G, L: Ledger> {
 }
 
 /// What a lane does next.
-#[derive(Clone, Copy, Debug)]
+#[derive(Clone, Copy)]
 pub enum Next {
     /// The fetch of this number.
     Number(u64),

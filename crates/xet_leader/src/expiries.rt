@@ -15,7 +15,7 @@ use xet_blocks::FetchPolicy;
 use xet_error::{FileReconstructionError, Result};
 
 /// A plan with a URL that expired.
-#[derive(Clone, Copy, PartialEq, Eq, Debug)]
+#[derive(Clone, Copy, PartialEq, Eq)]
 struct StalePlan {
     number: u64,
 }

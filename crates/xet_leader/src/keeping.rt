@@ -15,7 +15,7 @@ use xet_lane::LaneEnd;
 use xet_ties::LaneStep;
 
 /// The blocks of the steps of a round.
-#[derive(Drop, Debug)]
+#[derive(Drop)]
 pub struct RoundPlaces {
     /// Those that were served.
     pub served: Vec<BlockAt>,

@@ -11,7 +11,7 @@ use xet_progress::ItemProgressUpdater;
 use xet_terms::{FetchPolicy, ReconstructionConfig, ReconstructionTermManager, TermBlock};
 
 /// What a run is for.
-#[derive(Clone, Copy, PartialEq, Eq, Debug)]
+#[derive(Clone, Copy, PartialEq, Eq)]
 pub struct Job {
     /// The file.
     pub file_hash: MerkleHash,

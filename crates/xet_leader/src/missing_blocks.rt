@@ -12,7 +12,7 @@ use xet_base::{FileRange, List, OutOfMemory};
 use xet_blocks::{FetchPolicy, FileTerm, XorbBlock};
 
 /// A block of a plan.
-#[derive(Clone, Copy, PartialEq, Eq, Debug)]
+#[derive(Clone, Copy, PartialEq, Eq)]
 pub struct BlockAt {
     /// The plan's number, from 1.
     pub plan: u64,

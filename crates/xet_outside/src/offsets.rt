@@ -11,7 +11,7 @@ use xet_base::OutOfMemory;
 /// Copies share memory, and so do the blocks that are cut from one xorb.
 ///
 /// In the Rust crates: the chunk offsets of a block, a `Vec<u32>`.
-#[derive(Drop, Debug)]
+#[derive(Drop)]
 pub struct Offsets {
     // places, of which those from number `start` to before number `end` are meant
     places: Arc<Vec<u32>>,

@@ -18,7 +18,7 @@ const PIECE: usize = 16_384;
 const LARGE: usize = 65_536;
 
 /// Why an input was not read to its end.
-#[derive(Clone, Copy, PartialEq, Eq, Debug)]
+#[derive(Clone, Copy, PartialEq, Eq)]
 pub enum ReadError {
     /// An allocation was refused.
     OutOfMemory,

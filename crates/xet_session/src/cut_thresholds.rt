@@ -8,7 +8,7 @@ use xet_upload::DataAggregator;
 /// How much the data of a file and what waits may have together, and stay one.
 ///
 /// It has no source in the Rust crates: these are two of the settings of an upload.
-#[derive(Clone, Copy, PartialEq, Eq, Debug)]
+#[derive(Clone, Copy, PartialEq, Eq)]
 pub struct CutThresholds {
     /// How many bytes.
     pub bytes: u64,

@@ -8,7 +8,7 @@ use std::mem;
 use xet_base::{List, MDBFileInfo, MDBXorbInfo, OutOfMemory, ShardRecord};
 
 /// Shards that are full, and the records of the next one.
-#[derive(Drop, Debug)]
+#[derive(Drop)]
 pub struct ShardFiller {
     /// The full ones, in order.
     pub done: List<ShardRecord>,

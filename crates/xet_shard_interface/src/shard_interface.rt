@@ -18,7 +18,7 @@ use xet_upload::DataError;
 use xet_uploader::Uploader;
 
 /// What the settings say of records.
-#[derive(Clone, Copy, PartialEq, Eq, Debug)]
+#[derive(Clone, Copy, PartialEq, Eq)]
 pub struct ShardRules {
     /// Whether no records are put.
     pub dry_run: bool,

@@ -4,7 +4,7 @@ ghost use Rattle.xet_sinks.specs.steps.Pushed.{Pushed};
 use xet_outside::sink::{Sink, SinkError};
 
 /// How much of a piece went out: all of it, so many bytes before memory ran out, or some prefix.
-#[derive(Clone, Copy, PartialEq, Eq, Debug)]
+#[derive(Clone, Copy, PartialEq, Eq)]
 pub(crate) enum Sent {
     Whole,
     Memory(usize),

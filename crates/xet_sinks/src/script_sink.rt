@@ -13,7 +13,7 @@ use xet_base::OutOfMemory;
 use xet_outside::sink::{Sink, SinkError};
 
 /// What a scripted sink does with a write of some bytes.
-#[derive(Clone, Copy, PartialEq, Eq, Debug)]
+#[derive(Clone, Copy, PartialEq, Eq)]
 pub enum SinkStep {
     /// Takes so many bytes at most, and at least one.
     Take(usize),

@@ -8,7 +8,7 @@ use std::collections::VecDeque;
 use xet_outside::source::{Source, SourceFault};
 
 /// What a scripted source does with a read into some room.
-#[derive(Clone, Copy, PartialEq, Eq, Debug)]
+#[derive(Clone, Copy, PartialEq, Eq)]
 pub enum SourceStep {
     /// Gives so many bytes at most, and at least one, where there are any.
     Give(usize),

@@ -6,7 +6,7 @@ use std::alloc::Global;
 use xet_outside::sink::{Sink, SinkError};
 
 /// A sink over a vector, which has no faults.
-#[derive(Drop, Debug)]
+#[derive(Drop)]
 pub struct VecSink {
     taken: Vec<u8>,
     // how many of the taken bytes are flushed

@@ -5,7 +5,7 @@ ghost use Rattle.xet_outside.specs.Told.{ReadCall};
 use xet_outside::source::{Source, SourceFault};
 
 /// A source over bytes in memory, which has no faults.
-#[derive(Drop, Debug)]
+#[derive(Drop)]
 pub struct VecSource {
     bytes: Vec<u8>,
     // how many of the bytes were taken

@@ -17,7 +17,7 @@ use xet_leader::missing_blocks::BlockAt;
 use xet_run::{EventLog, RunCore};
 
 /// What a join leaves to be settled and reported.
-#[derive(Drop, Debug)]
+#[derive(Drop)]
 pub struct Outcome {
     /// The blocks that were served, in the order of the lanes.
     pub served: Vec<BlockAt>,

@@ -9,7 +9,7 @@ use xet_base::{ChunkRange, Keyed, KeyedList, MerkleHash, OutOfMemory};
 use xet_outside::{BlockBytes, CacheError, ChunkCache};
 
 /// The key of an entry.
-#[derive(Clone, Copy, PartialEq, Eq, PartialOrd, Ord, Debug)]
+#[derive(Clone, Copy, PartialEq, Eq, PartialOrd, Ord)]
 pub struct CacheKey {
     /// The xorb.
     pub xorb: MerkleHash,

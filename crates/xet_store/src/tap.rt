@@ -26,7 +26,7 @@ pub trait Tap {
 }
 
 /// A tap that hands each block on, and keeps nothing. It never refuses.
-#[derive(Clone, Copy, PartialEq, Eq, Debug)]
+#[derive(Clone, Copy, PartialEq, Eq)]
 pub struct NoTap;
 
 impl Tap for NoTap {

@@ -24,7 +24,7 @@ use xet_outside::Client;
 use xet_progress::ItemProgressUpdater;
 
 /// A query that is to be asked, and the id that its plan gets: the query's number, from 1.
-#[derive(Clone, Copy, PartialEq, Eq, Debug)]
+#[derive(Clone, Copy, PartialEq, Eq)]
 pub struct PlanDue {
     /// The bytes of the file that are asked for, half open.
     pub query: FileRange,

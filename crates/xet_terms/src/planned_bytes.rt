@@ -7,7 +7,7 @@ use xet_blocks::TermBlock;
 use xet_progress::ItemProgressUpdater;
 
 /// The bytes of the plans that were taken, as sums that stop at `u64::MAX`.
-#[derive(Clone, Copy, PartialEq, Eq, Debug)]
+#[derive(Clone, Copy, PartialEq, Eq)]
 pub(crate) struct PlannedBytes {
     bytes: u64,
     transfer_bytes: u64,

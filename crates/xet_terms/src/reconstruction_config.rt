@@ -8,7 +8,7 @@ use xet_fetch::FetchSettings;
 /// The settings of a reconstruction. Sizes are in bytes.
 ///
 /// In the Rust crates: the fields of `xet_config` that `file_reconstruction` reads.
-#[derive(Clone, Copy, PartialEq, Eq, Debug)]
+#[derive(Clone, Copy, PartialEq, Eq)]
 pub struct ReconstructionConfig {
     /// The least size of a query, but for one that the end of the range cuts.
     pub min_reconstruction_fetch_size: u64,

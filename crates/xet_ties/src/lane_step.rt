@@ -5,7 +5,7 @@ use xet_error::FileReconstructionError;
 /// What one fetch came to.
 ///
 /// The Rust crate has no such type.
-#[derive(Drop, Debug)]
+#[derive(Drop)]
 pub enum LaneStep {
     /// The block's bytes came and passed their tests.
     Served {

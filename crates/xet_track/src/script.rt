@@ -14,7 +14,7 @@ use xet_base::OutOfMemory;
 use xet_progress_state::{TrackerReply, TrackerState};
 
 /// What the next line of a script did.
-#[derive(Clone, Copy, PartialEq, Eq, Drop, Debug)]
+#[derive(Clone, Copy, PartialEq, Eq, Drop)]
 pub enum Turn {
     /// It was a call, and its line was printed.
     Printed,

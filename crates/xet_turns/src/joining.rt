@@ -25,7 +25,7 @@ use xet_stages::{Around, Outcome, window};
 use xet_writers::SequentialWriter;
 
 /// What a round is to do.
-#[derive(Drop, Debug)]
+#[derive(Drop)]
 pub struct Prepared {
     /// The blocks that are to be fetched.
     pub places: List<BlockAt>,

@@ -28,7 +28,7 @@ impl<T: Cutter> Cutter for &mut T {
 }
 
 /// Cuts chunks of one size; the last may be shorter.
-#[derive(Clone, Copy, PartialEq, Eq, Debug)]
+#[derive(Clone, Copy, PartialEq, Eq)]
 pub struct FixedCutter {
     /// How many bytes a chunk has.
     pub size: usize,

@@ -5,7 +5,7 @@ ghost use Rattle.xet_upload.specs.Metrics.{both, no_counts};
 /// What was uploaded and what was found. All counts but those of chunks are in bytes; each stops at `u64::MAX`.
 ///
 /// In the Rust crates: `deduplication::DeduplicationMetrics`.
-#[derive(Clone, Copy, PartialEq, Eq, Debug)]
+#[derive(Clone, Copy, PartialEq, Eq)]
 pub struct DeduplicationMetrics {
     /// The bytes of all chunks.
     pub total_bytes: u64,

@@ -6,7 +6,7 @@ use xet_base::{MDBFileInfo, MDBXorbInfo, MerkleHash, Xorb};
 /// A xorb with its record.
 ///
 /// In the Rust crates: `deduplication::RawXorbData`.
-#[derive(Drop, Debug)]
+#[derive(Drop)]
 pub struct RawXorbData {
     /// The xorb.
     pub xorb: Xorb,
@@ -31,7 +31,7 @@ impl RawXorbData {
 }
 
 /// A file whose chunks are all in xorbs with a hash.
-#[derive(Drop, Debug)]
+#[derive(Drop)]
 pub struct PendingFile {
     /// The number by which the tracker names the file.
     pub file_id: u64,

@@ -4,7 +4,7 @@ use xet_base::MerkleHash;
 /// Whether a file's record has SHA-256 of its bytes.
 ///
 /// In the Rust crate xet-data: `processing::Sha256Policy`.
-#[derive(Clone, Copy, PartialEq, Eq, Debug)]
+#[derive(Clone, Copy, PartialEq, Eq)]
 pub enum Sha256Policy {
     /// It is computed from the bytes.
     Compute,

@@ -6,7 +6,7 @@ use xet_base::{MerkleHash, ShardRecord, Xorb};
 use xet_outside::ClientError;
 
 /// A put that an uploader accepted.
-#[derive(Drop, Debug)]
+#[derive(Drop)]
 pub enum Put {
     /// A xorb.
     Xorb(Xorb),

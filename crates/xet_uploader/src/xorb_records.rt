@@ -9,7 +9,7 @@ use std::marker::Model;
 use xet_base::{ChunkInfo, MDBXorbInfo, MerkleHash, OutOfMemory};
 
 /// Where a chunk stands among records of xorbs.
-#[derive(Clone, Copy, PartialEq, Eq, Debug)]
+#[derive(Clone, Copy, PartialEq, Eq)]
 pub struct ChunkPlace {
     /// The number of the record, counted from 0.
     pub xorb: usize,

@@ -15,7 +15,7 @@ pub struct QueuedTerm {
 }
 
 /// Where a term stands in the queue that waits for its bytes.
-#[derive(Clone, Copy, Debug)]
+#[derive(Clone, Copy)]
 pub(crate) struct WantedPlace {
     /// Where the term starts.
     pub(crate) start: u64,

@@ -26,7 +26,7 @@ use xet_outside::{Client, Plan, PlanAnswer};
 /// A term of a plan: some bytes of the file, and where they stand in a block.
 ///
 /// In the Rust crate: `file_reconstruction::reconstruction_terms::file_term::FileTerm`.
-#[derive(Clone, Copy, PartialEq, Eq)]
+#[derive(Clone, Copy, PartialEq, Eq, Debug)]
 pub struct FileTerm {
     /// The term's bytes by their places in the file, half open. It may have none.
     pub byte_range: FileRange,

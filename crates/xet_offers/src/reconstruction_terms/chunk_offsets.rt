@@ -10,13 +10,13 @@ use xet_outside::Offsets;
 /// For each chunk of a block, in order: its number in the xorb, and the place of its first byte in the block. Contracts
 /// see it as the list of these pairs. Of chunks whose numbers follow one another the numbers are not written down, and
 /// the places are shared with the answer that they came with.
-#[derive(Drop, Debug)]
+#[derive(Drop)]
 pub struct ChunkOffsets {
     chunks: Chunks,
 }
 
 /// How the pairs are kept.
-#[derive(Drop, Debug)]
+#[derive(Drop)]
 enum Chunks {
     /// The number of the first chunk, from which the others count on, and the places.
     Run(u32, Offsets),

@@ -7,7 +7,7 @@ use xet_base::{FileRange, HttpRange, List, MerkleHash, SharedText, ShortList, Un
 ///
 /// In the Rust crate: the pair of a URL and its byte ranges in
 /// `file_reconstruction::reconstruction_terms::retrieval_urls::TermBlockRetrievalURLs`.
-#[derive(Drop, Debug)]
+#[derive(Drop)]
 pub struct RetrievalUrl {
     /// The URL of the plan's entry that offers the block.
     pub url: SharedText,
@@ -19,7 +19,7 @@ pub struct RetrievalUrl {
 /// The URL of each block of a plan, in the order of the blocks, and the acquisition that they came with.
 ///
 /// In the Rust crate: `file_reconstruction::reconstruction_terms::retrieval_urls::TermBlockRetrievalURLs`.
-#[derive(Drop, Debug)]
+#[derive(Drop)]
 pub struct TermBlockRetrievalURLs {
     /// The file of the plan.
     pub file_hash: MerkleHash,

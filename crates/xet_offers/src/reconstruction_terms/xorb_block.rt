@@ -24,7 +24,7 @@ use xet_outside::{BlockBytes, BlockRequest, Offsets};
 /// The data of a fetched block.
 ///
 /// In the Rust crate: `file_reconstruction::reconstruction_terms::xorb_block::XorbBlockData`.
-#[derive(Drop, Debug)]
+#[derive(Drop)]
 pub struct XorbBlockData {
     /// For each chunk of the block, in order: its number in the xorb, and the place of its first byte in the block.
     pub chunk_offsets: ChunkOffsets,
@@ -46,7 +46,7 @@ pub struct XorbReference {
 /// Chunk ranges of a xorb that are fetched at once, for all terms that lie in them.
 ///
 /// In the Rust crate: `file_reconstruction::reconstruction_terms::xorb_block::XorbBlock`.
-#[derive(Drop, Debug)]
+#[derive(Drop)]
 pub struct XorbBlock {
     /// The xorb.
     pub xorb_hash: MerkleHash,

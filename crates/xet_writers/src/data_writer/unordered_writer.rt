@@ -32,7 +32,7 @@ use xet_run::Admission;
 /// Terms that wait for bytes, and their lengths summed, a sum that stops at `u64::MAX`.
 ///
 /// In the Rust crate: `file_reconstruction::data_writer::unordered_writer::UnorderedWriterProgress`.
-#[derive(Clone, Copy, PartialEq, Eq, Debug)]
+#[derive(Clone, Copy, PartialEq, Eq)]
 pub struct UnorderedWriterProgress {
     /// How many terms wait.
     pub terms_in_progress: u64,
