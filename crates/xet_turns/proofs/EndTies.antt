@@ -10,8 +10,7 @@ use Rattle.xet_error.specs.declared.error.FileReconstructionError.TheVariants as
 use Rattle.xet_events.specs.declared.event.Event.{Event}
 use Rattle.xet_events.specs.Events.{written, expires}
 use Rattle.xet_writers.specs.Calls.{SinkCause, finish_fault}
-use Rattle.xet_writers.specs.declared.queued_term.QueuedTerm.{QueuedTerm}
-use Rattle.xet_writers.specs.Queues.{ready_bytes, wanted}
+use Rattle.xet_writers.specs.Queues.{QueuedTerm, ready_bytes, wanted}
 use Rattle.xet_writers.specs.Sequential.{Ended, FinishSequential, NotEnded, Sequential}
 use Rattle.xet_writers.proofs.CallerLemmas.{open_writer}
 use Rattle.xet_ties.specs.Causes.{Cause, failing_setting}

@@ -12,9 +12,8 @@ use Rattle.xet_events.specs.declared.event.Event.{Event}
 use Rattle.xet_events.specs.Allowed.{IsMissing}
 use Rattle.xet_events.specs.Events.{Task, planned, size, taken_in, written}
 use Rattle.xet_history.specs.Laws.{IsPrefix}
-use Rattle.xet_writers.specs.declared.queued_term.QueuedTerm.{QueuedTerm}
 use Rattle.xet_writers.specs.Calls.{SinkCause, closed_by}
-use Rattle.xet_writers.specs.Queues.{ready, ready_bytes}
+use Rattle.xet_writers.specs.Queues.{QueuedTerm, ready, ready_bytes}
 use Rattle.xet_writers.specs.Sequential.{Sequential, WindowCall, Wrote, WroteAll, told_of}
 use Rattle.xet_writers.proofs.CallerLemmas.{open_writer}
 use Rattle.xet_ties.specs.declared.lane_step.LaneStep.{LaneStep}

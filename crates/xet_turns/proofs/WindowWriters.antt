@@ -3,8 +3,7 @@ use Rattle.std.proofs.Common.{◌≡◌, ℕ, ◌+◌, List, [], ◌∷◌, ◌+
 use Rattle.std.specs.List.{concat}
 use Rattle.std.proofs.lemmas.List.{append-nil}
 use Rattle.std.proofs.lemmas.List.Folds.{concat-append}
-use Rattle.xet_writers.specs.declared.queued_term.QueuedTerm.{QueuedTerm}
-use Rattle.xet_writers.specs.Queues.{ready, ready_bytes}
+use Rattle.xet_writers.specs.Queues.{QueuedTerm, ready, ready_bytes}
 use Rattle.xet_writers.specs.Sequential.{Sequential}
 use Rattle.xet_writers.proofs.CallerLemmas.{ready_more}
 use Rattle.xet_stages.specs.Windows.{with_piece, with_pieces}

@@ -7,9 +7,9 @@ use Rattle.std.proofs.Math.Seq.{take-length}
 use Rattle.xet_run.specs.declared.budget.Admission.{Admission}
 use Rattle.xet_outside.specs.Told.{SinkTold}
 use Rattle.xet_error.specs.declared.error.FileReconstructionError.{FileReconstructionError}
-use Rattle.xet_writers.specs.declared.queued_term.QueuedTerm.{QueuedTerm}
-use Rattle.xet_writers.specs.Queues.{admissions, bytes_then, ready, ready_bytes, wanted}
-use Rattle.xet_writers.specs.Calls.{DoneEnd, FailedEnd, SinkCause}
+use Rattle.xet_queue.specs.declared.queued_term.QueuedTerm.{QueuedTerm}
+use Rattle.xet_queue.specs.Queues.{admissions, bytes_then, ready, ready_bytes, wanted}
+use Rattle.xet_queue.specs.Calls.{DoneEnd, FailedEnd, SinkCause}
 use Rattle.xet_writers.specs.Sequential.{NotEnded, Sequential, Wrote, sums_of, told_of}
 use Rattle.xet_writers.specs.steps.SequentialSteps.{Flushed, Last}
 

@@ -2,9 +2,9 @@
 use Rattle.std.proofs.Common.{◌≡◌, ℕ, suc, ◌+◌, ◌-◌, false, List, [], ◌∷◌, ◌++◌, length, Option, Some, None, ap, refl, arith}
 use Rattle.std.proofs.lemmas.Bool.{eq-eqb, le-ltb}
 use Rattle.xet_blocks.specs.declared.reconstruction_terms.file_term.DataSource.TheVariants.{Ready}
-use Rattle.xet_writers.specs.declared.queued_term.QueuedTerm.{QueuedTerm}
-use Rattle.xet_writers.specs.Calls.{closed_by, set_fault}
-use Rattle.xet_writers.specs.Queues.{bytes_then, ready}
+use Rattle.xet_queue.specs.declared.queued_term.QueuedTerm.{QueuedTerm}
+use Rattle.xet_queue.specs.Calls.{closed_by, set_fault}
+use Rattle.xet_queue.specs.Queues.{bytes_then, ready}
 use Rattle.xet_writers.specs.Sequential.{Sequential, told_of}
 
 abbrev More : List QueuedTerm → QueuedTerm → List ℕ → Type 0

@@ -5,8 +5,8 @@ use Rattle.std.specs.Prelude.{OnOk, option_map}
 use Rattle.xet_outside.specs.Told.{SinkTold, Took, TookPrefix}
 use Rattle.xet_error.specs.declared.error.FileReconstructionError.{FileReconstructionError}
 use Rattle.xet_error.specs.declared.error.FileReconstructionError.TheVariants as error
-use Rattle.xet_writers.specs.Calls.{SinkCause, closed_by}
-use Rattle.xet_writers.specs.Queues.{ready_bytes}
+use Rattle.xet_queue.specs.Calls.{SinkCause, closed_by}
+use Rattle.xet_queue.specs.Queues.{ready_bytes}
 use Rattle.xet_writers.specs.Sequential.{ReadyCall, Sequential, WindowCall, Wrote, WroteAll, WrotePart, told_of}
 
 none : (a : Option (List ℕ)) → Took a a []

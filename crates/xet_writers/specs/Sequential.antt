@@ -1,5 +1,5 @@
--- The writer that writes in order.
-use Rattle.std.specs.Prelude.{ℕ, ◌≡◌, ◌⊎◌, ◌+◌, ◌≤◌, ◌++◌, cond, length, List, [], ◌∷◌, take, drop, Bool, true, Option}
+-- The calls of the writer that writes in order.
+use Rattle.std.specs.Prelude.{ℕ, ◌≡◌, ◌⊎◌, ◌+◌, ◌≤◌, ◌++◌, length, List, [], ◌∷◌, take, true, Option}
 use Rattle.std.specs.Prelude.{Some, None, option_map, Result, Err, IfOk, IfErr, OnErr, OnOk}
 use Rattle.std.specs.List.{concat}
 use Rattle.xet_base.specs.declared.cas_types.FileRange.{FileRange}
@@ -9,28 +9,12 @@ use Rattle.xet_blocks.specs.declared.reconstruction_terms.file_term.DataSource.{
 use Rattle.xet_blocks.specs.declared.reconstruction_terms.file_term.DataSource.TheVariants.{Ready, Wanted}
 use Rattle.xet_error.specs.declared.error.FileReconstructionError.{FileReconstructionError}
 use Rattle.xet_error.specs.declared.error.FileReconstructionError.TheVariants as error
-use Rattle.xet_writers.specs.declared.queued_term.QueuedTerm.{QueuedTerm}
-use Rattle.xet_writers.specs.Calls.{WriterTold, WriterSums, Refused, Accepted, SinkCause, closed_by, set_fault}
-use Rattle.xet_writers.specs.Calls.{supply_fault, finish_fault}
-use Rattle.xet_writers.specs.Pieces.{StoppedAt, TookAtLeast}
-use Rattle.xet_writers.specs.Queues.{admissions, ready, ready_bytes, supplied, wanted}
-
--- what contracts see of it: the sink; whether one write is handed many pieces; the terms that are not wholly written,
--- in order; the admissions of written terms that were not given back; the place at which the next term must start; the
--- bytes of the written terms
-pub record Sequential (S : Type 0) : Type 0 where
-  pub sink : S
-  pub vectored : Bool
-  pub queue : List QueuedTerm
-  pub released : List Admission
-  pub expected : ℕ
-  pub delivered : ℕ
-  pub kept : Option FileReconstructionError
-  pub finished : Bool
-
--- what it tells as every writer does
-abbrev pub told_of : {S : Type 0} → Sequential S → WriterTold
-told_of w = record { next = Some w.expected; wanted = wanted w.queue; kept = w.kept; finished = w.finished }
+use Rattle.xet_queue.specs.Calls.{WriterSums, Refused, Accepted, SinkCause, closed_by, set_fault}
+use Rattle.xet_queue.specs.Calls.{supply_fault, finish_fault}
+use Rattle.xet_queue.specs.Pieces.{StoppedAt, TookAtLeast}
+use Rattle.xet_queue.specs.Queues.{admissions, ready, ready_bytes, supplied, wanted}
+use Rattle.xet_queue.specs.Sequential.{Passed, most_pieces}
+pub use Rattle.xet_queue.specs.Sequential.{Sequential, told_of}
 
 -- what it adds up as every writer does: each term starts where the one before it ends, so the next place is their bytes
 abbrev pub sums_of : {S : Type 0} → (S → SinkTold) → Sequential S → WriterSums
@@ -65,20 +49,6 @@ pub record SupplySequential {S : Type 0} (before after : Sequential S) (start : 
   pub refused : Refused told_of keeping before after (supply_fault (wanted before.queue) start bytes) answer
   pub accepted : Accepted told_of before after (supply_fault (wanted before.queue) start bytes)
       (record before { queue = supplied start bytes before.queue }) answer
-
--- the first terms of the queue were wholly written
-pub record Passed {S : Type 0} (before after : Sequential S) (terms : ℕ) : Type 0 where
-  pub within : terms ≤ length (ready before.queue)
-  pub queue : after.queue ≡ drop terms before.queue
-  pub released : after.released ≡ before.released ++ admissions (take terms before.queue)
-  pub delivered : after.delivered ≡ before.delivered + length (concat (take terms (ready before.queue)))
-  pub expected : after.expected ≡ before.expected
-  pub finished : after.finished ≡ before.finished
-  pub vectored : after.vectored ≡ before.vectored
-
--- the most pieces that one write is handed
-abbrev pub most_pieces : {S : Type 0} → Sequential S → ℕ
-most_pieces w = cond w.vectored 24 1
 
 -- all that is ready was written, so many bytes, and no write failed
 pub record WroteAll {S : Type 0} (told : S → SinkTold) (before after : Sequential S) (count : ℕ) : Type 0 where
@@ -172,9 +142,3 @@ pub record FinishSequential {S : Type 0} (told : S → SinkTold) (before after :
   pub unflushed : OnErr answer ((told after.sink).flushed ≡ (told before.sink).flushed)
   pub link : (told after.sink).link ≡ (told before.sink).link
   pub faults : (told before.sink).faults ≤ (told after.sink).faults
-
--- the oldest admission of a written term
-abbrev pub TookReleased : {S : Type 0} → Sequential S → Sequential S → Option Admission → Type 0
-TookReleased before after None = (before.released ≡ []) × (after ≡ before)
-TookReleased before after (Some a) = (before.released ≡ a ∷ after.released)
-    × (after ≡ record before { released = after.released })

@@ -1,8 +1,1 @@
--- Working words of private functions.
-pub mod Batches
-pub mod Indexed
-pub mod Lending
-pub mod PieceSteps
 pub mod SequentialSteps
-pub mod WantedPlaces
-pub mod UnorderedSteps

@@ -1,7 +1,7 @@
 //! Laws of the writers, as functions that do what the law speaks of.
 ghost use Rattle.std.specs.Prelude.{◌≡◌, ◌++◌, [], ◌∷◌, List, OnOk, Some, length, ℕ};
-ghost use Rattle.xet_writers.specs.declared.queued_term.QueuedTerm.{QueuedTerm};
-ghost use Rattle.xet_writers.specs.Queues.{ready};
+ghost use Rattle.xet_queue.specs.declared.queued_term.QueuedTerm.{QueuedTerm};
+ghost use Rattle.xet_queue.specs.Queues.{ready};
 
 use crate::data_writer::sequential_writer::SequentialWriter;
 use std::alloc::Global;

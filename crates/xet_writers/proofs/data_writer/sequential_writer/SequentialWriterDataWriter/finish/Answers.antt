@@ -1,7 +1,7 @@
 use Rattle.std.proofs.Common.{rules, ◌≡◌, []}
-use Rattle.xet_writers.specs.Queues.{wanted}
+use Rattle.xet_queue.specs.Queues.{wanted}
 use Rattle.xet_writers.proofs.Ends.{done_any, failed_any, same_bytes, unfailed_any}
-use Rattle.xet_writers.proofs.Terms.{none_wanted}
+use Rattle.xet_queue.proofs.CallerLemmas.{none_wanted}
 use Rattle.xet_writers.proofs.data_writer.sequential_writer.SequentialWriterDataWriter.finish.Goals as goal
 
 pub write_last-requires-clause-whole : goal.write_last-requires-clause-whole
