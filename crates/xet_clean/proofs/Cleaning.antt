@@ -21,9 +21,9 @@ use Rattle.xet_upload.specs.Waitings.{IsWithin, Waiting, no_waiting, xorb_of_chu
 use Rattle.xet_upload.specs.declared.data_error.DataError.{DataError}
 use Rattle.xet_upload.specs.declared.data_error.DataError.TheVariants as data_error
 use Rattle.xet_upload.specs.declared.metrics.DeduplicationMetrics.{DeduplicationMetrics}
-use Rattle.xet_upload.specs.declared.waiting.TermXorb.{TermXorb}
-use Rattle.xet_upload.specs.declared.waiting.TermXorb.TheVariants.{Own, Stored}
-use Rattle.xet_upload.specs.declared.waiting.WaitingTerm.{WaitingTerm}
+use Rattle.xet_waiting.specs.declared.waiting.TermXorb.{TermXorb}
+use Rattle.xet_waiting.specs.declared.waiting.TermXorb.TheVariants.{Own, Stored}
+use Rattle.xet_waiting.specs.declared.waiting.WaitingTerm.{WaitingTerm}
 use Rattle.xet_upload.proofs.CallerLemmas.{parts-found, parts-own, parts_cut, stand-named}
 use Rattle.xet_session.specs.Calls.{Backs, CountsSent, PutsFail, Refuses, Registers, WasPut, finalized_error}
 use Rattle.xet_session.specs.Sessions.{IsListed, SessionTold, known_of, log_of, named_by}

@@ -15,7 +15,7 @@ use Rattle.xet_upload.specs.declared.data_error.DataError.{DataError}
 use Rattle.xet_upload.specs.declared.data_error.DataError.TheVariants as data_error
 use Rattle.xet_upload.specs.declared.metrics.DeduplicationMetrics.{DeduplicationMetrics}
 use Rattle.xet_upload.specs.declared.sha256_policy.Sha256Policy.TheVariants.{Compute}
-use Rattle.xet_upload.specs.declared.waiting.WaitingFile.{WaitingFile}
+use Rattle.xet_waiting.specs.declared.waiting.WaitingFile.{WaitingFile}
 use Rattle.xet_session.specs.Completions.{TakesFile}
 use Rattle.xet_session.specs.Sessions.{SessionTold}
 use Rattle.xet_session.specs.Trackings.{TracksFile}

@@ -15,8 +15,8 @@ use Rattle.xet_uploader.specs.Uploads.{xorbs_in}
 use Rattle.xet_upload.specs.Standing.{AgreeOn, Stand, named, term_of, world}
 use Rattle.xet_upload.specs.Waitings.{IsWithin, Waiting, file_shifted, merged, record_of_file, xorb_of_chunks}
 use Rattle.xet_upload.specs.declared.data_error.DataError.{DataError}
-use Rattle.xet_upload.specs.declared.waiting.WaitingFile.{WaitingFile}
-use Rattle.xet_upload.specs.declared.waiting.WaitingTerm.{WaitingTerm}
+use Rattle.xet_waiting.specs.declared.waiting.WaitingFile.{WaitingFile}
+use Rattle.xet_waiting.specs.declared.waiting.WaitingTerm.{WaitingTerm}
 use Rattle.xet_upload.proofs.CallerLemmas.{cut_stands, stand-before, stand-behind, stand-grown, stand-named}
 use Rattle.xet_session.specs.Calls.{Cut, CutPut, CutStill, CutStopped, Keeps, waiting_hash, waiting_records}
 use Rattle.xet_session.specs.Completions.{CutsFile, CutsWaiting, Joins, TakesFile, with_waiting}

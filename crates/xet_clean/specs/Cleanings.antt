@@ -13,7 +13,7 @@ use Rattle.xet_upload.specs.FileDatas.{Parts, PartsStand}
 use Rattle.xet_upload.specs.Standing.{world}
 use Rattle.xet_upload.specs.declared.data_error.DataError.{DataError}
 use Rattle.xet_upload.specs.declared.data_error.DataError.TheVariants as data_error
-use Rattle.xet_upload.specs.declared.waiting.WaitingTerm.{WaitingTerm}
+use Rattle.xet_waiting.specs.declared.waiting.WaitingTerm.{WaitingTerm}
 use Rattle.xet_session.specs.Calls.{Backs, CountsSent, Keeps, PutsFail, finalized_error}
 use Rattle.xet_session.specs.Sessions.{HasListed, SessionTold, Tells, log_of, named_by}
 use Rattle.xet_session.specs.Sounds.{searched}

@@ -8,7 +8,7 @@ use Rattle.xet_base.specs.Store.{Store}
 use Rattle.xet_progress_state.specs.declared.step.TrackerStep.{TrackerStep}
 use Rattle.xet_upload.specs.Waitings.{Waiting}
 use Rattle.xet_upload.specs.declared.data_error.DataError.{DataError}
-use Rattle.xet_upload.specs.declared.waiting.WaitingFile.{WaitingFile}
+use Rattle.xet_waiting.specs.declared.waiting.WaitingFile.{WaitingFile}
 use Rattle.xet_session.specs.Calls.{Queries, Registers}
 use Rattle.xet_session.specs.Completions.{TakesFile}
 use Rattle.xet_session.specs.Sessions.{SessionTold}

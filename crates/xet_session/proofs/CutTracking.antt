@@ -14,9 +14,9 @@ use Rattle.xet_progress_state.specs.declared.step.TrackerStep.TheVariants.{Regis
 use Rattle.xet_upload.specs.Waitings.{IsPending, Waiting, xorb_of_chunks}
 use Rattle.xet_upload.specs.declared.data_error.DataError.{DataError}
 use Rattle.xet_upload.specs.declared.data_error.DataError.TheVariants as data_error
-use Rattle.xet_upload.specs.declared.raw_xorb.PendingFile.{PendingFile}
-use Rattle.xet_upload.specs.declared.raw_xorb.RawXorbData.{RawXorbData}
-use Rattle.xet_upload.specs.declared.waiting.WaitingFile.{WaitingFile}
+use Rattle.xet_waiting.specs.declared.raw_xorb.PendingFile.{PendingFile}
+use Rattle.xet_waiting.specs.declared.raw_xorb.RawXorbData.{RawXorbData}
+use Rattle.xet_waiting.specs.declared.waiting.WaitingFile.{WaitingFile}
 use Rattle.xet_session.specs.Calls.{as_finalized, waiting_hash}
 use Rattle.xet_session.specs.Completions.{FitTogether, waiting_bytes, with_waiting}
 use Rattle.xet_session.specs.Sessions.{SessionTold}

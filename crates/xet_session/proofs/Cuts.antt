@@ -20,9 +20,9 @@ use Rattle.xet_upload.specs.Orders.{names_of}
 use Rattle.xet_upload.specs.Waitings.{AreCounted, IsPending, no_waiting, record_of_file, xorb_of_chunks}
 use Rattle.xet_upload.specs.declared.data_error.DataError.{DataError}
 use Rattle.xet_upload.specs.declared.data_error.DataError.TheVariants as data_error
-use Rattle.xet_upload.specs.declared.raw_xorb.PendingFile.{PendingFile}
-use Rattle.xet_upload.specs.declared.raw_xorb.RawXorbData.{RawXorbData}
-use Rattle.xet_upload.specs.declared.waiting.WaitingFile.{WaitingFile}
+use Rattle.xet_waiting.specs.declared.raw_xorb.PendingFile.{PendingFile}
+use Rattle.xet_waiting.specs.declared.raw_xorb.RawXorbData.{RawXorbData}
+use Rattle.xet_waiting.specs.declared.waiting.WaitingFile.{WaitingFile}
 use Rattle.xet_session.specs.Calls.{CountsSent, Cut, CutPut, Keeps, PutsFail, Recorded, Refuses, RegisterStopped, Registers, Says, StoresFail, WasPut, WasRefused, finalized_error, record_of_xorb, waiting_hash, waiting_records, without_waiting}
 use Rattle.xet_session.specs.Trackings.{IsRefusal}
 use Rattle.xet_session.specs.Sessions.{HasListed, IsListed, SessionTold, log_of, waiting_names}

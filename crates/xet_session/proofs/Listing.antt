@@ -9,10 +9,10 @@ use Rattle.xet_base.specs.declared.mdb_shard.MDBFileInfo.{MDBFileInfo}
 use Rattle.xet_upload.specs.Orders.{names_of}
 use Rattle.xet_upload.specs.Standing.{named, named_xorb, shifted}
 use Rattle.xet_upload.specs.Waitings.{AreCounted, IsCounted, LiesIn, Waiting, file_shifted, merged, no_waiting, record_of_file}
-use Rattle.xet_upload.specs.declared.waiting.TermXorb.{TermXorb}
-use Rattle.xet_upload.specs.declared.waiting.TermXorb.TheVariants.{Own, Stored}
-use Rattle.xet_upload.specs.declared.waiting.WaitingFile.{WaitingFile}
-use Rattle.xet_upload.specs.declared.waiting.WaitingTerm.{WaitingTerm}
+use Rattle.xet_waiting.specs.declared.waiting.TermXorb.{TermXorb}
+use Rattle.xet_waiting.specs.declared.waiting.TermXorb.TheVariants.{Own, Stored}
+use Rattle.xet_waiting.specs.declared.waiting.WaitingFile.{WaitingFile}
+use Rattle.xet_waiting.specs.declared.waiting.WaitingTerm.{WaitingTerm}
 use Rattle.xet_shard_interface.proofs.CallerLemmas.{All-append_left, All-append_right}
 use Rattle.xet_session.specs.Sessions.{IsListed, SessionTold, named_by, waiting_names}
 

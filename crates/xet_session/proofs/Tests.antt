@@ -9,7 +9,7 @@ use Rattle.xet_base.specs.declared.merklehash.MerkleHash.{MerkleHash}
 use Rattle.xet_base.specs.declared.mdb_shard.MDBFileInfo.{MDBFileInfo}
 use Rattle.xet_upload.specs.Orders.{names_of}
 use Rattle.xet_upload.specs.Waitings.{Waiting, merged, no_waiting}
-use Rattle.xet_upload.specs.declared.raw_xorb.PendingFile.{PendingFile}
+use Rattle.xet_waiting.specs.declared.raw_xorb.PendingFile.{PendingFile}
 use Rattle.xet_session.specs.Sessions.{HasListed, IsListed, SessionTold, waiting_names}
 use Rattle.xet_session.specs.steps.HashLists.{has}
 use Rattle.xet_session.specs.steps.Listings.{AreListed, has_all}

@@ -11,9 +11,9 @@ use Rattle.xet_shard_interface.specs.Puts.{puts_of}
 use Rattle.xet_upload.specs.Orders.{IsBacked, names_of}
 use Rattle.xet_upload.specs.Waitings.{Waiting}
 use Rattle.xet_upload.specs.declared.metrics.DeduplicationMetrics.{DeduplicationMetrics}
-use Rattle.xet_upload.specs.declared.waiting.TermXorb.{TermXorb}
-use Rattle.xet_upload.specs.declared.waiting.TermXorb.TheVariants.{Own, Stored}
-use Rattle.xet_upload.specs.declared.waiting.WaitingFile.{WaitingFile}
+use Rattle.xet_waiting.specs.declared.waiting.TermXorb.{TermXorb}
+use Rattle.xet_waiting.specs.declared.waiting.TermXorb.TheVariants.{Own, Stored}
+use Rattle.xet_waiting.specs.declared.waiting.WaitingFile.{WaitingFile}
 use Rattle.xet_session.specs.declared.cut_thresholds.CutThresholds.{CutThresholds}
 
 -- what the session's uploader and stores tell, and its own data

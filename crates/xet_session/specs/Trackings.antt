@@ -18,7 +18,7 @@ use Rattle.xet_progress_state.specs.declared.step.TrackerStep.TheVariants.{Regis
 use Rattle.xet_upload.specs.Waitings.{Waiting, own_bytes}
 use Rattle.xet_upload.specs.declared.data_error.DataError.{DataError}
 use Rattle.xet_upload.specs.declared.data_error.DataError.TheVariants as data_error
-use Rattle.xet_upload.specs.declared.waiting.WaitingFile.{WaitingFile}
+use Rattle.xet_waiting.specs.declared.waiting.WaitingFile.{WaitingFile}
 use Rattle.xet_session.specs.Calls.{finalized_error, waiting_hash, xorb_bytes}
 use Rattle.xet_session.specs.Completions.{FitTogether, waiting_bytes, with_waiting}
 use Rattle.xet_session.specs.Sessions.{SessionTold}

@@ -8,7 +8,7 @@ use Rattle.xet_base.specs.declared.mdb_shard.MDBXorbInfo.{MDBXorbInfo}
 use Rattle.xet_base.specs.Digests.{chunk_hash_of, info_of, infos_of}
 use Rattle.xet_base.specs.Store.{Store, chunks_of}
 use Rattle.xet_upload.specs.Standing.{Stand, IsRecordIn, AgreesWith}
-use Rattle.xet_upload.specs.Waitings.{Waiting}
+use Rattle.xet_waiting.specs.Waitings.{Waiting}
 use Rattle.xet_upload.specs.FileDatas.{Parts, PartsStand, OwnAdded, FoundAdded, no_parts}
 use Rattle.xet_upload.proofs.Standing.{stand-nil, stand-own, stand-found}
 

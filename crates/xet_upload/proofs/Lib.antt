@@ -5,7 +5,5 @@ pub mod Named
 pub mod Orders
 pub mod Parts
 pub mod Resolved
-pub mod Rooms
 pub mod SameHashes
 pub mod Standing
-pub mod Steps

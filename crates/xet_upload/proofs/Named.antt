@@ -4,7 +4,7 @@ use Rattle.std.specs.Prelude.{Some, None}
 use borrow.Rule.Slice.PartMut.{put_mid}
 use Rattle.std.proofs.lemmas.List.{append-nil, drop_all, length-drop, length-map, map-append, take-append-drop, take_all}
 use Rattle.xet_base.specs.declared.merklehash.MerkleHash.{MerkleHash}
-use Rattle.xet_upload.specs.declared.waiting.WaitingTerm.{WaitingTerm}
+use Rattle.xet_waiting.specs.declared.waiting.WaitingTerm.{WaitingTerm}
 use Rattle.xet_upload.specs.FileDatas.{renamed}
 
 pub renamed-twice : (g h : MerkleHash) (ts : List WaitingTerm) → map (renamed g) (map (renamed h) ts) ≡ map (renamed h) ts

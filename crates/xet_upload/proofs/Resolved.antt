@@ -21,10 +21,10 @@ use Rattle.xet_uploader.specs.Uploads.{xorbs_in}
 use Rattle.xet_uploader.specs.StoresAfter.{file_of_record, files_in, store_after}
 use Rattle.xet_uploader.proofs.CallerLemmas.{after_finds_files, after_finds_xorbs, xorbs_in-append}
 use Rattle.xet_base.proofs.CallerLemmas.{hash_eq-true, eq-hash_eq}
-use Rattle.xet_upload.specs.declared.waiting.WaitingTerm.{WaitingTerm}
+use Rattle.xet_waiting.specs.declared.waiting.WaitingTerm.{WaitingTerm}
 use Rattle.xet_base.specs.Digests.{infos_of, xorb_hash_of}
 use Rattle.xet_upload.specs.Laws.{PartsAsXorb, RecordResolves}
-use Rattle.xet_upload.specs.Waitings.{xorb_of_chunks}
+use Rattle.xet_waiting.specs.Waitings.{xorb_of_chunks}
 use Rattle.xet_upload.specs.Standing.{Stand, StandsFor, IsTerm, chunks_at, term_of, named, AgreeOn, world}
 use Rattle.xet_upload.proofs.Parts.{flat_map-agree}
 use Rattle.xet_upload.proofs.Standing.{stand-grown, stand-named}

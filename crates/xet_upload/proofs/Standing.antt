@@ -13,9 +13,9 @@ use Rattle.xet_base.specs.declared.mdb_shard.MDBXorbInfo.{MDBXorbInfo}
 use Rattle.xet_base.specs.Digests.{chunk_hash_of, info_of}
 use Rattle.xet_base.specs.Hashes.{hash_eq}
 use Rattle.xet_base.specs.Store.{Store, xorb_of, chunks_of}
-use Rattle.xet_upload.specs.declared.waiting.TermXorb.{TermXorb}
-use Rattle.xet_upload.specs.declared.waiting.TermXorb.TheVariants.{Own, Stored}
-use Rattle.xet_upload.specs.declared.waiting.WaitingTerm.{WaitingTerm}
+use Rattle.xet_waiting.specs.declared.waiting.TermXorb.{TermXorb}
+use Rattle.xet_waiting.specs.declared.waiting.TermXorb.TheVariants.{Own, Stored}
+use Rattle.xet_waiting.specs.declared.waiting.WaitingTerm.{WaitingTerm}
 use Rattle.xet_upload.specs.Standing.{Stand, IsTerm, IsPlace, place_of, chunks_at, term_of, named, named_xorb, shifted, shift_by, Added, Continued, continue, AgreesWith, IsRecordIn}
 use Rattle.xet_upload.proofs.Parts.{slice_range-join, slice_range-last, slice_range-one, All-append_left, All-append_right, slice_range-more, slice_range-shift, find-kept, flat_map-agree}
 

@@ -5,10 +5,10 @@ use Rattle.xet_base.specs.declared.merklehash.MerkleHash.{MerkleHash}
 use Rattle.xet_base.specs.declared.mdb_shard.ChunkInfo.{ChunkInfo}
 use Rattle.xet_base.specs.Digests.{info_of, infos_of, xorb_hash_of}
 use Rattle.xet_base.specs.Store.{Store}
-use Rattle.xet_upload.specs.declared.waiting.TermXorb.TheVariants.{Own, Stored}
-use Rattle.xet_upload.specs.declared.waiting.WaitingTerm.{WaitingTerm}
+use Rattle.xet_waiting.specs.declared.waiting.TermXorb.TheVariants.{Own, Stored}
+use Rattle.xet_waiting.specs.declared.waiting.WaitingTerm.{WaitingTerm}
 use Rattle.xet_upload.specs.Standing.{Stand, Added, GoesOn, term_of, named}
-use Rattle.xet_upload.specs.Waitings.{Waiting, no_waiting}
+use Rattle.xet_waiting.specs.Waitings.{Waiting, no_waiting}
 
 -- what was cut of a file: the chunks of its own that wait, its terms, and the hash and length of each of its chunks
 pub record Parts : Type 0 where

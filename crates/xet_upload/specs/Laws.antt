@@ -14,12 +14,12 @@ use Rattle.xet_base.specs.Store.{Store, bytes_of, chunks_of, file_of}
 use Rattle.xet_uploader.specs.declared.uploader.Put.{Put}
 use Rattle.xet_uploader.specs.declared.uploader.Put.TheVariants as put
 use Rattle.xet_uploader.specs.StoresAfter.{files_in, store_after}
-use Rattle.xet_upload.specs.declared.waiting.WaitingTerm.{WaitingTerm}
+use Rattle.xet_waiting.specs.declared.waiting.WaitingTerm.{WaitingTerm}
 use Rattle.xet_upload.specs.FileDatas.{FoundAdded, OwnAdded, Parts, PartsStand, cut_parts, no_parts}
 use Rattle.xet_upload.specs.Orders.{IsBacked, IsOrdered, IsThere, names_of}
 use Rattle.xet_upload.specs.Standing.{Added, AgreeOn, AgreesWith, ChunksAgree, IsRecordIn, Stand, StandsFor, named}
 use Rattle.xet_upload.specs.Standing.{shifted, term_of, world}
-use Rattle.xet_upload.specs.Waitings.{xorb_of_chunks}
+use Rattle.xet_waiting.specs.Waitings.{xorb_of_chunks}
 
 -- ---- terms
 

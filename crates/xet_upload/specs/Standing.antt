@@ -1,5 +1,5 @@
 -- What terms stand for: the chunks that they name, in a store's xorbs and in data that waits to become a xorb.
-use Rattle.std.specs.Prelude.{ℕ, ◌-◌, ◌^◌, min, ◌≡◌, ◌⊎◌, ◌+◌, ◌<◌, ◌≤◌, List, [], ◌∷◌, ◌++◌, length, map, All}
+use Rattle.std.specs.Prelude.{ℕ, ◌^◌, ◌≡◌, ◌⊎◌, ◌+◌, ◌<◌, ◌≤◌, List, [], ◌∷◌, ◌++◌, length, map, All}
 use Rattle.std.specs.Prelude.{Contains, IsSome, slice_range}
 use Rattle.std.specs.List.{concat, flat_map}
 use Rattle.xet_base.specs.declared.merklehash.MerkleHash.{MerkleHash}
@@ -10,9 +10,10 @@ use Rattle.xet_base.specs.Digests.{chunk_hash_of, infos_of}
 use Rattle.xet_base.specs.Store.{Store, xorb_of, chunks_of}
 use Rattle.xet_uploader.specs.declared.uploader.Put.{Put}
 use Rattle.xet_uploader.specs.Uploads.{xorbs_in}
-use Rattle.xet_upload.specs.declared.waiting.TermXorb.{TermXorb}
-use Rattle.xet_upload.specs.declared.waiting.TermXorb.TheVariants.{Own, Stored}
-use Rattle.xet_upload.specs.declared.waiting.WaitingTerm.{WaitingTerm}
+use Rattle.xet_waiting.specs.declared.waiting.TermXorb.{TermXorb}
+use Rattle.xet_waiting.specs.declared.waiting.TermXorb.TheVariants.{Own, Stored}
+use Rattle.xet_waiting.specs.declared.waiting.WaitingTerm.{WaitingTerm}
+pub use Rattle.xet_waiting.specs.Waitings.{named, named_xorb, shift_by, shifted}
 
 -- the xorbs of a store and then those of a log: of two with one hash the first is found
 abbrev pub world : Store → List Put → Store
@@ -56,22 +57,6 @@ pub record StandsFor (s : Store) (es : List FileDataSequenceEntry) (bytes : List
   pub bytes_are : bytes ≡ concat chunks
 
 -- ---- changes of terms
-
--- the term, given the hash of the xorb that the waiting chunks became
-abbrev pub named_xorb : MerkleHash → TermXorb → MerkleHash
-named_xorb h Own = h
-named_xorb h (Stored x) = x
-
-abbrev pub named : MerkleHash → WaitingTerm → FileDataSequenceEntry
-named h t = record { xorb = named_xorb h t.xorb; from = t.from; to = t.to; bytes = t.bytes }
-
--- the term, where so many chunks were put before the waiting ones; numbers of chunks are below 2 ^ 32
-abbrev pub shift_by : ℕ → TermXorb → ℕ → ℕ
-shift_by n Own k = min (k + n) (2 ^ 32 - 1)
-shift_by n (Stored x) k = k
-
-abbrev pub shifted : ℕ → WaitingTerm → WaitingTerm
-shifted n t = record t { from = shift_by n t.xorb t.from; to = shift_by n t.xorb t.to }
 
 -- the term that goes on to the end of the next one
 abbrev pub continue : WaitingTerm → WaitingTerm → WaitingTerm

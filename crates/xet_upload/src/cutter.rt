@@ -2,7 +2,7 @@
 ghost use Rattle.std.specs.Prelude.{◌≡◌, ◌<◌, ◌≤◌, ℕ, Bool, List, Option, IfSome, None, Some, false, length};
 ghost use Rattle.xet_upload.specs.Cuts.{clamped, fixed_cut};
 
-use crate::limits::CHUNK_BYTES;
+use xet_waiting::CHUNK_BYTES;
 
 /// Says where the next chunk of a file ends.
 ///

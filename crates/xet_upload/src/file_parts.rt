@@ -4,16 +4,14 @@ ghost use Rattle.std.specs.List.{concat};
 ghost use Rattle.xet_base.specs.Digests.{info_of, xorb_hash_of, infos_of};
 ghost use Rattle.xet_base.specs.Records.{Describes};
 ghost use Rattle.xet_upload.specs.FileDatas.{FoundAdded, OwnAdded, cut_parts, no_parts, with_file};
-ghost use Rattle.xet_upload.specs.Waitings.{HaveBytes, IsCounted, IsWithin, xorb_of_chunks};
+ghost use Rattle.xet_waiting.specs.Waitings.{HaveBytes, IsCounted, IsWithin, xorb_of_chunks};
 
-use crate::aggregator::DataAggregator;
 use crate::open_terms::OpenTerms;
-use crate::raw_xorb::RawXorbData;
-use crate::waiting::{TermXorb, WaitingFile, WaitingTerm};
 use bytes::Bytes;
 use std::alloc::Global;
 use std::marker::Model;
 use xet_base::{ChunkInfo, List, MerkleHash, OutOfMemory};
+use xet_waiting::{DataAggregator, RawXorbData, TermXorb, WaitingFile, WaitingTerm};
 
 /// What was cut of a file so far: the chunks of its own that wait, its terms, and the hash and the length of each of
 /// its chunks. Each term that counts in the waiting chunks lies within them. Contracts see the three.
@@ -32,7 +30,7 @@ pub struct FileParts {
 impl Model for FileParts {
     ghost use Rattle.std.specs.Prelude.{◌≡◌, [], All, length};
     ghost use Rattle.xet_upload.specs.FileDatas.{Parts};
-    ghost use Rattle.xet_upload.specs.Waitings.{IsCounted};
+    ghost use Rattle.xet_waiting.specs.Waitings.{IsCounted};
 
     ghost Value = { Parts };
 

@@ -4,10 +4,10 @@ ghost use Rattle.std.specs.Option.{option_to_list};
 ghost use Rattle.xet_upload.specs.FileDatas.{renamed};
 ghost use Rattle.xet_upload.specs.Standing.{Added, GoesOn, IsContinued, continue};
 
-use crate::waiting::{TermXorb, WaitingTerm};
 use std::alloc::Global;
 use std::marker::Model;
 use xet_base::{List, MerkleHash, OutOfMemory};
+use xet_waiting::{TermXorb, WaitingTerm};
 
 /// Terms in the order of a file. The last one goes on while chunks follow it in its xorb. Contracts see the list.
 #[derive(Drop)]
@@ -22,7 +22,7 @@ impl Model for OpenTerms {
     ghost use Rattle.std.specs.Prelude.{◌≡◌, ◌≤◌, List as Items, [], ◌++◌, None, length, map, take};
     ghost use Rattle.std.specs.Option.{option_to_list};
     ghost use Rattle.xet_base.specs.declared.merklehash.MerkleHash.{MerkleHash as Hash};
-    ghost use Rattle.xet_upload.specs.declared.waiting.WaitingTerm.{WaitingTerm as Term};
+    ghost use Rattle.xet_waiting.specs.declared.waiting.WaitingTerm.{WaitingTerm as Term};
     ghost use Rattle.xet_upload.specs.FileDatas.{renamed};
 
     ghost Value = { Items Term };

@@ -16,8 +16,8 @@ use Rattle.xet_shard_interface.specs.Puts.{Asks, PutFailed, Uploads}
 use Rattle.xet_upload.specs.Waitings.{no_waiting, record_of_file, xorb_of_chunks}
 use Rattle.xet_upload.specs.declared.data_error.DataError.{DataError}
 use Rattle.xet_upload.specs.declared.metrics.DeduplicationMetrics.{DeduplicationMetrics}
-use Rattle.xet_upload.specs.declared.raw_xorb.PendingFile.{PendingFile}
-use Rattle.xet_upload.specs.declared.raw_xorb.RawXorbData.{RawXorbData}
+use Rattle.xet_waiting.specs.declared.raw_xorb.PendingFile.{PendingFile}
+use Rattle.xet_waiting.specs.declared.raw_xorb.RawXorbData.{RawXorbData}
 use Rattle.xet_session.specs.Calls.{CountsSent, Keeps, NoQueries, PutsFail, Recorded, RegisterStopped, Says, StoresFail}
 use Rattle.xet_session.specs.Calls.{WasPut, WasRefused, finished_records, one_xorb, waiting_hash, xorb_bytes}
 use Rattle.xet_session.specs.Sessions.{IsListed, SessionTold, Tells, log_of}

@@ -1,6 +1,6 @@
 use Rattle.std.proofs.Common.{arith, ◌<◌, length}
 use Rattle.xet_upload.specs.FileDatas.{renamed}
-use Rattle.xet_upload.proofs.Steps.{mapped_step}
+use Rattle.xet_waiting.proofs.CallerLemmas.{mapped_step}
 use Rattle.xet_upload.proofs.open_terms.name_terms.Goals as goal
 
 pub loop-term-preserved : goal.loop-term-preserved

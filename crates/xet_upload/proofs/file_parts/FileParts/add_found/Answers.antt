@@ -1,6 +1,6 @@
 use Rattle.std.proofs.Common.{length, refl, sym}
-use Rattle.xet_upload.specs.declared.waiting.TermXorb.TheVariants.{Stored}
-use Rattle.xet_upload.specs.declared.waiting.WaitingTerm.{WaitingTerm}
+use Rattle.xet_waiting.specs.declared.waiting.TermXorb.TheVariants.{Stored}
+use Rattle.xet_waiting.specs.declared.waiting.WaitingTerm.{WaitingTerm}
 use Rattle.xet_upload.proofs.Kept.{counted-added}
 use Rattle.xet_upload.proofs.file_parts.FileParts.add_found.Goals as goal
 

@@ -1,9 +1,9 @@
 use Rattle.std.proofs.Common.{◌+◌, ◌∙◌, ap, length, refl}
 use Rattle.std.proofs.lemmas.List.{length_push}
 use Rattle.xet_base.specs.declared.mdb_shard.ChunkInfo.{ChunkInfo}
-use Rattle.xet_upload.specs.declared.waiting.TermXorb.TheVariants.{Own}
-use Rattle.xet_upload.specs.declared.waiting.WaitingTerm.{WaitingTerm}
-use Rattle.xet_upload.specs.Waitings.{Waiting}
+use Rattle.xet_waiting.specs.declared.waiting.TermXorb.TheVariants.{Own}
+use Rattle.xet_waiting.specs.declared.waiting.WaitingTerm.{WaitingTerm}
+use Rattle.xet_waiting.specs.Waitings.{Waiting}
 use Rattle.xet_upload.proofs.Kept.{counted-own}
 use Rattle.xet_upload.proofs.file_parts.FileParts.add_own.Goals as goal
 

@@ -1,5 +1,5 @@
 use Rattle.std.proofs.Common.{ap, length}
-use Rattle.xet_upload.specs.Waitings.{Waiting}
+use Rattle.xet_waiting.specs.Waitings.{Waiting}
 use Rattle.xet_upload.proofs.Kept.{counted-renamed}
 use Rattle.xet_upload.proofs.file_parts.FileParts.cut.Goals as goal
 

@@ -1,7 +1,7 @@
 use Rattle.std.proofs.Common.{◌≡◌, ◌++◌, ap, arith, drop, length, rules, take, ◌∙◌, List}
-use Rattle.xet_upload.specs.declared.waiting.WaitingTerm.{WaitingTerm}
+use Rattle.xet_waiting.specs.declared.waiting.WaitingTerm.{WaitingTerm}
 use Rattle.xet_upload.specs.FileDatas.{renamed}
-use Rattle.xet_upload.proofs.Kept.{written}
+use Rattle.xet_waiting.proofs.CallerLemmas.{written}
 use Rattle.xet_upload.proofs.Named.{named-kept}
 use Rattle.xet_upload.proofs.open_terms.OpenTerms.name_own.Goals as goal
 

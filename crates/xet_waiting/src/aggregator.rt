@@ -4,9 +4,8 @@ ghost use Rattle.std.specs.Prelude.{map, vec_capacity, vec_len};
 ghost use Rattle.std.specs.List.{AllZip, concat};
 ghost use Rattle.xet_base.specs.Digests.{info_of, infos_of, xorb_hash_of};
 ghost use Rattle.xet_base.specs.Records.{Describes};
-ghost use Rattle.xet_upload.specs.Standing.{named, shifted};
-ghost use Rattle.xet_upload.specs.Waitings.{AreCounted, HaveBytes, IsCounted, IsPending, IsWithin, file_shifted};
-ghost use Rattle.xet_upload.specs.Waitings.{merged, no_waiting, own_bytes, xorb_of_chunks};
+ghost use Rattle.xet_waiting.specs.Waitings.{AreCounted, HaveBytes, IsCounted, IsPending, IsWithin, file_shifted};
+ghost use Rattle.xet_waiting.specs.Waitings.{merged, named, no_waiting, own_bytes, shifted, xorb_of_chunks};
 
 use crate::limits::{XORB_BYTES, XORB_CHUNKS};
 use crate::raw_xorb::{PendingFile, RawXorbData};
@@ -33,11 +32,11 @@ pub struct DataAggregator {
 }
 
 impl Model for DataAggregator {
-    ghost use Rattle.xet_upload.specs.Waitings.{Waiting};
+    ghost use Rattle.xet_waiting.specs.Waitings.{Waiting};
 
     ghost Value = { Waiting };
 
-    ghost use Rattle.xet_upload.specs.Waitings.{IsKept};
+    ghost use Rattle.xet_waiting.specs.Waitings.{IsKept};
 
     ghost view = { λ a. record { chunks = a.chunks.items; files = a.files.items } };
 
@@ -200,7 +199,7 @@ impl DataAggregator {
 }
 
 // Moves the items of a list behind those of another, which has room for them.
-pub(crate) fn append_reserved<T>(to: &mut Vec<T>, from: &mut Vec<T>)
+fn append_reserved<T>(to: &mut Vec<T>, from: &mut Vec<T>)
     requires { vec_len to.old + vec_len from.old ≤ vec_capacity to.old }
     ensures { to.new.items ≡ to.old.items ++ from.old.items }
 {

@@ -1,7 +1,7 @@
 use Rattle.std.proofs.Common.{arith, refl}
 use Rattle.std.proofs.lemmas.Bool.{false≢true}
-use Rattle.xet_upload.proofs.Rooms.{more-short, within-more}
-use Rattle.xet_upload.proofs.aggregator.DataAggregator.has_room.Goals as goal
+use Rattle.xet_waiting.proofs.Rooms.{more-short, within-more}
+use Rattle.xet_waiting.proofs.aggregator.DataAggregator.has_room.Goals as goal
 
 pub returns-then-num_bytes-chunk-gt-XORB_BYTES : goal.returns-then-num_bytes-chunk-gt-XORB_BYTES
 returns-then-num_bytes-chunk-gt-XORB_BYTES c = (

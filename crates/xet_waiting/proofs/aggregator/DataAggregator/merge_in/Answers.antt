@@ -1,7 +1,7 @@
 use Rattle.std.proofs.Common.{◌≡◌, arith, length, rules}
-use Rattle.xet_upload.specs.Waitings.{file_shifted}
-use Rattle.xet_upload.proofs.Kept.{kept-merged, written}
-use Rattle.xet_upload.proofs.aggregator.DataAggregator.merge_in.Goals as goal
+use Rattle.xet_waiting.specs.Waitings.{file_shifted}
+use Rattle.xet_waiting.proofs.Kept.{kept-merged, written}
+use Rattle.xet_waiting.proofs.aggregator.DataAggregator.merge_in.Goals as goal
 
 pub invariant_of-self-2 : goal.invariant_of-self-2
 invariant_of-self-2 c =

@@ -1,5 +1,5 @@
-use Rattle.xet_upload.proofs.Kept.{kept-more}
-use Rattle.xet_upload.proofs.aggregator.DataAggregator.push_chunk.Goals as goal
+use Rattle.xet_waiting.proofs.Kept.{kept-more}
+use Rattle.xet_waiting.proofs.aggregator.DataAggregator.push_chunk.Goals as goal
 
 pub invariant_of-self-2 : goal.invariant_of-self-2
 invariant_of-self-2 c =

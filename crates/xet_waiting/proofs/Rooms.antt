@@ -3,7 +3,7 @@ use Rattle.std.proofs.Common.{◌≡◌, ℕ, ◌+◌, ◌≤◌, List, [], ◌�
 use Rattle.std.specs.List.{concat}
 use Rattle.std.proofs.lemmas.List.{append-nil, length-append}
 use Rattle.std.proofs.lemmas.List.Folds.{concat-append}
-use Rattle.xet_upload.specs.Waitings.{IsWithin}
+use Rattle.xet_waiting.specs.Waitings.{IsWithin}
 
 module _ (cs ds : List (List ℕ)) where
   sizes : (length (cs ++ ds) ≡ length cs + length ds) × (length (concat (cs ++ ds)) ≡ length (concat cs) + length (concat ds))

@@ -1,0 +1,4 @@
+pub mod CallerLemmas
+mod Kept
+mod Rooms
+mod Steps
