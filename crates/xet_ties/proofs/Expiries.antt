@@ -18,7 +18,7 @@ use Rattle.xet_ties.specs.Causes.{HaveExpired, NoneAtEnd, expired_answers, late_
 use Rattle.xet_ties.specs.History.{IsOnLane, expired_by, expires_on, is_expiry, late_by, late_on}
 use Rattle.xet_ties.specs.Setup.{RunTold, Setup}
 use Rattle.xet_ties.specs.InCall.{EachExchange, Exchange, Place, expired_said, late_places, place_of}
-use Rattle.xet_ties.specs.Ties.{all_late, at_place, EachExpired, EachLane, NoneLate, Slack, Stop, Ties}
+use Rattle.xet_ties.specs.Ties.{all_late, at_place, EachExpired, EachLane, NoneLate, Slack, Stop, Ties, is_pair}
 use Rattle.xet_ties.proofs.Telling.{count-append}
 
 -- the Expired events of the lanes from a number on, as many as connections
