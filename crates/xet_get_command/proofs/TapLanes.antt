@@ -399,7 +399,7 @@ module _ {X T : Type 0} (told : T → TapTold) (tap : X → T) (store : X → St
   behind_taps pass s valid q olds rest xs ys k l b n answer is count few same new h =
       let c : ℕ = lanes_of q.options in
       let nows : List T = map tap ys ++ rest in
-      let some = are_lanes s xs ys new h.goes_on in
+      let some = are_lanes s xs ys new h.later.goes_on in
       let run : BehindLanes s q (taps_before s some.lanes) (taps_after s some.lanes) k l b n answer =
       behind_lanes pass s valid q some.lanes k l b n answer
       (subst (λ (cs : List ClientTold). causes.failing_setting (setup_of q) cs ≡ failing_setting q) some.before_is settings)
