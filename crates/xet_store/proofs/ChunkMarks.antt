@@ -1,9 +1,11 @@
 -- Marks on chunks, and the ranges of the marked ones.
-use Rattle.std.proofs.Common.{◌≡◌, ℕ, zero, suc, ◌+◌, ◌-◌, ◌≤◌, ◌<◌, Bool, true, false, cond, ◌||◌, ◌&&◌, List, [], ◌∷◌, ◌++◌, length, take, get_or, set, reverse, min, max, inl, inr, refl, sym, ◌∙◌, ap, arith}
-use Rattle.std.specs.Prelude.{filter, nat_le, nat_lt}
+use Rattle.std.proofs.Common.{◌≡◌, ℕ, zero, suc, ◌+◌, ◌-◌, ◌≤◌, ◌<◌, Bool, true, false, cond, ◌||◌, ◌&&◌, List, [], ◌∷◌, ◌++◌, length, take, drop, get_or, set, reverse, min, max, inl, inr, refl, sym, ◌∙◌, ap, arith}
+use Rattle.std.specs.Prelude.{◌^◌, filter, nat_le, nat_lt, replicate}
 use Rattle.std.specs.List.{range_with_len}
 use Rattle.std.proofs.lemmas.Bool.{cases_lt, le-leb, le-ltb, lt-leb, lt-ltb, eq-eqb}
 use Rattle.std.proofs.lemmas.List.{get_or-set_same, take_more, take_all, reverse-append, length-set, take-set-le, get_or_default}
+use Rattle.std.proofs.lemmas.List.{take-append-le, get_or_append_left, get_or-append_right, get_or-take, get_or-drop}
+use Rattle.std.proofs.lemmas.List.{get_or-replicate, length-take, length-drop, length-replicate}
 use Rattle.xet_base.specs.declared.cas_types.ChunkRange.{ChunkRange}
 use Rattle.xet_outside.specs.Plan.{with_number, ranges_of}
 use Rattle.xet_store.specs.steps.Marks.{AreMarked, IsMarkedWithin}
@@ -76,7 +78,7 @@ or_false : (c d : Bool) → c ≡ false → d ≡ false → (c || d) ≡ false
 or_false c d e f = ap (λ (x : Bool). x || d) e ∙ f
 
 -- the marks of one range
-pub first_within : (ms : List Bool) (a b n : ℕ) → length ms ≡ n → b ≤ n
+first_within : (ms : List Bool) (a b n : ℕ) → length ms ≡ n → b ≤ n
     → ((k : ℕ) → get_or ms k false ≡ between a b k) → IsMarkedWithin (min a b) b ms
 first_within ms a b n e h is = record {
   order = omega arith;
@@ -141,7 +143,7 @@ or_true true d e = refl
 or_true false d e = e
 
 -- the marks of one range
-pub first_marked : (ms : List Bool) (a b : ℕ) → ((k : ℕ) → get_or ms k false ≡ between a b k)
+first_marked : (ms : List Bool) (a b : ℕ) → ((k : ℕ) → get_or ms k false ≡ between a b k)
     → AreMarked (min a b) b ms
 first_marked ms a b is k low high = is k ∙ between_inside a b k (omega (arith, low, high)) high
 
@@ -213,3 +215,70 @@ no_ranges ms low high w h =
     let inside = w.inside in
     ap ranges_of (sym (none_marked ms low (length ms - low) (λ k l. w.after k (omega (arith, l, h))))
     ∙ none_before ms low (omega (arith, order, inside)) w.before)
+
+-- ---- what a list of marks is after a change
+
+-- a vector's items after its slice was written as a whole
+pub refilled : (n : ℕ) (ms ns : List Bool) → n ≡ length ms → length ns ≡ length ms
+    → take n (ns ++ drop (length ns) ms) ≡ ns
+refilled n ms ns e f =
+    take-append-le n ns (drop (length ns) ms) (omega (arith, e, f)) ∙ take_all n ns (omega (arith, e, f))
+
+unmarked : (n k : ℕ) → get_or (replicate n false) k false ≡ false
+unmarked zero k = refl
+unmarked (suc n) zero = refl
+unmarked (suc n) (suc k) = unmarked n k
+
+-- the marks of a range, where no chunk was marked
+pub range_alone : (ms ns : List Bool) (n a b : ℕ) → ms ≡ replicate n false
+    → ((k : ℕ) → get_or ns k false ≡ (get_or ms k false || between a b k))
+    → (k : ℕ) → get_or ns k false ≡ between a b k
+range_alone ms ns n a b e is k =
+    is k ∙ ap (λ (xs : List Bool). get_or xs k false || between a b k) e
+    ∙ ap (λ (c : Bool). c || between a b k) (unmarked n k)
+
+-- the marks of one range, and the numbers that a xorb's marks keep
+pub first_kept : (ms : List Bool) (a b n : ℕ) → length ms ≡ n → n < 2 ^ 32 → b ≤ n
+    → ((k : ℕ) → get_or ms k false ≡ between a b k)
+    → (length ms < 2 ^ 32) × IsMarkedWithin (min a b) b ms × (true ≡ true → AreMarked (min a b) b ms)
+first_kept ms a b n e short h is =
+    (omega (arith, e, short), first_within ms a b n e h is, λ t. first_marked ms a b is)
+
+or_no : (c d : Bool) → d ≡ false → (c || d) ≡ c
+or_no true d e = refl
+or_no false d e = e
+
+-- an empty range marks nothing
+pub no_range : (ms : List Bool) (a b : ℕ) → b ≤ a → (k : ℕ) → get_or ms k false ≡ (get_or ms k false || between a b k)
+no_range ms a b h k = sym (or_no (get_or ms k false) (between a b k) (elim (cases_lt k a) [
+  | inl early ↦ ap (λ (c : Bool). c && nat_lt k b) (lt-leb a k early)
+  | inr from ↦ between_after a b k (omega arith)
+]))
+
+-- a range that is filled is marked
+pub filled : (ms part : List Bool) (a b : ℕ) → a < b → b ≤ length ms
+    → part ≡ replicate (length (take (b - a) (drop a ms))) true
+    → (k : ℕ) → get_or (take a ms ++ (part ++ drop (b - a) (drop a ms))) k false ≡ (get_or ms k false || between a b k)
+filled ms part a b h inside e k =
+    let rest = drop (b - a) (drop a ms) in
+    let n : length (take (b - a) (drop a ms)) ≡ b - a =
+    omega (arith, inside, length-take (b - a) (drop a ms), length-drop a ms) in
+    let p : part ≡ replicate (b - a) true = e ∙ ap (λ (m : ℕ). replicate m true) n in
+    let l : length part ≡ b - a = ap length p ∙ length-replicate (b - a) true in
+    let f : length (take a ms) ≡ a = omega (arith, h, inside, length-take a ms) in
+    elim (cases_lt k a) [
+      | inl early ↦ get_or_append_left (take a ms) (part ++ rest) false k (omega (arith, f, early))
+          ∙ get_or-take a ms k false early
+          ∙ sym (or_no (get_or ms k false) (between a b k) (ap (λ (c : Bool). c && nat_lt k b) (lt-leb a k early)))
+      | inr from ↦ get_or-append_right (take a ms) (part ++ rest) a k false f from ∙ elim (cases_lt k b) [
+        | inl within ↦ get_or_append_left part rest false (k - a) (omega (arith, l, from, within))
+            ∙ ap (λ (xs : List Bool). get_or xs (k - a) false) p
+            ∙ get_or-replicate (b - a) (k - a) true false (omega (arith, from, within))
+            ∙ sym (or_true (get_or ms k false) (between a b k) (between_inside a b k from within))
+        | inr late ↦ get_or-append_right part rest (b - a) (k - a) false l (omega (arith, late))
+            ∙ get_or-drop (b - a) (drop a ms) ((k - a) - (b - a)) false
+            ∙ get_or-drop a ms ((b - a) + ((k - a) - (b - a))) false
+            ∙ ap (λ (j : ℕ). get_or ms j false) (omega (arith, h, late))
+            ∙ sym (or_no (get_or ms k false) (between a b k) (between_after a b k late))
+      ]
+    ]

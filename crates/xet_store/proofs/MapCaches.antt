@@ -1,11 +1,11 @@
 -- What the keys of a cache in memory tell of its entries.
-use Rattle.std.proofs.Common.{◌≡◌, ℕ, zero, suc, ◌<◌, Bool, true, false, cond, ◌&&◌, List, [], ◌∷◌, ◌++◌, length, Some, None, Ok, Err, Option, refl, sym, ◌∙◌, ap, arith}
+use Rattle.std.proofs.Common.{◌≡◌, ℕ, zero, suc, ◌<◌, Bool, true, false, cond, ◌&&◌, List, [], ◌∷◌, ◌++◌, length, get_or, Some, None, Ok, Err, Option, refl, sym, ◌∙◌, ap, arith}
 use Rattle.std.specs.Prelude.{Contains, IfSome, IsSome, MatchOption, is_some, find, nat_eq, option_map, position, slice_get}
 use Rattle.std.specs.List.{position_or_len}
 use Rattle.std.specs.Ordering.{is_eq}
 use Rattle.std.proofs.lemmas.Bool.{and_parts, eqb-true}
 use Rattle.std.proofs.lemmas.List.Folds.{find_at}
-use Rattle.std.proofs.lemmas.Option.{slice_get_past}
+use Rattle.std.proofs.lemmas.Option.{slice_get_past, slice_get-get_or}
 use Rattle.xet_base.specs.declared.cas_types.ChunkRange.{ChunkRange}
 use Rattle.xet_base.specs.declared.merklehash.MerkleHash.{MerkleHash}
 use Rattle.xet_base.specs.Hashes.{hash_eq}
@@ -106,3 +106,10 @@ put_refused es x r b None n h = record { added = λ none. tt; left = λ some. ab
 pub put_added : (es fs : List CacheEntry) (x : MerkleHash) (r : ChunkRange) (b : BlockBytes) (o : Option ℕ) → Number es x r o → is_some o ≡ false → fs ≡ es ++ (x, r, b) ∷ [] → MapPut es fs x r b (Ok tt)
 put_added es fs x r b (Some i) n h e = absurd (cc)
 put_added es fs x r b None n h e = record { added = λ none. e; left = λ some. absurd (none_some (entry_at es x r) n some); kept = tt; memory = tt }
+
+-- a copy of the entry of this number
+pub copied_entry : (es fs : List CacheEntry) (i : ℕ) (d : CacheEntry) (b : BlockBytes) (o : Option BlockBytes) → fs ≡ es
+    → (i < length es) × (o ≡ option_map (λ (e : CacheEntry). e.2) (slice_get es i)) → b ≡ (get_or fs i d).2 → Some b ≡ o
+copied_entry es fs i d b o e at is =
+    ap Some (is ∙ ap (λ (xs : List CacheEntry). (get_or xs i d).2) e)
+    ∙ sym (at.1 ∙ ap (option_map (λ (e : CacheEntry). e.2)) (slice_get-get_or es i d at.0))

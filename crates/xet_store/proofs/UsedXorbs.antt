@@ -56,7 +56,7 @@ has_none (t ∷ ts) x k h =
     let parts = or_parts (hash_eq t.xorb x) (list_any (λ y. hash_eq y x) (map (λ t. t.xorb) ts)) h in
     rw (parts.0, has_none ts x k parts.1)
 
-any_at : {A : Type 0} (p : A → Bool) (xs : List A) (i : ℕ) (d : A) → list_any p xs ≡ false → i < length xs
+pub any_at : {A : Type 0} (p : A → Bool) (xs : List A) (i : ℕ) (d : A) → list_any p xs ≡ false → i < length xs
     → p (get_or xs i d) ≡ false
 any_at p [] i d h l = absurd (omega arith)
 any_at p (x ∷ xs) zero d h l = (or_parts (p x) (list_any p xs) h).0
