@@ -1,5 +1,5 @@
 //! The lines of replies.
-ghost use Rattle.std.specs.Prelude.{◌≡◌, ◌++◌, OnErr, OnOk};
+ghost use Rattle.std.specs.Prelude.{◌≡◌, ◌++◌, OnErr, OnOk, codes};
 ghost use Rattle.std.specs.Fmt.{decimal};
 ghost use Rattle.xet_track.specs.Texts.{number_of_invalid, text_of_reply};
 
@@ -53,29 +53,29 @@ fn number_of(why: &Invalid) -> u64
     }
 }
 
+/// Adds a line that ends with a number.
+fn add_number_line(out: &mut Vec<u8>, front: &str, number: u64) -> Result<(), OutOfMemory>
+    ensures { OnOk result (out.new.items ≡ out.old.items ++ (front.now ++ decimal number ++ codes "\n")) }
+{
+    add(out, front)?;
+    add_number(out, number)?;
+    add(out, "\n")
+}
+
 /// Adds the line of a reply.
 pub(crate) fn add_reply(out: &mut Vec<u8>, reply: &TrackerReply) -> Result<(), OutOfMemory>
     ensures { OnOk result (out.new.items ≡ out.old.items ++ text_of_reply reply.now) }
 {
     match reply {
         TrackerReply::Done => add(out, "ok\n"),
-        TrackerReply::FileId(id) => {
-            add_number(out, *id)?;
-            add(out, "\n")
-        }
+        TrackerReply::FileId(id) => add_number_line(out, "", *id),
         TrackerReply::Flag(true) => add(out, "true\n"),
         TrackerReply::Flag(false) => add(out, "false\n"),
         TrackerReply::Sums { completed, total } => {
             add_number(out, *completed)?;
-            add(out, " ")?;
-            add_number(out, *total)?;
-            add(out, "\n")
+            add_number_line(out, " ", *total)
         }
         TrackerReply::Unfinished(_) => add(out, "unfinished\n"),
-        TrackerReply::Refused(why) => {
-            add(out, "refused ")?;
-            add_number(out, number_of(why))?;
-            add(out, "\n")
-        }
+        TrackerReply::Refused(why) => add_number_line(out, "refused ", number_of(why)),
     }
 }

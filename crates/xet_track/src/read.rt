@@ -1,10 +1,12 @@
 //! The calls that lines spell.
 ghost use Rattle.std.specs.Prelude.{◌≡◌, option_map};
-ghost use Rattle.xet_track.specs.Script.{dependency_call, four_words, one_word, step_of_line, three_words, two_words};
-ghost use Rattle.xet_track.specs.steps.Spelling.{call_of};
+ghost use Rattle.xet_track.specs.Script.{dependency_call, file_call, four_words, grow_call, one_word, step_of_line};
+ghost use Rattle.xet_track.specs.Script.{three_words, two_words};
+ghost use Rattle.xet_track.specs.steps.Spelling.{call_of, xorb_step_of};
 
 use crate::line::cut;
 use crate::word::{name, number, spells};
+use xet_base::MerkleHash;
 use xet_progress_state::{FileXorbDependency, TrackerStep};
 
 /// A call that a line spells. A line has at most one dependency, which takes no list.
@@ -27,22 +29,66 @@ fn read_one(word: &[u8]) -> Option<TrackerStep>
     None
 }
 
+/// The call that registers a file, whose size may be left open.
+fn read_file(a: &[u8]) -> Option<TrackerStep>
+    ensures { result ≡ file_call a.now }
+{
+    if spells(a, "?") {
+        return Some(TrackerStep::RegisterNewFile { n_bytes: None });
+    }
+    let size = number(a)?;
+    Some(TrackerStep::RegisterNewFile {
+        n_bytes: Some(size),
+    })
+}
+
 /// The call that a line of two words spells.
 fn read_two(word: &[u8], a: &[u8]) -> Option<TrackerStep>
     ensures { result ≡ two_words word.now a.now }
 {
     if spells(word, "file") {
-        if spells(a, "?") {
-            return Some(TrackerStep::RegisterNewFile { n_bytes: None });
-        }
-        let size = number(a)?;
-        return Some(TrackerStep::RegisterNewFile {
-            n_bytes: Some(size),
-        });
+        return read_file(a);
     }
     if spells(word, "done") {
         let xorb_hash = name(a)?;
         return Some(TrackerStep::RegisterXorbUploadCompletion { xorb_hash });
+    }
+    None
+}
+
+/// The call that grows a file.
+fn read_growth(a: &[u8], b: &[u8]) -> Option<TrackerStep>
+    ensures { result ≡ grow_call a.now b.now }
+{
+    let file_id = number(a)?;
+    let size_increment = number(b)?;
+    Some(TrackerStep::IncrementFileSize {
+        file_id,
+        size_increment,
+    })
+}
+
+/// The call that this word spells, of a xorb and a number of its bytes.
+fn xorb_step(word: &[u8], xorb_hash: MerkleHash, bytes: u64) -> Option<TrackerStep>
+    ensures { result ≡ xorb_step_of word.now xorb_hash bytes }
+{
+    if spells(word, "xorb") {
+        return Some(TrackerStep::RegisterNewXorb {
+            xorb_hash,
+            xorb_size: bytes,
+        });
+    }
+    if spells(word, "progress") {
+        return Some(TrackerStep::RegisterXorbUploadProgress {
+            xorb_hash,
+            new_byte_progress: bytes,
+        });
+    }
+    if spells(word, "background") {
+        return Some(TrackerStep::RegisterXorbUploadProgressBackground {
+            xorb_hash,
+            new_byte_progress: bytes,
+        });
     }
     None
 }
@@ -52,38 +98,9 @@ fn read_three(word: &[u8], a: &[u8], b: &[u8]) -> Option<TrackerStep>
     ensures { result ≡ three_words word.now a.now b.now }
 {
     if spells(word, "grow") {
-        let file_id = number(a)?;
-        let size_increment = number(b)?;
-        return Some(TrackerStep::IncrementFileSize {
-            file_id,
-            size_increment,
-        });
+        return read_growth(a, b);
     }
-    if spells(word, "xorb") {
-        let xorb_hash = name(a)?;
-        let xorb_size = number(b)?;
-        return Some(TrackerStep::RegisterNewXorb {
-            xorb_hash,
-            xorb_size,
-        });
-    }
-    if spells(word, "progress") {
-        let xorb_hash = name(a)?;
-        let new_byte_progress = number(b)?;
-        return Some(TrackerStep::RegisterXorbUploadProgress {
-            xorb_hash,
-            new_byte_progress,
-        });
-    }
-    if spells(word, "background") {
-        let xorb_hash = name(a)?;
-        let new_byte_progress = number(b)?;
-        return Some(TrackerStep::RegisterXorbUploadProgressBackground {
-            xorb_hash,
-            new_byte_progress,
-        });
-    }
-    None
+    xorb_step(word, name(a)?, number(b)?)
 }
 
 /// The call that registers one dependency.

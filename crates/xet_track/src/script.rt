@@ -1,8 +1,8 @@
 //! Runs a script of calls.
 ghost use Rattle.std.specs.Prelude.{◌≡◌, ◌++◌, [], IfOk, OnErr, OnOk, option_map, unwrap_or};
-ghost use Rattle.xet_progress_state.specs.Replies.{StepOf};
-ghost use Rattle.xet_track.specs.Texts.{LineOf, PrintedPart, track_reads, track_text};
-ghost use Rattle.xet_track.specs.Turns.{TurnOf};
+ghost use Rattle.xet_progress_state.specs.Replies.{StepOf, after, reply_of};
+ghost use Rattle.xet_track.specs.Texts.{LineOf, PrintedPart, text_of_reply, track_reads, track_text};
+ghost use Rattle.xet_track.specs.Turns.{TurnOf, reads_left, text_left};
 ghost use Rattle.xet_track.specs.steps.Spelling.{call_of};
 
 use crate::line::cut;
@@ -55,6 +55,25 @@ fn make_call(
     }
 }
 
+/// Makes a call, and prints the line of its reply, whole or not at all.
+fn print_call(
+    alloc: Global,
+    state: &mut TrackerState,
+    call: &Spelled,
+    printed: &mut Vec<u8>,
+    out: &mut Vec<u8>,
+) -> Result<(), OutOfMemory>
+    ensures line { OnOk result (out.new.items
+        ≡ out.old.items ++ text_of_reply (reply_of state.old (call_of call.now))) }
+    ensures moved { OnOk result (state.new ≡ after state.old (call_of call.now)) }
+    ensures memory { OnErr result (out.new.items ≡ out.old.items) }
+{
+    let reply = make_call(alloc, state, call)?;
+    printed.clear();
+    add_reply(printed, &reply)?;
+    add_bytes(out, printed.as_slice())
+}
+
 /// Makes the call of a line, and prints the line for it, whole or not at all: false where it doesn't read.
 fn make_line(
     alloc: Global,
@@ -70,10 +89,7 @@ fn make_line(
         add(out, "error script\n")?;
         return Ok(false);
     };
-    let reply = make_call(alloc, state, &call)?;
-    printed.clear();
-    add_reply(printed, &reply)?;
-    add_bytes(out, printed.as_slice())?;
+    print_call(alloc, state, &call, printed, out)?;
     Ok(true)
 }
 
@@ -121,6 +137,22 @@ fn left<'a>(rest: Option<&'a [u8]>) -> &'a [u8]
     }
 }
 
+/// Makes the calls that are left of a script, and prints a line for each, up to the first that doesn't read: false
+/// where there is one.
+fn run_rest(alloc: Global, run: &mut Script<'_>, out: &mut Vec<u8>) -> Result<bool, OutOfMemory>
+    ensures text { OnOk result (out.new.items ≡ out.old.items ++ text_left run.old) }
+    ensures reads { IfOk result (λ done. done ≡ reads_left run.old) }
+    ensures memory { OnErr result (PrintedPart out.old.items out.new.items (text_left run.old)) }
+{
+    'lines: loop {
+        match run.step(alloc, out)? {
+            Turn::Printed => {}
+            Turn::Unread => return Ok(false),
+            Turn::Ended => return Ok(true),
+        }
+    }
+}
+
 /// Makes the calls of a script on a new tracker, and prints a line for each, up to the first that doesn't read: false
 /// where there is one.
 ///
@@ -131,11 +163,5 @@ pub fn run_script(alloc: Global, script: &[u8], out: &mut Vec<u8>) -> Result<boo
     ensures memory { OnErr result (PrintedPart out.old.items out.new.items (track_text script.now)) }
 {
     let mut run = Script::new(alloc, script);
-    'lines: loop {
-        match run.step(alloc, out)? {
-            Turn::Printed => {}
-            Turn::Unread => return Ok(false),
-            Turn::Ended => return Ok(true),
-        }
-    }
+    run_rest(alloc, &mut run, out)
 }
