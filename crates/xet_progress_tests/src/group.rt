@@ -3,7 +3,6 @@ use crate::rows::{Call, call_of, comes_to, show};
 use std::alloc::Global;
 use std::collections::BTreeMap;
 use std::sync::{Arc, Wait};
-use std::test::Fail;
 use xet_base::{OutOfMemory, UniqueID};
 use xet_progress::{
     GroupProgress, GroupProgressReport, ItemProgressReport, ItemProgressUpdater, ProgressError,
@@ -60,12 +59,7 @@ pub(crate) fn sums(report: GroupProgressReport) -> (u64, u64, u64, u64) {
 }
 
 /// Shows a copy of an item's report.
-fn show_report<R: Wait>(
-    rt: &R,
-    alloc: Global,
-    item: &ItemProgressUpdater,
-    told: &mut String,
-) -> Result<(), Fail> {
+fn show_report<R: Wait>(rt: &R, alloc: Global, item: &ItemProgressUpdater, told: &mut String) {
     match item.report(rt, alloc) {
         Ok(report) => show(told, &report.clone()),
         Err(OutOfMemory) => show(told, &OutOfMemory),
@@ -73,15 +67,10 @@ fn show_report<R: Wait>(
 }
 
 /// Shows all that an item says.
-fn show_item<R: Wait>(
-    rt: &R,
-    alloc: Global,
-    item: &ItemProgressUpdater,
-    told: &mut String,
-) -> Result<(), Fail> {
-    show(told, &item.item(rt, alloc))?;
-    show_report(rt, alloc, item, told)?;
-    show(told, &item.total_bytes_completed(rt))
+fn show_item<R: Wait>(rt: &R, alloc: Global, item: &ItemProgressUpdater, told: &mut String) {
+    show(told, &item.item(rt, alloc));
+    show_report(rt, alloc, item, told);
+    show(told, &item.total_bytes_completed(rt));
 }
 
 /// Makes a call of an item.
@@ -105,34 +94,25 @@ fn ask_item<R: Wait>(
     item: &ItemProgressUpdater,
     call: Call,
     told: &mut String,
-) -> Result<(), Fail> {
+) {
     match call.word {
         "item" => show_item(rt, alloc, item, told),
         "missing" => {
-            show(told, &item.assert_complete(rt))?;
-            show(told, &item.group().assert_complete(rt))
+            show(told, &item.assert_complete(rt));
+            show(told, &item.group().assert_complete(rt));
         }
         _ => show(told, &report_to(rt, item, call)),
     }
 }
 
-fn show_reports(
-    reports: &BTreeMap<UniqueID, ItemProgressReport>,
-    told: &mut String,
-) -> Result<(), Fail> {
+fn show_reports(reports: &BTreeMap<UniqueID, ItemProgressReport>, told: &mut String) {
     for (id, report) in reports.iter() {
-        show(told, id)?;
-        show(told, report)?;
+        show(told, id);
+        show(told, report);
     }
-    Ok(())
 }
 
-fn show_items<R: Wait>(
-    rt: &R,
-    alloc: Global,
-    group: &GroupProgress,
-    told: &mut String,
-) -> Result<(), Fail> {
+fn show_items<R: Wait>(rt: &R, alloc: Global, group: &GroupProgress, told: &mut String) {
     match group.item_reports(rt, alloc) {
         Ok(reports) => show_reports(&reports, told),
         Err(OutOfMemory) => show(told, &OutOfMemory),
@@ -162,13 +142,7 @@ fn updater(group: &Arc<GroupProgress>, id: UniqueID) -> Result<ItemProgressUpdat
 }
 
 /// Makes a call, and shows its answer.
-fn ask<R: Wait>(
-    rt: &R,
-    alloc: Global,
-    group: &Arc<GroupProgress>,
-    call: Call,
-    told: &mut String,
-) -> Result<(), Fail> {
+fn ask<R: Wait>(rt: &R, alloc: Global, group: &Arc<GroupProgress>, call: Call, told: &mut String) {
     let [first, second, _] = call.numbers;
     let id = UniqueID(first);
     match call.word {
@@ -190,41 +164,35 @@ fn ask_all<R: Wait>(
     group: &Arc<GroupProgress>,
     calls: &str,
     told: &mut String,
-) -> Result<(), Fail> {
+) {
     for call in calls.split(';') {
-        ask(rt, alloc, group, call_of(call)?, told)?;
+        ask(rt, alloc, group, call_of(call), told);
     }
-    Ok(())
 }
 
-fn told_of<R: Wait>(
-    rt: &R,
-    alloc: Global,
-    group: &Arc<GroupProgress>,
-    calls: &str,
-) -> Result<String, Fail> {
+fn told_of<R: Wait>(rt: &R, alloc: Global, group: &Arc<GroupProgress>, calls: &str) -> String {
     let mut told = String::new(alloc);
-    ask_all(rt, alloc, group, calls, &mut told)?;
-    Ok(told)
+    ask_all(rt, alloc, group, calls, &mut told);
+    told
 }
 
-fn told_group<R: Wait>(rt: &R, alloc: Global, calls: &str) -> Result<String, Fail> {
+fn told_group<R: Wait>(rt: &R, alloc: Global, calls: &str) -> String {
     match GroupProgress::new(alloc) {
         Ok(group) => told_of(rt, alloc, &group, calls),
-        Err(OutOfMemory) => Err("no memory".into()),
+        Err(OutOfMemory) => String::new(alloc),
     }
 }
 
-fn told_item<R: Wait>(rt: &R, alloc: Global, item: &ItemProgressUpdater) -> Result<String, Fail> {
+fn told_item<R: Wait>(rt: &R, alloc: Global, item: &ItemProgressUpdater) -> String {
     let mut told = String::new(alloc);
-    show_item(rt, alloc, item, &mut told)?;
-    Ok(told)
+    show_item(rt, alloc, item, &mut told);
+    told
 }
 
-fn told_alone<R: Wait>(rt: &R, alloc: Global) -> Result<String, Fail> {
+fn told_alone<R: Wait>(rt: &R, alloc: Global) -> String {
     match ItemProgressUpdater::new_standalone(alloc, "alone") {
         Ok(item) => told_item(rt, alloc, &item),
-        Err(OutOfMemory) => Err("no memory".into()),
+        Err(OutOfMemory) => String::new(alloc),
     }
 }
 

@@ -1,7 +1,6 @@
 //! Rows of a text: calls with a semicolon between them, and what they come to.
 use std::fmt::Debug;
 use std::process::Abort;
-use std::test::Fail;
 
 /// A call: its word, and up to three numbers, each of which is 0 where it isn't there.
 #[derive(Clone, Copy)]
@@ -10,35 +9,33 @@ pub(crate) struct Call<'a> {
     pub(crate) numbers: [u64; 3],
 }
 
-fn number(word: Option<&str>) -> Result<u64, Fail> {
-    match word {
-        Some(word) => Ok(word.parse::<u64>()?),
-        None => Ok(0),
-    }
+/// What stands before the first of these, and what behind it: where there is none, all and nothing.
+pub(crate) fn cut<'a>(text: &'a str, at: &str) -> (&'a str, &'a str) {
+    text.split_once(at).unwrap_or((text, ""))
+}
+
+/// The number of a word, 0 where it is none.
+pub(crate) fn number(word: &str) -> u64 {
+    word.parse::<u64>().unwrap_or(0)
 }
 
 /// The call of a text.
-pub(crate) fn call_of(text: &str) -> Result<Call<'_>, Fail> {
-    let mut words = text.split(' ');
-    let word = words.next().unwrap_or("");
-    let first = number(words.next())?;
-    let second = number(words.next())?;
-    let third = number(words.next())?;
-    Ok(Call {
+pub(crate) fn call_of(text: &str) -> Call<'_> {
+    let (word, rest) = cut(text, " ");
+    let (first, rest) = cut(rest, " ");
+    let (second, third) = cut(rest, " ");
+    Call {
         word,
-        numbers: [first, second, third],
-    })
+        numbers: [number(first), number(second), number(third)],
+    }
 }
 
 /// Adds a value behind a space.
-pub(crate) fn show<T: Debug>(told: &mut String, value: &T) -> Result<(), Fail> {
-    Ok(write!(told, " {value:?}")?)
+pub(crate) fn show<T: Debug>(told: &mut String, value: &T) {
+    let _ = write!(told, " {value:?}");
 }
 
 /// Asserts what a row comes to.
-pub(crate) fn comes_to(rt: &impl Abort, row: &str, told: Result<String, Fail>, wanted: &str) {
-    match told {
-        Ok(told) => assert!(rt; told.as_str() == wanted, "{row}: {told}"),
-        Err(_) => panic!(rt; "{row}"),
-    }
+pub(crate) fn comes_to(rt: &impl Abort, row: &str, told: String, wanted: &str) {
+    assert!(rt; told.as_str() == wanted, "{row}: {told}");
 }

@@ -2,13 +2,12 @@
 ghost use Rattle.std.specs.Prelude.{◌≡◌, ◌^◌};
 
 use crate::group::sums;
-use crate::rows::{Call, call_of, comes_to, show};
+use crate::rows::{Call, call_of, comes_to, cut, number, show};
 use std::alloc::Global;
 use std::marker::Brand;
 use std::process::Abort;
 use std::sync::ledger::{Blank, Ledger};
 use std::sync::{Arc, Wait};
-use std::test::Fail;
 use xet_base::{MerkleHash, OutOfMemory, UniqueID};
 use xet_progress::{
     CompletionTracker, FileXorbDependency, GroupProgress, ProgressError, TrackerCall, TrackerPass,
@@ -183,23 +182,43 @@ fn ask<L: Ledger, R: Wait>(
 }
 
 /// A dependency on a xorb.
-fn dependency(text: &str) -> Result<FileXorbDependency, Fail> {
-    let call = call_of(text)?;
+fn dependency(text: &str) -> FileXorbDependency {
+    let call = call_of(text);
     let [file_id, xorb, n_bytes] = call.numbers;
-    Ok(FileXorbDependency {
+    FileXorbDependency {
         file_id,
         xorb_hash: hash(xorb),
         n_bytes,
         is_external: call.word == "ext",
-    })
+    }
 }
 
-fn dependencies(alloc: Global, text: &str) -> Result<Vec<FileXorbDependency>, Fail> {
+fn dependencies(alloc: Global, text: &str) -> Vec<FileXorbDependency> {
     let mut list = Vec::new(alloc);
     for part in text.split('+') {
-        list.push(dependency(part)?)?;
+        let _ = list.push(dependency(part));
     }
-    Ok(list)
+    list
+}
+
+/// Registers the dependencies of a text.
+fn depend<L: Ledger, R: Wait>(
+    rt: &R,
+    alloc: Global,
+    tracker: &CompletionTracker<L>,
+    pass: &mut TrackerPass<L>,
+    text: &str,
+) -> Result<TrackerReply, OutOfMemory> {
+    let list = dependencies(alloc, text);
+    done_reply(tracker.register_dependencies(rt, alloc, pass, list.as_slice()))
+}
+
+/// Shows a reply, or that memory was wanting.
+fn show_reply(reply: Result<TrackerReply, OutOfMemory>, told: &mut String) {
+    match reply {
+        Ok(reply) => show(told, &reply),
+        Err(OutOfMemory) => show(told, &OutOfMemory),
+    }
 }
 
 /// Makes a call, and shows its reply.
@@ -211,13 +230,13 @@ fn ask_one<L: Ledger, R: Wait>(
     group: &Arc<GroupProgress>,
     text: &str,
     told: &mut String,
-) -> Result<(), Fail> {
-    if text.starts_with("dep") || text.starts_with("ext") {
-        let list = dependencies(alloc, text)?;
-        let answer = tracker.register_dependencies(rt, alloc, pass, list.as_slice());
-        return show(told, &done_reply(answer)?);
-    }
-    show(told, &ask(rt, alloc, tracker, pass, group, call_of(text)?)?)
+) {
+    let reply = if text.starts_with("dep") || text.starts_with("ext") {
+        depend(rt, alloc, tracker, pass, text)
+    } else {
+        ask(rt, alloc, tracker, pass, group, call_of(text))
+    };
+    show_reply(reply, told);
 }
 
 fn ask_all<L: Ledger, R: Wait>(
@@ -228,11 +247,10 @@ fn ask_all<L: Ledger, R: Wait>(
     group: &Arc<GroupProgress>,
     calls: &str,
     told: &mut String,
-) -> Result<(), Fail> {
+) {
     for call in calls.split(';') {
-        ask_one(rt, alloc, tracker, pass, group, call, told)?;
+        ask_one(rt, alloc, tracker, pass, group, call, told);
     }
-    Ok(())
 }
 
 /// Makes the calls of one pass, and those of another.
@@ -244,24 +262,23 @@ fn ask_both<L: Ledger, R: Wait>(
     group: &Arc<GroupProgress>,
     calls: &str,
     told: &mut String,
-) -> Result<(), Fail> {
-    let (calls, others) = calls.split_once('|').ok_or("no other calls")?;
-    ask_all(rt, alloc, tracker, passes.0, group, calls, told)?;
-    ask_all(rt, alloc, tracker, passes.1, group, others, told)
+) {
+    let (calls, others) = cut(calls, "|");
+    ask_all(rt, alloc, tracker, passes.0, group, calls, told);
+    ask_all(rt, alloc, tracker, passes.1, group, others, told);
 }
 
-fn show_replies(history: &[TrackerCall], told: &mut String) -> Result<(), Fail> {
+fn show_replies(history: &[TrackerCall], told: &mut String) {
     for call in history {
-        show(told, &call.reply)?;
+        show(told, &call.reply);
     }
-    Ok(())
 }
 
 /// Whether these are the kept replies.
-fn is_kept(alloc: Global, history: &[TrackerCall], replies: &str) -> Result<bool, Fail> {
+fn is_kept(alloc: Global, history: &[TrackerCall], replies: &str) -> bool {
     let mut kept = String::new(alloc);
-    show_replies(history, &mut kept)?;
-    Ok(kept.as_str() == replies)
+    show_replies(history, &mut kept);
+    kept.as_str() == replies
 }
 
 /// Shows the sums of the group, what the passes count, and whether the replies were kept.
@@ -272,10 +289,10 @@ fn show_end<R: Wait>(
     counts: (u64, u64),
     history: &[TrackerCall],
     told: &mut String,
-) -> Result<(), Fail> {
-    let kept = is_kept(alloc, history, told.as_str())?;
-    show(told, &sums(group.report(rt)))?;
-    show(told, &(counts.0, counts.1, kept))
+) {
+    let kept = is_kept(alloc, history, told.as_str());
+    show(told, &sums(group.report(rt)));
+    show(told, &(counts.0, counts.1, kept));
 }
 
 /// Makes the calls by two passes, and gathers and closes these.
@@ -287,7 +304,7 @@ fn ended<L: Ledger, R: Wait>(
     group: &Arc<GroupProgress>,
     calls: &str,
     told: &mut String,
-) -> Result<(), Fail>
+)
     requires { pass.parts ≡ 2 ^ 32 }
 {
     let mut other = pass.split(1);
@@ -299,11 +316,11 @@ fn ended<L: Ledger, R: Wait>(
         group,
         calls,
         told,
-    )?;
+    );
     pass.gather(other);
     let counts = (pass.parts(), pass.calls());
     let history = tracker.close(pass);
-    show_end(rt, alloc, group, counts, history.as_slice(), told)
+    show_end(rt, alloc, group, counts, history.as_slice(), told);
 }
 
 /// Makes the calls on a tracker of a group that has so many bytes to transfer already. The calls are no `&str`, since a
@@ -323,10 +340,8 @@ fn tracked<L: Ledger, R: Abort + Wait>(
     let group = GroupProgress::new(alloc)?;
     assert!(rt; group.add_transfer(rt, before, 0).is_ok(), "{before}");
     let (tracker, pass) = GroupProgress::new_completion_tracker::<L>(&group, alloc, blank)?;
-    match ended(rt, alloc, tracker, pass, &group, calls.as_str(), told) {
-        Ok(()) => Ok(()),
-        Err(_) => panic!(rt; "{calls}"),
-    }
+    ended(rt, alloc, tracker, pass, &group, calls.as_str(), told);
+    Ok(())
 }
 
 /// The same, of a tracker with a name of its own.
@@ -340,14 +355,27 @@ fn of_own_tracker<R: Abort + Wait>(
     tracked::<Brand, R>(rt, alloc, Blank::new(1 << 32), before, calls, told)
 }
 
+/// Makes the calls, and shows where memory was wanting for the tracker.
+fn show_tracker<R: Abort + Wait>(
+    rt: &R,
+    alloc: Global,
+    before: u64,
+    calls: &String,
+    told: &mut String,
+) {
+    if of_own_tracker(rt, alloc, before, calls, told).is_err() {
+        show(told, &OutOfMemory);
+    }
+}
+
 /// Makes the calls of a row.
-fn told_tracker<R: Abort + Wait>(rt: &R, alloc: Global, row: &str) -> Result<String, Fail> {
-    let (before, calls) = row.split_once('|').ok_or("no calls")?;
-    let before = before.parse::<u64>()?;
-    let calls = String::from_str(alloc, calls)?;
+fn told_tracker<R: Abort + Wait>(rt: &R, alloc: Global, row: &str) -> String {
+    let (before, calls) = cut(row, "|");
     let mut told = String::new(alloc);
-    of_own_tracker(rt, alloc, before, &calls, &mut told)?;
-    Ok(told)
+    if let Ok(calls) = String::from_str(alloc, calls) {
+        show_tracker(rt, alloc, number(before), &calls, &mut told);
+    }
+    told
 }
 
 #[test]
