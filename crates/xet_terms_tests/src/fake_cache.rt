@@ -1,6 +1,7 @@
 //! A cache that does one thing at each look, and keeps what it was asked.
 use crate::script::block;
-use std::alloc::{AllocError, Global};
+use crate::told::{put, put_range};
+use std::alloc::Global;
 use xet_base::{ChunkRange, MerkleHash};
 use xet_outside::{BlockBytes, CacheError, ChunkCache};
 
@@ -22,14 +23,11 @@ impl<'a> FakeCache<'a> {
 }
 
 /// ` get x1 0..4`, or ` put x1 0..4`: a look, or a put.
-fn note(
-    log: &mut String,
-    call: &str,
-    xorb: &MerkleHash,
-    range: ChunkRange,
-) -> Result<(), AllocError> {
-    let (first, start, end) = (xorb.0[0], range.start, range.end);
-    write!(log, " {call} x{first} {start}..{end}")
+fn note(log: &mut String, call: &str, xorb: &MerkleHash, range: ChunkRange) {
+    put(log, call);
+    put(log, xorb.0[0]);
+    put(log, ' ');
+    put_range(log, range.start, range.end);
 }
 
 /// What a look gives by this step.
@@ -57,10 +55,8 @@ impl<'a> ChunkCache for FakeCache<'a> {
         xorb: &MerkleHash,
         range: ChunkRange,
     ) -> Result<Option<BlockBytes>, CacheError> {
-        match note(&mut self.log, "get", xorb, range) {
-            Ok(()) => given(alloc, self.step),
-            Err(_) => Err(CacheError::OutOfMemory),
-        }
+        note(&mut self.log, " get x", xorb, range);
+        given(alloc, self.step)
     }
 
     fn put(
@@ -70,7 +66,7 @@ impl<'a> ChunkCache for FakeCache<'a> {
         range: ChunkRange,
         _block: &BlockBytes,
     ) -> Result<(), CacheError> {
-        let _ = note(&mut self.log, "put", xorb, range);
+        note(&mut self.log, " put x", xorb, range);
         Err(CacheError::Failed)
     }
 }

@@ -1,7 +1,8 @@
 //! A connection that follows a script and keeps what it was asked.
 use crate::script::{answered, block, hash};
-use std::alloc::{AllocError, Global};
-use xet_base::{FileRange, MerkleHash, UniqueId};
+use crate::told::{cut, put, put_id, put_range};
+use std::alloc::Global;
+use xet_base::{ChunkRange, FileRange, HttpRange, MerkleHash, UniqueId};
 use xet_blocks::{TermBlock, retrieve_file_term_block};
 use xet_outside::{BlockAnswer, BlockRequest, Client, ClientError, PlanAnswer};
 
@@ -38,27 +39,43 @@ impl<'a> FakeClient<'a> {
 
     /// The script's first step, which is left behind.
     fn step(&mut self) -> &'a str {
-        let (step, rest) = self.script.split_once('/').unwrap_or((self.script, ""));
+        let (step, rest) = cut(self.script, "/");
         self.script = rest;
         step.trim()
     }
 }
 
 /// ` ?0..13`: a query.
-fn note_query(log: &mut String, range: FileRange) -> Result<(), AllocError> {
-    write!(log, " ?{}..{}", range.start, range.end)
+fn note_query(log: &mut String, range: FileRange) {
+    put(log, " ?");
+    put_range(log, range.start, range.end);
+}
+
+/// ` 4..7@40..70`: chunks with their bytes.
+fn note_range(log: &mut String, chunks: ChunkRange, bytes: HttpRange) {
+    put(log, ' ');
+    put_range(log, chunks.start, chunks.end);
+    put(log, '@');
+    put_range(log, bytes.start, bytes.end);
+}
+
+/// ` !a 1.0 b0`: the URL, the acquisition and the block's number of a request.
+fn note_block(log: &mut String, request: &BlockRequest) {
+    put(log, " !");
+    put(log, request.url.as_str());
+    put(log, ' ');
+    put_id(log, request.acquisition);
+    put(log, " b");
+    put(log, request.index);
 }
 
 /// ` !a 1.0 b0 4..7@40..70`: a request by its URL, its acquisition, the block's number, and each range with its bytes.
-fn note_request(log: &mut String, request: &BlockRequest) -> Result<(), AllocError> {
-    let (url, id, index) = (request.url.as_str(), request.acquisition, request.index);
-    write!(log, " !{url} {}.{} b{index}", id.plan, id.refresh)?;
+fn note_request(log: &mut String, request: &BlockRequest) {
+    note_block(log, request);
     let ranges = request.chunks.as_slice().iter();
     for (chunks, bytes) in ranges.zip(request.bytes.as_slice()) {
-        let (first, last) = (chunks.start, chunks.end);
-        write!(log, " {first}..{last}@{}..{}", bytes.start, bytes.end)?;
+        note_range(log, *chunks, *bytes);
     }
-    Ok(())
 }
 
 /// What a connection answers to a request by this step.
@@ -94,16 +111,12 @@ impl<'a> Client for FakeClient<'a> {
         _file: &MerkleHash,
         range: FileRange,
     ) -> Result<PlanAnswer, ClientError> {
-        match note_query(&mut self.log, range) {
-            Ok(()) => answered(alloc, self.step()),
-            Err(_) => Err(ClientError::OutOfMemory),
-        }
+        note_query(&mut self.log, range);
+        answered(alloc, self.step())
     }
 
     fn block(&mut self, alloc: Global, request: &BlockRequest) -> Result<BlockAnswer, ClientError> {
-        match note_request(&mut self.log, request) {
-            Ok(()) => given(alloc, self.step()),
-            Err(_) => Err(ClientError::OutOfMemory),
-        }
+        note_request(&mut self.log, request);
+        given(alloc, self.step())
     }
 }

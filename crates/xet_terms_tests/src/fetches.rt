@@ -1,9 +1,9 @@
 //! Blocks by a cache, by tries and by refreshes between them.
 use crate::fetching::{Fetching, make_fetching};
-use crate::told::{comes_to, tell_answer, tell_error, tell_table};
-use std::alloc::{AllocError, Global};
+use crate::script::number;
+use crate::told::{comes_to, cut, put, tell_answer, tell_error, tell_table};
+use std::alloc::Global;
 use std::sync::Wait;
-use std::test::Fail;
 use xet_base::OutOfMemory;
 use xet_progress::ItemProgressUpdater;
 use xet_terms::{DataSource, FetchSettings, FileTerm, XorbBlock, offer_data};
@@ -159,40 +159,45 @@ UrlExpired 20 Hello,wanted 1
 1.0 a; !a 1.0 b0 0..2@0..20 !a 1.0 b1 4..7@40..70; get x1 0..2 put x1 0..2 get x1 4..7 offer put x1 0..2
 ";
 
-/// A term's bytes as text, the number of its block where that keeps nothing, or the error.
-fn tell_piece(
-    text: &mut String,
-    alloc: Global,
-    term: &FileTerm,
-    blocks: &[XorbBlock],
-) -> Result<(), AllocError> {
+/// A term's bytes as text, or the number of its block where that keeps nothing.
+fn tell_source(text: &mut String, source: &DataSource) {
+    match source {
+        DataSource::Ready(bytes) => put(
+            text,
+            str::from_utf8(bytes.as_slice()).unwrap_or("no text"),
+        ),
+        DataSource::Wanted(number) => {
+            put(text, "wanted ");
+            put(text, *number);
+        }
+    }
+}
+
+/// The same of a term, or the error.
+fn tell_piece(text: &mut String, alloc: Global, term: &FileTerm, blocks: &[XorbBlock]) {
     if blocks.len() <= term.xorb_block {
-        return text.push_str("no block");
+        return put(text, "no block");
     }
     match term.get_data_task(alloc, blocks) {
-        Ok(DataSource::Ready(bytes)) => {
-            text.push_str(str::from_utf8(bytes.as_slice()).unwrap_or("no text"))
-        }
-        Ok(DataSource::Wanted(number)) => write!(text, "wanted {number}"),
+        Ok(source) => tell_source(text, &source),
         Err(error) => tell_error(text, error),
     }
 }
 
 /// The bytes of all terms.
-fn tell_pieces(text: &mut String, alloc: Global, case: &Fetching) -> Result<(), AllocError> {
+fn tell_pieces(text: &mut String, alloc: Global, case: &Fetching) {
     for term in case.terms.as_slice() {
-        tell_piece(text, alloc, term, case.blocks.as_slice())?;
+        tell_piece(text, alloc, term, case.blocks.as_slice());
     }
-    Ok(())
 }
 
 /// Offers the data of the first block, where it keeps some.
-fn offer_first(alloc: Global, case: &mut Fetching) -> Result<(), OutOfMemory> {
-    if let Some(block) = case.blocks.as_slice().first() {
-        if let Some(found) = &block.kept {
-            case.cache.log.push_str(" offer")?;
-            return offer_data(alloc, block, &mut case.cache, found);
-        }
+fn offer_first(alloc: Global, case: &mut Fetching) -> std::result::Result<(), OutOfMemory> {
+    if let Some(block) = case.blocks.as_slice().first()
+        && let Some(found) = &block.kept
+    {
+        put(&mut case.cache.log, " offer");
+        return offer_data(alloc, block, &mut case.cache, found);
     }
     Ok(())
 }
@@ -208,58 +213,90 @@ fn retrieve_twice<R: Wait>(
     case.retrieve_all(alloc, rt, item)
 }
 
+/// The bytes that were reported as transferred.
+fn tell_report<R: Wait>(text: &mut String, rt: &R, item: &ItemProgressUpdater) {
+    put(text, ' ');
+    put(text, item.group().report(rt).total_transfer_bytes_completed);
+    put(text, ' ');
+}
+
 /// What comes of retrieving the blocks, reported to an item of 100 bytes.
+fn tell_retrieved<R: Wait>(
+    text: &mut String,
+    alloc: Global,
+    rt: &R,
+    case: &mut Fetching,
+    item: &ItemProgressUpdater,
+) {
+    let _ = item.update_transfer_size(rt, 100);
+    tell_answer(text, retrieve_twice(alloc, rt, case, item));
+    tell_report(text, rt, item);
+}
+
+/// What the connection was asked, and what the cache was.
+fn tell_logs(text: &mut String, case: &Fetching) {
+    put(text, ';');
+    put(text, case.client.log.as_str());
+    put(text, ';');
+    put(text, case.cache.log.as_str());
+}
+
+/// What comes of retrieving the blocks, and what is left then.
 fn tell_fetches<R: Wait>(
     text: &mut String,
     alloc: Global,
     rt: &R,
     case: &mut Fetching,
     item: &ItemProgressUpdater,
-) -> Result<(), Fail> {
-    item.update_transfer_size(rt, 100)?;
-    tell_answer(text, retrieve_twice(alloc, rt, case, item))?;
-    write!(
-        text,
-        " {} ",
-        item.group().report(rt).total_transfer_bytes_completed
-    )?;
-    tell_pieces(text, alloc, case)?;
-    offer_first(alloc, case)?;
-    text.push('\n')?;
-    tell_table(text, &case.urls)?;
-    write!(text, ";{};{}", case.client.log, case.cache.log)?;
-    Ok(())
+) {
+    tell_retrieved(text, alloc, rt, case, item);
+    tell_pieces(text, alloc, case);
+    if offer_first(alloc, case).is_err() {
+        put(text, "no memory");
+    }
+    put(text, '\n');
+    tell_table(text, &case.urls);
+    tell_logs(text, case);
 }
 
-/// What comes of retrieving the blocks.
-fn fetched_by<R: Wait>(alloc: Global, rt: &R, case: &mut Fetching) -> Result<String, Fail> {
-    let item = ItemProgressUpdater::new_standalone(alloc, "file")?;
-    let mut text = String::new(alloc);
-    tell_fetches(&mut text, alloc, rt, case, &item)?;
-    Ok(text)
+/// The settings of so many tries and this kind of blocks.
+fn settings_of(tries: &str, kind: &str) -> FetchSettings {
+    FetchSettings {
+        multirange: kind == "entry",
+        tries: u32::try_from(number(tries)).unwrap_or(u32::MAX),
+    }
+}
+
+/// The blocks of this plan over a cache and a connection that do this.
+fn fetching_of<'a>(alloc: Global, plan: &str, steps: &'a str) -> Option<Fetching<'a>> {
+    let (tries, plan) = cut(plan, " ");
+    let (kind, plan) = cut(plan, " ");
+    let (cached, script) = cut(steps, "/");
+    make_fetching(alloc, plan, settings_of(tries, kind), cached.trim(), script)
+}
+
+/// What comes of these blocks, where there is an item to report to.
+fn tell_case<R: Wait>(text: &mut String, alloc: Global, rt: &R, case: &mut Fetching) {
+    if let Ok(item) = ItemProgressUpdater::new_standalone(alloc, "file") {
+        tell_fetches(text, alloc, rt, case, &item);
+    }
 }
 
 /// What comes of the blocks of this plan by what the cache and the connection do.
-fn fetched<R: Wait>(alloc: Global, rt: &R, plan: &str, steps: &str) -> Result<String, Fail> {
-    let (tries, plan) = plan.split_once(' ').ok_or("no tries")?;
-    let (kind, plan) = plan.split_once(' ').ok_or("no kind")?;
-    let (cached, script) = steps.split_once('/').ok_or("no script")?;
-    let settings = FetchSettings {
-        multirange: kind == "entry",
-        tries: tries.parse::<u32>()?,
-    };
-    fetched_by(
-        alloc,
-        rt,
-        &mut make_fetching(alloc, plan, settings, cached.trim(), script)?,
-    )
+fn fetched<R: Wait>(alloc: Global, rt: &R, plan: &str, steps: &str) -> String {
+    let mut text = String::new(alloc);
+    match fetching_of(alloc, plan, steps) {
+        Some(mut case) => tell_case(&mut text, alloc, rt, &mut case),
+        None => put(&mut text, "no blocks"),
+    }
+    text
 }
 
 #[test]
 fn blocks_by_cache_tries_and_refreshes(rt: HostRuntime) {
     for case in FETCHES.trim_end().split("\n\n") {
-        let (plan, rest) = case.split_once('\n').unwrap_or((case, ""));
-        let (steps, wanted) = rest.split_once('\n').unwrap_or((rest, ""));
+        let (plan, rest) = cut(case, "\n");
+        let (steps, wanted) = cut(rest, "\n");
         comes_to(&rt, case, fetched(rt.alloc(), &rt, plan, steps), wanted);
     }
 }

@@ -6,7 +6,6 @@ use crate::fake_cache::FakeCache;
 use crate::fake_client::FakeClient;
 use std::alloc::Global;
 use std::sync::Wait;
-use std::test::Fail;
 use xet_base::{FileRange, List};
 use xet_progress::ItemProgressUpdater;
 use xet_terms::{
@@ -26,9 +25,26 @@ pub(crate) struct Fetching<'a> {
 }
 
 /// What this plan of a file's first 13 bytes is made into.
-fn planned(alloc: Global, plan: &str, multirange: bool) -> std::result::Result<TermBlock, Fail> {
-    let made = FakeClient::new(alloc, plan).terms(alloc, FileRange::new(0, 13), multirange);
-    Ok(made?.ok_or("no terms")?)
+fn planned(alloc: Global, plan: &str, multirange: bool) -> Result<Option<TermBlock>> {
+    FakeClient::new(alloc, plan).terms(alloc, FileRange::new(0, 13), multirange)
+}
+
+/// These terms and blocks, over a connection of this script and a cache of this step.
+fn over<'a>(
+    alloc: Global,
+    made: TermBlock,
+    settings: FetchSettings,
+    cached: &'a str,
+    script: &'a str,
+) -> Fetching<'a> {
+    Fetching {
+        terms: made.terms,
+        blocks: made.blocks.into_inner(),
+        urls: made.urls,
+        client: FakeClient::new(alloc, script),
+        cache: FakeCache::new(alloc, cached),
+        settings,
+    }
 }
 
 /// The terms and blocks of this plan, over a connection of this script and a cache of this step.
@@ -38,21 +54,11 @@ pub(crate) fn make_fetching<'a>(
     settings: FetchSettings,
     cached: &'a str,
     script: &'a str,
-) -> std::result::Result<Fetching<'a>, Fail> {
-    let TermBlock {
-        terms,
-        blocks,
-        urls,
-        ..
-    } = planned(alloc, plan, settings.multirange)?;
-    Ok(Fetching {
-        terms,
-        blocks: blocks.into_inner(),
-        urls,
-        client: FakeClient::new(alloc, script),
-        cache: FakeCache::new(alloc, cached),
-        settings,
-    })
+) -> Option<Fetching<'a>> {
+    match planned(alloc, plan, settings.multirange) {
+        Ok(Some(made)) => Some(over(alloc, made, settings, cached, script)),
+        _ => None,
+    }
 }
 
 /// Whether the blocks have this number, and the table has it.

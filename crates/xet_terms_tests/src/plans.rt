@@ -1,9 +1,9 @@
 //! What plans are made into, and those that are refused, each by the first test that it fails.
 use crate::fake_client::FakeClient;
-use crate::told::{comes_to, tell_error};
-use std::alloc::{AllocError, Global};
+use crate::script::number;
+use crate::told::{comes_to, cut, put, put_range, tell_error};
+use std::alloc::Global;
 use std::process::Abort;
-use std::test::Fail;
 use xet_base::{ChunkRange, FileRange};
 use xet_blocks::{FileTerm, TermBlock, XorbBlock, XorbReference};
 
@@ -139,83 +139,113 @@ both 18446744073709551610..18446744073709551615 1; 1 3 0 1 1 3 1 2; 1: 0 3
 b0 x1 0-3: 0-1=3 1-2=3 by 0 3
 ";
 
+/// ` 0-2`: a range of chunks.
+fn tell_chunks(text: &mut String, range: ChunkRange) {
+    put(text, ' ');
+    put(text, range.start);
+    put(text, '-');
+    put(text, range.end);
+}
+
 /// ` 0-2 4-6`: ranges.
-fn tell_ranges(text: &mut String, ranges: &[ChunkRange]) -> Result<(), AllocError> {
+fn tell_ranges(text: &mut String, ranges: &[ChunkRange]) {
     for range in ranges {
-        write!(text, " {}-{}", range.start, range.end)?;
+        tell_chunks(text, *range);
     }
-    Ok(())
+}
+
+/// ` 0-2=5`: a reference.
+fn tell_reference(text: &mut String, reference: &XorbReference) {
+    tell_chunks(text, reference.term_chunks);
+    put(text, '=');
+    put(text, reference.uncompressed_size);
 }
 
 /// ` 0-2=5 4-6=6`: references.
-fn tell_references(text: &mut String, references: &[XorbReference]) -> Result<(), AllocError> {
+fn tell_references(text: &mut String, references: &[XorbReference]) {
     for reference in references {
-        let (chunks, size) = (reference.term_chunks, reference.uncompressed_size);
-        write!(text, " {}-{}={size}", chunks.start, chunks.end)?;
+        tell_reference(text, reference);
     }
-    Ok(())
 }
 
 /// ` 5`, or ` unknown`: a block's size.
-fn tell_size(text: &mut String, size: Option<usize>) -> Result<(), AllocError> {
+fn tell_size(text: &mut String, size: Option<usize>) {
+    put(text, ' ');
     match size {
-        Some(size) => write!(text, " {size}"),
-        None => text.push_str(" unknown"),
+        Some(size) => put(text, size),
+        None => put(text, "unknown"),
     }
 }
 
 /// `0..11, 40: 5 6`: the bytes, how many are transferred, and the blocks' sizes.
-fn tell_sizes(text: &mut String, made: &TermBlock) -> Result<(), AllocError> {
-    let (range, bytes) = (made.byte_range, made.transfer_bytes);
-    write!(text, "{}..{}, {bytes}:", range.start, range.end)?;
+fn tell_sizes(text: &mut String, made: &TermBlock) {
+    put_range(text, made.byte_range.start, made.byte_range.end);
+    put(text, ", ");
+    put(text, made.transfer_bytes);
+    put(text, ':');
     for block in made.blocks.as_slice() {
-        tell_size(text, block.uncompressed_size_if_known)?;
+        tell_size(text, block.uncompressed_size_if_known);
     }
-    Ok(())
 }
 
 /// `5..11 4-6 b1 s0 o0`: a term.
-fn tell_term(text: &mut String, term: &FileTerm) -> Result<(), AllocError> {
-    let (bytes, chunks) = (term.byte_range, term.xorb_chunk_range);
-    let (block, start) = (term.xorb_block, term.xorb_block_start_index);
-    let offset = term.offset_into_first_range;
-    write!(
-        text,
-        "\n{}..{} {}-{}",
-        bytes.start, bytes.end, chunks.start, chunks.end
-    )?;
-    write!(text, " b{block} s{start} o{offset}")
+fn tell_term(text: &mut String, term: &FileTerm) {
+    put(text, '\n');
+    put_range(text, term.byte_range.start, term.byte_range.end);
+    tell_chunks(text, term.xorb_chunk_range);
+    tell_place(text, term);
+}
+
+/// ` b1 s0 o0`: where a term's bytes stand.
+fn tell_place(text: &mut String, term: &FileTerm) {
+    put(text, " b");
+    put(text, term.xorb_block);
+    put(text, " s");
+    put(text, term.xorb_block_start_index);
+    put(text, " o");
+    put(text, term.offset_into_first_range);
+}
+
+/// ` by a`: the URL of the block of this number.
+fn tell_url(text: &mut String, made: &TermBlock, index: usize) {
+    put(text, " by ");
+    match made.urls.get_retrieval_url(index) {
+        Some((_, found)) => put(text, found.url.as_str()),
+        None => put(text, "none"),
+    }
+}
+
+/// `b1 x1`: the number of a block, and its xorb.
+fn tell_number(text: &mut String, block: &XorbBlock) {
+    put(text, "\nb");
+    put(text, block.xorb_block_index);
+    put(text, " x");
+    put(text, block.xorb_hash.0[0]);
 }
 
 /// `b1 x1 4-6: 4-6=6 by a`: a block.
-fn tell_block(text: &mut String, made: &TermBlock, block: &XorbBlock) -> Result<(), AllocError> {
-    let index = block.xorb_block_index;
-    write!(text, "\nb{index} x{}", block.xorb_hash.0[0])?;
-    tell_ranges(text, block.chunk_ranges.as_slice())?;
-    text.push(':')?;
-    tell_references(text, block.references.as_slice())?;
-    match made.urls.get_retrieval_url(index) {
-        Some((_, found)) => write!(text, " by {}", found.url.as_str()),
-        None => text.push_str(" by none"),
-    }
+fn tell_block(text: &mut String, made: &TermBlock, block: &XorbBlock) {
+    tell_number(text, block);
+    tell_ranges(text, block.chunk_ranges.as_slice());
+    put(text, ':');
+    tell_references(text, block.references.as_slice());
+    tell_url(text, made, block.xorb_block_index);
 }
 
-/// The terms.
-fn tell_terms(text: &mut String, made: &TermBlock) -> Result<(), AllocError> {
+/// The terms and the blocks.
+fn tell_parts(text: &mut String, made: &TermBlock) {
     for term in made.terms.as_slice() {
-        tell_term(text, term)?;
+        tell_term(text, term);
     }
-    Ok(())
+    for block in made.blocks.as_slice() {
+        tell_block(text, made, block);
+    }
 }
 
 /// The sizes, the terms and the blocks.
-fn tell_whole(text: &mut String, made: &TermBlock) -> Result<(), AllocError> {
-    tell_sizes(text, made)?;
-    tell_terms(text, made)?;
-    for block in made.blocks.as_slice() {
-        tell_block(text, made, block)?;
-    }
-    Ok(())
+fn tell_whole(text: &mut String, made: &TermBlock) {
+    tell_sizes(text, made);
+    tell_parts(text, made);
 }
 
 /// How a plan is asked for and told.
@@ -227,44 +257,38 @@ struct Asked {
 }
 
 /// What the connection's answer is made into.
-fn tell_made(
-    text: &mut String,
-    alloc: Global,
-    client: &mut FakeClient,
-    asked: Asked,
-) -> Result<(), AllocError> {
+fn tell_made(text: &mut String, alloc: Global, client: &mut FakeClient, asked: Asked) {
     match client.terms(alloc, asked.query, asked.multirange) {
         Ok(Some(made)) if asked.whole => tell_whole(text, &made),
         Ok(Some(made)) => tell_sizes(text, &made),
-        Ok(None) => text.push_str("none"),
+        Ok(None) => put(text, "none"),
         Err(error) => tell_error(text, error),
     }
 }
 
 /// A range of a file.
-fn range_of(text: &str) -> Result<FileRange, Fail> {
-    let (start, end) = text.split_once("..").ok_or("no range")?;
-    Ok(FileRange::new(start.parse::<u64>()?, end.parse::<u64>()?))
+fn range_of(text: &str) -> FileRange {
+    let (start, end) = cut(text, "..");
+    FileRange::new(number(start), number(end))
 }
 
 /// What a plan is made into.
-fn made(alloc: Global, row: &str, multirange: bool, whole: bool) -> Result<String, Fail> {
-    let (query, script) = row.split_once(' ').ok_or("no query")?;
-    let query = range_of(query)?;
+fn made(alloc: Global, row: &str, multirange: bool, whole: bool) -> String {
+    let (query, script) = cut(row, " ");
     let asked = Asked {
-        query,
+        query: range_of(query),
         multirange,
         whole,
     };
     let mut text = String::new(alloc);
     let mut client = FakeClient::new(alloc, script);
-    tell_made(&mut text, alloc, &mut client, asked)?;
-    Ok(text)
+    tell_made(&mut text, alloc, &mut client, asked);
+    text
 }
 
 /// Asserts what a plan is made into, by its settings.
 fn is_made(rt: &impl Abort, alloc: Global, row: &str, whole: bool, wanted: &str) {
-    let (kind, rest) = row.split_once(' ').unwrap_or((row, ""));
+    let (kind, rest) = cut(row, " ");
     if kind != "entry" {
         comes_to(rt, row, made(alloc, rest, false, whole), wanted);
     }
@@ -276,7 +300,7 @@ fn is_made(rt: &impl Abort, alloc: Global, row: &str, whole: bool, wanted: &str)
 #[test]
 fn plans_and_the_first_tests_that_they_fail(rt: HostRuntime) {
     for line in PLANS.lines() {
-        let (row, wanted) = line.split_once(" = ").unwrap_or((line, ""));
+        let (row, wanted) = cut(line, " = ");
         is_made(&rt, rt.alloc(), row, false, wanted);
     }
 }
@@ -284,7 +308,7 @@ fn plans_and_the_first_tests_that_they_fail(rt: HostRuntime) {
 #[test]
 fn worked_plans(rt: HostRuntime) {
     for case in WORKED.trim_end().split("\n\n") {
-        let (row, wanted) = case.split_once('\n').unwrap_or((case, ""));
+        let (row, wanted) = cut(case, "\n");
         is_made(&rt, rt.alloc(), row, true, wanted);
     }
 }

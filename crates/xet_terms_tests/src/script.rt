@@ -1,7 +1,9 @@
-//! Scripts of connections and caches, read from texts. Nothing is read from another text, or where memory is refused.
+//! Scripts of connections and caches, read from texts. A word that says no number is 0, and what memory is refused for
+//! is left out.
+use crate::told::cut;
 use bytes::Bytes;
 use std::alloc::Global;
-use xet_base::{ChunkRange, HttpRange, List, MerkleHash, SharedText};
+use xet_base::{ChunkRange, HttpRange, List, MerkleHash, OutOfMemory, SharedText};
 use xet_outside::{
     BlockBytes, ClientError, FetchEntry, FetchRange, Offsets, Plan, PlanAnswer, PlanTerm, PlanXorb,
 };
@@ -13,98 +15,99 @@ pub(crate) fn hash(number: u8) -> MerkleHash {
     MerkleHash(bytes)
 }
 
+/// The number of a word.
+pub(crate) fn number(word: &str) -> u64 {
+    word.parse::<u64>().unwrap_or(0)
+}
+
 /// The numbers of a text.
-pub(crate) fn numbers(alloc: Global, text: &str) -> Option<Vec<u32>> {
+pub(crate) fn numbers(alloc: Global, text: &str) -> Vec<u32> {
     let mut made = Vec::new(alloc);
     for word in text.split_whitespace() {
-        let number = word.parse::<u32>().ok()?;
-        made.push(number).ok()?;
+        let _ = made.push(u32::try_from(number(word)).unwrap_or(u32::MAX));
     }
-    Some(made)
+    made
 }
 
 /// Terms by four numbers each: the xorb, the length and the chunks.
-fn plan_terms(alloc: Global, numbers: &[u32]) -> Option<List<PlanTerm>> {
+fn plan_terms(alloc: Global, numbers: &[u32]) -> List<PlanTerm> {
     let mut made = List::new(alloc);
     for term in numbers.chunks(4) {
         if let [xorb, length, start, end] = term {
-            let term = PlanTerm {
+            let _ = made.push(PlanTerm {
                 xorb: hash((*xorb % 256) as u8),
                 unpacked_length: *length,
                 range: ChunkRange::new(*start, *end),
-            };
-            made.push(term).ok()?;
+            });
         }
     }
-    Some(made)
+    made
 }
 
 /// An entry's ranges by two numbers each, the chunks, which have ten bytes each.
-fn fetch_ranges(alloc: Global, numbers: &[u32]) -> Option<List<FetchRange>> {
+fn fetch_ranges(alloc: Global, numbers: &[u32]) -> List<FetchRange> {
     let mut made = List::new(alloc);
     for range in numbers.chunks(2) {
         if let [start, end] = range {
-            let range = FetchRange {
+            let _ = made.push(FetchRange {
                 chunks: ChunkRange::new(*start, *end),
                 bytes: HttpRange::new(10 * u64::from(*start), 10 * u64::from(*end)),
-            };
-            made.push(range).ok()?;
+            });
         }
     }
-    Some(made)
+    made
 }
 
 /// This text as a URL.
-fn url(alloc: Global, text: &str) -> Option<SharedText> {
-    let string = String::from_str(alloc, text).ok()?;
-    SharedText::from_string(alloc, string).ok()
+fn url(alloc: Global, text: &str) -> Result<SharedText, OutOfMemory> {
+    SharedText::from_string(alloc, String::from_str(alloc, text)?)
 }
 
-/// One entry: its URL, an equals sign and its ranges, or the ranges alone, which are its URL too.
-fn fetch_entry(alloc: Global, text: &str) -> Option<FetchEntry> {
+/// Adds one entry: its URL, an equals sign and its ranges, or the ranges alone, which are its URL too.
+fn add_entry(alloc: Global, made: &mut List<FetchEntry>, text: &str) {
     let (name, ranges) = text.split_once('=').unwrap_or((text, text));
-    let numbers = numbers(alloc, ranges)?;
-    let url = url(alloc, name.trim())?;
-    let ranges = fetch_ranges(alloc, numbers.as_slice())?;
-    Some(FetchEntry { url, ranges })
+    if let Ok(url) = url(alloc, name.trim()) {
+        let ranges = fetch_ranges(alloc, numbers(alloc, ranges).as_slice());
+        let _ = made.push(FetchEntry { url, ranges });
+    }
+}
+
+/// Entries with commas between them.
+fn fetch_entries(alloc: Global, text: &str) -> List<FetchEntry> {
+    let mut made = List::new(alloc);
+    for entry in text.split(',') {
+        add_entry(alloc, &mut made, entry);
+    }
+    made
 }
 
 /// A xorb: its number, a colon, and its entries with commas between them.
-fn plan_xorb(alloc: Global, text: &str) -> Option<PlanXorb> {
-    let (number, entries) = text.split_once(':')?;
-    let xorb = hash(number.trim().parse::<u8>().ok()?);
-    let mut fetch = List::new(alloc);
-    for entry in entries.split(',') {
-        fetch.push(fetch_entry(alloc, entry)?).ok()?;
+fn plan_xorb(alloc: Global, text: &str) -> PlanXorb {
+    let (xorb, entries) = cut(text, ":");
+    PlanXorb {
+        xorb: hash((number(xorb.trim()) % 256) as u8),
+        fetch: fetch_entries(alloc, entries),
     }
-    Some(PlanXorb { xorb, fetch })
 }
 
 /// Xorbs with semicolons between them.
-fn plan_xorbs(alloc: Global, text: &str) -> Option<List<PlanXorb>> {
+fn plan_xorbs(alloc: Global, text: &str) -> List<PlanXorb> {
     let mut made = List::new(alloc);
     for xorb in text.split(';') {
-        made.push(plan_xorb(alloc, xorb)?).ok()?;
+        let _ = made.push(plan_xorb(alloc, xorb));
     }
-    Some(made)
-}
-
-/// A plan of this offset, these terms and these xorbs.
-fn plan_of(alloc: Global, offset: u64, terms: &[u32], xorbs: &str) -> Option<Plan> {
-    let xorbs = plan_xorbs(alloc, xorbs)?;
-    Some(Plan {
-        offset_into_first_range: offset,
-        terms: plan_terms(alloc, terms)?,
-        xorbs,
-    })
+    made
 }
 
 /// A plan by its offset, its terms and its xorbs, with semicolons between them.
-fn plan(alloc: Global, text: &str) -> Option<Plan> {
-    let (offset, rest) = text.split_once(';')?;
-    let (terms, xorbs) = rest.split_once(';')?;
-    let offset = offset.trim().parse::<u64>().ok()?;
-    plan_of(alloc, offset, numbers(alloc, terms)?.as_slice(), xorbs)
+fn plan(alloc: Global, text: &str) -> Plan {
+    let (offset, rest) = cut(text, ";");
+    let (terms, xorbs) = cut(rest, ";");
+    Plan {
+        offset_into_first_range: number(offset.trim()),
+        terms: plan_terms(alloc, numbers(alloc, terms).as_slice()),
+        xorbs: plan_xorbs(alloc, xorbs),
+    }
 }
 
 /// What a connection answers to a query by this step; it fails at one that is no answer.
@@ -113,17 +116,24 @@ pub(crate) fn answered(alloc: Global, step: &str) -> Result<PlanAnswer, ClientEr
         "no memory" => Err(ClientError::OutOfMemory),
         "past" => Ok(PlanAnswer::PastEnd),
         "no file" => Ok(PlanAnswer::NoFile),
-        text => match plan(alloc, text) {
-            Some(plan) => Ok(PlanAnswer::Found(plan)),
-            None => Err(ClientError::Failed),
-        },
+        text if text.contains(';') => Ok(PlanAnswer::Found(plan(alloc, text))),
+        _ => Err(ClientError::Failed),
+    }
+}
+
+/// A block of these offsets and bytes.
+fn block_of(alloc: Global, offsets: &str, bytes: &str) -> Result<BlockBytes, OutOfMemory> {
+    let bytes = Bytes::copy_from_slice(alloc, bytes.trim().as_bytes())?;
+    match Offsets::from_vec(alloc, numbers(alloc, offsets)) {
+        Ok(offsets) => Ok(BlockBytes { offsets, bytes }),
+        Err(error) => Err(error),
     }
 }
 
 /// A block by its offsets and, after a bar, its bytes.
 pub(crate) fn block(alloc: Global, text: &str) -> Option<BlockBytes> {
-    let (offsets, bytes) = text.split_once('|')?;
-    let offsets = Offsets::from_vec(alloc, numbers(alloc, offsets)?).ok()?;
-    let bytes = Bytes::copy_from_slice(alloc, bytes.trim().as_bytes()).ok()?;
-    Some(BlockBytes { offsets, bytes })
+    match text.split_once('|') {
+        Some((offsets, bytes)) => block_of(alloc, offsets, bytes).ok(),
+        None => None,
+    }
 }

@@ -1,57 +1,78 @@
-//! What rows come to, as text.
-use std::alloc::AllocError;
+//! What rows come to, as text. Where memory is refused a text lacks what was to be added.
+use std::fmt::{Debug, Display};
 use std::process::Abort;
-use std::test::Fail;
+use xet_base::UniqueId;
 use xet_blocks::{Corruption, FileReconstructionError, Result, TermBlockRetrievalURLs};
 
-/// An error, a failed test with its numbers, or a xorb's bad entry with its first byte.
-pub(crate) fn tell_error(
-    text: &mut String,
-    error: FileReconstructionError,
-) -> std::result::Result<(), AllocError> {
+/// What stands before the first of these, and what behind it: where there is none, all and nothing.
+pub(crate) fn cut<'a>(text: &'a str, at: &str) -> (&'a str, &'a str) {
+    text.split_once(at).unwrap_or((text, ""))
+}
+
+/// Adds a word or a number.
+pub(crate) fn put<T: Display + Drop>(text: &mut String, value: T) {
+    let _ = write!(text, "{value}");
+}
+
+/// Adds a value as it is debugged.
+fn put_debug<T: Debug + Drop>(text: &mut String, value: T) {
+    let _ = write!(text, "{value:?}");
+}
+
+/// `0..4`: a range of these ends.
+pub(crate) fn put_range<T: Display + Drop>(text: &mut String, start: T, end: T) {
+    put(text, start);
+    put(text, "..");
+    put(text, end);
+}
+
+/// `1.0`: an acquisition.
+pub(crate) fn put_id(text: &mut String, id: UniqueId) {
+    put(text, id.plan);
+    put(text, '.');
+    put(text, id.refresh);
+}
+
+/// `Ranges 1 0`: a xorb's bad entry, with the first byte of the xorb's hash.
+fn tell_entry(text: &mut String, xorb: u8, entry: usize) {
+    put(text, "Ranges ");
+    put(text, xorb);
+    put(text, ' ');
+    put(text, entry);
+}
+
+/// An error, a failed test with its numbers, or a xorb's bad entry.
+pub(crate) fn tell_error(text: &mut String, error: FileReconstructionError) {
     match error {
         FileReconstructionError::CorruptedReconstruction(Corruption::Ranges { xorb, entry }) => {
-            write!(text, "Ranges {} {entry}", xorb.0[0])
+            tell_entry(text, xorb.0[0], entry)
         }
-        FileReconstructionError::CorruptedReconstruction(fault) => write!(text, "{fault:?}"),
-        error => write!(text, "{error:?}"),
+        FileReconstructionError::CorruptedReconstruction(fault) => put_debug(text, fault),
+        error => put_debug(text, error),
     }
 }
 
 /// `ok`, or the error.
-pub(crate) fn tell_answer(
-    text: &mut String,
-    answer: Result<()>,
-) -> std::result::Result<(), AllocError> {
+pub(crate) fn tell_answer(text: &mut String, answer: Result<()>) {
     match answer {
-        Ok(()) => text.push_str("ok"),
+        Ok(()) => put(text, "ok"),
         Err(error) => tell_error(text, error),
     }
 }
 
 /// `1.0 a`: a table's id, and its first URL.
-pub(crate) fn tell_table(
-    text: &mut String,
-    urls: &TermBlockRetrievalURLs,
-) -> std::result::Result<(), AllocError> {
+pub(crate) fn tell_table(text: &mut String, urls: &TermBlockRetrievalURLs) {
     match urls.get_retrieval_url(0) {
         Some((id, found)) => {
-            let url = found.url.as_str();
-            write!(text, "{}.{} {url}", id.plan, id.refresh)
+            put_id(text, id);
+            put(text, ' ');
+            put(text, found.url.as_str());
         }
-        None => text.push_str("no URL"),
+        None => put(text, "no URL"),
     }
 }
 
 /// Asserts what a row comes to.
-pub(crate) fn comes_to(
-    rt: &impl Abort,
-    row: &str,
-    told: std::result::Result<String, Fail>,
-    wanted: &str,
-) {
-    match told {
-        Ok(told) => assert!(rt; told.as_str() == wanted, "{row}\n{told}"),
-        Err(_) => panic!(rt; "{row}"),
-    }
+pub(crate) fn comes_to(rt: &impl Abort, row: &str, told: String, wanted: &str) {
+    assert!(rt; told.as_str() == wanted, "{row}\n{told}");
 }
