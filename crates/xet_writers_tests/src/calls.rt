@@ -3,7 +3,6 @@ use bytes::Bytes;
 use std::alloc::Global;
 use std::fmt::Display;
 use std::process::Abort;
-use std::test::Fail;
 use xet_base::FileRange;
 use xet_blocks::DataSource;
 use xet_error::FileReconstructionError;
@@ -64,36 +63,46 @@ pub(crate) fn make<W: DataWriter>(
     }
 }
 
+/// What stands before the first of these, and what behind it: where there is none, all and nothing.
+pub(crate) fn cut<'a>(text: &'a str, at: &str) -> (&'a str, &'a str) {
+    text.split_once(at).unwrap_or((text, ""))
+}
+
+/// The number of a word, the greatest where it is none.
+pub(crate) fn number(word: &str) -> u64 {
+    word.parse::<u64>().unwrap_or(u64::MAX)
+}
+
 /// A half-open range, with a hyphen between its ends.
-fn range_of(text: &str) -> Result<(u64, u64), Fail> {
-    let (start, end) = text.split_once('-').ok_or("no range")?;
-    Ok((start.parse::<u64>()?, end.parse::<u64>()?))
+fn range_of(text: &str) -> (u64, u64) {
+    let (start, end) = cut(text, "-");
+    (number(start), number(end))
 }
 
-fn ready(range: &str, bytes: &'static str) -> Result<Call, Fail> {
-    let (start, end) = range_of(range)?;
-    Ok(Call::Ready(start, end, bytes.as_bytes()))
+fn ready(range: &str, bytes: &'static str) -> Call {
+    let (start, end) = range_of(range);
+    Call::Ready(start, end, bytes.as_bytes())
 }
 
-fn admitted(range: &str, bytes: &'static str) -> Result<Call, Fail> {
-    let (start, end) = range_of(range)?;
-    Ok(Call::Admitted(start, end, bytes.as_bytes()))
+fn admitted(range: &str, bytes: &'static str) -> Call {
+    let (start, end) = range_of(range);
+    Call::Admitted(start, end, bytes.as_bytes())
 }
 
-fn wanted(range: &str) -> Result<Call, Fail> {
-    let (start, end) = range_of(range)?;
-    Ok(Call::Wanted(start, end))
+fn wanted(range: &str) -> Call {
+    let (start, end) = range_of(range);
+    Call::Wanted(start, end)
 }
 
-fn supply(start: &str, bytes: &'static str) -> Result<Call, Fail> {
-    Ok(Call::Supply(start.parse::<u64>()?, bytes.as_bytes()))
+fn supply(start: &str, bytes: &'static str) -> Call {
+    Call::Supply(number(start), bytes.as_bytes())
 }
 
 /// One call: `0-5:Hello` a term with its bytes, `0-5=Hello` one that has an admission, `0-5` a wanted one, `0+Hello`
 /// bytes for it, and `finish`.
-pub(crate) fn call_of(text: &'static str) -> Result<Call, Fail> {
+pub(crate) fn call_of(text: &'static str) -> Call {
     if text == "finish" {
-        return Ok(Call::Finish);
+        return Call::Finish;
     }
     if let Some((range, bytes)) = text.split_once(':') {
         return ready(range, bytes);
@@ -108,15 +117,15 @@ pub(crate) fn call_of(text: &'static str) -> Result<Call, Fail> {
 }
 
 /// Shows an error: the failed test with its numbers, or its name.
-fn show_error(told: &mut String, error: FileReconstructionError) -> Result<(), Fail> {
-    match error {
-        FileReconstructionError::InternalWriterError(fault) => Ok(write!(told, "{fault:?}")?),
-        error => Ok(write!(told, "{error:?}")?),
-    }
+pub(crate) fn show_error(told: &mut String, error: FileReconstructionError) {
+    let _ = match error {
+        FileReconstructionError::InternalWriterError(fault) => write!(told, "{fault:?}"),
+        error => write!(told, "{error:?}"),
+    };
 }
 
 /// Shows an answer.
-pub(crate) fn show(told: &mut String, answer: xet_error::Result<u64>) -> Result<(), Fail> {
+pub(crate) fn show(told: &mut String, answer: xet_error::Result<u64>) {
     match answer {
         Ok(count) => put(told, count),
         Err(error) => show_error(told, error),
@@ -124,27 +133,19 @@ pub(crate) fn show(told: &mut String, answer: xet_error::Result<u64>) -> Result<
 }
 
 /// Shows a value.
-pub(crate) fn put<T: Display + Drop>(told: &mut String, value: T) -> Result<(), Fail> {
-    Ok(write!(told, "{value}")?)
+pub(crate) fn put<T: Display + Drop>(told: &mut String, value: T) {
+    let _ = write!(told, "{value}");
 }
 
 /// Shows two numbers behind a space, with a mark between them.
-pub(crate) fn put_two(
-    told: &mut String,
-    first: usize,
-    mark: char,
-    second: usize,
-) -> Result<(), Fail> {
-    put(told, ' ')?;
-    put(told, first)?;
-    put(told, mark)?;
-    put(told, second)
+pub(crate) fn put_two(told: &mut String, first: usize, mark: char, second: usize) {
+    put(told, ' ');
+    put(told, first);
+    put(told, mark);
+    put(told, second);
 }
 
 /// Asserts what a row comes to.
-pub(crate) fn comes_to(rt: &impl Abort, row: &str, told: Result<String, Fail>, wanted: &str) {
-    match told {
-        Ok(told) => assert!(rt; told.as_str() == wanted, "{row}: {told}"),
-        Err(_) => panic!(rt; "{row}"),
-    }
+pub(crate) fn comes_to(rt: &impl Abort, row: &str, told: String, wanted: &str) {
+    assert!(rt; told.as_str() == wanted, "{row}: {told}");
 }

@@ -1,9 +1,8 @@
 //! The writer in order: worked rows.
-use crate::calls::{comes_to, put};
+use crate::calls::{comes_to, cut, put};
 use crate::scripts::played;
 use crate::sinks::{Unflushed, Watched, sink_of};
 use std::alloc::Global;
-use std::test::Fail;
 use xet_sinks::VecSink;
 use xet_writers::{SequentialWriter, laws};
 
@@ -86,23 +85,23 @@ fn play_on(
     use_vectorized: bool,
     script: &'static str,
     told: &mut String,
-) -> Result<(), Fail> {
-    played(alloc, sink, use_vectorized, script, told)?;
-    sink.show(told)
+) {
+    played(alloc, sink, use_vectorized, script, told);
+    sink.show(told);
 }
 
 /// Plays the calls of a row.
-fn play_row(alloc: Global, row: &'static str, told: &mut String) -> Result<(), Fail> {
-    let (pieces, row) = row.split_once('|').ok_or("no loop")?;
-    let (steps, script) = row.split_once('|').ok_or("no steps")?;
-    let mut sink = sink_of(alloc, steps)?;
-    play_on(alloc, &mut sink, pieces == "24", script, told)
+fn play_row(alloc: Global, row: &'static str, told: &mut String) {
+    let (pieces, row) = cut(row, "|");
+    let (steps, script) = cut(row, "|");
+    let mut sink = sink_of(alloc, steps);
+    play_on(alloc, &mut sink, pieces == "24", script, told);
 }
 
-fn told(alloc: Global, row: &'static str) -> Result<String, Fail> {
+fn told(alloc: Global, row: &'static str) -> String {
     let mut told = String::new(alloc);
-    play_row(alloc, row, &mut told)?;
-    Ok(told)
+    play_row(alloc, row, &mut told);
+    told
 }
 
 #[test]
@@ -116,17 +115,17 @@ fn rows_in_order(rt: HostRuntime) {
 }
 
 /// Plays the calls over a sink whose flush fails, and shows how often it was flushed.
-fn play_unflushed(alloc: Global, use_vectorized: bool, told: &mut String) -> Result<(), Fail> {
+fn play_unflushed(alloc: Global, use_vectorized: bool, told: &mut String) {
     let mut sink = Unflushed { faults: 0 };
     let script = "texts;finish;finish;back";
-    played(alloc, &mut sink, use_vectorized, script, told)?;
-    put(told, sink.faults)
+    played(alloc, &mut sink, use_vectorized, script, told);
+    put(told, sink.faults);
 }
 
-fn told_unflushed(alloc: Global, use_vectorized: bool) -> Result<String, Fail> {
+fn told_unflushed(alloc: Global, use_vectorized: bool) -> String {
     let mut told = String::new(alloc);
-    play_unflushed(alloc, use_vectorized, &mut told)?;
-    Ok(told)
+    play_unflushed(alloc, use_vectorized, &mut told);
+    told
 }
 
 /// All was taken, so each admission comes back though the flush fails, and it is flushed once.

@@ -1,7 +1,6 @@
 //! Scripts of calls of the writer in order, and what they come to.
-use crate::calls::{Call, call_of, make, put, show};
+use crate::calls::{Call, call_of, make, number, put, show, show_error};
 use std::alloc::Global;
-use std::test::Fail;
 use xet_outside::Sink;
 use xet_writers::SequentialWriter;
 
@@ -54,23 +53,22 @@ fn take_pairs<S: Sink>(
     Ok(0)
 }
 
-/// Takes the five terms.
-fn take_texts<S: Sink>(alloc: Global, writer: &mut SequentialWriter<S>) -> Result<(), Fail> {
+/// Takes the five terms, and shows which are refused.
+fn take_texts<S: Sink>(alloc: Global, writer: &mut SequentialWriter<S>, told: &mut String) {
     for word in TEXTS.split(';') {
-        make(alloc, writer, call_of(word)?)?;
+        if let Err(error) = make(alloc, writer, call_of(word)) {
+            show_error(told, error);
+        }
     }
-    Ok(())
 }
 
 /// Shows the length of each admission that came back.
-fn show_released<S>(writer: &mut SequentialWriter<S>, told: &mut String) -> Result<(), Fail> {
+fn show_released<S>(writer: &mut SequentialWriter<S>, told: &mut String) {
     for _ in 0..200 {
-        let Some(admission) = writer.take_released() else {
-            return Ok(());
-        };
-        put(told, admission.length)?;
+        if let Some(admission) = writer.take_released() {
+            put(told, admission.length);
+        }
     }
-    Ok(())
 }
 
 /// Makes the call of a word, and shows its answer: `write` is `write_ready`, and `back` the admissions that came back;
@@ -80,7 +78,7 @@ fn turn<S: Sink>(
     writer: &mut SequentialWriter<S>,
     word: &'static str,
     told: &mut String,
-) -> Result<(), Fail> {
+) {
     if word == "write" {
         return show(told, writer.write_ready(alloc));
     }
@@ -88,15 +86,15 @@ fn turn<S: Sink>(
         return show_released(writer, told);
     }
     if word == "texts" {
-        return take_texts(alloc, writer);
+        return take_texts(alloc, writer, told);
     }
     if let Some(count) = word.strip_prefix('*') {
-        return show(told, take_digits(alloc, writer, count.parse::<u64>()?));
+        return show(told, take_digits(alloc, writer, number(count)));
     }
     if let Some(count) = word.strip_prefix('~') {
-        return show(told, take_pairs(alloc, writer, count.parse::<u64>()?));
+        return show(told, take_pairs(alloc, writer, number(count)));
     }
-    show(told, make(alloc, writer, call_of(word)?))
+    show(told, make(alloc, writer, call_of(word)));
 }
 
 fn play<S: Sink>(
@@ -104,12 +102,11 @@ fn play<S: Sink>(
     writer: &mut SequentialWriter<S>,
     script: &'static str,
     told: &mut String,
-) -> Result<(), Fail> {
+) {
     for word in script.split(';') {
-        turn(alloc, writer, word, told)?;
-        told.push(';')?;
+        turn(alloc, writer, word, told);
+        put(told, ';');
     }
-    Ok(())
 }
 
 /// Plays the calls by a writer over this sink, and shows their answers.
@@ -119,9 +116,8 @@ pub(crate) fn played<S: Sink>(
     use_vectorized: bool,
     script: &'static str,
     told: &mut String,
-) -> Result<(), Fail> {
+) {
     let mut writer = SequentialWriter::new(alloc, sink, use_vectorized);
-    play(alloc, &mut writer, script, told)?;
+    play(alloc, &mut writer, script, told);
     let _sink = writer.into_inner();
-    Ok(())
 }

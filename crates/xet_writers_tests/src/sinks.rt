@@ -1,10 +1,9 @@
 //! A sink by a script that watches its calls, and one whose flush fails.
 ghost use Rattle.std.specs.Prelude.{◌≡◌};
 
-use crate::calls::{put, put_two};
+use crate::calls::{number, put, put_two};
 use bytes::Bytes;
 use std::alloc::Global;
-use std::test::Fail;
 use xet_outside::{Sink, SinkError};
 use xet_sinks::{ScriptSink, SinkStep};
 
@@ -32,44 +31,41 @@ fn empty_ones(pieces: &[Bytes]) -> usize {
 }
 
 /// What a write does by a word: it takes so many bytes at most, `F` fails, and `A5` fails after so many.
-fn step_of(word: &str) -> Result<SinkStep, Fail> {
+fn step_of(word: &str) -> SinkStep {
     if word == "F" {
-        return Ok(SinkStep::Fail);
+        return SinkStep::Fail;
     }
     match word.strip_prefix('A') {
-        Some(count) => Ok(SinkStep::FailAfter(count.parse::<usize>()?)),
-        None => Ok(SinkStep::Take(word.parse::<usize>()?)),
+        Some(count) => SinkStep::FailAfter(number(count) as usize),
+        None => SinkStep::Take(number(word) as usize),
     }
 }
 
-/// The steps of a text, up to a word `M`.
-fn steps_of(alloc: Global, text: &str) -> Result<Vec<SinkStep>, Fail> {
+/// The steps of a text without a last word `M`.
+fn steps_of(alloc: Global, text: &str) -> Vec<SinkStep> {
     let mut steps = Vec::new(alloc);
-    for word in text.split_whitespace() {
-        if word == "M" {
-            return Ok(steps);
-        }
-        steps.push(step_of(word)?)?;
+    for word in text.trim_end_matches('M').split_whitespace() {
+        let _ = steps.push(step_of(word));
     }
-    Ok(steps)
+    steps
 }
 
 /// A sink whose writes follow these steps, and then take all. At `M`, which is the last of them, it finds no memory.
-pub(crate) fn sink_of(alloc: Global, text: &str) -> Result<Watched, Fail> {
-    let steps = steps_of(alloc, text)?;
+pub(crate) fn sink_of(alloc: Global, text: &str) -> Watched {
+    let steps = steps_of(alloc, text);
     let refused = if text.ends_with('M') {
         steps.len()
     } else {
         usize::MAX
     };
-    Ok(Watched {
+    Watched {
         inner: ScriptSink::new(alloc, steps),
         refused,
         flushes: 0,
         count: 0,
         empty: 0,
         calls: [(0, 0); 6],
-    })
+    }
 }
 
 impl Watched {
@@ -85,14 +81,17 @@ impl Watched {
     }
 
     /// Shows the taken bytes and what was noted.
-    pub(crate) fn show(&self, told: &mut String) -> Result<(), Fail> {
-        put(told, str::from_utf8(self.inner.taken())?)?;
+    pub(crate) fn show(&self, told: &mut String) {
+        put(
+            told,
+            str::from_utf8(self.inner.taken()).unwrap_or("no text"),
+        );
         for (pieces, taken) in self.calls {
             if pieces > 0 {
-                put_two(told, pieces, 'x', taken)?;
+                put_two(told, pieces, 'x', taken);
             }
         }
-        put_two(told, self.flushes, ' ', self.empty)
+        put_two(told, self.flushes, ' ', self.empty);
     }
 }
 
