@@ -1,9 +1,8 @@
 //! What is cut of a file, what waits, and their hashes, which an independent program worked out.
 use crate::made::info;
-use crate::rows::{comes_to, numbered, show, word};
+use crate::rows::{comes_to, cut, numbered, show, word};
 use bytes::Bytes;
 use std::alloc::Global;
-use std::test::Fail;
 use xet_base::{ChunkInfo, MerkleHash, OutOfMemory};
 use xet_upload::{DataAggregator, FileParts, FixedCutter, PendingFile, RawXorbData, next_cut};
 
@@ -28,13 +27,13 @@ const MERGES: &str = "\
 
 /// Adds a chunk that was not found, where it has a byte and fits.
 fn add(alloc: Global, parts: &mut FileParts, text: &[u8]) -> Result<(), OutOfMemory> {
-    let bytes = Bytes::from_vec(Vec::from_slice(alloc, text)?)?;
+    let bytes = Bytes::copy_from_slice(alloc, text)?;
     if bytes.len() > 0 && bytes.len() <= 131072 && parts.has_room(bytes.as_slice()) {
         let info = ChunkInfo {
             hash: MerkleHash::chunk_hash(bytes.as_slice()),
             length: bytes.len() as u32,
         };
-        parts.add_own(bytes, info)?;
+        return parts.add_own(bytes, info);
     }
     Ok(())
 }
@@ -56,16 +55,16 @@ fn fill(alloc: Global, parts: &mut FileParts, size: usize, text: &str) -> Result
     Ok(())
 }
 
-fn show_hash(alloc: Global, hash: MerkleHash, told: &mut String) -> Result<(), Fail> {
+fn show_hash(alloc: Global, hash: MerkleHash, told: &mut String) {
     match hash.hex(alloc) {
         Ok(digits) => word(told, digits.as_str()),
         Err(OutOfMemory) => show(told, &OutOfMemory),
     }
 }
 
-fn show_xorb(alloc: Global, raw: &RawXorbData, told: &mut String) -> Result<(), Fail> {
-    show(told, &raw.num_bytes())?;
-    show_hash(alloc, raw.hash(), told)
+fn show_xorb(alloc: Global, raw: &RawXorbData, told: &mut String) {
+    show(told, &raw.num_bytes());
+    show_hash(alloc, raw.hash(), told);
 }
 
 /// Adds a chunk that was found, where it has bytes.
@@ -77,30 +76,32 @@ fn find(parts: &mut FileParts, found: &str) -> Result<(), OutOfMemory> {
 }
 
 /// Makes a xorb of the chunks that wait.
-fn cut(alloc: Global, parts: &mut FileParts, told: &mut String) -> Result<(), Fail> {
+fn cut_xorb(alloc: Global, parts: &mut FileParts, told: &mut String) {
     match parts.cut(alloc) {
         Ok(raw) => show_xorb(alloc, &raw, told),
         Err(OutOfMemory) => show(told, &OutOfMemory),
     }
 }
 
-/// Shows what waits and the hash of the file.
-fn show_parts(alloc: Global, parts: &FileParts, told: &mut String) -> Result<(), Fail> {
-    show(told, &(parts.num_chunks(), parts.num_bytes()))?;
-    show_hash(alloc, MerkleHash::file_hash(parts.infos()), told)
+/// Shows how many chunks wait, and their bytes.
+fn show_counts(parts: &FileParts, told: &mut String) {
+    show(told, &(parts.num_chunks(), parts.num_bytes()));
 }
 
-fn cut_parts(
-    alloc: Global,
-    parts: &mut FileParts,
-    found: &str,
-    told: &mut String,
-) -> Result<(), Fail> {
-    show_parts(alloc, parts, told)?;
-    find(parts, found)?;
-    cut(alloc, parts, told)?;
-    show(told, &(parts.num_chunks(), parts.num_bytes()))?;
-    show(told, &parts.infos().len())
+/// Shows what waits and the hash of the file.
+fn show_parts(alloc: Global, parts: &FileParts, told: &mut String) {
+    show_counts(parts, told);
+    show_hash(alloc, MerkleHash::file_hash(parts.infos()), told);
+}
+
+fn cut_parts(alloc: Global, parts: &mut FileParts, found: &str, told: &mut String) {
+    show_parts(alloc, parts, told);
+    if find(parts, found).is_err() {
+        word(told, "not found");
+    }
+    cut_xorb(alloc, parts, told);
+    show_counts(parts, told);
+    show(told, &parts.infos().len());
 }
 
 /// The parts of a text, in chunks of so many bytes.
@@ -110,17 +111,19 @@ fn parts_of(alloc: Global, size: usize, text: &str) -> Result<FileParts, OutOfMe
     Ok(parts)
 }
 
-fn cut_row(alloc: Global, row: &str, told: &mut String) -> Result<(), Fail> {
-    let (text, found) = row.split_once('|').ok_or("no chunk")?;
-    let (size, text) = numbered(text)?;
-    let mut parts = parts_of(alloc, usize::from(size), text)?;
-    cut_parts(alloc, &mut parts, found, told)
+fn cut_row(alloc: Global, row: &str, told: &mut String) {
+    let (text, found) = cut(row, "|");
+    let (size, text) = numbered(text);
+    match parts_of(alloc, usize::from(size), text) {
+        Ok(mut parts) => cut_parts(alloc, &mut parts, found, told),
+        Err(OutOfMemory) => show(told, &OutOfMemory),
+    }
 }
 
-fn told_cut(alloc: Global, row: &str) -> Result<String, Fail> {
+fn told_cut(alloc: Global, row: &str) -> String {
     let mut told = String::new(alloc);
-    cut_row(alloc, row, &mut told)?;
-    Ok(told)
+    cut_row(alloc, row, &mut told);
+    told
 }
 
 /// What waits at the end of a file with these parts.
@@ -130,77 +133,69 @@ fn ended(file_id: u8, parts: FileParts) -> Result<DataAggregator, OutOfMemory> {
 }
 
 /// What waits at the end of a file.
-fn waiting(alloc: Global, file: &str) -> Result<DataAggregator, Fail> {
-    let (file_id, text) = numbered(file)?;
-    Ok(ended(file_id, parts_of(alloc, 5, text)?)?)
+fn waiting(alloc: Global, file: &str) -> Result<DataAggregator, OutOfMemory> {
+    let (file_id, text) = numbered(file);
+    ended(file_id, parts_of(alloc, 5, text)?)
 }
 
 /// Merges what waits at the end of another file into what waits.
-fn merge(alloc: Global, first: &mut DataAggregator, file: &str) -> Result<(), Fail> {
+fn merge(alloc: Global, first: &mut DataAggregator, file: &str) -> Result<(), OutOfMemory> {
     let second = waiting(alloc, file)?;
     if first.fits_with(&second) {
-        first.merge_in(alloc, second)?;
+        return first.merge_in(alloc, second);
     }
     Ok(())
 }
 
-fn show_file(alloc: Global, file: &PendingFile, told: &mut String) -> Result<(), Fail> {
-    show(told, &(file.file_id, file.bytes_in_xorb))?;
-    show_hash(alloc, file.info.hash, told)?;
+fn show_file(alloc: Global, file: &PendingFile, told: &mut String) {
+    show(told, &(file.file_id, file.bytes_in_xorb));
+    show_hash(alloc, file.info.hash, told);
     for entry in file.info.entries.as_slice() {
-        show(told, &(entry.from, entry.to, entry.bytes))?;
+        show(told, &(entry.from, entry.to, entry.bytes));
     }
-    Ok(())
 }
 
-fn show_files(alloc: Global, files: &[PendingFile], told: &mut String) -> Result<(), Fail> {
+fn show_files(alloc: Global, files: &[PendingFile], told: &mut String) {
     for file in files {
-        show_file(alloc, file, told)?;
+        show_file(alloc, file, told);
     }
-    Ok(())
 }
 
 /// Shows how many chunks the xorb has, and the files.
-fn show_pending(
-    alloc: Global,
-    raw: &RawXorbData,
-    files: &[PendingFile],
-    told: &mut String,
-) -> Result<(), Fail> {
-    show(told, &raw.xorb.chunks.len())?;
-    show_files(alloc, files, told)
+fn show_pending(alloc: Global, raw: &RawXorbData, files: &[PendingFile], told: &mut String) {
+    show(told, &raw.xorb.chunks.len());
+    show_files(alloc, files, told);
 }
 
 /// Makes a xorb of what waits, and the records of its files.
-fn finalize(alloc: Global, all: &mut DataAggregator, told: &mut String) -> Result<(), Fail> {
+fn finalize(alloc: Global, all: &mut DataAggregator, told: &mut String) {
     match all.finalize(alloc) {
         Ok((raw, files)) => show_pending(alloc, &raw, files.as_slice(), told),
         Err(OutOfMemory) => show(told, &OutOfMemory),
     }
 }
 
-fn merge_files(
-    alloc: Global,
-    first: &mut DataAggregator,
-    file: &str,
-    told: &mut String,
-) -> Result<(), Fail> {
-    merge(alloc, first, file)?;
-    show(told, &(first.num_files(), first.num_bytes()))?;
-    finalize(alloc, first, told)?;
-    show(told, &first.num_chunks())
+fn merge_files(alloc: Global, first: &mut DataAggregator, file: &str, told: &mut String) {
+    if merge(alloc, first, file).is_err() {
+        word(told, "not merged");
+    }
+    show(told, &(first.num_files(), first.num_bytes()));
+    finalize(alloc, first, told);
+    show(told, &first.num_chunks());
 }
 
-fn merge_row(alloc: Global, row: &str, told: &mut String) -> Result<(), Fail> {
-    let (file, other) = row.split_once('|').ok_or("no other file")?;
-    let mut first = waiting(alloc, file)?;
-    merge_files(alloc, &mut first, other, told)
+fn merge_row(alloc: Global, row: &str, told: &mut String) {
+    let (file, other) = cut(row, "|");
+    match waiting(alloc, file) {
+        Ok(mut first) => merge_files(alloc, &mut first, other, told),
+        Err(OutOfMemory) => show(told, &OutOfMemory),
+    }
 }
 
-fn told_merged(alloc: Global, row: &str) -> Result<String, Fail> {
+fn told_merged(alloc: Global, row: &str) -> String {
     let mut told = String::new(alloc);
-    merge_row(alloc, row, &mut told)?;
-    Ok(told)
+    merge_row(alloc, row, &mut told);
+    told
 }
 
 #[test]

@@ -1,8 +1,7 @@
 //! Records in memory, of whose calls the numbered ones fail.
 use crate::made::{info, shard};
-use crate::rows::{comes_to, numbered, numbers, show, word};
+use crate::rows::{comes_to, cut, numbered, numbers, show, word};
 use std::alloc::Global;
-use std::test::Fail;
 use xet_base::{FileDataSequenceEntry, MDBFileInfo, MerkleHash, OutOfMemory};
 use xet_shards::{MemShards, ScriptShards, ShardStore};
 
@@ -17,40 +16,28 @@ const SHARDS: &str = "\
 Err(Failed) Ok(()) Failed (1, 1, 1, 2, 3) Failed 11 Failed (1, 184) Err(Failed) (1, 184)
 ";
 
-fn hashes(alloc: Global, words: &str) -> Result<Vec<MerkleHash>, OutOfMemory> {
+/// The hashes of words with commas between them, without that of no word.
+fn hashes(alloc: Global, words: &str) -> Vec<MerkleHash> {
     let mut hashes = Vec::new(alloc);
-    if words.is_empty() {
-        return Ok(hashes);
+    for word in words.split_terminator(',') {
+        let _ = hashes.push(info(word).hash);
     }
-    for word in words.split(',') {
-        hashes.push(info(word).hash)?;
-    }
-    Ok(hashes)
+    hashes
 }
 
-fn add(
-    alloc: Global,
-    shards: &mut ScriptShards,
-    records: &str,
-    told: &mut String,
-) -> Result<(), Fail> {
-    let (byte, words) = numbered(records)?;
-    let shard = shard(alloc, byte, words)?;
-    show(told, &shards.add(alloc, &shard))
+fn add(alloc: Global, shards: &mut ScriptShards, records: &str, told: &mut String) {
+    let (byte, words) = numbered(records);
+    let shard = shard(alloc, byte, words);
+    show(told, &shards.add(alloc, &shard));
 }
 
-fn show_run(told: &mut String, count: usize, term: FileDataSequenceEntry) -> Result<(), Fail> {
+fn show_run(told: &mut String, count: usize, term: FileDataSequenceEntry) {
     let xorb = term.xorb.0[0];
-    show(told, &(count, xorb, term.from, term.to, term.bytes))
+    show(told, &(count, xorb, term.from, term.to, term.bytes));
 }
 
-fn find(
-    alloc: Global,
-    shards: &mut ScriptShards,
-    words: &str,
-    told: &mut String,
-) -> Result<(), Fail> {
-    let hashes = hashes(alloc, words)?;
+fn find(alloc: Global, shards: &mut ScriptShards, words: &str, told: &mut String) {
+    let hashes = hashes(alloc, words);
     match shards.find(alloc, hashes.as_slice()) {
         Ok(Some((count, term))) => show_run(told, count, term),
         Ok(None) => word(told, "none"),
@@ -58,21 +45,20 @@ fn find(
     }
 }
 
-fn show_files(told: &mut String, files: &[MDBFileInfo]) -> Result<(), Fail> {
+fn show_files(told: &mut String, files: &[MDBFileInfo]) {
     for file in files {
-        show(told, &file.hash.0[0])?;
+        show(told, &file.hash.0[0]);
     }
-    Ok(())
 }
 
-fn files(alloc: Global, shards: &mut ScriptShards, told: &mut String) -> Result<(), Fail> {
+fn files(alloc: Global, shards: &mut ScriptShards, told: &mut String) {
     match shards.files(alloc) {
         Ok(files) => show_files(told, files.as_slice()),
         Err(error) => show(told, &error),
     }
 }
 
-fn all(alloc: Global, shards: &mut ScriptShards, told: &mut String) -> Result<(), Fail> {
+fn all(alloc: Global, shards: &mut ScriptShards, told: &mut String) {
     match shards.all(alloc) {
         Ok(all) => show(told, &(all.xorbs.len(), all.num_bytes())),
         Err(error) => show(told, &error),
@@ -80,12 +66,7 @@ fn all(alloc: Global, shards: &mut ScriptShards, told: &mut String) -> Result<()
 }
 
 /// Makes a call.
-fn ask(
-    alloc: Global,
-    shards: &mut ScriptShards,
-    call: &str,
-    told: &mut String,
-) -> Result<(), Fail> {
+fn ask(alloc: Global, shards: &mut ScriptShards, call: &str, told: &mut String) {
     if let Some(words) = call.strip_prefix('?') {
         return find(alloc, shards, words, told);
     }
@@ -99,29 +80,23 @@ fn ask(
     }
 }
 
-fn ask_all(
-    alloc: Global,
-    shards: &mut ScriptShards,
-    calls: &str,
-    told: &mut String,
-) -> Result<(), Fail> {
+fn ask_all(alloc: Global, shards: &mut ScriptShards, calls: &str, told: &mut String) {
     for call in calls.split(';') {
-        ask(alloc, shards, call, told)?;
+        ask(alloc, shards, call, told);
     }
-    Ok(())
 }
 
-fn play_row(alloc: Global, row: &str, told: &mut String) -> Result<(), Fail> {
-    let (fails, calls) = row.split_once('|').ok_or("no calls")?;
-    let fails = numbers(alloc, fails)?;
+fn play_row(alloc: Global, row: &str, told: &mut String) {
+    let (fails, calls) = cut(row, "|");
+    let fails = numbers(alloc, fails);
     let mut shards = ScriptShards::new(MemShards::new(alloc), fails);
-    ask_all(alloc, &mut shards, calls, told)
+    ask_all(alloc, &mut shards, calls, told);
 }
 
-fn played(alloc: Global, row: &str) -> Result<String, Fail> {
+fn played(alloc: Global, row: &str) -> String {
     let mut told = String::new(alloc);
-    play_row(alloc, row, &mut told)?;
-    Ok(told)
+    play_row(alloc, row, &mut told);
+    told
 }
 
 #[test]

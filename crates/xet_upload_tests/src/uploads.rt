@@ -1,8 +1,7 @@
 //! The uploader in memory.
 use crate::made::{info, shard, xorb};
-use crate::rows::{comes_to, numbered, numbers, show, word};
+use crate::rows::{comes_to, cut, numbered, numbers, show, word};
 use std::alloc::Global;
-use std::test::Fail;
 use xet_base::{FileRange, MerkleHash, OutOfMemory, ShardRecord};
 use xet_connections::MemClient;
 use xet_outside::{Client, Plan, PlanAnswer};
@@ -19,19 +18,13 @@ const UPLOADS: &str = "\
 |1 ab,_: Ok(2) | 1 | no store
 ";
 
-fn show_xorbs(told: &mut String, shard: &ShardRecord) -> Result<(), Fail> {
+fn show_xorbs(told: &mut String, shard: &ShardRecord) {
     for xorb in shard.xorbs.as_slice() {
-        show(told, &xorb.hash.0[0])?;
+        show(told, &xorb.hash.0[0]);
     }
-    Ok(())
 }
 
-fn query(
-    alloc: Global,
-    uploader: &mut MemUploader,
-    chunk: &str,
-    told: &mut String,
-) -> Result<(), Fail> {
+fn query(alloc: Global, uploader: &mut MemUploader, chunk: &str, told: &mut String) {
     match uploader.query_shard(alloc, &info(chunk).hash) {
         Ok(Some(shard)) => show_xorbs(told, &shard),
         Ok(None) => word(told, "none"),
@@ -39,65 +32,47 @@ fn query(
     }
 }
 
-fn put_shard(
-    alloc: Global,
-    uploader: &mut MemUploader,
-    records: &str,
-    told: &mut String,
-) -> Result<(), Fail> {
-    let (byte, words) = numbered(records)?;
-    let shard = shard(alloc, byte, words)?;
-    show(told, &uploader.put_shard(alloc, &shard))
+fn put_shard(alloc: Global, uploader: &mut MemUploader, records: &str, told: &mut String) {
+    let (byte, words) = numbered(records);
+    let shard = shard(alloc, byte, words);
+    show(told, &uploader.put_shard(alloc, &shard));
 }
 
-fn put_xorb(
-    alloc: Global,
-    uploader: &mut MemUploader,
-    chunks: &str,
-    told: &mut String,
-) -> Result<(), Fail> {
-    let (byte, words) = numbered(chunks)?;
-    let xorb = xorb(alloc, byte, words)?;
-    show(told, &uploader.put_xorb(alloc, &xorb))
+fn put_xorb(alloc: Global, uploader: &mut MemUploader, chunks: &str, told: &mut String) {
+    let (byte, words) = numbered(chunks);
+    let xorb = xorb(alloc, byte, words);
+    show(told, &uploader.put_xorb(alloc, &xorb));
 }
 
 /// Makes the calls.
-fn make(
-    alloc: Global,
-    uploader: &mut MemUploader,
-    calls: &str,
-    told: &mut String,
-) -> Result<(), Fail> {
+fn make(alloc: Global, uploader: &mut MemUploader, calls: &str, told: &mut String) {
     for call in calls.split(';') {
         if let Some(chunk) = call.strip_prefix('?') {
-            query(alloc, uploader, chunk, told)?;
+            query(alloc, uploader, chunk, told);
         } else if let Some(records) = call.strip_prefix('+') {
-            put_shard(alloc, uploader, records, told)?;
+            put_shard(alloc, uploader, records, told);
         } else {
-            put_xorb(alloc, uploader, call, told)?;
+            put_xorb(alloc, uploader, call, told);
         }
     }
-    Ok(())
 }
 
-fn show_log(told: &mut String, log: &[Put]) -> Result<(), Fail> {
+fn show_log(told: &mut String, log: &[Put]) {
     for put in log {
         match put {
-            Put::Xorb(xorb) => show(told, &xorb.hash.0[0])?,
-            Put::Shard(_) => word(told, "+")?,
+            Put::Xorb(xorb) => show(told, &xorb.hash.0[0]),
+            Put::Shard(_) => word(told, "+"),
         }
     }
-    Ok(())
 }
 
-fn show_terms(told: &mut String, plan: &Plan) -> Result<(), Fail> {
+fn show_terms(told: &mut String, plan: &Plan) {
     for term in plan.terms.as_slice() {
-        show(told, &term.unpacked_length)?;
+        show(told, &term.unpacked_length);
     }
-    Ok(())
 }
 
-fn show_file(alloc: Global, store: &MemStore, told: &mut String) -> Result<(), Fail> {
+fn show_file(alloc: Global, store: &MemStore, told: &mut String) {
     let mut client = MemClient::new(alloc, store);
     match client.plan(alloc, &MerkleHash([11; 32]), FileRange::full()) {
         Ok(PlanAnswer::Found(plan)) => show_terms(told, &plan),
@@ -106,7 +81,7 @@ fn show_file(alloc: Global, store: &MemStore, told: &mut String) -> Result<(), F
     }
 }
 
-fn show_store(alloc: Global, store: &Option<MemStore>, told: &mut String) -> Result<(), Fail> {
+fn show_store(alloc: Global, store: &Option<MemStore>, told: &mut String) {
     match store {
         Some(store) => show_file(alloc, store, told),
         None => word(told, "no store"),
@@ -114,43 +89,33 @@ fn show_store(alloc: Global, store: &Option<MemStore>, told: &mut String) -> Res
 }
 
 /// Makes the calls, and shows the log.
-fn play(
-    alloc: Global,
-    uploader: &mut MemUploader,
-    calls: &str,
-    told: &mut String,
-) -> Result<(), Fail> {
-    make(alloc, uploader, calls, told)?;
-    word(told, "|")?;
-    show_log(told, uploader.log())?;
-    word(told, "|")
+fn play(alloc: Global, uploader: &mut MemUploader, calls: &str, told: &mut String) {
+    make(alloc, uploader, calls, told);
+    word(told, "|");
+    show_log(told, uploader.log());
+    word(told, "|");
 }
 
 /// Makes the calls, and shows what the store after them has.
-fn play_to_the_end(
-    alloc: Global,
-    mut uploader: MemUploader,
-    calls: &str,
-    told: &mut String,
-) -> Result<(), Fail> {
-    play(alloc, &mut uploader, calls, told)?;
+fn play_to_the_end(alloc: Global, mut uploader: MemUploader, calls: &str, told: &mut String) {
+    play(alloc, &mut uploader, calls, told);
     match uploader.into_store(alloc) {
         Ok(store) => show_store(alloc, &store, told),
         Err(OutOfMemory) => show(told, &OutOfMemory),
     }
 }
 
-fn play_row(alloc: Global, row: &str, told: &mut String) -> Result<(), Fail> {
-    let (fails, calls) = row.split_once('|').ok_or("no calls")?;
-    let fails = numbers(alloc, fails)?;
+fn play_row(alloc: Global, row: &str, told: &mut String) {
+    let (fails, calls) = cut(row, "|");
+    let fails = numbers(alloc, fails);
     let uploader = MemUploader::new(alloc, MemStore::new(alloc), fails);
-    play_to_the_end(alloc, uploader, calls, told)
+    play_to_the_end(alloc, uploader, calls, told);
 }
 
-fn played(alloc: Global, row: &str) -> Result<String, Fail> {
+fn played(alloc: Global, row: &str) -> String {
     let mut told = String::new(alloc);
-    play_row(alloc, row, &mut told)?;
-    Ok(told)
+    play_row(alloc, row, &mut told);
+    told
 }
 
 #[test]
