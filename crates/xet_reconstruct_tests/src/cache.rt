@@ -2,7 +2,6 @@
 use crate::row::Row;
 use crate::said::block;
 use std::alloc::Global;
-use std::test::Fail;
 use xet_base::{ChunkRange, MerkleHash};
 use xet_outside::{BlockBytes, CacheError, ChunkCache};
 use xet_store::MapCache;
@@ -20,39 +19,33 @@ pub(crate) struct Cache {
 
 impl Cache {
     /// The cache of a row.
-    pub(crate) fn new(alloc: Global, row: Row<'_>) -> Result<Cache, Fail> {
-        Ok(Cache {
-            inner: entries(alloc, row)?,
+    pub(crate) fn new(alloc: Global, row: Row<'_>) -> Cache {
+        Cache {
+            inner: entries(alloc, row),
             forgets: row.has("forgets"),
             down: row.number("down", u64::MAX),
             up: row.number("up", 0),
             calls: 0,
-        })
+        }
     }
 
-    fn call(&mut self) -> Result<(), CacheError> {
+    /// Counts a call, and says whether it fails.
+    fn fails(&mut self) -> bool {
         let call = self.calls;
         self.calls = self.calls.saturating_add(1);
-        if self.down <= call && call < self.up {
-            return Err(CacheError::Failed);
-        }
-        Ok(())
+        self.down <= call && call < self.up
     }
 }
 
-/// A cache of this entry for the first xorb's chunks.
-fn with_entry(alloc: Global, entry: &BlockBytes) -> Result<MapCache, Fail> {
+/// The entries of a row, that for the first xorb's chunks or none.
+fn entries(alloc: Global, row: Row<'_>) -> MapCache {
     let mut made = MapCache::new(alloc);
-    made.put(alloc, &X1, ChunkRange::new(0, 4), entry)?;
-    Ok(made)
-}
-
-/// The entries of a row.
-fn entries(alloc: Global, row: Row<'_>) -> Result<MapCache, Fail> {
-    match row.find("cached") {
-        Some(text) => with_entry(alloc, &block(alloc, text)?),
-        None => Ok(MapCache::new(alloc)),
+    if let Some(text) = row.find("cached")
+        && let Ok(entry) = block(alloc, text)
+    {
+        let _ = made.put(alloc, &X1, ChunkRange::new(0, 4), &entry);
     }
+    made
 }
 
 impl ChunkCache for Cache {
@@ -68,7 +61,9 @@ impl ChunkCache for Cache {
         xorb: &MerkleHash,
         range: ChunkRange,
     ) -> Result<Option<BlockBytes>, CacheError> {
-        self.call()?;
+        if self.fails() {
+            return Err(CacheError::Failed);
+        }
         self.inner.get(alloc, xorb, range)
     }
 
@@ -79,7 +74,9 @@ impl ChunkCache for Cache {
         range: ChunkRange,
         block: &BlockBytes,
     ) -> Result<(), CacheError> {
-        self.call()?;
+        if self.fails() {
+            return Err(CacheError::Failed);
+        }
         if self.forgets {
             return Ok(());
         }

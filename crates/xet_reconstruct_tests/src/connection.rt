@@ -1,6 +1,6 @@
 //! A connection by a text.
 use crate::meter::Meter;
-use crate::row::Row;
+use crate::row::{Row, put};
 use crate::said::{block, plan};
 use std::alloc::Global;
 use xet_base::{FileRange, MerkleHash, OutOfMemory};
@@ -57,14 +57,33 @@ impl<'a> Connection<'a> {
     }
 }
 
+/// Adds ` URL PLAN.REFRESH`.
+fn note_url(text: &mut String, request: &BlockRequest) {
+    put(text, ' ');
+    put(text, request.url.as_str());
+    put(text, ' ');
+    put(text, request.acquisition.plan);
+    put(text, '.');
+    put(text, request.acquisition.refresh);
+}
+
 /// Adds ` URL PLAN.REFRESH START-END` with each range of bytes.
-fn note(text: &mut String, request: &BlockRequest) -> Result<(), OutOfMemory> {
-    let (url, id) = (request.url.as_str(), request.acquisition);
-    write!(text, " {url} {}.{}", id.plan, id.refresh)?;
+fn note(text: &mut String, request: &BlockRequest) {
+    note_url(text, request);
     for range in request.bytes.as_slice() {
-        write!(text, " {}-{}", range.start, range.end)?;
+        put(text, ' ');
+        put(text, range.start);
+        put(text, '-');
+        put(text, range.end);
     }
-    Ok(())
+}
+
+/// The block of this text.
+fn served(alloc: Global, text: &str) -> Result<BlockAnswer, ClientError> {
+    match block(alloc, text) {
+        Ok(block) => Ok(BlockAnswer::Bytes(block)),
+        Err(OutOfMemory) => Err(ClientError::OutOfMemory),
+    }
 }
 
 impl<'a> Client for Connection<'a> {
@@ -98,7 +117,7 @@ impl<'a> Client for Connection<'a> {
             b'f' => Err(ClientError::Failed),
             b'n' => Ok(PlanAnswer::NoFile),
             b'e' => Ok(PlanAnswer::PastEnd),
-            b'p' => Ok(PlanAnswer::Found(plan(alloc, self.plan)?)),
+            b'p' => Ok(PlanAnswer::Found(plan(alloc, self.plan))),
             _ => self.inner.plan(alloc, file, range),
         }
     }
@@ -107,11 +126,11 @@ impl<'a> Client for Connection<'a> {
         let word = self.word();
         self.blocks = self.blocks.saturating_add(1);
         self.meter.enter();
-        note(&mut self.asked, request)?;
+        note(&mut self.asked, request);
         match word {
             b'f' => Err(ClientError::Failed),
             b'x' => Ok(BlockAnswer::Expired),
-            b's' => Ok(BlockAnswer::Bytes(block(alloc, self.block)?)),
+            b's' => served(alloc, self.block),
             _ => self.inner.block(alloc, request),
         }
     }

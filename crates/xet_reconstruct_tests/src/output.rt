@@ -4,7 +4,6 @@ use crate::meter::Meter;
 use crate::row::Row;
 use bytes::Bytes;
 use std::alloc::Global;
-use xet_base::OutOfMemory;
 use xet_outside::{Sink, SinkError};
 use xet_sinks::{ScriptSink, SinkStep};
 
@@ -25,14 +24,14 @@ impl<'a> Output<'a> {
         row: Row<'_>,
         meter: &'a Meter<'a>,
         crowd: &'a Crowd,
-    ) -> Result<Output<'a>, OutOfMemory> {
-        Ok(Output {
-            inner: ScriptSink::new(alloc, steps(alloc, row.find("takes").unwrap_or(""))?),
+    ) -> Output<'a> {
+        Output {
+            inner: ScriptSink::new(alloc, steps(alloc, row.find("takes").unwrap_or(""))),
             meter,
             crowd,
             unflushed: row.has("unflushed"),
             flushes: 0,
-        })
+        }
     }
 
     /// The bytes that were taken.
@@ -47,16 +46,16 @@ impl<'a> Output<'a> {
     }
 }
 
-fn steps(alloc: Global, words: &str) -> Result<Vec<SinkStep>, OutOfMemory> {
+fn steps(alloc: Global, words: &str) -> Vec<SinkStep> {
     let mut steps = Vec::new(alloc);
     for word in words.as_bytes() {
-        steps.push(if *word == b'f' {
+        let _ = steps.push(if *word == b'f' {
             SinkStep::Fail
         } else {
             SinkStep::Take(1)
-        })?;
+        });
     }
-    Ok(steps)
+    steps
 }
 
 impl<'a> Sink for Output<'a> {

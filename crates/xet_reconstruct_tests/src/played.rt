@@ -6,12 +6,11 @@ use crate::connection::Connection;
 use crate::crowd::Crowd;
 use crate::meter::Meter;
 use crate::output::Output;
-use crate::row::{Row, cut};
+use crate::row::{Row, cut, put};
 use crate::signal::Signal;
-use std::alloc::{AllocError, Global};
+use std::alloc::Global;
 use std::process::Abort;
 use std::sync::{Arc, Wait};
-use std::test::Fail;
 use std::thread::Threads;
 use xet_base::OutOfMemory;
 use xet_blocks::Steady;
@@ -136,41 +135,41 @@ fn answered<R: Threads + Wait + Sync>(
 }
 
 /// Adds how many bytes there are, or the error, of a failed test that test.
-fn tell_count(text: &mut String, answer: Result<u64>) -> std::result::Result<(), AllocError> {
-    match answer {
+fn tell_count(text: &mut String, answer: Result<u64>) {
+    let _ = match answer {
         Ok(count) => write!(text, "{count}"),
         Err(FileReconstructionError::CorruptedReconstruction(test)) => write!(text, "{test:?}"),
         Err(error) => write!(text, "{error:?}"),
-    }
+    };
 }
 
 /// Adds `ANSWER 'BYTES'`.
-pub(crate) fn tell_answer(
-    text: &mut String,
-    answer: Result<u64>,
-    bytes: &[u8],
-) -> std::result::Result<(), Fail> {
-    tell_count(text, answer)?;
-    let bytes = str::from_utf8(bytes)?;
-    Ok(write!(text, " '{bytes}'")?)
+pub(crate) fn tell_answer(text: &mut String, answer: Result<u64>, bytes: &[u8]) {
+    tell_count(text, answer);
+    put(text, " '");
+    put(text, str::from_utf8(bytes).unwrap_or("no text"));
+    put(text, '\'');
 }
 
 /// Adds whether a crowd met, and how many blocks each connection was asked for.
-fn tell_crowd(
-    text: &mut String,
-    crowd: &Crowd,
-    clients: &[Connection<'_>; 3],
-) -> std::result::Result<(), AllocError> {
-    let [first, second, third] = clients;
-    let met = if crowd.met() { "met" } else { "alone" };
-    let (first, second, third) = (first.blocks, second.blocks, third.blocks);
-    write!(text, " {met} {first} {second} {third}")
+fn tell_crowd(text: &mut String, crowd: &Crowd, clients: &[Connection<'_>; 3]) {
+    put(text, if crowd.met() { " met" } else { " alone" });
+    for client in clients {
+        put(text, ' ');
+        put(text, client.blocks);
+    }
 }
 
 /// Adds whether a meter stood at most at its most, and what it stands at.
-fn tell_meter(text: &mut String, meter: &Meter<'_>) -> std::result::Result<(), AllocError> {
-    let stood = if meter.passed() { "past" } else { "within" };
-    write!(text, " {stood} {}", meter.level())
+fn tell_meter(text: &mut String, meter: &Meter<'_>) {
+    put(text, if meter.passed() { " past " } else { " within " });
+    put(text, meter.level());
+}
+
+/// Adds a number behind a mark.
+fn put_behind(text: &mut String, mark: char, number: u64) {
+    put(text, mark);
+    put(text, number);
 }
 
 /// Adds what a row wants told.
@@ -180,30 +179,25 @@ fn tell_wanted(
     clients: &[Connection<'_>; 3],
     cache: &Cache,
     output: &Output<'_>,
-) -> std::result::Result<(), AllocError> {
+) {
     match what {
-        "calls" => write!(text, " {}", cache.calls),
-        "flushes" => write!(text, " {}", output.flushes),
-        "requests" => text.push_str(clients[0].asked.as_str()),
-        _ => Ok(()),
+        "calls" => put_behind(text, ' ', cache.calls),
+        "flushes" => put_behind(text, ' ', output.flushes),
+        "requests" => put(text, clients[0].asked.as_str()),
+        _ => {}
     }
 }
 
 /// Adds what is told where a row wants nothing: of its crowd, of its meter, else how many blocks the first
 /// connection was asked for.
-fn tell_usual(
-    text: &mut String,
-    row: Row<'_>,
-    clients: &[Connection<'_>; 3],
-    output: &Output<'_>,
-) -> std::result::Result<(), AllocError> {
+fn tell_usual(text: &mut String, row: Row<'_>, clients: &[Connection<'_>; 3], output: &Output<'_>) {
     if row.has("meet") {
-        return tell_crowd(text, output.crowd, clients);
+        tell_crowd(text, output.crowd, clients);
+    } else if row.has("most") {
+        tell_meter(text, output.meter);
+    } else {
+        put_behind(text, '/', clients[0].blocks);
     }
-    if row.has("most") {
-        return tell_meter(text, output.meter);
-    }
-    write!(text, "/{}", clients[0].blocks)
 }
 
 /// Adds ` PLANS`, where the first connection was asked for so many plans, and what else is told of the row.
@@ -213,8 +207,8 @@ fn tell_rest(
     clients: &[Connection<'_>; 3],
     cache: &Cache,
     output: &Output<'_>,
-) -> std::result::Result<(), AllocError> {
-    write!(text, " {}", clients[0].plans)?;
+) {
+    put_behind(text, ' ', clients[0].plans);
     match row.find("tell") {
         Some(what) => tell_wanted(text, what, clients, cache, output),
         None => tell_usual(text, row, clients, output),
@@ -229,66 +223,43 @@ fn told(
     clients: &[Connection<'_>; 3],
     cache: &Cache,
     output: &Output<'_>,
-) -> std::result::Result<String, Fail> {
+) -> String {
     let mut text = String::new(alloc);
-    tell_answer(&mut text, answer, output.taken())?;
-    tell_rest(&mut text, row, clients, cache, output)?;
-    Ok(text)
+    tell_answer(&mut text, answer, output.taken());
+    tell_rest(&mut text, row, clients, cache, output);
+    text
 }
 
-/// What a run tells over this store.
+/// What this reconstruction over this store tells.
 fn over<R: Threads + Wait + Sync>(
     rt: &R,
     alloc: Global,
     row: Row<'_>,
     store: &MemStore,
-    updater: Option<&ItemProgressUpdater>,
+    wanted: FileReconstructor<Steady>,
     cache: &mut Cache,
     output: &mut Output<'_>,
-) -> std::result::Result<String, Fail> {
-    let wanted = wanted(rt, alloc, row, updater)?;
+) -> String {
     let mut clients = connections(alloc, row, store, output.meter);
     let lent = &mut clients[..count(row)];
     let answer = answered(rt, alloc, row, wanted, lent, cache, output);
     told(alloc, row, answer, &clients, cache, output)
 }
 
-/// What a run tells over the worked store.
-fn over_worked<R: Threads + Wait + Sync>(
+/// What a run tells over this store, which is nothing where memory is wanting for it.
+fn over_store<R: Threads + Wait + Sync>(
     rt: &R,
     alloc: Global,
     row: Row<'_>,
-    updater: Option<&ItemProgressUpdater>,
-    cache: &mut Cache,
-    output: &mut Output<'_>,
-) -> std::result::Result<String, Fail> {
-    over(
-        rt,
-        alloc,
-        row,
-        &worked_store(alloc)?,
-        updater,
-        cache,
-        output,
-    )
-}
-
-/// What a run into this writer tells.
-fn into_output<R: Threads + Wait + Sync>(
-    rt: &R,
-    alloc: Global,
-    row: Row<'_>,
+    store: &MemStore,
     updater: Option<&ItemProgressUpdater>,
     output: &mut Output<'_>,
-) -> std::result::Result<String, Fail> {
-    over_worked(
-        rt,
-        alloc,
-        row,
-        updater,
-        &mut Cache::new(alloc, row)?,
-        output,
-    )
+) -> String {
+    let mut cache = Cache::new(alloc, row);
+    match wanted(rt, alloc, row, updater) {
+        Ok(wanted) => over(rt, alloc, row, store, wanted, &mut cache, output),
+        Err(OutOfMemory) => String::new(alloc),
+    }
 }
 
 /// What the run of a row that reports to the updater tells.
@@ -297,28 +268,18 @@ pub(crate) fn played<R: Threads + Wait + Sync>(
     alloc: Global,
     row: Row<'_>,
     updater: Option<&ItemProgressUpdater>,
-) -> std::result::Result<String, Fail> {
+) -> String {
     let (meter, crowd) = (Meter::new(row), Crowd::new(row));
-    into_output(
-        rt,
-        alloc,
-        row,
-        updater,
-        &mut Output::new(alloc, row, &meter, &crowd)?,
-    )
+    let mut output = Output::new(alloc, row, &meter, &crowd);
+    match worked_store(alloc) {
+        Ok(store) => over_store(rt, alloc, row, &store, updater, &mut output),
+        Err(_) => String::new(alloc),
+    }
 }
 
 /// Asserts what a row comes to.
-pub(crate) fn comes_to(
-    rt: &impl Abort,
-    row: &str,
-    told: std::result::Result<String, Fail>,
-    wanted: &str,
-) {
-    match told {
-        Ok(told) => assert!(rt; told.as_str() == wanted, "{row}: {told}"),
-        Err(_) => panic!(rt; "{row}"),
-    }
+pub(crate) fn comes_to(rt: &impl Abort, row: &str, told: String, wanted: &str) {
+    assert!(rt; told.as_str() == wanted, "{row}: {told}");
 }
 
 /// Plays each line's row, which comes to what stands behind the colon.

@@ -1,9 +1,8 @@
 //! What an updater is told.
 use crate::played::{comes_to, played};
-use crate::row::Row;
+use crate::row::{Row, put};
 use std::alloc::Global;
 use std::sync::Wait;
-use std::test::Fail;
 use std::thread::Threads;
 use xet_progress::{ItemProgress, ItemProgressUpdater};
 
@@ -17,19 +16,24 @@ fn reported<R: Threads + Wait + Sync>(
     alloc: Global,
     updater: &ItemProgressUpdater,
     size: u64,
-) -> Result<String, Fail> {
+) -> String {
     if size > 0 {
-        updater.update_item_size(rt, size, true)?;
+        let _ = updater.update_item_size(rt, size, true);
     }
     played(rt, alloc, BY_FOUR, Some(updater))
 }
 
 /// Of the item's bytes those that there are and those that are written, and of the transferred ones those that there
 /// are and those that came.
-fn told_item(alloc: Global, run: &str, item: &ItemProgress) -> Result<String, Fail> {
-    let written = (item.total_bytes(), item.bytes_completed());
-    let moved = (item.transfer_bytes(), item.transfer_bytes_completed());
-    Ok(format!(in alloc; "{run} {} {} {} {}", written.0, written.1, moved.0, moved.1)?)
+fn tell_item(text: &mut String, item: &ItemProgress) {
+    put(text, ' ');
+    put(text, item.total_bytes());
+    put(text, ' ');
+    put(text, item.bytes_completed());
+    put(text, ' ');
+    put(text, item.transfer_bytes());
+    put(text, ' ');
+    put(text, item.transfer_bytes_completed());
 }
 
 fn item_told<R: Threads + Wait + Sync>(
@@ -37,18 +41,19 @@ fn item_told<R: Threads + Wait + Sync>(
     alloc: Global,
     updater: &ItemProgressUpdater,
     size: u64,
-) -> Result<String, Fail> {
-    let run = reported(rt, alloc, updater, size)?;
-    told_item(alloc, run.as_str(), &updater.item(rt, alloc)?)
+) -> String {
+    let mut text = reported(rt, alloc, updater, size);
+    if let Ok(item) = updater.item(rt, alloc) {
+        tell_item(&mut text, &item);
+    }
+    text
 }
 
-fn item<R: Threads + Wait + Sync>(rt: &R, alloc: Global, size: u64) -> Result<String, Fail> {
-    item_told(
-        rt,
-        alloc,
-        &ItemProgressUpdater::new_standalone(alloc, "file")?,
-        size,
-    )
+fn item<R: Threads + Wait + Sync>(rt: &R, alloc: Global, size: u64) -> String {
+    match ItemProgressUpdater::new_standalone(alloc, "file") {
+        Ok(updater) => item_told(rt, alloc, &updater, size),
+        Err(_) => String::new(alloc),
+    }
 }
 
 /// The chunks 2..3, 0..1 and 2..4, 0..1, 0..1, 1..3 and 2..3 are the blocks of the six plans, of 5, 5, 6, 5, 5, 7 and 5

@@ -1,4 +1,5 @@
 //! One run as a text: fields with semicolons between them, each a name alone or with what it says.
+use std::fmt::Display;
 use xet_base::{FileRange, MerkleHash};
 use xet_store::worked::{FILE_OF_ALL, FILE_OF_NOTHING, FILE_OF_REPEATS, FILE_OF_TWO_ENDS};
 use xet_terms::ReconstructionConfig;
@@ -100,12 +101,14 @@ impl<'a> Row<'a> {
     }
 }
 
+/// Adds a word or a number.
+pub(crate) fn put<T: Display + Drop>(text: &mut String, value: T) {
+    let _ = write!(text, "{value}");
+}
+
 /// What stands before the first of these, and what behind it: where there is none, all and nothing.
 pub(crate) fn cut<'a>(text: &'a str, at: &str) -> (&'a str, &'a str) {
-    match text.split_once(at) {
-        Some(parts) => parts,
-        None => (text, ""),
-    }
+    text.split_once(at).unwrap_or((text, ""))
 }
 
 /// Whether a row has fields of this name.
@@ -120,10 +123,7 @@ fn is_name(found: &str) -> bool {
 
 /// The number that a text says, and the greatest where it says none.
 pub(crate) fn number_of(text: &str) -> u64 {
-    match text.parse::<u64>() {
-        Ok(number) => number,
-        Err(_) => u64::MAX,
-    }
+    text.parse::<u64>().unwrap_or(u64::MAX)
 }
 
 /// The same of 32 bits.

@@ -1,4 +1,4 @@
-//! Plans and blocks as texts.
+//! Plans and blocks as texts. What memory is refused for is left out.
 use crate::row::{cut, number_of, short_number_of};
 use bytes::Bytes;
 use std::alloc::Global;
@@ -24,14 +24,14 @@ fn term(text: &str) -> PlanTerm {
 }
 
 /// Terms, with commas between them.
-fn terms(alloc: Global, text: &str) -> Result<List<PlanTerm>, OutOfMemory> {
+fn terms(alloc: Global, text: &str) -> List<PlanTerm> {
     let mut made = List::new(alloc);
     for words in text.split(", ") {
         if !words.is_empty() {
-            made.push(term(words))?;
+            let _ = made.push(term(words));
         }
     }
-    Ok(made)
+    made
 }
 
 /// A range of an entry, by the number of its first chunk and the one after its last, which are its bytes too.
@@ -44,75 +44,64 @@ fn fetch_range(text: &str) -> FetchRange {
 }
 
 /// Ranges, with commas between them.
-fn fetch_ranges(alloc: Global, text: &str) -> Result<List<FetchRange>, OutOfMemory> {
+fn fetch_ranges(alloc: Global, text: &str) -> List<FetchRange> {
     let mut made = List::new(alloc);
     for words in text.split(", ") {
-        made.push(fetch_range(words))?;
+        let _ = made.push(fetch_range(words));
     }
-    Ok(made)
+    made
 }
 
 fn url(alloc: Global) -> Result<SharedText, OutOfMemory> {
-    let text = String::from_str(alloc, "fake:1")?;
-    SharedText::from_string(alloc, text)
-}
-
-/// The entry of these ranges.
-fn entry(alloc: Global, text: &str) -> Result<FetchEntry, OutOfMemory> {
-    let ranges = fetch_ranges(alloc, text)?;
-    Ok(FetchEntry {
-        url: url(alloc)?,
-        ranges,
-    })
+    SharedText::from_string(alloc, String::from_str(alloc, "fake:1")?)
 }
 
 /// The first xorb with one entry, of these ranges.
-fn xorb(alloc: Global, text: &str) -> Result<PlanXorb, OutOfMemory> {
-    let entry = entry(alloc, text)?;
+fn xorb(alloc: Global, text: &str) -> PlanXorb {
     let mut fetch = List::new(alloc);
-    fetch.push(entry)?;
-    Ok(PlanXorb { xorb: X1, fetch })
+    if let Ok(url) = url(alloc) {
+        let ranges = fetch_ranges(alloc, text);
+        let _ = fetch.push(FetchEntry { url, ranges });
+    }
+    PlanXorb { xorb: X1, fetch }
 }
 
 /// One xorb with these ranges, or no xorb where there are none.
-fn xorbs(alloc: Global, text: &str) -> Result<List<PlanXorb>, OutOfMemory> {
-    if text.is_empty() {
-        return Ok(List::new(alloc));
-    }
-    let one = xorb(alloc, text)?;
+fn xorbs(alloc: Global, text: &str) -> List<PlanXorb> {
     let mut made = List::new(alloc);
-    made.push(one)?;
-    Ok(made)
+    if !text.is_empty() {
+        let _ = made.push(xorb(alloc, text));
+    }
+    made
 }
 
 /// A plan: how many bytes of its first term come before the range's start, its terms and the ranges of its one entry,
 /// with `/` between the three.
-pub(crate) fn plan(alloc: Global, text: &str) -> Result<Plan, OutOfMemory> {
+pub(crate) fn plan(alloc: Global, text: &str) -> Plan {
     let (offset, rest) = cut(text, "/");
     let (said, ranges) = cut(rest, "/");
-    let terms = terms(alloc, said)?;
-    Ok(Plan {
+    Plan {
         offset_into_first_range: number_of(offset),
-        terms,
-        xorbs: xorbs(alloc, ranges)?,
-    })
+        terms: terms(alloc, said),
+        xorbs: xorbs(alloc, ranges),
+    }
 }
 
 /// The places of chunks.
-fn places(alloc: Global, text: &str) -> Result<Vec<u32>, OutOfMemory> {
+fn places(alloc: Global, text: &str) -> Vec<u32> {
     let mut made = Vec::new(alloc);
     for word in text.split(' ') {
-        made.push(short_number_of(word))?;
+        let _ = made.push(short_number_of(word));
     }
-    Ok(made)
+    made
 }
 
 /// A block: the place of each chunk's first byte, and the bytes behind `/`.
 pub(crate) fn block(alloc: Global, text: &str) -> Result<BlockBytes, OutOfMemory> {
     let (said, bytes) = cut(text, "/");
-    let offsets = Offsets::from_vec(alloc, places(alloc, said)?)?;
-    Ok(BlockBytes {
-        offsets,
-        bytes: Bytes::copy_from_slice(alloc, bytes.as_bytes())?,
-    })
+    let bytes = Bytes::copy_from_slice(alloc, bytes.as_bytes())?;
+    match Offsets::from_vec(alloc, places(alloc, said)) {
+        Ok(offsets) => Ok(BlockBytes { offsets, bytes }),
+        Err(error) => Err(error),
+    }
 }
