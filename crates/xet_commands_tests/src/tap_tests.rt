@@ -2,12 +2,12 @@
 ghost use Rattle.std.specs.Prelude.{◌≡◌, length};
 
 use bytes::Bytes;
-use std::alloc::{AllocError, Global};
+use std::alloc::Global;
+use std::fmt::Display;
 use std::process::Abort;
 use std::sync::Wait;
-use std::test::Fail;
 use std::thread::Threads;
-use xet_base::{ChunkRange, MerkleHash};
+use xet_base::{ChunkRange, MerkleHash, OutOfMemory};
 use xet_commands::run_tool;
 use xet_outside::Offsets;
 use xet_store::{BlockBytes, MemTap, ScriptTap, Served, Tap, VecSink, VecSource};
@@ -33,150 +33,207 @@ const DOCUMENT: &[u8] = br#"{"xorbs":{
 
 // The offsets and the bytes that the first tap hands on for the first file's block, and what that comes to: the status
 // and the text.
-const LIES: [(&[u32], &str, &str); 5] = [
-    (
-        &[0, 5, 7, 12],
-        "Jello, world!",
-        "0 4a656c6c6f2c20776f726c6421\nok 13\n",
-    ),
-    (&[0, 5, 7], "Hello, world!", "12 \nerror block 10\n"),
-    (&[0, 5, 7, 13], "Hello, world!", "12 \nerror block 11\n"),
-    (&[0, 5, 7, 12], "Hello, world", "12 \nerror block 11\n"),
-    (&[0, 5, 7, 12], "Hello, world!!", "12 \nerror block 12\n"),
-];
+const LIES: &str = "\
+0 5 7 12|Jello, world!
+0:4a656c6c6f2c20776f726c6421
+ok 13
+end
+
+0 5 7|Hello, world!
+12:
+error block 10
+end
+
+0 5 7 13|Hello, world!
+12:
+error block 11
+end
+
+0 5 7 12|Hello, world
+12:
+error block 11
+end
+
+0 5 7 12|Hello, world!!
+12:
+error block 12
+end";
 
 // The words after `get` over one lane, where a file is its digit; and what they come to: the status, the text, and of
 // each block that passed the first tap the plan's number, its own and its chunk ranges. In the last two rows one range
 // is in two plans.
-const GOT: [(&str, &str); 5] = [
-    ("b 4 13", "0 642148656c6c6f4865\nok 9\n1 0 2..4;1 1 0..1;"),
-    ("e 0 end", "0 48656c6c6f21\nok 6\n1 0 0..1;1 1 3..4;"),
-    ("e 0 end multi", "0 48656c6c6f21\nok 6\n1 0 0..1 3..4;"),
-    (
-        "c 0 10 least=5 greatest=5",
-        "0 48656c6c6f48656c6c6f\nok 10\n1 0 0..1;2 0 0..1;",
-    ),
-    (
-        "c 0 10 least=5 greatest=5 cache",
-        "0 48656c6c6f48656c6c6f\nok 10\n1 0 0..1;",
-    ),
-];
+const GOT: &str = "\
+b 4 13
+0:642148656c6c6f4865
+ok 9
+1 0 2..4;1 1 0..1;
+
+e 0 end
+0:48656c6c6f21
+ok 6
+1 0 0..1;1 1 3..4;
+
+e 0 end multi
+0:48656c6c6f21
+ok 6
+1 0 0..1 3..4;
+
+c 0 10 least=5 greatest=5
+0:48656c6c6f48656c6c6f
+ok 10
+1 0 0..1;2 0 0..1;
+
+c 0 10 least=5 greatest=5 cache
+0:48656c6c6f48656c6c6f
+ok 10
+1 0 0..1;";
+
+// What stands before the first of these, and what behind it: where there is none, all and nothing.
+fn cut<'a>(text: &'a str, at: &str) -> (&'a str, &'a str) {
+    text.split_once(at).unwrap_or((text, ""))
+}
+
+// Adds a word or a number.
+fn put<T: Display + Drop>(text: &mut String, value: T) {
+    let _ = write!(text, "{value}");
+}
+
+// Adds a word to a list.
+fn add_word(alloc: Global, words: &mut Vec<String>, word: &str) {
+    if let Ok(word) = word.to_string(alloc) {
+        let _ = words.push(word);
+    }
+}
+
+// Adds a file's hash, which has one digit, to a list.
+fn add_file(alloc: Global, words: &mut Vec<String>, digit: &str) {
+    if let Ok(word) = digit.repeat(alloc, 64) {
+        let _ = words.push(word);
+    }
+}
 
 // The words of `get`.
-fn words(alloc: Global, row: &str) -> Result<Vec<String>, AllocError> {
-    let (file, row) = row.split_once(' ').unwrap_or((row, ""));
+fn words(alloc: Global, row: &str) -> Vec<String> {
+    let (file, row) = cut(row, " ");
     let mut words = Vec::new(alloc);
-    words.push("get".to_string(alloc)?)?;
-    words.push(file.repeat(alloc, 64)?)?;
+    add_word(alloc, &mut words, "get");
+    add_file(alloc, &mut words, file);
     for word in row.split(' ') {
-        words.push(word.to_string(alloc)?)?;
+        add_word(alloc, &mut words, word);
     }
-    Ok(words)
+    words
 }
 
-// The status and what was printed.
-fn told(alloc: Global, status: u8, text: &[u8]) -> Result<String, Fail> {
-    let text = str::from_utf8(text)?;
-    Ok(format!(in alloc; "{status} {text}")?)
-}
-
-// Runs the program over the document.
+// Runs the program over the document, and tells the status and what was printed.
 fn run<R: Threads + Wait + Sync, T: Tap + Send>(
     rt: &R,
     alloc: Global,
     words: &[String],
     document: Vec<u8>,
     taps: &mut Vec<T>,
-) -> Result<String, Fail>
+    text: &mut String,
+)
     requires { length taps.old.items ≡ 64 }
 {
     let mut input = VecSource::new(document);
     let mut out = VecSink::new(alloc);
-    let status = run_tool(rt, alloc, words, &mut input, &mut out, taps);
-    told(alloc, status, out.taken())
+    put(text, run_tool(rt, alloc, words, &mut input, &mut out, taps));
+    put(text, ':');
+    put(text, str::from_utf8(out.taken()).unwrap_or("no text"));
 }
 
 // The status of `get` and what it printed.
-fn printed<R: Threads + Wait + Sync, T: Tap + Send>(
+fn print<R: Threads + Wait + Sync, T: Tap + Send>(
     rt: &R,
     alloc: Global,
     row: &str,
     taps: &mut Vec<T>,
-) -> Result<String, Fail> {
+    text: &mut String,
+) {
     if taps.len() != 64 {
-        return Err(Fail::from("not 64 taps"));
+        return put(text, "not 64 taps");
     }
-    let words = words(alloc, row)?;
-    let document = DOCUMENT.to_vec(alloc)?;
-    run(rt, alloc, words.as_slice(), document, taps)
+    let words = words(alloc, row);
+    let document = DOCUMENT.to_vec(alloc).unwrap_or(Vec::new(alloc));
+    run(rt, alloc, words.as_slice(), document, taps, text);
 }
 
-// A block.
-fn block(alloc: Global, offsets: &[u32], bytes: &str) -> Result<BlockBytes, Fail> {
+// The numbers of a text.
+fn numbers(alloc: Global, text: &str) -> Vec<u32> {
+    let mut made = Vec::new(alloc);
+    for word in text.split(' ') {
+        let _ = made.push(word.parse::<u32>().unwrap_or(0));
+    }
+    made
+}
+
+// A block of these offsets and bytes.
+fn block(alloc: Global, offsets: &str, bytes: &str) -> Result<BlockBytes, OutOfMemory> {
     let bytes = Bytes::copy_from_slice(alloc, bytes.as_bytes())?;
-    let offsets = Offsets::from_vec(alloc, offsets.to_vec(alloc)?)?;
-    Ok(BlockBytes { offsets, bytes })
+    match Offsets::from_vec(alloc, numbers(alloc, offsets)) {
+        Ok(offsets) => Ok(BlockBytes { offsets, bytes }),
+        Err(error) => Err(error),
+    }
 }
 
 // A tap that hands one block on first.
-fn lying_tap(alloc: Global, offsets: &[u32], bytes: &str) -> Result<ScriptTap, Fail> {
+fn lying_tap(alloc: Global, row: &str) -> ScriptTap {
+    let (offsets, bytes) = cut(row, "|");
     let mut blocks = Vec::new(alloc);
-    blocks.push(block(alloc, offsets, bytes)?)?;
-    Ok(ScriptTap::new(blocks))
-}
-
-// What the program prints over a tap that hands one block on first, and 63 that hand each block on.
-fn lied<R: Threads + Wait + Sync>(
-    rt: &R,
-    alloc: Global,
-    offsets: &[u32],
-    bytes: &str,
-) -> Result<String, Fail> {
-    let mut taps = Vec::new(alloc);
-    taps.push(lying_tap(alloc, offsets, bytes)?)?;
-    fill(alloc, &mut taps)?;
-    printed(rt, alloc, "a 0 end", &mut taps)
-}
-
-// Taps that hand each block on, until there are 64.
-fn fill(alloc: Global, taps: &mut Vec<ScriptTap>) -> Result<(), AllocError> {
-    for _ in taps.len()..64 {
-        taps.push(ScriptTap::new(Vec::new(alloc)))?;
+    if let Ok(block) = block(alloc, offsets, bytes) {
+        let _ = blocks.push(block);
     }
-    Ok(())
+    ScriptTap::new(blocks)
+}
+
+// A tap that hands one block on first, and 63 that hand each block on.
+fn lying_taps(alloc: Global, row: &str) -> Vec<ScriptTap> {
+    let mut taps = Vec::new(alloc);
+    let _ = taps.push(lying_tap(alloc, row));
+    for _ in 1..64 {
+        let _ = taps.push(ScriptTap::new(Vec::new(alloc)));
+    }
+    taps
+}
+
+// What the program prints over these.
+fn lied<R: Threads + Wait + Sync>(rt: &R, alloc: Global, row: &str) -> String {
+    let mut text = String::new(alloc);
+    let mut taps = lying_taps(alloc, row);
+    print(rt, alloc, "a 0 end", &mut taps, &mut text);
+    put(&mut text, "end");
+    text
 }
 
 // 64 taps that keep what passes.
-fn mem_taps(alloc: Global) -> Result<Vec<MemTap>, AllocError> {
+fn mem_taps(alloc: Global) -> Vec<MemTap> {
     let mut taps = Vec::new(alloc);
     for _ in 0..64 {
-        taps.push(MemTap::new(alloc))?;
+        let _ = taps.push(MemTap::new(alloc));
     }
-    Ok(taps)
+    taps
 }
 
 // The chunk ranges of a block.
-fn write_ranges(text: &mut String, ranges: &[ChunkRange]) -> Result<(), AllocError> {
+fn write_ranges(text: &mut String, ranges: &[ChunkRange]) {
     for range in ranges {
-        let start = range.start;
-        let end = range.end;
-        write!(text, " {start}..{end}")?;
+        put(text, ' ');
+        put(text, range.start);
+        put(text, "..");
+        put(text, range.end);
     }
-    text.push(';')
+    put(text, ';');
 }
 
-// The plan's number, the block's number and the chunk ranges of each block, and a mark where it isn't of the xorb.
-fn write_passed(text: &mut String, passed: &[Served]) -> Result<(), AllocError> {
-    for entry in passed {
-        let plan = entry.plan;
-        let index = entry.index;
-        write!(text, "{plan} {index}")?;
-        if entry.xorb != MerkleHash([0x11; 32]) {
-            text.push('?')?;
-        }
-        write_ranges(text, entry.ranges.as_slice())?;
+// The plan's number, the block's number and the chunk ranges of a block, and a mark where it isn't of the xorb.
+fn write_block(text: &mut String, entry: &Served) {
+    put(text, entry.plan);
+    put(text, ' ');
+    put(text, entry.index);
+    if entry.xorb != MerkleHash([0x11; 32]) {
+        put(text, '?');
     }
-    Ok(())
+    write_ranges(text, entry.ranges.as_slice());
 }
 
 // How many blocks passed these taps.
@@ -188,74 +245,61 @@ fn count(taps: &[MemTap]) -> usize {
     count
 }
 
-// Adds what passed these taps: each block of the first one, and how many the others had, unless it is none.
-fn write_taps(text: &mut String, taps: &[MemTap]) -> Result<(), AllocError> {
-    let Some((first, rest)) = taps.split_first() else {
-        return Ok(());
-    };
-    write_passed(text, first.passed())?;
-    match count(rest) {
-        0 => Ok(()),
-        more => write!(text, " and {more}"),
+// Each block that passed this tap, and how many passed the others, unless it is none.
+fn write_taps(text: &mut String, first: &MemTap, others: usize) {
+    for entry in first.passed() {
+        write_block(text, entry);
+    }
+    if others > 0 {
+        put(text, " and ");
+        put(text, others);
     }
 }
 
 // What the program printed, and what passed the taps.
-fn got_over<R: Threads + Wait + Sync>(
-    rt: &R,
-    alloc: Global,
-    row: &str,
-    taps: &mut Vec<MemTap>,
-) -> Result<String, Fail> {
-    let mut text = printed(rt, alloc, row, taps)?;
-    write_taps(&mut text, taps.as_slice())?;
-    Ok(text)
+fn got<R: Threads + Wait + Sync>(rt: &R, alloc: Global, row: &str) -> String {
+    let mut text = String::new(alloc);
+    let mut taps = mem_taps(alloc);
+    print(rt, alloc, row, &mut taps, &mut text);
+    if let Some((first, rest)) = taps.as_slice().split_first() {
+        write_taps(&mut text, first, count(rest));
+    }
+    text
 }
 
-// The same over new taps.
-fn got<R: Threads + Wait + Sync>(rt: &R, alloc: Global, row: &str) -> Result<String, Fail> {
-    let mut taps = mem_taps(alloc)?;
-    got_over(rt, alloc, row, &mut taps)
+// How many blocks passed the taps, and how many those past two lanes.
+fn write_counts(text: &mut String, taps: &[MemTap]) {
+    put(text, count(taps));
+    put(text, ' ');
+    put(text, count(taps.get(2..).unwrap_or(&[])));
 }
 
-// What the program printed over two lanes, how many blocks passed the taps, and how many those past the lanes.
-fn laned_over<R: Threads + Wait + Sync>(
-    rt: &R,
-    alloc: Global,
-    row: &str,
-    taps: &mut Vec<MemTap>,
-) -> Result<String, Fail> {
-    let mut text = printed(rt, alloc, row, taps)?;
-    let all = count(taps.as_slice());
-    let past = count(taps.as_slice().get(2..).unwrap_or(&[]));
-    write!(text, "{all} {past}")?;
-    Ok(text)
-}
-
-// The same over new taps.
-fn laned<R: Threads + Wait + Sync>(rt: &R, alloc: Global, row: &str) -> Result<String, Fail> {
-    let mut taps = mem_taps(alloc)?;
-    laned_over(rt, alloc, row, &mut taps)
+// What the program printed over two lanes, and how many blocks passed.
+fn laned<R: Threads + Wait + Sync>(rt: &R, alloc: Global, row: &str) -> String {
+    let mut text = String::new(alloc);
+    let mut taps = mem_taps(alloc);
+    print(rt, alloc, row, &mut taps, &mut text);
+    write_counts(&mut text, taps.as_slice());
+    text
 }
 
 // Asserts what a row comes to.
-fn comes_to(rt: &impl Abort, row: &str, told: Result<String, Fail>, wanted: &str) {
-    match told {
-        Ok(told) => assert!(rt; told.as_str() == wanted, "{row}: {told}"),
-        Err(_) => panic!(rt; "{row}"),
-    }
+fn comes_to(rt: &impl Abort, row: &str, told: String, wanted: &str) {
+    assert!(rt; told.as_str() == wanted, "{row}: {told}");
 }
 
 #[test]
 fn what_a_tap_hands_on_is_printed(rt: HostRuntime) {
-    for (offsets, bytes, wanted) in LIES {
-        comes_to(&rt, bytes, lied(&rt, rt.alloc(), offsets, bytes), wanted);
+    for case in LIES.split("\n\n") {
+        let (row, wanted) = cut(case, "\n");
+        comes_to(&rt, row, lied(&rt, rt.alloc(), row), wanted);
     }
 }
 
 #[test]
 fn each_block_passes_the_first_tap_once(rt: HostRuntime) {
-    for (row, wanted) in GOT {
+    for case in GOT.split("\n\n") {
+        let (row, wanted) = cut(case, "\n");
         comes_to(&rt, row, got(&rt, rt.alloc(), row), wanted);
     }
 }
@@ -263,6 +307,6 @@ fn each_block_passes_the_first_tap_once(rt: HostRuntime) {
 #[test]
 fn each_block_passes_the_tap_of_one_lane(rt: HostRuntime) {
     let row = "b 4 13 lanes=2";
-    let wanted = "0 642148656c6c6f4865\nok 9\n2 0";
+    let wanted = "0:642148656c6c6f4865\nok 9\n2 0";
     comes_to(&rt, row, laned(&rt, rt.alloc(), row), wanted);
 }
