@@ -1,10 +1,9 @@
 //! A sink and a source over std's writers and readers that are interrupted, break, or take and give little.
-use crate::rows::comes_to;
-use crate::sinks::played;
+use crate::rows::{comes_to, cut, put};
+use crate::sinks::play;
 use std::alloc::Global;
 use std::io::{self, ErrorKind, Read, Write};
-use std::test::Fail;
-use xet_outside::Source;
+use xet_outside::{Source, SourceFault};
 use xet_sinks::{ReadSource, WriteSink};
 
 /// Does at each call what the next letter of its script says: is interrupted at an `i`, takes or gives at most so many
@@ -66,42 +65,51 @@ iiiiiiiiiiiiiiiii1 => Err(SourceFault) .. by 17
 b1 => Err(SourceFault) .. by 1
 i => Err(SourceFault) .. by 2";
 
-fn written(alloc: Global, script: &str, calls: &str) -> Result<String, Fail> {
+fn written(alloc: Global, script: &str, calls: &str) -> String {
+    let mut told = String::new(alloc);
     let mut below = Shaky {
         script: script.as_bytes(),
         calls: 0,
     };
-    let told = played(alloc, calls, &mut WriteSink::new(&mut below))?;
-    Ok(format!(in alloc; "{told}by {}", below.calls)?)
+    play(&mut told, calls, &mut WriteSink::new(&mut below));
+    put(&mut told, "by ");
+    put(&mut told, below.calls);
+    told
 }
 
-fn read(alloc: Global, script: &str) -> Result<String, Fail> {
+/// Adds what a read answered, and its bytes.
+fn tell_read(told: &mut String, answer: Result<usize, SourceFault>, bytes: &[u8]) {
+    let _ = write!(told, "{answer:?} ");
+    put(told, str::from_utf8(bytes).unwrap_or("no text"));
+}
+
+fn read(alloc: Global, script: &str) -> String {
+    let mut told = String::new(alloc);
     let mut below = Shaky {
         script: script.as_bytes(),
         calls: 0,
     };
     let mut into = [b'.'; 2];
     let answer = ReadSource::new(&mut below).read(&mut into);
-    let into = str::from_utf8(&into)?;
-    Ok(format!(in alloc; "{answer:?} {into} by {}", below.calls)?)
+    tell_read(&mut told, answer, &into);
+    put(&mut told, " by ");
+    put(&mut told, below.calls);
+    told
 }
 
 #[test]
 fn an_interrupted_write_or_flush_is_made_again(rt: HostRuntime) {
     for line in WRITES.lines() {
-        if let Some((row, wanted)) = line.split_once(" => ")
-            && let Some((script, calls)) = row.split_once(" | ")
-        {
-            comes_to(&rt, row, written(rt.alloc(), script, calls), wanted);
-        }
+        let (row, wanted) = cut(line, " => ");
+        let (script, calls) = cut(row, " | ");
+        comes_to(&rt, row, written(rt.alloc(), script, calls), wanted);
     }
 }
 
 #[test]
 fn an_interrupted_read_is_made_again(rt: HostRuntime) {
     for line in READS.lines() {
-        if let Some((row, wanted)) = line.split_once(" => ") {
-            comes_to(&rt, row, read(rt.alloc(), row), wanted);
-        }
+        let (row, wanted) = cut(line, " => ");
+        comes_to(&rt, row, read(rt.alloc(), row), wanted);
     }
 }

@@ -1,8 +1,7 @@
 //! Pointer records and their texts. The texts were written and read by Python's json.
-use crate::rows::comes_to;
+use crate::rows::{comes_to, cut, put};
 use serde_json::{from_str, to_string};
 use std::alloc::Global;
-use std::test::Fail;
 use xet_pointer::{SessionContext, XetFileInfo};
 
 /// Texts as the record's own reader takes them, and the texts that it then writes.
@@ -42,43 +41,49 @@ const BY_SERDE: &str = r#"{"hash":"a"} => {"hash":"a"}
 {"hash":"a","sha256":[]} => refused
 {"hash":"b","hash":"a"} => refused"#;
 
-fn written(alloc: Global, info: &XetFileInfo) -> Result<String, Fail> {
-    Ok(info.as_pointer_file(alloc)?.into_inner())
+fn tell(told: &mut String, alloc: Global, info: &XetFileInfo) {
+    if let Ok(text) = info.as_pointer_file(alloc) {
+        put(told, text.as_str());
+    }
 }
 
-fn read(alloc: Global, text: &str) -> Result<String, Fail> {
+fn read(alloc: Global, text: &str) -> String {
+    let mut told = String::new(alloc);
     match XetFileInfo::from_pointer_file(alloc, text) {
-        Ok(info) => written(alloc, &info),
-        Err(error) => Ok(format!(in alloc; "{error}")?),
+        Ok(info) => tell(&mut told, alloc, &info),
+        Err(error) => put(&mut told, error),
+    }
+    told
+}
+
+fn tell_by_serde(told: &mut String, alloc: Global, info: &XetFileInfo) {
+    if let Ok(text) = to_string(alloc, info) {
+        put(told, text.as_str());
     }
 }
 
-fn written_by_serde(alloc: Global, info: &XetFileInfo) -> Result<String, Fail> {
-    Ok(to_string(alloc, info)?)
-}
-
-fn read_by_serde(alloc: Global, text: &str) -> Result<String, Fail> {
+fn read_by_serde(alloc: Global, text: &str) -> String {
+    let mut told = String::new(alloc);
     match from_str::<XetFileInfo>(alloc, text) {
-        Ok(info) => written_by_serde(alloc, &info),
-        Err(_) => Ok(String::from_str(alloc, "refused")?),
+        Ok(info) => tell_by_serde(&mut told, alloc, &info),
+        Err(_) => put(&mut told, "refused"),
     }
+    told
 }
 
 #[test]
 fn texts_of_records(rt: HostRuntime) {
     for line in READ.lines() {
-        if let Some((text, wanted)) = line.split_once(" => ") {
-            comes_to(&rt, text, read(rt.alloc(), text), wanted);
-        }
+        let (text, wanted) = cut(line, " => ");
+        comes_to(&rt, text, read(rt.alloc(), text), wanted);
     }
 }
 
 #[test]
 fn texts_of_records_by_serde(rt: HostRuntime) {
     for line in BY_SERDE.lines() {
-        if let Some((text, wanted)) = line.split_once(" => ") {
-            comes_to(&rt, text, read_by_serde(rt.alloc(), text), wanted);
-        }
+        let (text, wanted) = cut(line, " => ");
+        comes_to(&rt, text, read_by_serde(rt.alloc(), text), wanted);
     }
 }
 
@@ -94,25 +99,40 @@ const CLEANED_TEXT: &str =
     \"file_size\":17,\
     \"sha256\":\"633547741153b3af36073c27e5e93ce94b8c1b5287b8436539692002465aaf3b\"}";
 
-fn cleaned(alloc: Global) -> Result<String, Fail> {
-    let hash = String::from_str(alloc, CLEANED)?;
-    let sha256 = String::from_str(alloc, CLEANED_SHA256)?;
+fn string(alloc: Global, text: &str) -> String {
+    String::from_str(alloc, text).unwrap_or(String::new(alloc))
+}
+
+fn cleaned(alloc: Global) -> String {
+    let (hash, sha256) = (string(alloc, CLEANED), string(alloc, CLEANED_SHA256));
     let info = XetFileInfo::new_with_sha256(hash, 17, sha256);
-    written(alloc, &info.clone()?)
+    let mut told = String::new(alloc);
+    if let Ok(copy) = info.clone() {
+        tell(&mut told, alloc, &copy);
+    }
+    told
 }
 
-fn told_path(alloc: Global, context: &SessionContext) -> Result<String, Fail> {
-    let path = context.local_path("local://").unwrap_or("none");
-    Ok(format!(in alloc; "{} {path}", context.endpoint.as_str())?)
+fn told_path(alloc: Global, context: &SessionContext) -> String {
+    let mut told = String::new(alloc);
+    put(&mut told, context.endpoint.as_str());
+    put(&mut told, ' ');
+    put(&mut told, context.local_path("local://").unwrap_or("none"));
+    told
 }
 
-fn folder(alloc: Global) -> Result<String, Fail> {
-    let context = SessionContext::for_local_path(alloc, "/srv/case one", "local://")?;
-    told_path(alloc, &context)
+fn folder(alloc: Global) -> String {
+    match SessionContext::for_local_path(alloc, "/srv/case one", "local://") {
+        Ok(context) => told_path(alloc, &context),
+        Err(_) => String::new(alloc),
+    }
 }
 
-fn memory(alloc: Global) -> Result<String, Fail> {
-    told_path(alloc, &SessionContext::for_memory(alloc)?)
+fn memory(alloc: Global) -> String {
+    match SessionContext::for_memory(alloc) {
+        Ok(context) => told_path(alloc, &context),
+        Err(_) => String::new(alloc),
+    }
 }
 
 #[test]

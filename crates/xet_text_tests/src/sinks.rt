@@ -1,9 +1,8 @@
 //! Sinks over one that takes little, finds no memory or fails.
 use crate::below::Below;
-use crate::rows::comes_to;
+use crate::rows::{comes_to, cut, put};
 use bytes::Bytes;
 use std::alloc::Global;
-use std::test::Fail;
 use xet_outside::{Sink, SinkError};
 use xet_sinks::{BufferedSink, HexSink, ScriptSink, VecSink};
 
@@ -52,61 +51,65 @@ pub(crate) fn made<S: Sink>(sink: &mut S, call: &str) -> Result<usize, SinkError
     }
 }
 
-/// What these calls answer.
-pub(crate) fn played<S: Sink>(alloc: Global, calls: &str, sink: &mut S) -> Result<String, Fail> {
-    let mut told = String::new(alloc);
+/// Makes these calls, and adds what they answer.
+pub(crate) fn play<S: Sink>(told: &mut String, calls: &str, sink: &mut S) {
     for call in calls.split_whitespace() {
         match made(sink, call) {
-            Ok(count) => write!(told, "{count} ")?,
-            Err(error) => write!(told, "{error} ")?,
+            Ok(count) => put(told, count),
+            Err(error) => put(told, error),
         }
+        put(told, ' ');
     }
-    Ok(told)
 }
 
-/// What the calls answered, and what the sink below took.
-fn told_with(alloc: Global, told: &str, below: &Below<'_>) -> Result<String, Fail> {
-    let calls = below.calls();
-    let taken = str::from_utf8(below.taken())?;
-    let shown = if taken.len() == 400 {
-        "400 digits"
-    } else {
-        taken
-    };
-    Ok(format!(in alloc; "{told}{shown} by {calls}")?)
+/// Adds what the sink below took, and its writes.
+fn tell_below(told: &mut String, below: &Below<'_>) {
+    match below.taken().len() {
+        400 => put(told, "400 digits"),
+        _ => put(told, str::from_utf8(below.taken()).unwrap_or("no text")),
+    }
+    put(told, " by ");
+    put(told, below.calls());
 }
 
-fn digits(alloc: Global, script: &str, calls: &str) -> Result<String, Fail> {
+fn digits(alloc: Global, script: &str, calls: &str) -> String {
+    let mut told = String::new(alloc);
     let mut sink = HexSink::new(Below::new(alloc, script));
-    let told = played(alloc, calls, &mut sink)?;
-    told_with(alloc, told.as_str(), &sink.into_inner())
+    play(&mut told, calls, &mut sink);
+    tell_below(&mut told, &sink.into_inner());
+    told
 }
 
-fn buffered(alloc: Global, script: &str, calls: &str) -> Result<String, Fail> {
-    let mut sink = BufferedSink::new(alloc, Below::new(alloc, script), 4)?;
-    let told = played(alloc, calls, &mut sink)?;
-    told_with(alloc, told.as_str(), &sink.into_inner())
+/// Makes these calls of a buffer, and adds what the sink below it took.
+fn play_buffer(told: &mut String, calls: &str, mut sink: BufferedSink<Below<'_>>) {
+    play(told, calls, &mut sink);
+    tell_below(told, &sink.into_inner());
+}
+
+fn buffered(alloc: Global, script: &str, calls: &str) -> String {
+    let mut told = String::new(alloc);
+    match BufferedSink::new(alloc, Below::new(alloc, script), 4) {
+        Ok(sink) => play_buffer(&mut told, calls, sink),
+        Err(_) => put(&mut told, "no memory"),
+    }
+    told
 }
 
 #[test]
 fn digits_over_a_sink_by_a_script(rt: HostRuntime) {
     for line in DIGITS.lines() {
-        if let Some((row, wanted)) = line.split_once(" => ")
-            && let Some((script, calls)) = row.split_once(" | ")
-        {
-            comes_to(&rt, row, digits(rt.alloc(), script, calls), wanted);
-        }
+        let (row, wanted) = cut(line, " => ");
+        let (script, calls) = cut(row, " | ");
+        comes_to(&rt, row, digits(rt.alloc(), script, calls), wanted);
     }
 }
 
 #[test]
 fn a_buffer_over_a_sink_by_a_script(rt: HostRuntime) {
     for line in BUFFERS.lines() {
-        if let Some((row, wanted)) = line.split_once(" => ")
-            && let Some((script, calls)) = row.split_once(" | ")
-        {
-            comes_to(&rt, row, buffered(rt.alloc(), script, calls), wanted);
-        }
+        let (row, wanted) = cut(line, " => ");
+        let (script, calls) = cut(row, " | ");
+        comes_to(&rt, row, buffered(rt.alloc(), script, calls), wanted);
     }
 }
 
