@@ -26,23 +26,29 @@ const STEPS: [(u64, bool); 10] = [
 
 /// How many steps the book and a view of it follow.
 fn followed<R: Wait>(rt: &R, book: &BudgetBook, view: &mut BookView) -> usize {
-    for (number, (limit, starts)) in STEPS.iter().enumerate() {
-        if book.target(rt) != *limit || view.limit(rt) != *limit {
-            return number;
+    let mut followed = 0usize;
+    for (limit, starts) in STEPS {
+        if book.target(rt) == limit && view.limit(rt) == limit {
+            followed = followed.saturating_add(1);
         }
-        if *starts {
+        if starts {
             book.start(rt);
         } else {
             book.end(rt);
         }
     }
-    STEPS.len()
+    followed
+}
+
+/// The same of a new view.
+fn viewed<R: Wait>(rt: &R, book: &Arc<BudgetBook>) -> Result<usize, OutOfMemory> {
+    let mut view = BookView::new(Arc::try_clone(book)?);
+    Ok(followed(rt, book, &mut view))
 }
 
 fn shared<R: Wait>(rt: &R, alloc: Global) -> Result<usize, OutOfMemory> {
-    let book = Arc::new(alloc, BudgetBook::new(alloc, SETTINGS)?)?;
-    let mut view = BookView::new(Arc::try_clone(&book)?);
-    Ok(followed(rt, &book, &mut view))
+    let book = BudgetBook::new(alloc, SETTINGS)?;
+    viewed(rt, &Arc::new(alloc, book)?)
 }
 
 #[test]

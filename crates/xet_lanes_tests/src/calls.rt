@@ -73,12 +73,11 @@ fn make_told<L: Ledger, C: CallLog, R: Wait>(
     pass: &mut RunPass<L>,
     letter: char,
     made: &mut Vec<RunCall>,
-) -> Result<(), OutOfMemory> {
-    make(rt, state, pass, letter)?;
+) {
+    let _ = make(rt, state, pass, letter);
     if let Some(call) = pass.last() {
-        made.push(call)?;
+        let _ = made.push(call);
     }
-    Ok(())
 }
 
 /// Makes the calls, and adds what the passes tell of each.
@@ -88,15 +87,14 @@ fn make_all<L: Ledger, C: CallLog, R: Wait>(
     pass: &mut RunPass<L>,
     other: &mut RunPass<L>,
     made: &mut Vec<RunCall>,
-) -> Result<(), OutOfMemory> {
+) {
     for letter in CALLS.chars() {
         if letter.is_ascii_uppercase() {
-            make_told(rt, state, other, letter, made)?;
+            make_told(rt, state, other, letter, made);
         } else {
-            make_told(rt, state, pass, letter, made)?;
+            make_told(rt, state, pass, letter, made);
         }
     }
-    Ok(())
 }
 
 /// What the passes tell of the calls.
@@ -105,14 +103,14 @@ fn told_of<L: Ledger, C: CallLog, R: Wait>(
     alloc: Global,
     state: &RunState<L, C>,
     pass: &mut RunPass<L>,
-) -> Result<Vec<RunCall>, OutOfMemory>
+) -> Vec<RunCall>
     requires parts { pass.old.share.parts ≡ 2 ^ 32 }
 {
     let mut made = Vec::new(alloc);
     let mut other = pass.split(1);
-    make_all(rt, state, pass, &mut other, &mut made)?;
+    make_all(rt, state, pass, &mut other, &mut made);
     pass.gather(other);
-    Ok(made)
+    made
 }
 
 /// The calls of a run that keeps them, as the passes tell them and as its history has them.
@@ -125,7 +123,7 @@ fn kept_calls<L: Ledger, R: Wait>(
     requires parts { (blank.parts ≡ L.parts) × (L.parts ≡ 2 ^ 32) }
 {
     let (state, mut pass) = RunState::<L, KeptCalls>::new(alloc, blank, MerkleHash([1; 32]))?;
-    let made = told_of(rt, alloc, &state, &mut pass)?;
+    let made = told_of(rt, alloc, &state, &mut pass);
     Ok((made, state.close(pass)))
 }
 
@@ -139,7 +137,7 @@ fn told_calls<L: Ledger, R: Wait>(
     requires parts { (blank.parts ≡ L.parts) × (L.parts ≡ 2 ^ 32) }
 {
     let (state, mut pass) = RunState::<L, ToldCalls>::new(alloc, blank, MerkleHash([1; 32]))?;
-    told_of(rt, alloc, &state, &mut pass)
+    Ok(told_of(rt, alloc, &state, &mut pass))
 }
 
 fn kept_run<R: Wait>(rt: &R, alloc: Global) -> Result<(Vec<RunCall>, List<RunCall>), OutOfMemory> {

@@ -1,7 +1,7 @@
 //! Numbers that two threads draw.
 ghost use Rattle.xet_claims.specs.ClaimPasses.{IsFresh, IsPassOf};
 
-use std::alloc::AllocError;
+use std::alloc::{AllocError, Global};
 use std::test::Fail;
 use std::thread::{Threads, join_mut};
 use xet_run::{ClaimPass, Claims};
@@ -52,6 +52,22 @@ fn are_once_each(mine: Vec<u64>, theirs: &[u64], count: usize) -> Result<bool, A
     Ok(all_are && in_order)
 }
 
+/// Two threads draw ten thousand numbers with these passes. Whether memory sufficed, and they drew each once.
+fn draw_once_each<R: Threads>(
+    rt: &R,
+    alloc: Global,
+    claims: &Claims,
+    first: &mut ClaimPass,
+    second: &mut ClaimPass,
+) -> bool
+    requires first { IsPassOf claims.now first.old × IsFresh first.old }
+    requires second { IsPassOf claims.now second.old × IsFresh second.old }
+{
+    let (mut mine, mut theirs) = (Vec::new(alloc), Vec::new(alloc));
+    let drew = draw_beside(rt, claims, first, second, &mut mine, &mut theirs);
+    drew && are_once_each(mine, theirs.as_slice(), 10_000).unwrap_or(false)
+}
+
 #[test]
 fn two_threads_draw_ten_thousand_numbers(rt: HostRuntime) -> Result<(), Fail> {
     let (claims, passes) = Claims::new(rt.alloc(), 10_000, 2)?;
@@ -59,20 +75,10 @@ fn two_threads_draw_ten_thousand_numbers(rt: HostRuntime) -> Result<(), Fail> {
     let (Some(mut first), Some(mut second)) = (passes.pop(), passes.pop()) else {
         return Err(Fail::new("there are two passes"));
     };
-    let (mut mine, mut theirs) = (Vec::new(rt.alloc()), Vec::new(rt.alloc()));
-    let drew = draw_beside(
-        &rt,
-        &claims,
-        &mut first,
-        &mut second,
-        &mut mine,
-        &mut theirs,
-    );
-    assert!(rt; drew, "memory is wanting");
-    let once = are_once_each(mine, theirs.as_slice(), 10_000);
+    let drawn = draw_once_each(&rt, rt.alloc(), &claims, &mut first, &mut second);
     assert!(rt;
-        matches!(once, Ok(true)),
-        "a number was drawn twice, or never"
+        drawn,
+        "memory is wanting, or a number was drawn twice or never"
     );
     Ok(())
 }

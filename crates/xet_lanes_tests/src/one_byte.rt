@@ -37,6 +37,13 @@ impl<'a> OneByte<'a> {
     }
 }
 
+/// One chunk of one byte.
+fn one_chunk(alloc: Global) -> Result<BlockBytes, OutOfMemory> {
+    let offsets = Offsets::from_vec(alloc, [0].to_vec(alloc)?)?;
+    let bytes = Bytes::from_static(b"x");
+    Ok(BlockBytes { offsets, bytes })
+}
+
 impl<'a> Client for OneByte<'a> {
     ghost use Rattle.std.specs.Prelude.{[], None};
 
@@ -72,10 +79,9 @@ impl<'a> Client for OneByte<'a> {
             self.faults = self.faults.saturating_add(1);
             return Err(ClientError::Failed);
         }
-        let first = [0].to_vec(alloc).map_err(OutOfMemory::from)?;
-        Ok(BlockAnswer::Bytes(BlockBytes {
-            offsets: Offsets::from_vec(alloc, first)?,
-            bytes: Bytes::from_static(b"x"),
-        }))
+        match one_chunk(alloc) {
+            Ok(block) => Ok(BlockAnswer::Bytes(block)),
+            Err(OutOfMemory) => Err(ClientError::OutOfMemory),
+        }
     }
 }

@@ -5,11 +5,11 @@ ghost use Rattle.xet_lane.specs.Fetches.{ask_of};
 
 use crate::meeting::Waiting;
 use crate::one_byte::OneByte;
+use crate::rows::put;
 use std::alloc::Global;
 use std::marker::Brand;
 use std::sync::Wait;
 use std::sync::ledger::{Blank, Ledger};
-use std::test::Fail;
 use std::thread::Threads;
 use xet_base::{
     ChunkRange, FileRange, List, MerkleHash, OutOfMemory, SharedText, ShortList, UniqueId,
@@ -38,14 +38,16 @@ fn url(alloc: Global) -> Result<RetrievalUrl, OutOfMemory> {
 }
 
 /// A table with a URL of no bytes for the block.
-fn one_url(alloc: Global) -> Result<TermBlockRetrievalURLs, OutOfMemory> {
+fn one_url(alloc: Global) -> TermBlockRetrievalURLs {
     let mut urls = List::new(alloc);
-    urls.push(url(alloc)?)?;
+    if let Ok(url) = url(alloc) {
+        let _ = urls.push(url);
+    }
     let id = UniqueId {
         plan: 1,
         refresh: 0,
     };
-    Ok(TermBlockRetrievalURLs::new(MerkleHash([1; 32]), FileRange::new(0, 1), id, urls))
+    TermBlockRetrievalURLs::new(MerkleHash([1; 32]), FileRange::new(0, 1), id, urls)
 }
 
 /// Fetches of one block, of the numbers from the first to before the end.
@@ -121,45 +123,39 @@ pub(crate) fn one_round<R: Threads + Wait + Sync, G: Gate + Sync>(
 ) -> Result<Joined, OutOfMemory>
     requires clients { 0 < length clients.old }
 {
-    let urls = one_url(alloc)?;
+    let urls = one_url(alloc);
     let block = one_chunk();
     let fetches = fetches(alloc, &block, &urls, first, end)?;
     own_join(rt, alloc, gate, fetches.as_slice(), clients, beside, writer)
 }
 
 /// The steps of each lane, `s` for a served one, and what was written.
-fn told(alloc: Global, joined: &Joined) -> Result<String, Fail> {
-    let mut told = String::new(alloc);
+fn tell(told: &mut String, joined: &Joined) {
     for end in joined.ends.as_slice() {
-        add_steps(&mut told, end.steps.as_slice())?;
+        add_steps(told, end.steps.as_slice());
     }
     match joined.wrote {
-        Ok(count) => write!(told, "{count}")?,
-        Err(error) => write!(told, "{error}")?,
+        Ok(count) => put(told, count),
+        Err(error) => put(told, error),
     }
-    Ok(told)
 }
 
 /// Adds a letter for each step, and a space.
-fn add_steps(told: &mut String, steps: &[LaneStep]) -> Result<(), Fail> {
+fn add_steps(told: &mut String, steps: &[LaneStep]) {
     for step in steps {
-        told.push(match step {
-            LaneStep::Served { .. } => 's',
-            LaneStep::Expired { .. } => 'e',
-            LaneStep::Failed { .. } => 'f',
-        })?;
+        match step {
+            LaneStep::Served { .. } => put(told, 's'),
+            LaneStep::Expired { .. } => put(told, 'e'),
+            LaneStep::Failed { .. } => put(told, 'f'),
+        }
     }
-    told.push(' ')?;
-    Ok(())
+    put(told, ' ');
 }
 
 /// What a join came to.
-pub(crate) fn told_round(
-    alloc: Global,
-    joined: Result<Joined, OutOfMemory>,
-) -> Result<String, Fail> {
+pub(crate) fn tell_round(told: &mut String, joined: Result<Joined, OutOfMemory>) {
     match joined {
-        Ok(joined) => told(alloc, &joined),
-        Err(error) => Err(Fail::from(error)),
+        Ok(joined) => tell(told, &joined),
+        Err(error) => put(told, error),
     }
 }

@@ -1,11 +1,13 @@
 //! What a row comes to.
+use std::fmt::Display;
 use std::process::Abort;
-use std::test::Fail;
+
+/// Adds a word or a number.
+pub(crate) fn put<T: Display + Drop>(told: &mut String, value: T) {
+    let _ = write!(told, "{value}");
+}
 
 /// Asserts what a row comes to.
-pub(crate) fn comes_to(rt: &impl Abort, row: &str, told: Result<String, Fail>, wanted: &str) {
-    match told {
-        Ok(told) => assert!(rt; told.as_str() == wanted, "{row}: {told}"),
-        Err(_) => panic!(rt; "{row}"),
-    }
+pub(crate) fn comes_to(rt: &impl Abort, row: &str, told: String, wanted: &str) {
+    assert!(rt; told.as_str() == wanted, "{row}: {told}");
 }
