@@ -21,10 +21,19 @@ pub fn refuse(out: &mut String, error: DataError) {
     let _ = write!(out, " {error:?}");
 }
 
-/// Writes a number, or why there is none.
-pub fn answer(out: &mut String, answer: Result<u64, DataError>) {
+/// Writes 0 where a call was made, or why it was refused.
+pub fn done(out: &mut String, answer: Result<(), DataError>) {
     match answer {
-        Ok(number) => say(out, number),
+        Ok(()) => say(out, 0),
+        Err(error) => refuse(out, error),
+    }
+}
+
+/// Writes these numbers of a yes and of a no, or why there is none.
+pub fn decided(out: &mut String, answer: Result<bool, DataError>, yes: u64, no: u64) {
+    match answer {
+        Ok(true) => say(out, yes),
+        Ok(false) => say(out, no),
         Err(error) => refuse(out, error),
     }
 }

@@ -1,62 +1,68 @@
 //! The calls of a session.
-use crate::answers::{answer, refuse, say_each};
+use crate::answers::{decided, done, refuse, say_each};
 use crate::sessions::Session;
 use crate::settings::number;
 use crate::xorbs::{part, raw};
 use std::alloc::Global;
 use std::sync::Wait;
-use xet_base::UniqueID;
-use xet_progress::GroupProgressReport;
+use xet_base::{List, MDBFileInfo, OutOfMemory, UniqueID};
+use xet_progress::{FileXorbDependency, GroupProgressReport, ItemProgressReport};
 use xet_upload::{DataError, DeduplicationMetrics};
 
-/// `begin 10`, `begin -`: a file of a fixed size, or of one that grows. It writes the item's id and the file's number.
-fn begin<W: Wait>(rt: &W, alloc: Global, session: &mut Session, out: &mut String, size: &str) {
-    match session.start_file(rt, alloc, "file", number(size)) {
+/// Writes the item's id and the file's number.
+fn say_file(out: &mut String, file: Result<(UniqueID, u64), DataError>) {
+    match file {
         Ok((id, file_id)) => say_each(out, &[id.0, file_id]),
         Err(error) => refuse(out, error),
     }
 }
 
+/// `begin 10`, `begin -`: a file of a fixed size, or of one that grows. It writes the item's id and the file's number.
+fn begin<W: Wait>(rt: &W, alloc: Global, session: &mut Session, out: &mut String, size: &str) {
+    say_file(out, session.start_file(rt, alloc, "file", number(size)));
+}
+
 /// `grow 1 4`: the file with this number grows.
-fn grow<W: Wait>(rt: &W, session: &mut Session, words: &str) -> Result<u64, DataError> {
+fn grow<W: Wait>(rt: &W, session: &mut Session, out: &mut String, words: &str) {
     let (file, bytes) = words.split_once(' ').unwrap_or((words, ""));
     let (file, bytes) = (number(file).unwrap_or(0), number(bytes).unwrap_or(0));
-    match session.grow_file(rt, file, bytes) {
-        Ok(()) => Ok(0),
-        Err(error) => Err(error),
-    }
+    done(out, session.grow_file(rt, file, bytes));
 }
 
 /// `give 5 Hello`: the xorb of a text, of which the first file has so many bytes. 0 where it is new, 9 where it was
 /// put before.
-fn give<W: Wait>(
-    rt: &W,
-    alloc: Global,
-    session: &mut Session,
-    words: &str,
-) -> Result<u64, DataError> {
+fn give<W: Wait>(rt: &W, alloc: Global, session: &mut Session, out: &mut String, words: &str) {
     let (bytes, text) = words.split_once(' ').unwrap_or((words, ""));
-    let raw = raw(alloc, text)?;
     let parts = [part(0, number(bytes).unwrap_or(0), false)];
-    let parts = if bytes == "0" { &[] } else { parts.as_slice() };
-    match session.register_new_xorb(rt, alloc, raw, parts, 0) {
-        Ok(true) => Ok(0),
-        Ok(false) => Ok(9),
-        Err(error) => Err(error),
+    if bytes == "0" {
+        give_parts(rt, alloc, session, out, text, &[]);
+    } else {
+        give_parts(rt, alloc, session, out, text, &parts);
     }
 }
 
-/// `cut`: cuts what waits.
-fn cut<W: Wait>(rt: &W, alloc: Global, session: &mut Session) -> Result<u64, DataError> {
-    match session.checkpoint(rt, alloc, 0) {
-        Ok(()) => Ok(0),
-        Err(error) => Err(error),
+/// The same with these parts of files.
+fn give_parts<W: Wait>(
+    rt: &W,
+    alloc: Global,
+    session: &mut Session,
+    out: &mut String,
+    text: &str,
+    parts: &[FileXorbDependency],
+) {
+    if let Ok(raw) = raw(alloc, text) {
+        decided(
+            out,
+            session.register_new_xorb(rt, alloc, raw, parts, 0),
+            0,
+            9,
+        );
     }
 }
 
 /// Writes how many chunks were new and found, the bytes of xorbs and of records, and of the items and of the transfers
 /// the bytes that are completed and all.
-fn say_end(out: &mut String, counts: &DeduplicationMetrics, report: &GroupProgressReport) {
+fn say_counts(out: &mut String, counts: &DeduplicationMetrics, report: &GroupProgressReport) {
     say_each(
         out,
         &[
@@ -72,16 +78,19 @@ fn say_end(out: &mut String, counts: &DeduplicationMetrics, report: &GroupProgre
     );
 }
 
-/// `end`: ends the session.
-fn end<W: Wait>(rt: &W, alloc: Global, session: &mut Session, out: &mut String) {
-    match session.finalize_with_report(rt, alloc, 0) {
-        Ok((counts, report)) => say_end(out, &counts, &report),
+/// Writes the counts of an end.
+fn say_end(
+    out: &mut String,
+    answer: Result<(DeduplicationMetrics, GroupProgressReport), DataError>,
+) {
+    match answer {
+        Ok((counts, report)) => say_counts(out, &counts, &report),
         Err(error) => refuse(out, error),
     }
 }
 
 /// Writes the bytes of xorbs, of records and of both, and how many files there are.
-fn say_list(out: &mut String, counts: &DeduplicationMetrics, files: usize) {
+fn say_files(out: &mut String, counts: &DeduplicationMetrics, files: usize) {
     say_each(
         out,
         &[
@@ -93,19 +102,30 @@ fn say_list(out: &mut String, counts: &DeduplicationMetrics, files: usize) {
     );
 }
 
-/// `list`: ends the session, with its files.
-fn list<W: Wait>(rt: &W, alloc: Global, session: &mut Session, out: &mut String) {
-    match session.finalize_with_file_info(rt, alloc, 0) {
-        Ok((counts, files)) => say_list(out, &counts, files.len()),
+/// Writes the counts of an end with its files.
+fn say_list(
+    out: &mut String,
+    answer: Result<(DeduplicationMetrics, List<MDBFileInfo>), DataError>,
+) {
+    match answer {
+        Ok((counts, files)) => say_files(out, &counts, files.len()),
         Err(error) => refuse(out, error),
+    }
+}
+
+/// Writes the completed and all bytes of an item.
+fn say_item(out: &mut String, answer: Result<Option<ItemProgressReport>, OutOfMemory>) {
+    if let Ok(Some(report)) = answer {
+        say_each(out, &[report.bytes_completed, report.total_bytes]);
     }
 }
 
 /// `item 1`: the completed and all bytes of an item.
 fn item<W: Wait>(rt: &W, session: &Session, out: &mut String, id: &str) {
-    if let Ok(Some(report)) = session.item_report(rt, UniqueID(number(id).unwrap_or(0))) {
-        say_each(out, &[report.bytes_completed, report.total_bytes]);
-    }
+    say_item(
+        out,
+        session.item_report(rt, UniqueID(number(id).unwrap_or(0))),
+    );
 }
 
 /// How many items there are.
@@ -133,7 +153,7 @@ fn group<W: Wait>(rt: &W, alloc: Global, session: &Session, out: &mut String) {
     );
 }
 
-/// Makes a call, and writes what it answers.
+/// Makes a call, and writes what it answers: `cut` cuts what waits, `end` ends the session, and `list` with its files.
 pub fn called<W: Wait>(
     rt: &W,
     alloc: Global,
@@ -144,11 +164,11 @@ pub fn called<W: Wait>(
 ) {
     match word {
         "begin" => begin(rt, alloc, session, out, rest),
-        "grow" => answer(out, grow(rt, session, rest)),
-        "give" => answer(out, give(rt, alloc, session, rest)),
-        "cut" => answer(out, cut(rt, alloc, session)),
-        "end" => end(rt, alloc, session, out),
-        "list" => list(rt, alloc, session, out),
+        "grow" => grow(rt, session, out, rest),
+        "give" => give(rt, alloc, session, out, rest),
+        "cut" => done(out, session.checkpoint(rt, alloc, 0)),
+        "end" => say_end(out, session.finalize_with_report(rt, alloc, 0)),
+        "list" => say_list(out, session.finalize_with_file_info(rt, alloc, 0)),
         "item" => item(rt, session, out, rest),
         "group" => group(rt, alloc, session, out),
         _ => {}

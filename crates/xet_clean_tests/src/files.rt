@@ -1,5 +1,5 @@
 //! Files that a session cleans.
-use crate::answers::{answer, point, refuse, say};
+use crate::answers::{done, point, refuse, say};
 use crate::sessions::Session;
 use crate::settings::number;
 use std::alloc::Global;
@@ -7,7 +7,7 @@ use std::sync::Wait;
 use xet_base::MerkleHash;
 use xet_clean::{SingleFileCleaner, start_clean};
 use xet_pointer::XetFileInfo;
-use xet_upload::{DataError, FixedCutter, Sha256Policy};
+use xet_upload::{DataError, DeduplicationMetrics, FixedCutter, Sha256Policy};
 
 /// A file that is cut into chunks of one length.
 type Cleaner = SingleFileCleaner<FixedCutter>;
@@ -21,45 +21,19 @@ pub fn policy(word: &str) -> Sha256Policy {
     }
 }
 
-/// Begins a file of this size, where one is said.
-fn start<W: Wait>(
-    rt: &W,
-    alloc: Global,
-    session: &mut Session,
-    size: Option<u64>,
-    sha256: Sha256Policy,
-    chunk: u64,
-) -> Result<Cleaner, DataError> {
-    let cutter = FixedCutter {
-        size: chunk as usize,
-    };
-    match start_clean(session, rt, alloc, Some("test"), size, sha256, cutter) {
-        Ok((_id, cleaner)) => Ok(cleaner),
-        Err(error) => Err(error),
-    }
-}
-
-/// Feeds one piece; `*` stands for 8,192 bytes.
-fn feed<W: Wait>(
+/// Feeds bytes, and writes what is answered.
+fn feed_bytes<W: Wait>(
     rt: &W,
     alloc: Global,
     session: &mut Session,
     cleaner: &mut Cleaner,
-    piece: &str,
-) -> Result<u64, DataError> {
-    let many = [7u8; 8192];
-    let bytes = if piece == "*" {
-        many.as_slice()
-    } else {
-        piece.as_bytes()
-    };
-    match cleaner.add_data(session, rt, alloc, bytes, 0) {
-        Ok(()) => Ok(0),
-        Err(error) => Err(error),
-    }
+    out: &mut String,
+    bytes: &[u8],
+) {
+    done(out, cleaner.add_data(session, rt, alloc, bytes, 0));
 }
 
-/// Feeds pieces, and writes what each of them answers.
+/// Feeds pieces, and writes what each of them answers; `*` stands for 8,192 bytes.
 fn feed_each<W: Wait>(
     rt: &W,
     alloc: Global,
@@ -68,43 +42,53 @@ fn feed_each<W: Wait>(
     out: &mut String,
     pieces: &str,
 ) {
+    let many = [7u8; 8192];
     for piece in pieces.split('/') {
-        answer(out, feed(rt, alloc, session, cleaner, piece));
+        match piece {
+            "*" => feed_bytes(rt, alloc, session, cleaner, out, many.as_slice()),
+            _ => feed_bytes(rt, alloc, session, cleaner, out, piece.as_bytes()),
+        }
     }
 }
 
-/// Ends a file, and answers its pointer.
-fn finish<W: Wait>(
-    rt: &W,
-    alloc: Global,
-    session: &mut Session,
-    cleaner: Cleaner,
-) -> Result<XetFileInfo, DataError> {
-    match cleaner.finish(session, rt, alloc, 0) {
-        Ok((info, _counts)) => Ok(info),
-        Err(error) => Err(error),
+/// Writes the pointer, or 0 where only answers are told.
+fn say_end(
+    out: &mut String,
+    answer: Result<(XetFileInfo, DeduplicationMetrics), DataError>,
+    is_fed: bool,
+) {
+    match answer {
+        Ok(_) if is_fed => say(out, 0),
+        Ok((info, _counts)) => point(out, &info),
+        Err(error) => refuse(out, error),
     }
 }
 
-/// `13 5 Hello/, world!`: cleans a file of this size, none of `-`, that is cut by so many bytes and fed in these
-/// pieces. It writes what each piece answers.
+/// Feeds a file in pieces, and ends it.
 fn clean<W: Wait>(
     rt: &W,
     alloc: Global,
     session: &mut Session,
     out: &mut String,
-    sha256: Sha256Policy,
-    words: &str,
-) -> Result<XetFileInfo, DataError> {
-    let (size, words) = words.split_once(' ').unwrap_or((words, ""));
-    let (chunk, pieces) = words.split_once(' ').unwrap_or((words, ""));
-    let chunk = number(chunk).unwrap_or(1);
-    let mut cleaner = start(rt, alloc, session, number(size), sha256, chunk)?;
-    feed_each(rt, alloc, session, &mut cleaner, out, pieces);
-    finish(rt, alloc, session, cleaner)
+    mut cleaner: Cleaner,
+    pieces: &str,
+    is_fed: bool,
+) {
+    let mut fed = String::new(alloc);
+    feed_each(rt, alloc, session, &mut cleaner, &mut fed, pieces);
+    say_fed(out, fed.as_str(), is_fed);
+    say_end(out, cleaner.finish(session, rt, alloc, 0), is_fed);
 }
 
-/// `feed` writes what each piece and the end answer, and the other words the pointer.
+/// Writes what pieces answered, where that is told.
+fn say_fed(out: &mut String, fed: &str, is_fed: bool) {
+    if is_fed {
+        let _ = out.push_str(fed);
+    }
+}
+
+/// `13 5 Hello/, world!`: cleans a file of this size, none of `-`, that is cut by so many bytes and fed in these
+/// pieces. `feed` writes what each piece and the end answer, and the other words the pointer.
 pub fn cleaned<W: Wait>(
     rt: &W,
     alloc: Global,
@@ -113,23 +97,14 @@ pub fn cleaned<W: Wait>(
     word: &str,
     rest: &str,
 ) {
-    let is_fed = word == "feed";
-    let mut fed = String::new(alloc);
-    let told = clean(rt, alloc, session, &mut fed, policy(word), rest);
-    if is_fed {
-        let _ = out.push_str(fed.as_str());
-    }
-    match told {
-        Ok(info) => end_file(out, &info, is_fed),
+    let (size, rest) = rest.split_once(' ').unwrap_or((rest, ""));
+    let (chunk, pieces) = rest.split_once(' ').unwrap_or((rest, ""));
+    let (size, sha256) = (number(size), policy(word));
+    let cutter = FixedCutter {
+        size: number(chunk).unwrap_or(1) as usize,
+    };
+    match start_clean(session, rt, alloc, Some("test"), size, sha256, cutter) {
+        Ok((_id, cleaner)) => clean(rt, alloc, session, out, cleaner, pieces, word == "feed"),
         Err(error) => refuse(out, error),
-    }
-}
-
-/// Writes the pointer, or 0 where only answers are told.
-fn end_file(out: &mut String, info: &XetFileInfo, is_fed: bool) {
-    if is_fed {
-        say(out, 0);
-    } else {
-        point(out, info);
     }
 }

@@ -1,11 +1,11 @@
 //! What the deduplication of a file asks of a session.
-use crate::answers::answer;
+use crate::answers::{decided, done, refuse, say};
 use crate::sessions::Session;
 use crate::settings::number;
 use crate::xorbs::{part, raw};
 use std::alloc::Global;
 use std::sync::Wait;
-use xet_base::MerkleHash;
+use xet_base::{FileDataSequenceEntry, MerkleHash};
 use xet_session::{DeduplicationDataInterface, UploadSessionDataManager};
 use xet_shards::ScriptShards;
 use xet_upload::DataError;
@@ -14,39 +14,40 @@ use xet_uploader::MemUploader;
 /// A session as the deduplication of a file sees it.
 type Manager<'a> = UploadSessionDataManager<'a, MemUploader, ScriptShards>;
 
-/// `find Hello`: how many chunks are found in the records of the session and its stores.
-fn find(alloc: Global, manager: &mut Manager<'_>, text: &str) -> Result<u64, DataError> {
-    let hash = MerkleHash::chunk_hash(text.as_bytes());
-    match manager.chunk_hash_dedup_query(alloc, [hash].as_slice()) {
-        Ok(Some(found)) => Ok(found.0 as u64),
-        Ok(None) => Ok(0),
-        Err(error) => Err(error),
+/// What a search finds: how many chunks, their term, and whether it is of the session.
+type Found = Option<(usize, FileDataSequenceEntry, bool)>;
+
+/// Writes how many chunks were found.
+fn say_found(out: &mut String, answer: Result<Found, DataError>) {
+    match answer {
+        Ok(Some(found)) => say(out, found.0 as u64),
+        Ok(None) => say(out, 0),
+        Err(error) => refuse(out, error),
     }
 }
 
+/// `find Hello`: how many chunks are found in the records of the session and its stores.
+fn find(alloc: Global, manager: &mut Manager<'_>, out: &mut String, text: &str) {
+    let hash = MerkleHash::chunk_hash(text.as_bytes());
+    say_found(
+        out,
+        manager.chunk_hash_dedup_query(alloc, [hash].as_slice()),
+    );
+}
+
 /// `hand Hello`: puts the xorb of a text.
-fn hand<W: Wait>(
-    rt: &W,
-    alloc: Global,
-    manager: &mut Manager<'_>,
-    text: &str,
-) -> Result<u64, DataError> {
-    let raw = raw(alloc, text)?;
-    match manager.register_new_xorb(rt, alloc, raw, 0) {
-        Ok(()) => Ok(0),
-        Err(error) => Err(error),
+fn hand<W: Wait>(rt: &W, alloc: Global, manager: &mut Manager<'_>, out: &mut String, text: &str) {
+    if let Ok(raw) = raw(alloc, text) {
+        done(out, manager.register_new_xorb(rt, alloc, raw, 0));
     }
 }
 
 /// `ask Hello world`: makes a query for the chunk of each of these texts. 1 where one found records.
-fn ask(alloc: Global, manager: &mut Manager<'_>, texts: &str) -> Result<u64, DataError> {
+fn ask(alloc: Global, manager: &mut Manager<'_>, out: &mut String, texts: &str) {
     for text in texts.split(' ') {
         let _ = manager.register_global_dedup_query(MerkleHash::chunk_hash(text.as_bytes()));
     }
-    match manager.complete_global_dedup_queries(alloc) {
-        Ok(found) => Ok(u64::from(found)),
-        Err(error) => Err(error),
-    }
+    decided(out, manager.complete_global_dedup_queries(alloc), 1, 0);
 }
 
 /// `depend 3`, `external 1`: the second file has so many bytes in the xorb of `Hello`.
@@ -54,14 +55,15 @@ fn depend<W: Wait>(
     rt: &W,
     alloc: Global,
     manager: &mut Manager<'_>,
+    out: &mut String,
     bytes: &str,
     is_external: bool,
-) -> Result<u64, DataError> {
+) {
     let parts = [part(1, number(bytes).unwrap_or(0), is_external)];
-    match manager.register_xorb_dependencies(rt, alloc, parts.as_slice()) {
-        Ok(()) => Ok(0),
-        Err(error) => Err(error),
-    }
+    done(
+        out,
+        manager.register_xorb_dependencies(rt, alloc, parts.as_slice()),
+    );
 }
 
 /// Makes a call of a data manager, and writes what it answers.
@@ -75,10 +77,9 @@ pub fn managed<W: Wait>(
 ) {
     let mut manager = UploadSessionDataManager::new(alloc, session);
     match word {
-        "find" => answer(out, find(alloc, &mut manager, rest)),
-        "hand" => answer(out, hand(rt, alloc, &mut manager, rest)),
-        "ask" => answer(out, ask(alloc, &mut manager, rest)),
-        "depend" => answer(out, depend(rt, alloc, &mut manager, rest, false)),
-        _ => answer(out, depend(rt, alloc, &mut manager, rest, true)),
+        "find" => find(alloc, &mut manager, out, rest),
+        "hand" => hand(rt, alloc, &mut manager, out, rest),
+        "ask" => ask(alloc, &mut manager, out, rest),
+        _ => depend(rt, alloc, &mut manager, out, rest, word == "external"),
     }
 }

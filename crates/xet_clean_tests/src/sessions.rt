@@ -3,6 +3,7 @@ use crate::settings::{config, has, setting};
 use crate::xorbs::raw;
 use std::alloc::Global;
 use xet_base::{IdSource, List, OutOfMemory, ShardRecord};
+use xet_pointer::TranslatorConfig;
 use xet_session::{FileUploadSession, SessionStores};
 use xet_shards::{MemShards, ScriptShards, ShardStore};
 use xet_store::MemStore;
@@ -31,35 +32,40 @@ fn shards(alloc: Global, call: Option<u64>) -> ScriptShards {
 }
 
 /// The record of the xorb of `Hello`.
-fn record(alloc: Global) -> Result<ShardRecord, OutOfMemory> {
+fn record(alloc: Global) -> ShardRecord {
     let mut xorbs = List::new(alloc);
-    xorbs.push(raw(alloc, "Hello")?.xorb_info)?;
-    Ok(ShardRecord {
+    if let Ok(raw) = raw(alloc, "Hello") {
+        let _ = xorbs.push(raw.xorb_info);
+    }
+    ShardRecord {
         xorbs,
         files: List::new(alloc),
-    })
+    }
 }
 
 /// A store that has this record, if it is to have it.
 fn records(alloc: Global, is_known: bool) -> ScriptShards {
     let mut shards = shards(alloc, None);
-    if is_known && let Ok(record) = record(alloc) {
-        let _ = shards.add(alloc, &record);
+    if is_known {
+        let _ = shards.add(alloc, &record(alloc));
     }
     shards
+}
+
+/// The resumed records of a session, if it has some.
+fn resumed(alloc: Global, words: &str) -> Option<ScriptShards> {
+    if has(words, "old") {
+        return Some(records(alloc, true));
+    }
+    None
 }
 
 /// The stores of a session.
 pub fn stores(alloc: Global, words: &str) -> SessionStores<ScriptShards> {
     let call = setting(words, "call");
     let is_known = has(words, "known");
-    let resumed = if has(words, "old") {
-        Some(records(alloc, true))
-    } else {
-        None
-    };
     SessionStores {
-        resumed,
+        resumed: resumed(alloc, words),
         session: shards(alloc, call),
         cache: records(alloc, is_known),
         staging: shards(alloc, None),
@@ -67,14 +73,21 @@ pub fn stores(alloc: Global, words: &str) -> SessionStores<ScriptShards> {
 }
 
 /// A session with these settings.
-pub fn session(alloc: Global, words: &str) -> Result<Session, OutOfMemory> {
+fn session_of(
+    alloc: Global,
+    words: &str,
+    config: &TranslatorConfig,
+) -> Result<Session, OutOfMemory> {
     let ids = IdSource::new(setting(words, "first").unwrap_or(1));
-    let is_dry = has(words, "dry");
-    let config = config(alloc, words)?;
     let uploader = uploader(alloc, setting(words, "put"));
     let stores = stores(alloc, words);
-    if is_dry {
-        return FileUploadSession::dry_run(alloc, &config, uploader, stores, ids, 0);
+    if has(words, "dry") {
+        return FileUploadSession::dry_run(alloc, config, uploader, stores, ids, 0);
     }
-    FileUploadSession::new(alloc, &config, uploader, stores, ids, 0)
+    FileUploadSession::new(alloc, config, uploader, stores, ids, 0)
+}
+
+/// A session with the settings of a row.
+pub fn session(alloc: Global, words: &str) -> Result<Session, OutOfMemory> {
+    session_of(alloc, words, &config(alloc, words)?)
 }

@@ -45,8 +45,9 @@ pub fn config(alloc: Global, words: &str) -> Result<TranslatorConfig, OutOfMemor
     let shard = setting(words, "shard").unwrap_or(1_048_576);
     let stage = setting(words, "stage").unwrap_or(1000);
     let asks = has(words, "asks");
+    let session = SessionContext::for_memory(alloc)?;
     Ok(TranslatorConfig {
-        session: SessionContext::for_memory(alloc)?,
+        session,
         force_disable_progress_aggregation: false,
         xorb_cut_threshold_bytes: cut,
         xorb_cut_threshold_chunks: 8192,

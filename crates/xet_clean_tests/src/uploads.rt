@@ -5,11 +5,11 @@ use crate::sessions::Session;
 use crate::settings::number;
 use std::alloc::Global;
 use std::sync::Wait;
-use xet_base::{OutOfMemory, Text};
+use xet_base::{List, OutOfMemory, Text};
 use xet_clean::{UploadFile, upload_files};
 use xet_pointer::XetFileInfo;
 use xet_sinks::{ScriptSource, SourceStep};
-use xet_upload::FixedCutter;
+use xet_upload::{DataError, FixedCutter};
 
 /// A file from a scripted source, cut into chunks of one length.
 type Upload = UploadFile<ScriptSource, FixedCutter>;
@@ -64,15 +64,9 @@ fn point_each(out: &mut String, infos: &[XetFileInfo]) {
     }
 }
 
-/// Uploads these files, and writes their pointers.
-fn upload_each<W: Wait>(
-    rt: &W,
-    alloc: Global,
-    session: &mut Session,
-    out: &mut String,
-    files: &mut [Upload],
-) {
-    match upload_files(session, rt, alloc, files, 0) {
+/// Writes the pointers of an upload.
+fn say_uploaded(out: &mut String, answer: Result<List<XetFileInfo>, DataError>) {
+    match answer {
         Ok(infos) => point_each(out, infos.as_slice()),
         Err(error) => refuse(out, error),
     }
@@ -87,5 +81,8 @@ pub fn upload<W: Wait>(
     words: &str,
 ) {
     let mut files = files(alloc, words);
-    upload_each(rt, alloc, session, out, files.as_mut_slice());
+    say_uploaded(
+        out,
+        upload_files(session, rt, alloc, files.as_mut_slice(), 0),
+    );
 }

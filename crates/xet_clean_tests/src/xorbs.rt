@@ -12,8 +12,8 @@ use xet_upload::{DataAggregator, RawXorbData};
 fn one_chunk(alloc: Global, text: &str) -> Result<DataAggregator, OutOfMemory>
     ensures { IfOk result (λ waiting. waiting.files ≡ []) }
 {
+    let bytes = Bytes::copy_from_slice(alloc, text.as_bytes())?;
     let mut waiting = DataAggregator::new(alloc);
-    let bytes = Bytes::from_vec(Vec::from_slice(alloc, text.as_bytes())?)?;
     if bytes.len() > 0 && bytes.len() <= 131072 && waiting.has_room(bytes.as_slice()) {
         let info = ChunkInfo {
             hash: MerkleHash::chunk_hash(bytes.as_slice()),
