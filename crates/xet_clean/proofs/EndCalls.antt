@@ -11,7 +11,8 @@ use Rattle.xet_upload.specs.declared.data_error.DataError.{DataError}
 use Rattle.xet_session.specs.Calls.{Cut, CutPut, CutStill, CutStopped, waiting_hash}
 use Rattle.xet_session.specs.Completions.{CutsFile, CutsWaiting, Joins, with_waiting}
 use Rattle.xet_session.specs.Sessions.{SessionTold}
-use Rattle.xet_session.specs.Trackings.{CalledSome, CountsPut, TracksCut, cut_calls, own_parts}
+use Rattle.xet_session_parts.specs.TrackerCalls.{CalledSome}
+use Rattle.xet_session.specs.Trackings.{CountsPut, TracksCut, cut_calls, own_parts}
 use Rattle.xet_clean.specs.Cleaners.{Cleaner}
 use Rattle.xet_clean.specs.FileCalls.{IsPartOf, IsXorbCall, RefusedOf, TellsOf}
 use Rattle.xet_clean.specs.SessionCalls.{CutsAndTakes, EndsFile, IsSame, TookFile, unit_of}

@@ -20,7 +20,7 @@ use Rattle.xet_upload.specs.declared.data_error.DataError.TheVariants as data_er
 use Rattle.xet_session.specs.Calls.{PutsFail, Refuses, RegisterStopped, StoresFail, finalized_error, xorb_bytes}
 use Rattle.xet_session.specs.Sessions.{SessionTold}
 use Rattle.xet_session.specs.Trackings.{CountsPut, IsRefusal, Tracks, TracksXorb, all_xorb_calls, first_refusal, xorb_calls}
-use Rattle.xet_session.specs.steps.HashLists.{has}
+use Rattle.xet_session_parts.specs.HashLists.{has}
 use Rattle.xet_clean.specs.Cleanings.{CleanFails, TrackFails}
 use Rattle.xet_clean.specs.FileCalls.{AreGiven, GrowsFirst, IsFor, IsLate, IsPartOf, RefusedOf, RefusesFor, TellsOf, growth}
 

@@ -12,7 +12,8 @@ use Rattle.xet_upload.specs.declared.data_error.DataError.{DataError}
 use Rattle.xet_upload.specs.declared.data_error.DataError.TheVariants as data_error
 use Rattle.xet_upload.specs.declared.metrics.DeduplicationMetrics.{DeduplicationMetrics}
 use Rattle.xet_session.specs.Calls.{Backs, CountsSent, Cut, CutPut, CutStill, CutStopped, Keeps, KeepsFailed, WasPut, without_waiting}
-use Rattle.xet_session.specs.Completions.{FitTogether, TakesFile, waiting_bytes, with_file_counts, with_waiting}
+use Rattle.xet_session_parts.specs.Thresholds.{FitTogether, waiting_bytes}
+use Rattle.xet_session.specs.Completions.{TakesFile, with_file_counts, with_waiting}
 use Rattle.xet_session.specs.Sessions.{HasListed, IsListed, SessionTold, known_of, waiting_names}
 use Rattle.xet_session.proofs.Ends.{backs-kept, ordered-grown, says-none}
 use Rattle.xet_session.proofs.Keeping.{keeps-both, keeps-counted, keeps-refl, keeps-still}

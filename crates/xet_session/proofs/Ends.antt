@@ -28,7 +28,7 @@ use Rattle.xet_upload.specs.Waitings.{Waiting, no_waiting}
 use Rattle.xet_upload.specs.declared.data_error.DataError.{DataError}
 use Rattle.xet_upload.specs.declared.metrics.DeduplicationMetrics.{DeduplicationMetrics}
 use Rattle.xet_upload.proofs.CallerLemmas.{ordered-none, ordered-xorb}
-use Rattle.xet_session.specs.declared.cut_thresholds.CutThresholds.{CutThresholds}
+use Rattle.xet_session_parts.specs.declared.cut_thresholds.CutThresholds.{CutThresholds}
 use Rattle.xet_session.specs.Calls.{AllPut, Backs, Counted, Cut, EndsCut, EndsSo, EndsUncut, Finalizes, GrewByXorbs, GrewToEnd, HasFiles, IsPut, Keeps, KeepsFailed, NoQueries, PutsFail, ResumedKept, Says, SomePut, StoresFail, end_counts, finalized_error, new_session, waiting_records}
 use Rattle.xet_session.specs.Sessions.{HasListed, IsBackedSession, IsListed, SessionTold, Stands, Tells, known_of, log_of, waiting_names}
 use Rattle.xet_session.specs.steps.SessionSteps.{AddedFinished, PutRecords}

@@ -3,7 +3,6 @@ pub mod Completions
 pub mod CutTracking
 pub mod Cuts
 pub mod Ends
-pub mod Hashes
 pub mod Keeping
 pub mod Learned
 pub mod Listing

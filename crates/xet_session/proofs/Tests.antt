@@ -11,9 +11,9 @@ use Rattle.xet_upload.specs.Orders.{names_of}
 use Rattle.xet_upload.specs.Waitings.{Waiting, merged, no_waiting}
 use Rattle.xet_waiting.specs.declared.raw_xorb.PendingFile.{PendingFile}
 use Rattle.xet_session.specs.Sessions.{HasListed, IsListed, SessionTold, waiting_names}
-use Rattle.xet_session.specs.steps.HashLists.{has}
+use Rattle.xet_session_parts.specs.HashLists.{has}
 use Rattle.xet_session.specs.steps.Listings.{AreListed, has_all}
-use Rattle.xet_session.proofs.Hashes.{contains-has, has-contains}
+use Rattle.xet_session_parts.proofs.CallerLemmas.{contains-has, has-contains}
 use Rattle.xet_session.proofs.Listing.{names-merged}
 
 pub all-listed : (listed hs : List MerkleHash) → has_all listed hs ≡ true → All (Contains listed) hs

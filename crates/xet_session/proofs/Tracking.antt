@@ -23,10 +23,11 @@ use Rattle.xet_upload.specs.declared.data_error.DataError.{DataError}
 use Rattle.xet_upload.specs.declared.data_error.DataError.TheVariants as data_error
 use Rattle.xet_session.specs.Calls.{PutsFail, finalized_error, xorb_bytes}
 use Rattle.xet_session.specs.Sessions.{SessionTold}
-use Rattle.xet_session.specs.Trackings.{CalledSome, CountsPut, IsRefusal, Tracks, TracksXorb, all_xorb_calls, first_refusal, with_call, with_calls, xorb_calls}
+use Rattle.xet_session_parts.specs.TrackerCalls.{with_call}
+use Rattle.xet_session.specs.Trackings.{CountsPut, IsRefusal, Tracks, TracksXorb, all_xorb_calls, first_refusal, xorb_calls}
 use Rattle.xet_session.specs.steps.SessionSteps.{GivenCounted, PutCounted}
-use Rattle.xet_session.specs.steps.HashLists.{has}
-use Rattle.xet_session.proofs.Hashes.{contains-has, has-contains}
+use Rattle.xet_session_parts.specs.HashLists.{has}
+use Rattle.xet_session_parts.proofs.CallerLemmas.{contains-has, has-contains}
 
 -- the tracker's error, as the session answers it
 pub is-refusal : (cs : List TrackerStep) (c : TrackerStep) (e : ProgressError) → Refused cs c e → IsRefusal (refusal_of cs c) (of_progress_error e)
@@ -134,34 +135,6 @@ not-longer xs x e = absurd (omega (arith, ap length e ∙ length-append xs (x �
 -- a call that the tracker doesn't refuse
 pub accepts : (before : List TrackerStep) (c : TrackerStep) → refusal_of before c ≡ None → with_call before c ≡ before ++ c ∷ []
 accepts before c e = ap (λ (o : Option Invalid). cond (is_some o) before (before ++ c ∷ [])) e
-
-pub called : {A : Type 0} (before after : List TrackerStep) (c : TrackerStep) (reply x : A) → CallOf before after c reply (Ok x) → after ≡ with_call before c
-called before after c reply x k = k.accepted.2 ∙ sym (accepts before c k.accepted.0)
-
-pub uncalled : {A : Type 0} (before after : List TrackerStep) (c : TrackerStep) (reply : A) (why : Invalid) → CallOf before after c reply (Err (progress_error.InvalidOperation why)) → after ≡ with_call before c
-uncalled before after c reply why k =
-    let refused : refusal_of before c ≡ Some why = k.refused.0 in
-    k.refused.1 ∙ sym (ap (λ (o : Option Invalid). cond (is_some o) before (before ++ c ∷ [])) refused)
-
-pub called-none : (before cs : List TrackerStep) → CalledSome before before cs
-called-none before [] = refl
-called-none before (c ∷ cs) = inl (called-none before cs)
-
--- a call that may be refused, and then others
-some-of : (before : List TrackerStep) (c : TrackerStep) (cs : List TrackerStep) (o : Option Invalid) → CalledSome (before ++ c ∷ []) (with_calls (before ++ c ∷ []) cs) cs → CalledSome before (with_calls before cs) cs → CalledSome before (with_calls (cond (is_some o) before (before ++ c ∷ [])) cs) (c ∷ cs)
-some-of before c cs None p q = inr p
-some-of before c cs (Some w) p q = inl q
-
-pub called-all : (before cs : List TrackerStep) → CalledSome before (with_calls before cs) cs
-called-all before [] = refl
-called-all before (c ∷ cs) = some-of before c cs (refusal_of before c) (called-all (before ++ c ∷ []) cs) (called-all before cs)
-
-pub called-first : (before : List TrackerStep) (c : TrackerStep) (cs : List TrackerStep) → CalledSome before (with_call before c) (c ∷ cs)
-called-first before c cs = go (refusal_of before c)
-  where
-    go : (o : Option Invalid) → CalledSome before (cond (is_some o) before (before ++ c ∷ [])) (c ∷ cs)
-    go None = inr (called-none (before ++ c ∷ []) cs)
-    go (Some w) = inl (called-none before cs)
 
 -- ---- a xorb that is registered isn't refused as complete
 

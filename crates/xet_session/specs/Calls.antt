@@ -33,7 +33,7 @@ use Rattle.xet_upload.specs.Waitings.{no_waiting, record_of_file, xorb_of_chunks
 use Rattle.xet_upload.specs.declared.data_error.DataError.{DataError}
 use Rattle.xet_upload.specs.declared.data_error.DataError.TheVariants as data_error
 use Rattle.xet_upload.specs.declared.metrics.DeduplicationMetrics.{DeduplicationMetrics}
-use Rattle.xet_session.specs.declared.cut_thresholds.CutThresholds.{CutThresholds}
+use Rattle.xet_session_parts.specs.declared.cut_thresholds.CutThresholds.{CutThresholds}
 use Rattle.xet_session.specs.Sounds.{IsSound, XorbsAgree}
 use Rattle.xet_session.specs.Sessions.{HasListed, IsBackedSession, IsListed, SessionTold, Stands, Tells, known_of}
 use Rattle.xet_session.specs.Sessions.{log_of}

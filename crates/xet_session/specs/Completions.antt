@@ -1,18 +1,12 @@
 -- The end of a file: its data joins what waits, or one of both is cut.
-use Rattle.std.specs.Prelude.{ℕ, ◌≡◌, ◌+◌, ◌<◌, ◌≤◌, ◌⊎◌, length, All, Contains, None, Result, IfErr, OnOk, OnErr}
-use Rattle.std.specs.List.{concat}
-use Rattle.xet_pointer.specs.declared.translator_config.TranslatorConfig.{TranslatorConfig}
+use Rattle.std.specs.Prelude.{ℕ, ◌≡◌, ◌<◌, ◌≤◌, ◌⊎◌, All, Contains, None, Result, IfErr, OnOk, OnErr}
 use Rattle.xet_upload.specs.Metrics.{both}
-use Rattle.xet_upload.specs.Waitings.{IsWithin, Waiting, merged}
+use Rattle.xet_upload.specs.Waitings.{Waiting, merged}
 use Rattle.xet_upload.specs.declared.data_error.DataError.{DataError}
 use Rattle.xet_upload.specs.declared.metrics.DeduplicationMetrics.{DeduplicationMetrics}
-use Rattle.xet_session.specs.declared.cut_thresholds.CutThresholds.{CutThresholds}
+use Rattle.xet_session_parts.specs.Thresholds.{FitTogether, waiting_bytes}
 use Rattle.xet_session.specs.Calls.{CountsSent, Cut, Keeps, PutsFail, Says}
 use Rattle.xet_session.specs.Sessions.{IsListed, SessionTold, waiting_names}
-
--- the thresholds of the settings
-abbrev pub thresholds_of : TranslatorConfig → CutThresholds
-thresholds_of c = record { bytes = c.xorb_cut_threshold_bytes; chunks = c.xorb_cut_threshold_chunks }
 
 -- counts with those of the chunks of a file; those of what was uploaded stay
 abbrev pub with_file_counts : DeduplicationMetrics → DeduplicationMetrics → DeduplicationMetrics
@@ -21,16 +15,6 @@ with_file_counts m counts = record (both m counts) {
   shard_bytes_uploaded = m.shard_bytes_uploaded;
   total_bytes_uploaded = m.total_bytes_uploaded;
 }
-
--- how many bytes wait
-abbrev pub waiting_bytes : Waiting → ℕ
-waiting_bytes w = length (concat w.chunks)
-
--- both together pass no threshold, and keep the limits of a xorb
-pub record FitTogether (c : CutThresholds) (a b : Waiting) : Type 0 where
-  pub bytes : waiting_bytes a + waiting_bytes b ≤ c.bytes
-  pub chunks : length a.chunks + length b.chunks ≤ c.chunks
-  pub within : IsWithin (merged a b).chunks
 
 -- these data wait
 abbrev pub with_waiting : SessionTold → Waiting → SessionTold

@@ -14,7 +14,7 @@ use Rattle.xet_upload.specs.declared.metrics.DeduplicationMetrics.{Deduplication
 use Rattle.xet_waiting.specs.declared.waiting.TermXorb.{TermXorb}
 use Rattle.xet_waiting.specs.declared.waiting.TermXorb.TheVariants.{Own, Stored}
 use Rattle.xet_waiting.specs.declared.waiting.WaitingFile.{WaitingFile}
-use Rattle.xet_session.specs.declared.cut_thresholds.CutThresholds.{CutThresholds}
+use Rattle.xet_session_parts.specs.declared.cut_thresholds.CutThresholds.{CutThresholds}
 
 -- what the session's uploader and stores tell, and its own data
 pub record SessionTold : Type 0 where

@@ -19,10 +19,12 @@ use Rattle.xet_upload.specs.Waitings.{Waiting, own_bytes}
 use Rattle.xet_upload.specs.declared.data_error.DataError.{DataError}
 use Rattle.xet_upload.specs.declared.data_error.DataError.TheVariants as data_error
 use Rattle.xet_waiting.specs.declared.waiting.WaitingFile.{WaitingFile}
+use Rattle.xet_session_parts.specs.TrackerCalls.{CalledSome, with_call, with_calls}
 use Rattle.xet_session.specs.Calls.{finalized_error, waiting_hash, xorb_bytes}
-use Rattle.xet_session.specs.Completions.{FitTogether, waiting_bytes, with_waiting}
+use Rattle.xet_session_parts.specs.Thresholds.{FitTogether, waiting_bytes}
+use Rattle.xet_session.specs.Completions.{with_waiting}
 use Rattle.xet_session.specs.Sessions.{SessionTold}
-use Rattle.xet_session.specs.steps.HashLists.{has}
+use Rattle.xet_session_parts.specs.HashLists.{has}
 
 -- the refusal of the first call that is refused, where the calls are made one after another
 abbrev pub first_refusal : List TrackerStep → List TrackerStep → Option Invalid
@@ -42,20 +44,6 @@ pub record Tracks {A : Type 0} (before after calls : List TrackerStep) (answer :
   pub ok : OnOk answer ((first_refusal before calls ≡ None) × (after ≡ before ++ calls))
   pub fewer : OnErr answer (count < length calls)
   pub err : IfErr answer (IsRefusal (first_refusal before calls))
-
--- the tracker after one call more: a call that it refuses changes nothing
-abbrev pub with_call : List TrackerStep → TrackerStep → List TrackerStep
-with_call before c = cond (is_some (refusal_of before c)) before (before ++ c ∷ [])
-
--- the tracker after these calls, one after another
-abbrev pub with_calls : List TrackerStep → List TrackerStep → List TrackerStep
-with_calls before [] = before
-with_calls before (c ∷ cs) = with_calls (with_call before c) cs
-
--- the tracker accepted some of these calls, in order, each at most once
-abbrev pub CalledSome : List TrackerStep → List TrackerStep → List TrackerStep → Type 0
-CalledSome before after [] = after ≡ before
-CalledSome before after (c ∷ cs) = CalledSome before after cs ⊎ CalledSome (before ++ c ∷ []) after cs
 
 -- ---- a given xorb
 

@@ -1,4 +1,2 @@
-pub mod CutNotes
-pub mod HashLists
 pub mod Listings
 pub mod SessionSteps

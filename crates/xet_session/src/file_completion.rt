@@ -1,7 +1,8 @@
 //! The end of a file in a session.
 ghost use Rattle.std.specs.Prelude.{◌≡◌, ◌<◌, ◌≤◌, ℕ, All, Contains, None, false};
 ghost use Rattle.xet_session.specs.Calls.{Backs};
-ghost use Rattle.xet_session.specs.Completions.{CutsFile, CutsWaiting, FitTogether, Joins, TakesFile, waiting_bytes};
+ghost use Rattle.xet_session.specs.Completions.{CutsFile, CutsWaiting, Joins, TakesFile};
+ghost use Rattle.xet_session_parts.specs.Thresholds.{FitTogether, waiting_bytes};
 ghost use Rattle.xet_session.specs.Sessions.{waiting_names};
 ghost use Rattle.xet_session.specs.Trackings.{TracksFile};
 

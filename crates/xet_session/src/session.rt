@@ -16,7 +16,8 @@ ghost use Rattle.xet_upload.specs.Waitings.{IsWithin, merged};
 ghost use Rattle.xet_shards.specs.Shards.{no_records};
 ghost use Rattle.xet_session.specs.Calls.{Backs, Counted, Cut, Finalizes, HasFiles, Keeps, PutsFail, Queries};
 ghost use Rattle.xet_session.specs.Calls.{Registers, SearchesInOrder, end_counts, new_session};
-ghost use Rattle.xet_session.specs.Completions.{thresholds_of, with_file_counts};
+ghost use Rattle.xet_session_parts.specs.Thresholds.{thresholds_of};
+ghost use Rattle.xet_session.specs.Completions.{with_file_counts};
 ghost use Rattle.xet_session.specs.Sessions.{HasListed, IsBackedSession, waiting_names};
 ghost use Rattle.xet_session.specs.Trackings.{StartsFile, Tracks, TracksCut, TracksXorb, xorb_calls};
 ghost use Rattle.xet_session.specs.steps.Listings.{AreListed};
@@ -24,9 +25,6 @@ ghost use Rattle.xet_session.specs.steps.SessionSteps.{AddedFinished, AddedRecor
 ghost use Rattle.xet_session.specs.steps.SessionSteps.{PutCounted, PutFinished, PutGiven, PutRaw, PutRecords};
 ghost use Rattle.xet_session.specs.steps.SessionSteps.{TookWaiting};
 
-use crate::cut_thresholds::CutThresholds;
-use crate::file_tracker::FileTracker;
-use crate::hash_list::HashList;
 use std::alloc::Global;
 use std::collections::BTreeMap;
 use std::mem;
@@ -41,6 +39,7 @@ use xet_progress::{
     FileXorbDependency, GroupProgress, GroupProgressReport, ItemProgressReport,
     ItemProgressUpdater, ProgressError,
 };
+use xet_session_parts::{CutThresholds, FileTracker, HashList};
 use xet_shard_interface::{SessionShardInterface, SessionStores};
 use xet_shards::ShardStore;
 use xet_upload::{DataAggregator, DataError, DeduplicationMetrics, PendingFile, RawXorbData};

@@ -6,7 +6,7 @@ use Rattle.xet_base.specs.declared.mdb_shard.MDBFileInfo.{MDBFileInfo}
 use Rattle.xet_upload.specs.Orders.{names_of}
 use Rattle.xet_upload.specs.Waitings.{Waiting}
 use Rattle.xet_session.specs.Sessions.{waiting_names}
-use Rattle.xet_session.specs.steps.HashLists.{has}
+use Rattle.xet_session_parts.specs.HashLists.{has}
 
 -- the list has each of these hashes
 abbrev pub has_all : List MerkleHash → List MerkleHash → Bool

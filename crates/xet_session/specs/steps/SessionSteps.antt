@@ -21,9 +21,10 @@ use Rattle.xet_waiting.specs.declared.raw_xorb.RawXorbData.{RawXorbData}
 use Rattle.xet_session.specs.Calls.{CountsSent, Keeps, NoQueries, PutsFail, Recorded, RegisterStopped, Says, StoresFail}
 use Rattle.xet_session.specs.Calls.{WasPut, WasRefused, finished_records, one_xorb, waiting_hash, xorb_bytes}
 use Rattle.xet_session.specs.Sessions.{IsListed, SessionTold, Tells, log_of}
-use Rattle.xet_session.specs.Trackings.{CountsPut, own_part, with_call}
-use Rattle.xet_session.specs.steps.CutNotes.{part_of}
-use Rattle.xet_session.specs.steps.HashLists.{has}
+use Rattle.xet_session.specs.Trackings.{CountsPut, own_part}
+use Rattle.xet_session_parts.specs.TrackerCalls.{with_call}
+use Rattle.xet_session_parts.specs.CutNotes.{part_of}
+use Rattle.xet_session_parts.specs.HashLists.{has}
 
 -- so many bytes of a xorb more
 abbrev pub with_sent : DeduplicationMetrics → ℕ → DeduplicationMetrics

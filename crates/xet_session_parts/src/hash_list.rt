@@ -1,7 +1,7 @@
 //! Hashes in the order in which they came.
 ghost use Rattle.std.specs.Prelude.{◌≡◌, ◌+◌, ◌++◌, ◌∷◌, ◌<◌, ◌≤◌, [], Contains, OnOk, drop, false, length, take, true};
 ghost use Rattle.std.specs.Prelude.{vec_capacity, vec_len};
-ghost use Rattle.xet_session.specs.steps.HashLists.{AreFound};
+ghost use Rattle.xet_session_parts.specs.HashLists.{AreFound};
 
 use std::alloc::Global;
 use xet_base::{KeyIndex, MerkleHash, OutOfMemory};
@@ -9,7 +9,7 @@ use xet_base::{KeyIndex, MerkleHash, OutOfMemory};
 /// Hashes in the order in which they came, of which each but the last few is found through an ordered map. A push takes
 /// no memory where room was made for it; the map takes up what was pushed when room is made the next time.
 #[derive(Drop)]
-pub(crate) struct HashList {
+pub struct HashList {
     hashes: Vec<MerkleHash>,
     // the hashes that are found through the map
     known: KeyIndex<MerkleHash>,
@@ -21,7 +21,7 @@ pub(crate) struct HashList {
 
 impl HashList {
     /// No hashes. It takes no memory.
-    pub(crate) fn new(alloc: Global) -> HashList
+    pub fn new(alloc: Global) -> HashList
         ensures { result.hashes.items ≡ [] }
     {
         HashList {
@@ -32,7 +32,7 @@ impl HashList {
     }
 
     /// Whether the hash is among them.
-    pub(crate) fn contains(&self, hash: &MerkleHash) -> bool
+    pub fn contains(&self, hash: &MerkleHash) -> bool
         ensures yes { result ≡ true → Contains self.now.hashes.items hash.now }
         ensures no { result ≡ false → Contains self.now.hashes.items hash.now → ⊥ }
     {
@@ -43,7 +43,7 @@ impl HashList {
     /// Makes room for so many hashes more, and takes up in the map what was pushed.
     ///
     /// `OutOfMemory` where an allocation was refused. The hashes are as they were.
-    pub(crate) fn reserve(&mut self, count: usize) -> Result<(), OutOfMemory>
+    pub fn reserve(&mut self, count: usize) -> Result<(), OutOfMemory>
         ensures same { self.new.hashes.items ≡ self.old.hashes.items }
         ensures room { OnOk result (vec_len self.new.hashes + count ≤ vec_capacity self.new.hashes) }
     {
@@ -53,7 +53,7 @@ impl HashList {
     }
 
     /// Adds a hash at the end, where room was made for it.
-    pub(crate) fn push_reserved(&mut self, hash: MerkleHash)
+    pub fn push_reserved(&mut self, hash: MerkleHash)
         requires { vec_len self.old.hashes < vec_capacity self.old.hashes }
         ensures { self.new.hashes.items ≡ self.old.hashes.items ++ hash ∷ [] }
     {

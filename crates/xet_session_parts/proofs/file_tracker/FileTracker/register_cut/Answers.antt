@@ -1,8 +1,8 @@
 use Rattle.std.proofs.Common.{arith, refl, ◌≡◌}
 use Rattle.std.specs.Prelude.{Err}
 use Rattle.xet_base.proofs.CallerLemmas.{err-of}
-use Rattle.xet_session.proofs.CutTracking.{notes-empty, notes-none, notes-parts}
-use Rattle.xet_session.proofs.file_tracker.FileTracker.register_cut.Goals as goal
+use Rattle.xet_session_parts.proofs.CutNotes.{notes-empty, notes-none, notes-parts}
+use Rattle.xet_session_parts.proofs.file_tracker.FileTracker.register_cut.Goals as goal
 
 pub returns-then-len-eq0 : goal.returns-then-len-eq0
 returns-then-len-eq0 g c = notes-empty _ _ _ _ _ (omega arith) refl

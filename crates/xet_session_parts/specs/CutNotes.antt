@@ -7,7 +7,7 @@ use Rattle.xet_progress_state.specs.declared.step.TrackerStep.{TrackerStep}
 use Rattle.xet_progress_state.specs.declared.step.TrackerStep.TheVariants.{RegisterDependencies, RegisterNewXorb}
 use Rattle.xet_waiting.specs.declared.raw_xorb.PendingFile.{PendingFile}
 use Rattle.xet_waiting.specs.declared.raw_xorb.RawXorbData.{RawXorbData}
-use Rattle.xet_session.specs.Trackings.{CalledSome, with_calls}
+use Rattle.xet_session_parts.specs.TrackerCalls.{CalledSome, with_calls}
 
 -- what a file has in the xorb that its waiting chunks became
 abbrev pub part_of : MerkleHash → PendingFile → FileXorbDependency

@@ -1,6 +1,6 @@
 use Rattle.std.proofs.Common.{rules, ◌<◌, length}
-use Rattle.xet_session.proofs.Hashes.{found-old}
-use Rattle.xet_session.proofs.hash_list.HashList.index_next.Goals as goal
+use Rattle.xet_session_parts.proofs.Hashes.{found-old}
+use Rattle.xet_session_parts.proofs.hash_list.HashList.index_next.Goals as goal
 
 pub invariant_of-self-clause-found : goal.invariant_of-self-clause-found
 invariant_of-self-clause-found c =

@@ -1,6 +1,6 @@
 //! From where on the data of a file does not join what waits.
 ghost use Rattle.std.specs.Prelude.{◌≡◌, ◌↔◌, IsTrue};
-ghost use Rattle.xet_session.specs.Completions.{FitTogether, thresholds_of};
+ghost use Rattle.xet_session_parts.specs.Thresholds.{FitTogether, thresholds_of};
 
 use xet_pointer::TranslatorConfig;
 use xet_upload::DataAggregator;

@@ -6,8 +6,8 @@ ghost use Rattle.xet_progress_state.specs.declared.step.TrackerStep.TheVariants.
 ghost use Rattle.xet_progress_state.specs.declared.step.TrackerStep.TheVariants.{RegisterDependencies};
 ghost use Rattle.xet_progress_state.specs.declared.step.TrackerStep.TheVariants.{RegisterNewFile, RegisterNewXorb};
 ghost use Rattle.xet_progress_state.specs.declared.step.TrackerStep.TheVariants.{RegisterXorbUploadCompletion};
-ghost use Rattle.xet_session.specs.Trackings.{with_call};
-ghost use Rattle.xet_session.specs.steps.CutNotes.{NotesCut, parts_of};
+ghost use Rattle.xet_session_parts.specs.TrackerCalls.{with_call};
+ghost use Rattle.xet_session_parts.specs.CutNotes.{NotesCut, parts_of};
 
 use crate::file_items::FileItems;
 use crate::hash_list::HashList;
@@ -19,14 +19,14 @@ use xet_upload::{PendingFile, RawXorbData};
 
 /// Which bytes of which files stand in xorbs that were put, and the files' items, which are told of it.
 #[derive(Drop)]
-pub(crate) struct FileTracker {
+pub struct FileTracker {
     tracker: TrackerState,
     items: FileItems,
 }
 
 impl FileTracker {
     /// No files and no xorbs. It takes no memory.
-    pub(crate) fn new(alloc: Global) -> FileTracker
+    pub fn new(alloc: Global) -> FileTracker
         ensures { result.tracker ≡ [] }
     {
         FileTracker {
@@ -39,7 +39,7 @@ impl FileTracker {
     ///
     /// `SumTooGreat` where the sum of all files' sizes would pass `u64::MAX`. `OutOfMemory` where an allocation was
     /// refused.
-    pub(crate) fn add_file<W: Wait>(
+    pub fn add_file<W: Wait>(
         &mut self,
         rt: &W,
         item: ItemProgressUpdater,
@@ -58,7 +58,7 @@ impl FileTracker {
     ///
     /// `UnknownFile` where no file has this id, then, for one that grows, `SumTooGreat` where the sum of all files'
     /// sizes would pass `u64::MAX`. `OutOfMemory` where an allocation was refused.
-    pub(crate) fn grow_file<W: Wait>(
+    pub fn grow_file<W: Wait>(
         &mut self,
         rt: &W,
         file_id: u64,
@@ -75,7 +75,7 @@ impl FileTracker {
     ///
     /// `OtherSize` where it was registered with another size, and where it is new `SumTooGreat` where the sum of all
     /// xorbs' sizes would pass `u64::MAX`. `OutOfMemory` where an allocation was refused.
-    pub(crate) fn register_xorb(
+    pub fn register_xorb(
         &mut self,
         alloc: Global,
         hash: MerkleHash,
@@ -91,7 +91,7 @@ impl FileTracker {
     ///
     /// `UnknownFile` where one names no file, else `PastTotal` where a file's dependencies would pass its size.
     /// `OutOfMemory` where an allocation was refused.
-    pub(crate) fn depend<W: Wait>(
+    pub fn depend<W: Wait>(
         &mut self,
         rt: &W,
         alloc: Global,
@@ -106,7 +106,7 @@ impl FileTracker {
     }
 
     /// Counts a xorb as put. A refusal changes nothing. `OutOfMemory` where an allocation was refused.
-    pub(crate) fn complete<W: Wait>(&mut self, rt: &W, hash: &MerkleHash) -> Result<(), OutOfMemory>
+    pub fn complete<W: Wait>(&mut self, rt: &W, hash: &MerkleHash) -> Result<(), OutOfMemory>
         ensures ok { OnOk result (self.new.tracker
             ≡ with_call self.old.tracker (RegisterXorbUploadCompletion hash.now)) }
         ensures err { OnErr result (self.new.tracker ≡ self.old.tracker) }
@@ -152,7 +152,7 @@ impl FileTracker {
 
     /// Registers a xorb that is cut, and what files have in it; a xorb without chunks isn't. A refusal changes nothing.
     /// `OutOfMemory` where an allocation was refused.
-    pub(crate) fn register_cut<W: Wait>(
+    pub fn register_cut<W: Wait>(
         &mut self,
         rt: &W,
         alloc: Global,
@@ -173,7 +173,7 @@ impl FileTracker {
 }
 
 /// What files have in the xorb that their waiting chunks became.
-#[tactic(auto, using(crate::proofs::CutTracking::parts_more))]
+#[tactic(auto, using(crate::proofs::CutNotes::parts_more))]
 fn parts_in(
     alloc: Global,
     xorb_hash: MerkleHash,

@@ -1,5 +1,5 @@
-use Rattle.xet_session.proofs.Hashes.{known-contains, looked, none-contains, rest-contains}
-use Rattle.xet_session.proofs.hash_list.HashList.contains.Goals as goal
+use Rattle.xet_session_parts.proofs.Hashes.{known-contains, looked, none-contains, rest-contains}
+use Rattle.xet_session_parts.proofs.hash_list.HashList.contains.Goals as goal
 
 pub returns-then-is_some-clause-yes : goal.returns-then-is_some-clause-yes
 returns-then-is_some-clause-yes c =

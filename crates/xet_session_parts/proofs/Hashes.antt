@@ -9,7 +9,7 @@ use Rattle.std.proofs.lemmas.Map.Views.{Contains-from_any}
 use Rattle.xet_base.specs.Hashes.{hash_eq}
 use Rattle.xet_base.specs.declared.merklehash.MerkleHash.{MerkleHash}
 use Rattle.xet_base.proofs.CallerLemmas.{eq-hash_eq, hash_eq-true, position_no, position_some}
-use Rattle.xet_session.specs.steps.HashLists.{AreFound, has}
+use Rattle.xet_session_parts.specs.HashLists.{AreFound, has}
 
 pub has-contains : (h : MerkleHash) (xs : List MerkleHash) → has h xs ≡ true → Contains xs h
 has-contains h xs e = Contains-from_any {eq = λ a b. hash_eq b a} (λ x y q. sym (hash_eq-true y x q)) h xs e

@@ -1,0 +1,6 @@
+-- What proofs of the crates above may cite of this crate's words.
+
+-- a hash is among some exactly where the test finds it
+pub use Rattle.xet_session_parts.proofs.Hashes.{contains-has, has-contains}
+-- some calls of a tracker are accepted
+pub use Rattle.xet_session_parts.proofs.TrackerCalls.{called-all, called-first, called-none}

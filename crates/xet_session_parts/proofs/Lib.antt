@@ -1,0 +1,4 @@
+pub mod CallerLemmas
+mod CutNotes
+mod Hashes
+mod TrackerCalls

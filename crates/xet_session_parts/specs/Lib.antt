@@ -1,0 +1,4 @@
+pub mod CutNotes
+pub mod HashLists
+pub mod Thresholds
+pub mod TrackerCalls
