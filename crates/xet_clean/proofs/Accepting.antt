@@ -28,15 +28,16 @@ use Rattle.xet_upload.proofs.CallerLemmas.{later_resolved, resolved, same_bytes,
 use Rattle.xet_uploader.specs.Uploads.{xorbs_in}
 use Rattle.xet_session.specs.Calls.{Cut, EndsCut, EndsSo, EndsUncut, Finalizes, IsPut, as_finalized, finalized_error, waiting_hash}
 use Rattle.xet_session.specs.Sessions.{SessionTold, Tells, log_of}
-use Rattle.xet_session.specs.Learnings.{Learns}
+use Rattle.xet_clean_parts.specs.Learnings.{Learns}
 use Rattle.xet_session.specs.Sounds.{XorbsAgree}
-use Rattle.xet_session.proofs.CallerLemmas.{learns-sound, learns-tells}
+use Rattle.xet_clean_parts.proofs.CallerLemmas.{learns-sound, learns-tells}
 use Rattle.xet_clean.specs.Cleaners.{Cleaner, CleanerStands}
 use Rattle.xet_clean.specs.Laws.{AcceptedReads, AcceptedResolves, CallsKeepSteady, CountsKeepRecords, CutKeepsRecords, EndAccepts, FileKeepsRecords, KeepsCleaners, LearningKeepsCleaners, LearningKeepsRecords, LearningKeepsSteady, LeavesRecords, RegisterKeepsRecords, SearchKeepsRecords, StoredResolves}
-use Rattle.xet_clean.specs.Premises.{IsSteady, waiting_xorb, with_xorbs}
+use Rattle.xet_clean_parts.specs.Premises.{IsSteady, waiting_xorb, with_xorbs}
 use Rattle.xet_clean.specs.Records.{CleanedFile, HasRecord, IsAccepted, IsRecorded, WaitsFor}
-use Rattle.xet_clean.proofs.Holding.{cut-holds, cut-recorded, cut-waited, left-holds, opened, recorded-grown, takes-holds}
-use Rattle.xet_clean.proofs.Worlds.{Contains-head, agree-made, ok-err, world-grew, world-has}
+use Rattle.xet_clean.proofs.Holding.{cut-holds, cut-recorded, cut-waited, left-holds, recorded-grown, takes-holds}
+use Rattle.xet_clean_parts.proofs.CallerLemmas.{opened}
+use Rattle.xet_clean_parts.proofs.CallerLemmas.{Contains-head, agree-made, ok-err, world-grew, world-has}
 
 -- ---- other calls
 

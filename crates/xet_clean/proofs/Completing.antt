@@ -23,16 +23,19 @@ use Rattle.xet_session.specs.Completions.{CutsFile, CutsWaiting, Joins, TakesFil
 use Rattle.xet_session.specs.Sessions.{HasListed, SessionTold, known_of, log_of, waiting_names}
 use Rattle.xet_session.specs.Sounds.{XorbsAgree}
 use Rattle.xet_session.proofs.CallerLemmas.{keeps-both, keeps-refl, ordered-grown}
-use Rattle.xet_clean.specs.Cleaners.{Cleaner, CleanerStands, Completes, Counts, CountsChunks, CutsChunks, EndRefused, Finishes, IsFed, IsFirstUnlisted, cleaned_file, pointer_to, recorded_sha256, unknown_xorb}
-use Rattle.xet_clean.specs.Cleanings.{AreNamed, ChunkFails, CleanFails, Leaves, NoFault, term_names}
-use Rattle.xet_clean.specs.Made.{IsMadeOf, IsPickedFrom}
-use Rattle.xet_clean.specs.Premises.{IsOpen, IsSteady, NoClash, waiting_xorb, with_xorbs}
+use Rattle.xet_clean.specs.Cleaners.{Cleaner, CleanerStands, Completes, Counts, CountsChunks, CutsChunks, EndRefused, Finishes, IsFed, cleaned_file, unknown_xorb}
+use Rattle.xet_clean_parts.specs.Cleanings.{IsFirstUnlisted}
+use Rattle.xet_clean_parts.specs.Pointers.{pointer_to, recorded_sha256}
+use Rattle.xet_clean_parts.specs.Cleanings.{AreNamed, ChunkFails, CleanFails, Leaves, NoFault, term_names}
+use Rattle.xet_clean_parts.specs.Made.{IsMadeOf, IsPickedFrom}
+use Rattle.xet_clean_parts.specs.Premises.{IsOpen, IsSteady, NoClash, waiting_xorb, with_xorbs}
 use Rattle.xet_clean.specs.Records.{CleanedFile, HasRecord, WaitsFor}
-use Rattle.xet_clean.proofs.Cleaning.{fails-later, fails-memory, leaves-refl, steady-left}
+use Rattle.xet_clean_parts.proofs.CallerLemmas.{fails-later, fails-memory, leaves-refl, steady-left}
 use Rattle.xet_clean.proofs.Feeding.{cut-fed, cut-stands, never, never-failed}
-use Rattle.xet_clean.proofs.Holding.{left-holds, opened, takes-holds, takes-taken}
-use Rattle.xet_clean.proofs.Picked.{made-both, made-none, made-one, made-wider, picked-all, picked-behind, picked-both, picked-front, picked-none, picked-same, picked-trans}
-use Rattle.xet_clean.proofs.Worlds.{Contains-cons, Contains-head, agree-alone, world-has}
+use Rattle.xet_clean.proofs.Holding.{left-holds, takes-holds, takes-taken}
+use Rattle.xet_clean_parts.proofs.CallerLemmas.{opened}
+use Rattle.xet_clean_parts.proofs.CallerLemmas.{made-both, made-none, made-one, made-wider, picked-all, picked-behind, picked-both, picked-front, picked-none, picked-same, picked-trans}
+use Rattle.xet_clean_parts.proofs.CallerLemmas.{Contains-cons, Contains-head, agree-alone, world-has}
 
 -- ---- what waits afterwards
 

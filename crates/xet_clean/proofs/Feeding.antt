@@ -21,12 +21,12 @@ use Rattle.xet_upload.proofs.CallerLemmas.{parts-nil}
 use Rattle.xet_session.specs.Calls.{finalized_error}
 use Rattle.xet_session.specs.Sessions.{SessionTold, log_of}
 use Rattle.xet_clean.specs.Cleaners.{AddsData, Cleaner, CleanerStands, CountsChunks, CutsChunks, Feeds, FeedsSo, IsFed, NextChunk, PassesTotal, TakesIn, chunk_counts, past_total}
-use Rattle.xet_clean.specs.Cleanings.{AreNamed, ChunkFails, Cleans, Leaves}
-use Rattle.xet_clean.specs.Premises.{IsOpen, IsSteady, NoClash}
-use Rattle.xet_clean.proofs.Cleaning.{clash-after, clash-before, cleans-both, leaves-refl, steady-left, still-cleans}
-use Rattle.xet_clean.proofs.Holding.{opened}
-use Rattle.xet_clean.proofs.Picked.{into-both, into-same}
-use Rattle.xet_clean.proofs.Worlds.{agree-alone, ok-err, world-has}
+use Rattle.xet_clean_parts.specs.Cleanings.{AreNamed, ChunkFails, Cleans, Leaves}
+use Rattle.xet_clean_parts.specs.Premises.{IsOpen, IsSteady, NoClash}
+use Rattle.xet_clean_parts.proofs.CallerLemmas.{clash-after, clash-before, cleans-both, leaves-refl, steady-left, still-cleans}
+use Rattle.xet_clean_parts.proofs.CallerLemmas.{opened}
+use Rattle.xet_clean_parts.proofs.CallerLemmas.{into-both, into-same}
+use Rattle.xet_clean_parts.proofs.CallerLemmas.{agree-alone, ok-err, world-has}
 
 -- nothing was fed
 pub new-stands : (s : Store) (c : Cleaner) → c.parts ≡ no_parts → c.pending ≡ [] → c.fed ≡ 0 → Holds256 c.hasher []

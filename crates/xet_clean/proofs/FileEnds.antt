@@ -19,14 +19,16 @@ use Rattle.xet_waiting.specs.declared.waiting.WaitingFile.{WaitingFile}
 use Rattle.xet_session.specs.Completions.{TakesFile}
 use Rattle.xet_session.specs.Sessions.{SessionTold}
 use Rattle.xet_session.specs.Trackings.{TracksFile}
-use Rattle.xet_clean.specs.Cleaners.{Cleaner, CleanerStands, CutsChunks, EndRefused, IsEndError, cleaned_file, recorded_sha256}
-use Rattle.xet_clean.specs.Cleanings.{CleanFails}
-use Rattle.xet_clean.specs.FileCalls.{IsLate, IsPartOf, RefusedOf, RefusesFor, TellsOf}
+use Rattle.xet_clean.specs.Cleaners.{Cleaner, CleanerStands, CutsChunks, EndRefused, IsEndError, cleaned_file}
+use Rattle.xet_clean_parts.specs.Pointers.{recorded_sha256}
+use Rattle.xet_clean_parts.specs.Cleanings.{CleanFails}
+use Rattle.xet_clean_parts.specs.FileCalls.{IsLate, IsPartOf, RefusedOf, RefusesFor, TellsOf}
 use Rattle.xet_clean.specs.Records.{WaitsFor}
-use Rattle.xet_clean.specs.SessionCalls.{Calls, CutsAndTakes, EndsFile, IsSame, TookFile}
+use Rattle.xet_clean_parts.specs.SessionCalls.{Calls}
+use Rattle.xet_clean.specs.FileEnds.{CutsAndTakes, EndsFile, IsSame, TookFile}
 use Rattle.xet_clean.proofs.Completing.{file-waits}
-use Rattle.xet_clean.proofs.FileCalls.{end-refused}
-use Rattle.xet_clean.proofs.SessionCalls.{calls-none}
+use Rattle.xet_clean_parts.proofs.CallerLemmas.{end-refused}
+use Rattle.xet_clean_parts.proofs.CallerLemmas.{calls-none}
 
 -- the end was refused, with nothing cut
 pub end-early : (b : SessionTold) (c : Cleaner) (e : DataError) → EndRefused b c e → IsEndError b c e

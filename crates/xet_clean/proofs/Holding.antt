@@ -23,9 +23,9 @@ use Rattle.xet_session.specs.Completions.{CutsFile, CutsWaiting, Joins, TakesFil
 use Rattle.xet_session.specs.Sessions.{SessionTold, Stands, Tells, log_of}
 use Rattle.xet_session.specs.Sounds.{IsSound, XorbsAgree}
 use Rattle.xet_session.proofs.CallerLemmas.{unfailed}
-use Rattle.xet_clean.specs.Premises.{IsOpen, IsSteady, waiting_xorb, with_xorbs}
+use Rattle.xet_clean_parts.specs.Premises.{IsOpen, IsSteady, waiting_xorb, with_xorbs}
 use Rattle.xet_clean.specs.Records.{CleanedFile, HasRecord, IsRecorded, WaitsFor}
-use Rattle.xet_clean.proofs.Worlds.{Contains-map, agree-made, found-agrees, listed-stored, world-grew}
+use Rattle.xet_clean_parts.proofs.CallerLemmas.{Contains-map, agree-made, found-agrees, listed-stored, opened, world-grew}
 
 -- ---- a world that grows
 
@@ -238,14 +238,6 @@ waits-second s v w f within a =
     }
 
 -- ---- the end of a file
-
--- a session that is open now, and steady before, was open and stood
-pub opened : (b n : SessionTold) → Keeps b n → IsOpen n → IsOpen b
-opened b n keeps o = record {
-  unfailed = unfailed b n keeps.failed o.unfailed;
-  unfinished = sym keeps.finalized
-      ∙ o.unfinished;
-}
 
 module _ (k : Store) (b n : SessionTold) (w : Waiting) (now : ℕ) (steady : IsSteady k b) (open_now : IsOpen n)
     (f : CleanedFile) where

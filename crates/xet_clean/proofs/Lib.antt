@@ -1,18 +1,6 @@
-pub mod Accepting
-pub mod Cleaning
-pub mod Completing
-pub mod EndCalls
-pub mod Feeding
-pub mod FileCalls
-pub mod FileEnds
-pub mod Finding
-pub mod Holding
-pub mod Naming
-pub mod Pending
-pub mod Picked
-pub mod SessionCalls
-pub mod UploadAlone
-pub mod UploadCalls
-pub mod UploadLists
-pub mod Uploading
-pub mod Worlds
+mod Accepting
+pub mod CallerLemmas
+mod Completing
+mod Feeding
+mod FileEnds
+mod Holding

@@ -1,9 +1,8 @@
 -- A cleaner, what it stands for, and what its calls do.
 use Rattle.std.specs.Prelude.{ℕ, ◌≡◌, ◌+◌, ◌-◌, ◌<◌, ◌^◌, ◌⊎◌, Bool, true, false, List, [], ◌∷◌, ◌++◌, length, All}
-use Rattle.std.specs.Prelude.{Contains, Option, Some, None, option_map, unwrap_or, Result, Ok, Err, IfOk, IfErr, OnOk}
+use Rattle.std.specs.Prelude.{Option, Some, None, unwrap_or, Result, Ok, Err, IfOk, IfErr, OnOk}
 use Rattle.std.specs.List.{concat}
 use Rattle.std.specs.Option.{option_or}
-use Rattle.hex.specs.Hex.{encode_lower}
 use Rattle.sha2.specs.Hashers.{Holds256}
 use Rattle.sha2.specs.Sha256.{sha256}
 use Rattle.sha2.specs.declared.Sha256.{Sha256}
@@ -20,16 +19,17 @@ use Rattle.xet_upload.specs.declared.data_error.DataError.{DataError}
 use Rattle.xet_upload.specs.declared.data_error.DataError.TheVariants as data_error
 use Rattle.xet_upload.specs.declared.metrics.DeduplicationMetrics.{DeduplicationMetrics}
 use Rattle.xet_upload.specs.declared.sha256_policy.Sha256Policy.{Sha256Policy}
-use Rattle.xet_upload.specs.declared.sha256_policy.Sha256Policy.TheVariants.{Compute, Provided, Skip}
-use Rattle.xet_waiting.specs.declared.waiting.WaitingTerm.{WaitingTerm}
+use Rattle.xet_upload.specs.declared.sha256_policy.Sha256Policy.TheVariants.{Compute}
 use Rattle.xet_session.specs.Calls.{Backs, Keeps, finalized_error}
 use Rattle.xet_session.specs.Completions.{with_file_counts}
 use Rattle.xet_session.specs.Sessions.{HasListed, SessionTold, log_of}
 use Rattle.xet_session.specs.Sounds.{XorbsAgree}
-use Rattle.xet_clean.specs.Cleanings.{AreNamed, ChunkFails, CleanFails, Cleans, Leaves, NoFault, term_names}
-use Rattle.xet_clean.specs.FileCalls.{IsLate}
-use Rattle.xet_clean.specs.Made.{CutInto, IsMadeOf, IsPickedFrom}
-use Rattle.xet_clean.specs.Premises.{IsOpen, IsSteady, NoClash, waiting_xorb, with_xorbs}
+use Rattle.xet_clean_parts.specs.Cleanings.{AreNamed, ChunkFails, CleanFails, Cleans, Leaves, NoFault}
+use Rattle.xet_clean_parts.specs.FileCalls.{IsLate}
+use Rattle.xet_clean_parts.specs.Made.{CutInto, IsMadeOf, IsPickedFrom}
+use Rattle.xet_clean_parts.specs.Premises.{IsOpen, IsSteady, NoClash, waiting_xorb, with_xorbs}
+use Rattle.xet_clean_parts.specs.Cleanings.{IsFirstUnlisted}
+use Rattle.xet_clean_parts.specs.Pointers.{pointer_to, recorded_sha256}
 use Rattle.xet_clean.specs.Records.{CleanedFile, HasRecord}
 
 -- a cleaner, but for its cutter
@@ -182,28 +182,6 @@ pub record AddsData (b n : SessionTold) (c : Cleaner) (bytes : List ℕ) (d : Cl
   pub why : IfErr answer (AddFails b n c bytes)
 
 -- ---- the end
-
--- the SHA-256 that is recorded of a file
-abbrev pub recorded_sha256 : Sha256Policy → List ℕ → Option MerkleHash
-recorded_sha256 Compute bytes = Some (record { 0 = sha256 bytes })
-recorded_sha256 (Provided hash) bytes = Some hash
-recorded_sha256 Skip bytes = None
-
--- the pointer record of a file
-abbrev pub pointer_to : MerkleHash → ℕ → Option MerkleHash → XetFileInfo
-pointer_to hash size sha = record {
-  hash = encode_lower hash.0;
-  file_size = Some size;
-  sha256 = option_map (λ h. encode_lower h.0) sha;
-}
-
--- the first xorb that these terms name and that is not on the list
-pub record IsFirstUnlisted (listed : List MerkleHash) (terms : List WaitingTerm) (hash : MerkleHash) : Type 0 where
-  pub front : List MerkleHash
-  pub rest : List MerkleHash
-  pub split : term_names terms ≡ front ++ hash ∷ rest
-  pub before : All (Contains listed) front
-  pub missing : Contains listed hash → ⊥
 
 abbrev pub unknown_xorb : MerkleHash → DataError
 unknown_xorb hash = data_error.InvalidOperation (invalid.UnknownXorb hash)

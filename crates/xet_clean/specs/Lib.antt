@@ -1,13 +1,5 @@
 pub mod Cleaners
-pub mod Cleanings
-pub mod FileCalls
+pub mod FileEnds
 pub mod Laws
-pub mod Made
-pub mod Pending
-pub mod Premises
 pub mod Records
-pub mod SessionCalls
 pub mod Showing
-pub mod UploadTelling
-pub mod Uploads
-pub mod steps

@@ -1,6 +1,6 @@
 -- A cleaner as contracts see it.
 use Rattle.xet_clean.specs.Cleaners.{Cleaner}
-use Rattle.xet_clean.specs.Pending.{bytes_left}
+use Rattle.xet_clean_parts.specs.Pending.{bytes_left}
 use Rattle.xet_clean.specs.declared.cleaner.SingleFileCleaner.{SingleFileCleaner}
 
 abbrev pub cleaner_of : {T : Type 0} → SingleFileCleaner T → Cleaner

@@ -10,21 +10,19 @@ ghost use Rattle.xet_clean.specs.Cleaners.{AddsData, Completes, CountsChunks, Cu
 ghost use Rattle.xet_clean.specs.Cleaners.{FeedsSo, Finishes};
 ghost use Rattle.xet_clean.specs.Cleaners.{IsEndError, IsNewCleaner, IsOwnError, NextChunk, PassesTotal, TakesIn};
 ghost use Rattle.xet_clean.specs.Cleaners.{chunk_counts, past_total, started};
-ghost use Rattle.xet_clean.specs.Cleanings.{AreNamed, ChunkFails, Cleans, Leaves, TrackFails};
-ghost use Rattle.xet_clean.specs.FileCalls.{GrowsFirst, IsFor, IsLate, IsPartOf, RefusedOf, TellsOf, growth};
-ghost use Rattle.xet_clean.specs.Pending.{bytes_left};
-ghost use Rattle.xet_clean.specs.SessionCalls.{Calls, EndsFile, IsSame, TookFile};
+ghost use Rattle.xet_clean_parts.specs.Cleanings.{AreNamed, ChunkFails, Cleans, Leaves, TrackFails};
+ghost use Rattle.xet_clean_parts.specs.FileCalls.{GrowsFirst, IsFor, IsLate, IsPartOf, RefusedOf, TellsOf, growth};
+ghost use Rattle.xet_clean_parts.specs.Pending.{bytes_left};
+ghost use Rattle.xet_clean_parts.specs.SessionCalls.{Calls};
+ghost use Rattle.xet_clean.specs.FileEnds.{EndsFile, IsSame, TookFile};
 ghost use Rattle.xet_clean.specs.Showing.{cleaner_of};
 
-use crate::deduper::add_chunk;
-use crate::named_terms::first_unlisted;
-use crate::pending_bytes::PendingBytes;
-use crate::pointers::{pointer_to, recorded_sha256};
 use bytes::Bytes;
 use sha2::{Digest, Sha256};
 use std::alloc::Global;
 use std::sync::Wait;
 use xet_base::{Invalid, MerkleHash, OutOfMemory, UniqueID};
+use xet_clean_parts::{PendingBytes, add_chunk, first_unlisted, pointer_to, recorded_sha256};
 use xet_pointer::XetFileInfo;
 use xet_session::FileUploadSession;
 use xet_shards::ShardStore;

@@ -6,7 +6,7 @@ use crate::xorbs::{part, raw};
 use std::alloc::Global;
 use std::sync::Wait;
 use xet_base::{FileDataSequenceEntry, MerkleHash};
-use xet_session::{DeduplicationDataInterface, UploadSessionDataManager};
+use xet_clean_parts::{DeduplicationDataInterface, UploadSessionDataManager};
 use xet_shards::ScriptShards;
 use xet_upload::DataError;
 use xet_uploader::MemUploader;

@@ -6,10 +6,10 @@ use crate::settings::number;
 use std::alloc::Global;
 use std::sync::Wait;
 use xet_base::{List, OutOfMemory, Text};
-use xet_clean::{UploadFile, upload_files};
 use xet_pointer::XetFileInfo;
 use xet_sinks::{ScriptSource, SourceStep};
 use xet_upload::{DataError, FixedCutter};
+use xet_upload_files::{UploadFile, upload_files};
 
 /// A file from a scripted source, cut into chunks of one length.
 type Upload = UploadFile<ScriptSource, FixedCutter>;

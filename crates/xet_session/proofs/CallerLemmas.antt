@@ -1,13 +1,15 @@
 -- What proofs of the crates above may cite of this crate's words.
 
 -- what a call keeps, and that a backed session stays backed
-pub use Rattle.xet_session.proofs.Keeping.{keeps-both, keeps-refl, keeps-still, later-both, later-same, stores-later}
-pub use Rattle.xet_session.proofs.Ends.{backs-finalized, backs-kept, new-backed, new-listed, ordered-grown}
--- what queries of the uploader keep
-pub use Rattle.xet_session.proofs.Learned.{backs-learned, learns-sound, learns-stands, learns-tells}
+pub use Rattle.xet_session.proofs.Keeping.{keeps-both, keeps-refl, keeps-still, later-both, later-same, stores-later, stands-at}
+pub use Rattle.xet_session.proofs.Ends.{backs-finalized, backs-kept, new-backed, new-listed, ordered-grown, backs-same}
 -- a failure that is kept stays
 pub use Rattle.xet_session.proofs.Completions.{unfailed}
 -- xorbs of a world
 pub use Rattle.xet_session.proofs.Sounding.{agree-before, stored-of}
 -- the type's fact
 pub use Rattle.xet_session.proofs.Tests.{has-listed}
+-- a list that grows
+pub use Rattle.xet_session.proofs.Listing.{listed-more}
+-- what a given xorb leaves
+pub use Rattle.xet_session.proofs.Tracking.{told-err, told-ok}

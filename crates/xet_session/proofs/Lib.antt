@@ -4,7 +4,6 @@ pub mod CutTracking
 pub mod Cuts
 pub mod Ends
 pub mod Keeping
-pub mod Learned
 pub mod Listing
 pub mod Queries
 pub mod Recording

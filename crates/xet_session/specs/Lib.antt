@@ -1,6 +1,5 @@
 pub mod Calls
 pub mod Completions
-pub mod Learnings
 pub mod Sessions
 pub mod Sounds
 pub mod Telling

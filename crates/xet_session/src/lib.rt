@@ -1,11 +1,9 @@
 //! An upload session: what waits, what was put, and the records of both.
 #![tactic(auto)]
 
-pub mod deduplication_interface;
 mod file_completion;
 pub mod session;
 
-pub use deduplication_interface::{DeduplicationDataInterface, UploadSessionDataManager};
 pub use session::FileUploadSession;
 pub use xet_session_parts::CutThresholds;
 pub use xet_shard_interface::{SessionShardInterface, SessionStores};

@@ -770,15 +770,19 @@ impl<U: Uploader, R: ShardStore> FileUploadSession<U, R> {
         }
     }
 
-    // Whether the uploader may be asked for records.
-    pub(crate) fn asks_queries(&self) -> bool
+    /// Whether the uploader may be asked for records.
+    ///
+    /// It has no source in the Rust crates.
+    pub fn asks_queries(&self) -> bool
         ensures { result ≡ self.now.queries_enabled }
     {
         self.queries_enabled
     }
 
-    // Asks the uploader for records that know a chunk, which the cache has then. It tells whether there are any.
-    pub(crate) fn ask(&mut self, alloc: Global, chunk: &MerkleHash) -> Result<bool, DataError>
+    /// Asks the uploader for records that know a chunk, which the cache has then. It tells whether there are any.
+    ///
+    /// In the Rust crate xet-data: a part of `UploadSessionDataManager::complete_global_dedup_queries`.
+    pub fn ask(&mut self, alloc: Global, chunk: &MerkleHash) -> Result<bool, DataError>
         ensures call { AsksFor (told_by U.told R.told self.old) (told_by U.told R.told self.new) chunk.now result }
         ensures untold { self.new.files.tracker ≡ self.old.files.tracker }
         ensures group { KeepsGroup self.old self.new }

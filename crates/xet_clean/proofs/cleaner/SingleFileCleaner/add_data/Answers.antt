@@ -1,6 +1,6 @@
 use Rattle.std.proofs.Common.{refl, rules, ◌≡◌}
 use Rattle.std.specs.Prelude.{Ok}
-use Rattle.xet_clean.proofs.FileCalls.{tells-err, tells-ok}
+use Rattle.xet_clean_parts.proofs.CallerLemmas.{tells-err, tells-ok}
 use Rattle.xet_clean.proofs.Feeding.{adds-err, adds-ok}
 use Rattle.xet_clean.proofs.cleaner.SingleFileCleaner.add_data.Goals as goal
 

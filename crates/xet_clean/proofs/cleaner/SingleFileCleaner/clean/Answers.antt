@@ -2,7 +2,7 @@ use Rattle.std.proofs.Common.{refl, ap, ◌≡◌, ◌∙◌}
 use Rattle.std.specs.Prelude.{Err}
 use Rattle.xet_upload.specs.Metrics.{both}
 use Rattle.xet_base.proofs.CallerLemmas.{err-of}
-use Rattle.xet_clean.proofs.FileCalls.{tells-err, tells-ok}
+use Rattle.xet_clean_parts.proofs.CallerLemmas.{tells-err, tells-ok}
 use Rattle.xet_clean.proofs.cleaner.SingleFileCleaner.clean.Goals as goal
 
 pub returns-in_err-found : goal.returns-in_err-found

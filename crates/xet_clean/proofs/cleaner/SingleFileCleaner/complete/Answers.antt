@@ -6,7 +6,7 @@ use Rattle.xet_clean.specs.Showing.{cleaner_of}
 use Rattle.xet_base.proofs.CallerLemmas.{err-of}
 use Rattle.xet_clean.proofs.Completing.{completes-err, completes-none, completes-ok, data-named}
 use Rattle.xet_clean.proofs.FileEnds.{took-err, took-ok}
-use Rattle.xet_clean.proofs.SessionCalls.{group-both}
+use Rattle.xet_clean_parts.proofs.CallerLemmas.{group-both}
 use Rattle.xet_clean.proofs.cleaner.SingleFileCleaner.complete.Goals as goal
 
 pub returns-in_err-info : goal.returns-in_err-info

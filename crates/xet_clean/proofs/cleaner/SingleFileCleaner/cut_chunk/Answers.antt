@@ -3,10 +3,10 @@ use Rattle.std.specs.Prelude.{Err, Ok}
 use Rattle.xet_upload.specs.declared.data_error.DataError.TheVariants as data_error
 use Rattle.xet_clean.specs.Cleaners.{Cleaner}
 use Rattle.xet_base.proofs.CallerLemmas.{err-of}
-use Rattle.xet_clean.proofs.Cleaning.{leaves-refl}
-use Rattle.xet_clean.proofs.SessionCalls.{calls-none}
+use Rattle.xet_clean_parts.proofs.CallerLemmas.{leaves-refl}
+use Rattle.xet_clean_parts.proofs.CallerLemmas.{calls-none}
 use Rattle.xet_clean.proofs.Feeding.{cuts-ended, cuts-one, ended-pending}
-use Rattle.xet_clean.proofs.FileCalls.{tells-err, tells-memory, tells-none, tells-ok}
+use Rattle.xet_clean_parts.proofs.CallerLemmas.{tells-err, tells-memory, tells-none, tells-ok}
 use Rattle.xet_clean.proofs.cleaner.SingleFileCleaner.cut_chunk.Goals as goal
 
 pub returns-in_err-next_chunk : goal.returns-in_err-next_chunk

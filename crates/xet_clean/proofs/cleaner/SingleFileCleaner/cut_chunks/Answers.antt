@@ -2,9 +2,9 @@ use Rattle.std.proofs.Common.{refl, rules, ap, true, false, ◌≡◌, ◌∙◌
 use Rattle.std.specs.Prelude.{Ok}
 use Rattle.xet_session.specs.Telling.{told_by}
 use Rattle.xet_clean.specs.Cleaners.{Cleaner}
-use Rattle.xet_clean.proofs.Cleaning.{chunk-later, leaves-both, leaves-refl}
-use Rattle.xet_clean.proofs.SessionCalls.{calls-both, calls-none, group-both}
-use Rattle.xet_clean.proofs.FileCalls.{tells-both, tells-err, tells-late, tells-none, tells-ok}
+use Rattle.xet_clean_parts.proofs.CallerLemmas.{chunk-later, leaves-both, leaves-refl}
+use Rattle.xet_clean_parts.proofs.CallerLemmas.{calls-both, calls-none, group-both}
+use Rattle.xet_clean_parts.proofs.CallerLemmas.{tells-both, tells-err, tells-late, tells-none, tells-ok}
 use Rattle.xet_clean.proofs.Feeding.{cuts-both, cuts-none}
 use Rattle.xet_clean.proofs.cleaner.SingleFileCleaner.cut_chunks.Goals as goal
 

@@ -2,10 +2,10 @@ use Rattle.std.proofs.Common.{◌≡◌, length}
 use Rattle.std.specs.Prelude.{Ok}
 use Rattle.xet_session.specs.Telling.{KeepsGroup, told_by}
 use Rattle.xet_clean.specs.Cleaners.{CutsChunks}
-use Rattle.xet_clean.specs.Cleanings.{Leaves}
-use Rattle.xet_clean.specs.FileCalls.{IsLate, IsPartOf, TellsOf}
-use Rattle.xet_clean.specs.Pending.{bytes_left}
-use Rattle.xet_clean.specs.SessionCalls.{Calls}
+use Rattle.xet_clean_parts.specs.Cleanings.{Leaves}
+use Rattle.xet_clean_parts.specs.FileCalls.{IsLate, IsPartOf, TellsOf}
+use Rattle.xet_clean_parts.specs.Pending.{bytes_left}
+use Rattle.xet_clean_parts.specs.SessionCalls.{Calls}
 use Rattle.xet_clean.specs.Showing.{cleaner_of}
 use Rattle.xet_clean.proofs.cleaner.SingleFileCleaner.cut_chunks.Given as goal
 

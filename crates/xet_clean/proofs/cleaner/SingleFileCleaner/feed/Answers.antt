@@ -5,9 +5,9 @@ use Rattle.xet_session.specs.Sessions.{SessionTold}
 use Rattle.xet_session.specs.Telling.{told_by}
 use Rattle.xet_clean.specs.Cleaners.{Cleaner}
 use Rattle.xet_base.proofs.CallerLemmas.{err-of}
-use Rattle.xet_clean.proofs.Cleaning.{chunk-memory, chunk-tracks, leaves-refl}
-use Rattle.xet_clean.proofs.SessionCalls.{calls-moved, calls-none, group-both}
-use Rattle.xet_clean.proofs.FileCalls.{grows-first, part-for, tells-both, tells-err, tells-late, tells-memory, tells-none, tells-own, tells-wider}
+use Rattle.xet_clean_parts.proofs.CallerLemmas.{chunk-memory, chunk-tracks, leaves-refl}
+use Rattle.xet_clean_parts.proofs.CallerLemmas.{calls-moved, calls-none, group-both}
+use Rattle.xet_clean_parts.proofs.CallerLemmas.{grows-first, part-for, tells-both, tells-err, tells-late, tells-memory, tells-none, tells-own, tells-wider}
 use Rattle.xet_clean.proofs.Feeding.{feeds-failed, feeds-finalized, feeds-grown, feeds-kept, feeds-past}
 use Rattle.xet_clean.proofs.cleaner.SingleFileCleaner.feed.Goals as goal
 

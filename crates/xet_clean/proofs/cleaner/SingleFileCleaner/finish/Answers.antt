@@ -5,7 +5,7 @@ use Rattle.xet_clean.specs.Showing.{cleaner_of}
 use Rattle.xet_base.proofs.CallerLemmas.{err-of}
 use Rattle.xet_clean.proofs.Completing.{finishes-complete, finishes-refused, finishes-uncut}
 use Rattle.xet_clean.proofs.FileEnds.{end-early, end-taken, end-uncut, ends-early, ends-so, ends-uncut}
-use Rattle.xet_clean.proofs.SessionCalls.{group-both}
+use Rattle.xet_clean_parts.proofs.CallerLemmas.{group-both}
 use Rattle.xet_clean.proofs.cleaner.SingleFileCleaner.finish.Goals as goal
 
 pub returns-in-Some : goal.returns-in-Some

@@ -1,5 +1,5 @@
 use Rattle.std.proofs.Common.{refl}
-use Rattle.xet_clean.proofs.FileCalls.{growth-none, growth-some, tells-none, tracks-tells, tracks-why}
+use Rattle.xet_clean_parts.proofs.CallerLemmas.{growth-none, growth-some, tells-none, tracks-tells, tracks-why}
 use Rattle.xet_clean.proofs.cleaner.SingleFileCleaner.grow.Goals as goal
 
 pub returns-in-Some : goal.returns-in-Some

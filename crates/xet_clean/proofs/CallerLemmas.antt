@@ -1,0 +1,8 @@
+-- What proofs of the crates above may cite of this crate's words.
+
+-- the end of a file
+pub use Rattle.xet_clean.proofs.Completing.{backs-both, none-missing, waits-still}
+-- what is fed, in two calls
+pub use Rattle.xet_clean.proofs.Feeding.{counts-both, feeds-both, feeds-none, never, never-failed}
+-- records that go on standing
+pub use Rattle.xet_clean.proofs.Holding.{left-holds}

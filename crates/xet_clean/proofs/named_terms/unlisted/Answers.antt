@@ -1,6 +1,0 @@
-use Rattle.xet_clean.proofs.Naming.{named-one}
-use Rattle.xet_clean.proofs.named_terms.unlisted.Goals as goal
-
-pub returns-then-lists-clause-none : goal.returns-then-lists-clause-none
-returns-then-lists-clause-none g c =
-    λ e. named-one _ _ _ c.in-Stored.is (c.lists.ensures.yes c.if-lists.true)

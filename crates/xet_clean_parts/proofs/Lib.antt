@@ -1,0 +1,10 @@
+pub mod CallerLemmas
+mod Cleaning
+mod FileCalls
+mod Finding
+mod Learned
+mod Naming
+mod Pending
+mod Picked
+mod SessionCalls
+mod Worlds

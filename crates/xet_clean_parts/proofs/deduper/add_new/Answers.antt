@@ -1,0 +1,51 @@
+use Rattle.std.proofs.Common.{refl, ◌≡◌}
+use Rattle.std.specs.Prelude.{Err}
+use Rattle.xet_upload.specs.declared.data_error.DataError.TheVariants as data_error
+use Rattle.xet_session.specs.Telling.{told_by}
+use Rattle.xet_base.proofs.CallerLemmas.{err-of}
+use Rattle.xet_clean_parts.proofs.Cleaning.{chunk-memory, more-cleans}
+use Rattle.xet_clean_parts.proofs.FileCalls.{tells-both, tells-err, tells-memory, tells-ok}
+use Rattle.xet_clean_parts.proofs.deduper.add_new.Goals as goal
+
+pub returns-in_err-make_room : goal.returns-in_err-make_room
+returns-in_err-make_room g c =
+    let e : c.from_residual.result ≡ Err c.in_err-make_room.field-0.0 = err-of _ _ c.from_residual.ensures in
+    rw e (record {
+      leaves = c.make_room.ensures.leaves;
+      cleans = tt;
+      why =
+          rw c.in_err-make_room.was at c.make_room.ensures.why;
+      tells = tells-err _ _ _ _ _ (rw c.in_err-make_room.was at c.make_room.ensures.tells);
+      calls = c.make_room.ensures.calls;
+      group = c.make_room.ensures.group;
+    })
+
+pub returns-in_err-add_own : goal.returns-in_err-add_own
+returns-in_err-add_own g c =
+    let e : c.from_residual-in_err-add_own.result ≡ Err data_error.OutOfMemory =
+    err-of _ _ c.from_residual-in_err-add_own.ensures in
+    rw e (record {
+      leaves = c.make_room.ensures.leaves;
+      cleans = tt;
+      why = chunk-memory
+          (told_by g.U.Uploader.told g.R.ShardStore.told c.args.session.now)
+          (told_by g.U.Uploader.told g.R.ShardStore.told c.make_room.new.session) _ refl;
+      tells = tells-both _ _ _ _ _ _ (rw c.in_ok-make_room.was at c.make_room.ensures.tells) _
+          (tells-memory _ _ _ _ refl);
+      calls = c.make_room.ensures.calls;
+      group = c.make_room.ensures.group;
+    })
+
+pub returns : goal.returns
+returns g c = record {
+  leaves = c.make_room.ensures.leaves;
+  cleans =
+      more-cleans _ _ _ _ _ _ c.in_ok-make_room.ensures.cleans c.in_ok-add_own.ensures;
+  why = tt;
+  tells = tells-ok _ _ _ _ _ tt (rw c.in_ok-make_room.was at c.make_room.ensures.tells);
+  calls = c.make_room.ensures.calls;
+  group = c.make_room.ensures.group;
+}
+
+pub add_own-requires-clause-within : goal.add_own-requires-clause-within
+add_own-requires-clause-within g c = rw c.as_slice.ensures at c.in_ok-make_room.ensures.room

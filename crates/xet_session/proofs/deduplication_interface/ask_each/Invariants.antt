@@ -1,8 +1,0 @@
-use Rattle.std.proofs.Common.{take, ◌≡◌}
-use Rattle.std.specs.Prelude.{Ok}
-use Rattle.xet_session.specs.Learnings.{Learns}
-use Rattle.xet_session.specs.Telling.{KeepsGroup, told_by}
-use Rattle.xet_session.proofs.deduplication_interface.ask_each.Given as goal
-
-abbrev pub invariant-loop-chunk : goal.invariant-loop-chunk
-invariant-loop-chunk g l = Learns (told_by g.U.Uploader.told g.R.ShardStore.told l.initial.session) (told_by g.U.Uploader.told g.R.ShardStore.told l.session) (take l.chunk-index l.chunks) (Ok l.found) × (l.session.files.tracker ≡ l.initial.session.files.tracker) × KeepsGroup l.initial.session l.session

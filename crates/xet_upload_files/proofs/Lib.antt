@@ -1,0 +1,5 @@
+mod EndCalls
+mod UploadAlone
+mod UploadCalls
+mod UploadLists
+mod Uploading

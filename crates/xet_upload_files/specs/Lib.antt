@@ -1,0 +1,3 @@
+pub mod UploadTelling
+pub mod Uploads
+pub mod steps
