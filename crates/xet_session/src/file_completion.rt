@@ -35,7 +35,7 @@ impl<U: Uploader, R: ShardStore> FileUploadSession<U, R> {
         ensures group { KeepsGroup self.old self.new }
     {
         let waiting = self.replace_waiting(file_data);
-        let answer = self.cut(rt, alloc, now);
+        let answer = self.checkpoint(rt, alloc, now);
         let _ = self.replace_waiting(waiting);
         answer
     }
@@ -58,7 +58,7 @@ impl<U: Uploader, R: ShardStore> FileUploadSession<U, R> {
             self.old.files.tracker self.new.files.tracker result }
         ensures group { KeepsGroup self.old self.new }
     {
-        self.cut(rt, alloc, now)?;
+        self.checkpoint(rt, alloc, now)?;
         let _ = self.replace_waiting(file_data);
         Ok(())
     }
@@ -75,31 +75,6 @@ impl<U: Uploader, R: ShardStore> FileUploadSession<U, R> {
         ensures group { KeepsGroup self.old self.new }
     {
         Ok(self.merge_waiting(alloc, file_data)?)
-    }
-
-    // The same, whichever side is larger.
-    fn take_file<W: Wait>(
-        &mut self,
-        rt: &W,
-        alloc: Global,
-        file_data: DataAggregator,
-        now: u64,
-    ) -> Result<(), DataError>
-        requires named { self.old.failed ≡ None → self.old.finalized ≡ false
-            → All (Contains self.old.listed.hashes.items) (waiting_names file_data.files) }
-        ensures call { TakesFile (told_by U.told R.told self.old) (told_by U.told R.told self.new)
-            file_data now result }
-        ensures tracks { TracksFile (told_by U.told R.told self.old) (told_by U.told R.told self.new) file_data
-            self.old.files.tracker self.new.files.tracker result }
-        ensures group { KeepsGroup self.old self.new }
-    {
-        if self.thresholds().fit(self.waiting(), &file_data) {
-            return self.join_waiting(alloc, file_data);
-        }
-        if file_data.num_bytes() >= self.waiting().num_bytes() {
-            return self.cut_file(rt, alloc, file_data, now);
-        }
-        self.cut_waiting(rt, alloc, file_data, now)
     }
 
     /// The data of a file joins what waits, where both together pass no threshold of the settings and no limit of a
@@ -126,6 +101,12 @@ impl<U: Uploader, R: ShardStore> FileUploadSession<U, R> {
         ensures group { KeepsGroup self.old self.new }
         ensures backs { Backs (told_by U.told R.told self.old) (told_by U.told R.told self.new) }
     {
-        self.take_file(rt, alloc, file_data, now)
+        if self.thresholds().fit(self.waiting(), &file_data) {
+            return self.join_waiting(alloc, file_data);
+        }
+        if file_data.num_bytes() >= self.waiting().num_bytes() {
+            return self.cut_file(rt, alloc, file_data, now);
+        }
+        self.cut_waiting(rt, alloc, file_data, now)
     }
 }

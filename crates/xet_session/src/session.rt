@@ -22,7 +22,7 @@ ghost use Rattle.xet_session.specs.Sessions.{HasListed, IsBackedSession, waiting
 ghost use Rattle.xet_session.specs.Trackings.{StartsFile, Tracks, TracksCut, TracksXorb, xorb_calls};
 ghost use Rattle.xet_session.specs.steps.Listings.{AreListed};
 ghost use Rattle.xet_session.specs.steps.SessionSteps.{AddedFinished, AddedRecord, AsksFor, GivenCounted, OnList};
-ghost use Rattle.xet_session.specs.steps.SessionSteps.{PutCounted, PutFinished, PutGiven, PutRaw, PutRecords};
+ghost use Rattle.xet_session.specs.steps.SessionSteps.{PutCounted, PutFinished, PutRaw, PutRecords};
 ghost use Rattle.xet_session.specs.steps.SessionSteps.{TookWaiting};
 
 use std::alloc::Global;
@@ -309,31 +309,6 @@ impl<U: Uploader, R: ShardStore> FileUploadSession<U, R> {
         chunks > 0 && !self.registered.contains(hash)
     }
 
-    // What waits becomes a xorb, which is put, and its files are finished. Data without chunks puts nothing, nor does
-    // data whose xorb was put before. The tracker is told of it; a refusal changes nothing. Want of memory for that is
-    // answered where a xorb was put, after it, since what waits is taken by then.
-    pub(crate) fn cut<W: Wait>(&mut self, rt: &W, alloc: Global, now: u64) -> Result<(), DataError>
-        ensures call { Cut (told_by U.told R.told self.old) (told_by U.told R.told self.new) now result }
-        ensures tracks { TracksCut (told_by U.told R.told self.old) (told_by U.told R.told self.new)
-            self.old.files.tracker self.new.files.tracker result }
-        ensures group { KeepsGroup self.old self.new }
-    {
-        if let Some(error) = self.failed {
-            return Err(DataError::from(error));
-        }
-        let chunks = self.waiting.num_chunks();
-        let (raw, files) = self.take_waiting(alloc)?;
-        let noted = self
-            .files
-            .register_cut(rt, alloc, &raw, files.as_slice(), &self.registered);
-        if self.is_new(chunks, &raw.xorb.hash) {
-            self.put_finished(rt, alloc, &raw, files, now)?;
-            return Ok(noted?);
-        }
-        self.finish_files(files);
-        Ok(())
-    }
-
     // What waits.
     pub(crate) fn waiting(&self) -> &DataAggregator
         ensures { result.now ≡ self.now.waiting }
@@ -419,8 +394,11 @@ impl<U: Uploader, R: ShardStore> FileUploadSession<U, R> {
         self.listed.contains(xorb)
     }
 
-    /// Cuts what waits as a xorb and puts it. It does not ask whether the session is finalized. `now` is a moment in
-    /// seconds.
+    /// Cuts what waits as a xorb and puts it, and its files are finished. Data without chunks puts nothing, nor does data
+    /// whose xorb was put before. It does not ask whether the session is finalized. `now` is a moment in seconds.
+    ///
+    /// The tracker is told of it; a refusal changes nothing. Want of memory for that is answered where a xorb was put,
+    /// after it, since what waits is taken by then.
     ///
     /// After a put that failed it answers so, and puts nothing: `ClientError` where the uploader failed. `IOError`
     /// comes only where a store of records failed.
@@ -433,7 +411,20 @@ impl<U: Uploader, R: ShardStore> FileUploadSession<U, R> {
         ensures group { KeepsGroup self.old self.new }
         ensures backs { Backs (told_by U.told R.told self.old) (told_by U.told R.told self.new) }
     {
-        self.cut(rt, alloc, now)
+        if let Some(error) = self.failed {
+            return Err(DataError::from(error));
+        }
+        let chunks = self.waiting.num_chunks();
+        let (raw, files) = self.take_waiting(alloc)?;
+        let noted = self
+            .files
+            .register_cut(rt, alloc, &raw, files.as_slice(), &self.registered);
+        if self.is_new(chunks, &raw.xorb.hash) {
+            self.put_finished(rt, alloc, &raw, files, now)?;
+            return Ok(noted?);
+        }
+        self.finish_files(files);
+        Ok(())
     }
 
     // Makes room for a xorb on the lists.
@@ -446,27 +437,6 @@ impl<U: Uploader, R: ShardStore> FileUploadSession<U, R> {
     {
         self.listed.reserve(1)?;
         self.registered.reserve(1)
-    }
-
-    // Puts a xorb and adds its record to those of the session, where no put failed.
-    fn put_given<W: Wait>(
-        &mut self,
-        rt: &W,
-        alloc: Global,
-        raw: &RawXorbData,
-        now: u64,
-    ) -> Result<(), DataError>
-        requires room { vec_len self.old.listed.hashes < vec_capacity self.old.listed.hashes }
-        requires noted { vec_len self.old.registered.hashes < vec_capacity self.old.registered.hashes }
-        requires unfailed { self.old.failed ≡ None }
-        requires describes { Describes raw.now.xorb_info raw.now.xorb }
-        ensures call { PutGiven (told_by U.told R.told self.old) (told_by U.told R.told self.new)
-            raw.now.xorb now result }
-        ensures tracked { PutCounted (told_by U.told R.told self.old) (told_by U.told R.told self.new)
-            self.old.files.tracker self.new.files.tracker raw.now.xorb.hash result }
-        ensures group { KeepsGroup self.old self.new }
-    {
-        self.put_finished(rt, alloc, raw, List::new(alloc), now)
     }
 
     // The failure that is kept, where the xorb would be put.
@@ -503,13 +473,13 @@ impl<U: Uploader, R: ShardStore> FileUploadSession<U, R> {
         ensures group { KeepsGroup self.old self.new }
     {
         if self.registered.contains(&raw.xorb.hash) {
-            return self.depend(rt, alloc, dependencies);
+            return self.register_xorb_dependencies(rt, alloc, dependencies);
         }
         match self
             .files
             .register_xorb(alloc, raw.xorb.hash, raw.num_bytes())
         {
-            Ok(_new) => self.depend(rt, alloc, dependencies),
+            Ok(_new) => self.register_xorb_dependencies(rt, alloc, dependencies),
             Err(error) => Err(DataError::from(error)),
         }
     }
@@ -543,7 +513,7 @@ impl<U: Uploader, R: ShardStore> FileUploadSession<U, R> {
             self.files.complete(rt, &raw.xorb.hash)?;
             return Ok(true);
         }
-        self.put_given(rt, alloc, raw, now)?;
+        self.put_finished(rt, alloc, raw, List::new(alloc), now)?;
         Ok(true)
     }
 
@@ -585,28 +555,13 @@ impl<U: Uploader, R: ShardStore> FileUploadSession<U, R> {
         self.put_new(rt, alloc, &raw, now)
     }
 
-    /// Tells the tracker what files have in xorbs: all of it or nothing.
+    /// Tells the tracker what files have in xorbs: all of it or nothing. The lists keep their room.
     ///
     /// `InvalidOperation` exactly where the tracker refuses it: `UnknownFile` where one names no file, else `PastTotal`
     /// where a file's dependencies would pass its size. `OutOfMemory` where an allocation was refused.
     ///
     /// In the Rust crate xet-data: `FileUploadSession::register_xorb_dependencies`.
     pub fn register_xorb_dependencies<W: Wait>(
-        &mut self,
-        rt: &W,
-        alloc: Global,
-        dependencies: &[FileXorbDependency],
-    ) -> Result<(), DataError>
-        ensures same { told_by U.told R.told self.new ≡ told_by U.told R.told self.old }
-        ensures tracks { Tracks self.old.files.tracker self.new.files.tracker
-            (RegisterDependencies dependencies.now ∷ []) result }
-        ensures group { KeepsGroup self.old self.new }
-    {
-        self.depend(rt, alloc, dependencies)
-    }
-
-    // Tells the tracker what files have in xorbs. The lists keep their room.
-    fn depend<W: Wait>(
         &mut self,
         rt: &W,
         alloc: Global,
@@ -851,7 +806,7 @@ impl<U: Uploader, R: ShardStore> FileUploadSession<U, R> {
             return Err(DataError::InvalidOperation(Invalid::Finalized));
         }
         self.finalized = true;
-        self.cut(rt, alloc, now)?;
+        self.checkpoint(rt, alloc, now)?;
         self.add_finished(alloc)?;
         let bytes = self.put_records(alloc)?;
         Ok(self.count_shards(bytes))

@@ -1,6 +1,87 @@
+use Rattle.std.proofs.Common.{ap, refl, ◌∙◌, ◌≡◌}
+use Rattle.std.specs.Prelude.{Err}
+use Rattle.xet_upload.specs.declared.data_error.DataError.TheVariants as data_error
+use Rattle.xet_session.specs.Sessions.{SessionTold}
+use Rattle.xet_base.proofs.CallerLemmas.{err-of}
+use Rattle.xet_session.proofs.CutTracking.{cut-counted, cut-noted, cut-stopped, cut-unnoted, cut-untold}
+use Rattle.xet_session.proofs.Cuts.{cut-failed, cut-put, cut-same, cut-still, names-cut, names-still, put-unnoted}
 use Rattle.xet_session.proofs.Ends.{backs-kept}
 use Rattle.xet_session.proofs.Tests.{has-listed}
 use Rattle.xet_session.proofs.session.FileUploadSession.checkpoint.Goals as goal
 
-pub returns-clause-backs : goal.returns-clause-backs
-returns-clause-backs g c = backs-kept _ _ (has-listed _ c.args.self.now.lists) c.cut.ensures.call.keeps c.cut.ensures.call.listed
+pub returns-in-Some : goal.returns-in-Some
+returns-in-Some g c =
+    let call = cut-failed _ _ _ c.in-Some.is in
+    rw c.from.ensures (record { call = call; tracks = cut-untold _ _ _ _ _ refl refl; group = (refl, refl); backs = backs-kept _ _ (has-listed _ c.args.self.now.lists) call.keeps call.listed })
+
+pub returns-in_err-raw : goal.returns-in_err-raw
+returns-in_err-raw g c =
+    let e : c.from_residual.result ≡ Err c.in_err-raw.field-0.0 = err-of _ _ c.from_residual.ensures in
+    let took = rw c.in_err-raw.was at c.take_waiting.ensures.taken in
+    let call = cut-same _ _ _ _ c.in_default.is took in
+    rw e (record {
+      call = call;
+      tracks = cut-untold _ _ _ _ _ (ap (λ (t : SessionTold). t.registered) took.err) c.take_waiting.ensures.untold;
+      group = c.take_waiting.ensures.group;
+      backs = backs-kept _ _ (has-listed _ c.args.self.now.lists) call.keeps call.listed;
+    })
+
+pub returns-in_err-put_finished : goal.returns-in_err-put_finished
+returns-in_err-put_finished g c =
+    let e : c.from_residual-in_err-put_finished.result ≡ Err c.in_err-put_finished.field-0.0 =
+    err-of _ _ c.from_residual-in_err-put_finished.ensures in
+    let took = rw c.in_ok-raw.was at c.take_waiting.ensures.taken in
+    let put = rw c.in_err-put_finished.was at c.put_finished.ensures.call in
+    let call = cut-put _ _ _ _ _ took c.in_default.is _ c.num_chunks-chunks.ensures.chunks (c.is_new.ensures.some c.if-is_new.true) (c.is_new.ensures.new c.if-is_new.true) _ put in
+    rw e (record {
+      call = call;
+      tracks = cut-stopped _ _ _ _ took c.in_default.is _ _ _ (rw (c.as_slice.ensures, c.take_waiting.ensures.untold) at c.register_cut-noted.ensures) _ _ c.num_chunks-chunks.ensures.chunks (c.is_new.ensures.some c.if-is_new.true) _ (rw c.in_err-put_finished.was at c.put_finished.ensures.tracked);
+      group = (c.put_finished.ensures.group.0 ∙ c.take_waiting.ensures.group.0, c.put_finished.ensures.group.1 ∙ c.take_waiting.ensures.group.1);
+      backs = backs-kept _ _ (has-listed _ c.args.self.now.lists) call.keeps call.listed;
+    })
+
+pub returns-in_err-noted : goal.returns-in_err-noted
+returns-in_err-noted g c =
+    let e : c.from_residual-in_err-noted.result ≡ Err data_error.OutOfMemory =
+    err-of _ _ c.from_residual-in_err-noted.ensures in
+    let took = rw c.in_ok-raw.was at c.take_waiting.ensures.taken in
+    let put = put-unnoted _ _ _ _ _ _ (rw c.in_ok-put_finished.was at c.put_finished.ensures.call) in
+    let call = cut-put _ _ _ _ _ took c.in_default.is _ c.num_chunks-chunks.ensures.chunks (c.is_new.ensures.some c.if-is_new.true) (c.is_new.ensures.new c.if-is_new.true) _ put in
+    rw e (record {
+      call = call;
+      tracks = cut-unnoted _ _ _ _ took c.in_default.is _ _ _ (rw (c.as_slice.ensures, c.take_waiting.ensures.untold) at c.register_cut-noted.ensures) _ _ c.num_chunks-chunks.ensures.chunks (c.is_new.ensures.some c.if-is_new.true) _ (rw c.in_ok-put_finished.was at c.put_finished.ensures.tracked);
+      group = (c.put_finished.ensures.group.0 ∙ c.take_waiting.ensures.group.0, c.put_finished.ensures.group.1 ∙ c.take_waiting.ensures.group.1);
+      backs = backs-kept _ _ (has-listed _ c.args.self.now.lists) call.keeps call.listed;
+    })
+
+pub returns-then-is_new : goal.returns-then-is_new
+returns-then-is_new g c =
+    let took = rw c.in_ok-raw.was at c.take_waiting.ensures.taken in
+    let put = rw c.in_ok-put_finished.was at c.put_finished.ensures.call in
+    let call = cut-put _ _ _ _ _ took c.in_default.is _ c.num_chunks-chunks.ensures.chunks (c.is_new.ensures.some c.if-is_new.true) (c.is_new.ensures.new c.if-is_new.true) _ put in
+    record {
+      call = call;
+      tracks = cut-counted _ _ _ _ took c.in_default.is _ _ _ (rw (c.as_slice.ensures, c.take_waiting.ensures.untold) at c.register_cut-noted.ensures) _ _ c.num_chunks-chunks.ensures.chunks (c.is_new.ensures.some c.if-is_new.true) _ _ (rw c.in_ok-put_finished.was at c.put_finished.ensures.tracked) c.in_ok-noted.was;
+      group = (c.put_finished.ensures.group.0 ∙ c.take_waiting.ensures.group.0, c.put_finished.ensures.group.1 ∙ c.take_waiting.ensures.group.1);
+      backs = backs-kept _ _ (has-listed _ c.args.self.now.lists) call.keeps call.listed;
+    }
+
+pub returns : goal.returns
+returns g c =
+    let took = rw c.in_ok-raw.was at c.take_waiting.ensures.taken in
+    let call = cut-still _ _ _ _ _ took c.in_default.is _ c.num_chunks-chunks.ensures.chunks c.num_chunks-chunks.ensures.counted c.finish_files.ensures.call (c.is_new.ensures.old c.if-is_new.false) in
+    let put = ap (λ (t : SessionTold). t.registered) c.finish_files.ensures.call ∙ ap (λ (t : SessionTold). t.registered) took.ok in
+    record {
+      call = call;
+      tracks = rw c.finish_files.ensures.untold (cut-noted _ _ _ _ took c.in_default.is _ _ _ (rw (c.as_slice.ensures, c.take_waiting.ensures.untold) at c.register_cut-noted.ensures) _ put);
+      group = (c.finish_files.ensures.group.0 ∙ c.take_waiting.ensures.group.0, c.finish_files.ensures.group.1 ∙ c.take_waiting.ensures.group.1);
+      backs = backs-kept _ _ (has-listed _ c.args.self.now.lists) call.keeps call.listed;
+    }
+
+pub put_finished-requires-clause-named : goal.put_finished-requires-clause-named
+put_finished-requires-clause-named g c =
+    names-cut _ _ _ (rw c.in_ok-raw.was at c.take_waiting.ensures.taken) c.in_default.is (has-listed _ c.args.self.now.lists)
+
+pub finish_files-requires-clause-named : goal.finish_files-requires-clause-named
+finish_files-requires-clause-named g c =
+    names-still _ _ _ (rw c.in_ok-raw.was at c.take_waiting.ensures.taken) c.in_default.is (has-listed _ c.args.self.now.lists) _ c.num_chunks-chunks.ensures.chunks c.num_chunks-chunks.ensures.counted (c.is_new.ensures.old c.if-is_new.false)

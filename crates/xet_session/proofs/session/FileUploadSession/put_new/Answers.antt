@@ -2,7 +2,7 @@ use Rattle.std.proofs.Common.{arith, inl, refl, ◌≡◌}
 use Rattle.std.specs.Prelude.{Err, None}
 use Rattle.xet_upload.specs.declared.data_error.DataError.TheVariants as data_error
 use Rattle.xet_base.proofs.CallerLemmas.{err-of}
-use Rattle.xet_session.proofs.Cuts.{registers-again, registers-empty, registers-err, registers-put, registers-refused}
+use Rattle.xet_session.proofs.Cuts.{given-put, registers-again, registers-empty, registers-err, registers-put, registers-refused}
 use Rattle.xet_session.proofs.Tracking.{given-again, given-counted, given-empty, given-failed, given-uncounted}
 use Rattle.xet_session.proofs.session.FileUploadSession.put_new.Goals as goal
 
@@ -32,28 +32,28 @@ returns-then-len-eq0 g c =
       group = (refl, refl);
     }
 
-pub returns-in_err-put_given : goal.returns-in_err-put_given
-returns-in_err-put_given g c =
-    let e : c.from_residual-in_err-put_given.result ≡ Err c.in_err-put_given.field-0.0 =
-    err-of _ _ c.from_residual-in_err-put_given.ensures in
+pub returns-in_err-put_finished : goal.returns-in_err-put_finished
+returns-in_err-put_finished g c =
+    let e : c.from_residual-in_err-put_finished.result ≡ Err c.in_err-put_finished.field-0.0 =
+    err-of _ _ c.from_residual-in_err-put_finished.ensures in
     let fresh = c.contains.ensures.no c.if-contains.false in
-    let put = rw c.in_err-put_given.was at c.put_given.ensures.call in
+    let put = given-put _ _ _ _ _ (rw (c.in_err-put_finished.was, c.new.ensures) at c.put_finished.ensures.call) in
     rw e (record {
       call = registers-err _ _ _ c.requires.first fresh (c.requires.unfailed fresh (omega arith)) _ _ (omega arith) put;
       why = put.why;
-      tracked = given-failed _ _ _ _ _ fresh _ (rw c.in_err-put_given.was at c.put_given.ensures.tracked);
-      group = c.put_given.ensures.group;
+      tracked = given-failed _ _ _ _ _ fresh _ (rw c.in_err-put_finished.was at c.put_finished.ensures.tracked);
+      group = c.put_finished.ensures.group;
     })
 
 pub returns : goal.returns
 returns g c =
     let fresh = c.contains.ensures.no c.if-contains.false in
     record {
-      call = registers-put _ _ _ c.requires.first fresh (c.requires.unfailed fresh (omega arith)) _ _ (omega arith) (rw c.in_ok-put_given.was at c.put_given.ensures.call);
+      call = registers-put _ _ _ c.requires.first fresh (c.requires.unfailed fresh (omega arith)) _ _ (omega arith) (given-put _ _ _ _ _ (rw (c.in_ok-put_finished.was, c.new.ensures) at c.put_finished.ensures.call));
       why = tt;
-      tracked = given-counted _ _ _ _ _ fresh _ (rw c.in_ok-put_given.was at c.put_given.ensures.tracked);
-      group = c.put_given.ensures.group;
+      tracked = given-counted _ _ _ _ _ fresh _ (rw c.in_ok-put_finished.was at c.put_finished.ensures.tracked);
+      group = c.put_finished.ensures.group;
     }
 
-pub put_given-requires-clause-unfailed : goal.put_given-requires-clause-unfailed
-put_given-requires-clause-unfailed g c = c.requires.unfailed (c.contains.ensures.no c.if-contains.false) (omega arith)
+pub put_finished-requires-clause-unfailed : goal.put_finished-requires-clause-unfailed
+put_finished-requires-clause-unfailed g c = c.requires.unfailed (c.contains.ensures.no c.if-contains.false) (omega arith)

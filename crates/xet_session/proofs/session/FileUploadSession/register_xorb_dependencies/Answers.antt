@@ -1,5 +1,5 @@
 use Rattle.xet_session.proofs.Tracking.{tracks-none, tracks-one}
-use Rattle.xet_session.proofs.session.FileUploadSession.depend.Goals as goal
+use Rattle.xet_session.proofs.session.FileUploadSession.register_xorb_dependencies.Goals as goal
 
 pub returns-in-Ok-clause-tracks : goal.returns-in-Ok-clause-tracks
 returns-in-Ok-clause-tracks g c = tracks-one _ _ _ _ _ _ (rw c.in-Ok.is at c.depend.ensures)
