@@ -201,7 +201,7 @@ from_memory s q ts us status bytes h = by_passages (all_passages (lane_taps q ts
   where
     by_passages : (o : Option (List Passage)) → IfSome o (λ ps. MadeOf s q ps status bytes) → IfSome o (λ ps. MadeOf s q ps NoMemory bytes)
     by_passages None h = tt
-    by_passages (Some ps) h = record { xs = h.xs; passed = h.passed; once = h.once; planned = h.planned; looks = h.looks; looked = h.looked; given = h.given; made = made_first s q h.xs h.looks status bytes h.made }
+    by_passages (Some ps) h = record { xs = h.xs; passed = h.passed; asked = h.asked; once = h.once; planned = h.planned; looks = h.looks; looked = h.looked; given = h.given; made = made_first s q h.xs h.looks status bytes h.made }
 
 -- ---- a flush after a run
 

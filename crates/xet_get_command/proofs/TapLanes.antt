@@ -30,8 +30,8 @@ use Rattle.xet_ties.proofs.CallerLemmas.{all_told, if_some, looks_gained, told_n
 use Rattle.xet_ties.specs.Gains.{GaveServed}
 use Rattle.xet_ties.specs.Ties.{IsEntryOf}
 use Rattle.xet_ties.specs.Legal.{Legal}
-use Rattle.xet_ties.specs.LegalWords.{AllPlanned, IsPlannedServed, ServedOnce, requests_of}
-use Rattle.xet_ties.specs.Setup.{AllTell, CacheTells, EachGoesOn, RunTold}
+use Rattle.xet_ties.specs.LegalWords.{AllPlanned, FirstAsksFew, IsPlannedServed, ServedOnce, requests_of}
+use Rattle.xet_ties.specs.Setup.{AllTell, CacheTells, EachGoesOn, RunTold, Setup}
 use Rattle.xet_get_command.specs.declared.wanted.Wanted.{Wanted}
 use Rattle.xet_room.specs.declared.status.Status.TheVariants.{NoMemory}
 use Rattle.xet_get_command.specs.GetOptions.{lanes_of}
@@ -259,6 +259,7 @@ behind_lanes pass s valid q lanes k l b n answer same h = record {
         let given : GaveServed (setup_of q) sides.xs h.told.looks = rw heard (looks_gained (setup_of q) h.told.heard k l h.told.looks empty h.cached.gained h.told.given) in
         let once : ServedOnce (served_of_all sides.xs) = subst (λ (ys : List Exchange). ServedOnce (served_of_all ys)) (sym heard) h.blocks.served in
         let planned : AllPlanned (setup_of q) sides.xs = subst (AllPlanned (setup_of q)) (sym heard) h.blocks.planned in
+        let asked : FirstAsksFew (setup_of q) sides.xs = subst (FirstAsksFew (setup_of q)) (sym heard) h.queries.few in
         let m = made pass s valid q (befores s lanes) (afters s lanes) k l b n same sides.xs sides.is sides.first sides.unexpired answer h in
         inl (record {
           bytes = m.0;
@@ -267,6 +268,7 @@ behind_lanes pass s valid q lanes k l b n answer same h = record {
           from = rw e (record {
             xs = sides.xs;
             passed = sides.passed;
+            asked = asked;
             once = once;
             planned = planned;
             looks = h.told.looks;
@@ -278,15 +280,16 @@ behind_lanes pass s valid q lanes k l b n answer same h = record {
 
 -- ---- want of memory before it
 
--- exchanges of which nothing was served
+-- exchanges of which nothing was served, and nothing asked
 record NonePassed (s : Store) (ps : List Passage) : Type 0 where
   xs : List Exchange
   passed : AllZip (IsPassed s) ps xs
   none : served_of_all xs ≡ []
   each : All (λ x. requests_of x ≡ []) xs
+  few : (g : Setup) → FirstAsksFew g xs
 
 none_passed : (ts : List TapTold) (ps : List Passage) → all_passages ts ts ≡ Some ps → (s : Store) → NonePassed s ps
-none_passed [] ps e s = rw (← some_same [] ps e) (record { xs = []; passed = tt; none = refl; each = All-nil _ })
+none_passed [] ps e s = rw (← some_same [] ps e) (record { xs = []; passed = tt; none = refl; each = All-nil _; few = λ g. tt })
 none_passed (t ∷ ts) ps e s = by (λ qs f. none_passed ts qs f s) t.passed t.gave (all_passages ts ts) refl refl refl
   where
     by : ((qs : List Passage) → all_passages ts ts ≡ Some qs → NonePassed s qs) → (o : Option (List Served)) (g : Option (List BlockBytes)) (r : Option (List Passage)) → t.passed ≡ o → t.gave ≡ g → all_passages ts ts ≡ r → NonePassed s ps
@@ -298,7 +301,13 @@ none_passed (t ∷ ts) ps e s = by (λ qs f. none_passed ts qs f s) t.passed t.g
         let rest = others qs e3 in
         let x : Exchange = record { asked = []; served = []; said = [] } in
         let one : IsPassed s p x = record { served_is = sym (drop-length es); blocks_are = sym (drop-length bs); plans = tt } in
-        rw (← some_same (p ∷ qs) ps (rw (e1, e2, e3) at e)) (record { xs = x ∷ rest.xs; passed = (one, rest.passed); none = rest.none; each = All-cons (λ (y : Exchange). requests_of y ≡ []) x rest.xs refl rest.each })
+        rw (← some_same (p ∷ qs) ps (rw (e1, e2, e3) at e)) (record {
+          xs = x ∷ rest.xs;
+          passed = (one, rest.passed);
+          none = rest.none;
+          each = All-cons (λ (y : Exchange). requests_of y ≡ []) x rest.xs refl rest.each;
+          few = λ g. record { cut = []; cuts = record { from = tt; long = All-nil _ }; asked = refl; few = omega arith };
+        })
 
 -- so no block of a plan was served twice
 once_of_none : (xs : List Exchange) → served_of_all xs ≡ [] → ServedOnce (served_of_all xs)
@@ -322,7 +331,7 @@ unbehind s q ts k b = record {
     by None e = inr (λ status bytes. rw e tt)
     by (Some ps) e =
         let sides = none_passed (lane_taps q ts) ps e s in
-        inl (record { bytes = []; took = took_same b.took; total = tt; from = rw e (record { xs = sides.xs; passed = sides.passed; once = once_of_none sides.xs sides.none; planned = planned_of_none q sides.xs sides.each; looks = []; looked = λ plain. refl; given = All-nil _; made = inl refl }) })
+        inl (record { bytes = []; took = took_same b.took; total = tt; from = rw e (record { xs = sides.xs; passed = sides.passed; asked = sides.few (setup_of q); once = once_of_none sides.xs sides.none; planned = planned_of_none q sides.xs sides.each; looks = []; looked = λ plain. refl; given = All-nil _; made = inl refl }) })
 
 -- ---- connections that own their taps
 

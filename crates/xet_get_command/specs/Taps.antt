@@ -15,7 +15,7 @@ use Rattle.xet_ties.specs.Causes.{BlockFails, TermFails}
 use Rattle.xet_ties.specs.Cuts.{IsSaidPiece, Planning, PlansAll, some_said}
 use Rattle.xet_ties.specs.Gains.{GaveServed}
 use Rattle.xet_ties.specs.InCall.{Exchange, Look, joined, new_in, served_of_all}
-use Rattle.xet_ties.specs.LegalWords.{AllPlanned, ServedOnce}
+use Rattle.xet_ties.specs.LegalWords.{AllPlanned, FirstAsksFew, ServedOnce}
 use Rattle.xet_ties.specs.Setup.{Setup}
 use Rattle.xet_get_command.specs.declared.wanted.Wanted.{Wanted}
 use Rattle.xet_room.specs.declared.status.Status.{Status}
@@ -133,6 +133,8 @@ pub record MadeOf (store : Store) (wanted : Wanted) (passages : List Passage) (s
     (bytes : List ℕ) : Type 0 where
   pub xs : List Exchange
   pub passed : AllZip (IsPassed store) passages xs
+  -- the first connection's queries cut the range, and no more others were asked than expired answers came
+  pub asked : FirstAsksFew (setup_of wanted) xs
   -- no block of a plan passed twice, and each that passed is a block of a plan that was said
   pub once : ServedOnce (served_of_all xs)
   pub planned : AllPlanned (setup_of wanted) xs
