@@ -28,7 +28,7 @@ def crates():
 def taken_up():
     """The words of specs/steps that another crate than their own names: (crate, file, word)."""
     found = set()
-    for path in TOP.glob("crates/*/*/**/*"):
+    for path in TOP.glob("crates/*/[sp]*/**/*"):
         if path.suffix in (".rt", ".antt"):
             for crate, file, names in TAKES.findall(path.read_text()):
                 if crate != path.relative_to(TOP).parts[1]:
