@@ -10,7 +10,7 @@ pub mod mem_block;
 pub mod mem_cut;
 pub mod mem_fetch;
 pub mod mem_store;
-mod stored_xorb;
+pub mod stored_xorb;
 pub mod tap;
 mod tap_log;
 mod touched_chunks;
@@ -18,7 +18,8 @@ pub mod worked;
 
 pub use joined_xorb::JoinedXorb;
 pub use map_cache::MapCache;
-pub use mem_store::{MemStore, StoreRefused};
+pub use mem_store::{KeptFile, MemStore, StoreRefused};
+pub use stored_xorb::StoredXorb;
 pub use tap::{MemTap, NoTap, ScriptTap, Tap};
 pub use xet_outside::{
     BlockAnswer, BlockBytes, BlockRequest, CacheError, CancelSignal, ChunkCache, Client,

@@ -9,6 +9,7 @@ use Rattle.xet_base.specs.declared.mdb_shard.MDBXorbInfo.{MDBXorbInfo}
 use Rattle.xet_base.specs.declared.merklehash.MerkleHash.{MerkleHash}
 use Rattle.xet_base.specs.Digests.{chunk_hash_of}
 use Rattle.xet_base.specs.Hashes.{hash_eq}
+use Rattle.xet_base.specs.Store.{Store}
 use Rattle.xet_outside.specs.declared.client.ClientError.{ClientError}
 use Rattle.xet_outside.specs.declared.client.ClientError.TheVariants as client_error
 use Rattle.xet_outside.specs.Told.{Rose, Grew}
@@ -16,6 +17,8 @@ use Rattle.xet_uploader.specs.declared.uploader.Put.{Put}
 use Rattle.xet_uploader.specs.declared.uploader.Put.TheVariants as put
 
 pub record UploaderTold : Type 0 where
+  -- the store that it began with
+  pub first : Option Store
   -- the accepted puts, which are its log
   pub puts : Option (List Put)
   -- the chunks that queries for records asked for
@@ -29,6 +32,7 @@ pub record PutXorbCall (before after : UploaderTold) (xorb : Xorb) (answer : Res
   pub accepted : OnOk answer (Grew before.puts after.puts (put.Xorb xorb))
   pub refused : OnErr answer (after.puts ≡ before.puts)
   pub sent : IsSome before.puts → IfOk answer (λ n. n ≡ min (length (concat xorb.chunks)) (2 ^ 64 - 1))
+  pub first : after.first ≡ before.first
   pub asked : after.asked ≡ before.asked
   pub answered : after.answered ≡ before.answered
   pub faults : before.faults ≤ after.faults
@@ -41,6 +45,7 @@ pub record PutShardCall (before after : UploaderTold) (shard : ShardRecord)
     (answer : Result ℕ ClientError) : Type 0 where
   pub accepted : OnOk answer (Grew before.puts after.puts (put.Shard shard))
   pub refused : OnErr answer (after.puts ≡ before.puts)
+  pub first : after.first ≡ before.first
   pub asked : after.asked ≡ before.asked
   pub answered : after.answered ≡ before.answered
   pub faults : before.faults ≤ after.faults
@@ -56,6 +61,7 @@ AskedOnce before after chunk = (after.asked ≡ before.asked) ⊎ Grew before.as
 pub record QueryShardCall (before after : UploaderTold) (chunk : MerkleHash)
     (answer : Result (Option ShardRecord) ClientError) : Type 0 where
   pub puts : after.puts ≡ before.puts
+  pub first : after.first ≡ before.first
   pub asked : OnOk answer (Grew before.asked after.asked chunk)
   pub unasked : OnErr answer (AskedOnce before after chunk)
   pub answered : IfOk answer (λ a. Grew before.answered after.answered a)

@@ -40,7 +40,7 @@ impl MemUploader {
     /// An uploader to this store, in which the puts with these numbers fail, counted from 0. It takes no memory.
     pub fn new(alloc: Global, store: MemStore, fails: Vec<u64>) -> MemUploader
         ensures told { ⟦<MemUploader as Uploader>⟧.told result
-            ≡ record { puts = Some []; asked = Some []; answered = Some []; faults = 0 } }
+            ≡ record { first = Some store; puts = Some []; asked = Some []; answered = Some []; faults = 0 } }
         ensures store { result.store ≡ store }
         ensures fails { IsPermutation fails.items result.script.fails.items }
         ensures asked { result.script.calls ≡ 0 }
@@ -84,6 +84,7 @@ impl MemUploader {
 
 impl Uploader for MemUploader {
     ghost told = { λ u. record {
+      first = Some u.store;
       puts = Some u.log.items;
       asked = Some u.asked.items;
       answered = Some u.answered.items;
