@@ -21,8 +21,8 @@ use xet_stages::{Around, Outcome, record_blocks, take_outcome};
 use xet_writers::SequentialWriter;
 
 /// Fetches these blocks by the connections, each with a lane of its own, while the writer writes what it holds: the
-/// next terms, of these lengths in bytes. Where there is one connection alone, which answers at once, they are written
-/// before. Then all that came of it is recorded, the served blocks keep their data, the expired ones are counted, and
+/// next terms, of these lengths in bytes. Where the gate is open and there is one connection alone, which answers at
+/// once, they are written before. Then all that came of it is recorded, the served blocks keep their data, the expired ones are counted, and
 /// the written terms go.
 ///
 /// The error of the join, where it has one: want of memory first, then the writer's, then that of the lowest lane. Else
@@ -61,7 +61,7 @@ pub fn run_round<
         result }
     ensures parts { pass.new.share.parts ≡ pass.old.share.parts }
 {
-    let beside = total(lengths.as_slice()) != 0 && wait_for(clients);
+    let beside = total(lengths.as_slice()) != 0 && wait_for(around.gate, clients);
     let joined = match fetch_blocks(around, leader, pass, clients, writer, places, beside) {
         Ok(joined) => joined,
         Err(error) => return Err(error),
@@ -71,10 +71,10 @@ pub fn run_round<
     take_outcome(around.alloc, leader, core, joined, lengths, tries)
 }
 
-/// Whether fetches by these connections are worth a thread beside the writing: not where there is one alone, which
-/// answers at once.
-fn wait_for<C: Client>(clients: &[C]) -> bool {
-    clients.len() != 1 || clients[0].waits()
+/// Whether fetches through this gate by these connections are worth a thread beside the writing: not where the gate is
+/// open, and there is one connection alone, which answers at once.
+fn wait_for<G: Gate, C: Client>(gate: &G, clients: &[C]) -> bool {
+    !gate.is_open() || clients.len() != 1 || clients[0].waits()
 }
 
 /// The sum of these lengths, which stops at `u64::MAX`.
