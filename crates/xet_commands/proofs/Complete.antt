@@ -1,0 +1,83 @@
+-- Where nothing that the program is given fails, it answers by words and input alone, or for want of memory.
+use Rattle.std.proofs.Common.{◌≡◌, ◌⊎◌, ℕ, zero, suc, true, false, List, [], ◌∷◌, Option, Some, None, refl, subst, inl, inr, ⊎_elim}
+use Rattle.std.specs.Prelude.{All, take}
+use Rattle.xet_store.specs.Taps.{TapTold}
+use Rattle.xet_room.specs.declared.status.Status.{Status}
+use Rattle.xet_room.specs.declared.status.Status.TheVariants as status
+use Rattle.xet_room.specs.Ends.{Told}
+use Rattle.xet_room.specs.Outcome.{Finished}
+use Rattle.xet_get_command.specs.declared.wanted.Wanted.{Wanted}
+use Rattle.xet_get_command.specs.Get.{GetOutcome, OverStore}
+use Rattle.xet_get_command.specs.GetOptions.{lanes_of}
+use Rattle.xet_get_command.specs.Taps.{LanesHonest}
+use Rattle.xet_track.specs.Texts.{track_reads}
+use Rattle.xet_track_command.specs.Track.{TrackStatus}
+use Rattle.xet_commands.specs.declared.commands.Command.{Command}
+use Rattle.xet_commands.specs.declared.commands.Command.TheVariants as command
+use Rattle.xet_commands.specs.Commands.{Outcome, command_of}
+use Rattle.xet_commands.specs.Completeness.{AnswersAreComplete, GetBy, IsDocument, NothingFails, StatusBy, TrackBy}
+
+-- the first taps are as honest as all
+take_all : {A : Type 0} (P : A → Type 0) (n : ℕ) (xs : List A) → All P xs → All P (take n xs)
+take_all P zero xs h = tt
+take_all P (suc n) [] h = tt
+take_all P (suc n) (x ∷ xs) h = (h.0, take_all P n xs h.1)
+
+lanes_honest : (wanted : Wanted) (text : List ℕ) (b n : Told) → NothingFails text b n → LanesHonest wanted b.taps
+lanes_honest wanted text b n f = take_all (λ (t : TapTold). t.honest ≡ true) (lanes_of wanted.options) b.taps f.taps
+
+module _ (limit : ℕ) (text : List ℕ) (b n : Told) (f : NothingFails text b n) where
+
+  document : (wanted : Wanted) (store : _) → OverStore limit store wanted b n → IsDocument limit text store
+  document wanted store o = record { short = (o.read text f.input).0; is = o.document text f.input }
+
+  get_by : (wanted : Wanted) (s : Status) → GetOutcome limit wanted b n s
+      → (s ≡ status.NoMemory) ⊎ GetBy limit wanted text s
+  get_by wanted status.Done o =
+      inr (o.store, document wanted o.store o.over, o.settings, (o.honest (lanes_honest wanted text b n f)).printed.found)
+  get_by wanted status.BadWords o = absurd o
+  get_by wanted status.BadStore o = inr ((o.read text f.input).0, o.no_document text f.input)
+  get_by wanted status.BadScript o = absurd o
+  get_by wanted status.NotFound o =
+      inr (o.store, document wanted o.store o.over, o.settings, (o.honest (lanes_honest wanted text b n f)).missing)
+  get_by wanted status.ReadFault o = absurd (f.reads o.rose)
+  get_by wanted status.WriteFault o = absurd (f.writes o.0)
+  get_by wanted status.NoMemory o = inl refl
+  get_by wanted status.TooLong o = inr (o.too_long text f.input)
+  get_by wanted (status.BadSettings e) o = inr (o.store, document wanted o.store o.over, o.failing)
+  get_by wanted (status.BadBlock k) o = absurd (o.dishonest (lanes_honest wanted text b n f))
+
+  track_by : (s : Status) → TrackStatus limit b n s → (s ≡ status.NoMemory) ⊎ TrackBy limit text s
+  track_by status.Done o =
+      inr ((o.over.read text f.input).0, subst (λ (l : List ℕ). track_reads l ≡ true) (o.over.script_is text f.input) o.from.0)
+  track_by status.BadWords o = absurd o
+  track_by status.BadStore o = absurd o
+  track_by status.BadScript o =
+      inr ((o.over.read text f.input).0, subst (λ (l : List ℕ). track_reads l ≡ false) (o.over.script_is text f.input) o.from.0)
+  track_by status.NotFound o = absurd o
+  track_by status.ReadFault o = absurd (f.reads o.rose)
+  track_by status.WriteFault o = absurd (f.writes o.0)
+  track_by status.NoMemory o = inl refl
+  track_by status.TooLong o = inr (o.too_long text f.input)
+  track_by (status.BadSettings e) o = absurd o
+  track_by (status.BadBlock k) o = absurd o
+
+  text_by : {t : List ℕ} (whole s : Status) → Finished t whole b.sink n.sink s → (s ≡ status.NoMemory) ⊎ (s ≡ whole)
+  text_by whole s o =
+      ⊎_elim (λ d. inr d.0)
+      (λ r. ⊎_elim (λ w. absurd (f.writes w.1.0)) (λ m. inl m.0) r)
+      o
+
+  outcome_by : (o : Option Command) (s : Status) → Outcome limit o b n s → (s ≡ status.NoMemory) ⊎ StatusBy limit o text s
+  outcome_by (Some (command.Get wanted)) s o = get_by wanted s o
+  outcome_by (Some command.Track) s o = track_by s o.by_status
+  outcome_by (Some command.Help) s o = text_by status.Done s o.text_is
+  outcome_by (Some command.Version) s o = text_by status.Done s o.text_is
+  outcome_by None s o = text_by status.BadWords s o.text_is
+
+pub complete : AnswersAreComplete
+complete limit words text b n number a f = record {
+  status = a.status;
+  number_is = a.number_is;
+  by = outcome_by limit text b n f (command_of words) a.status a.outcome;
+}
