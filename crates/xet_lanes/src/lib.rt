@@ -5,8 +5,8 @@
 pub mod drawing;
 mod halves;
 mod jobs;
-pub mod round;
+pub mod overlap;
 
-pub use round::fetch_and_write;
+pub use overlap::fetch_and_write;
 pub use xet_lane::{Fetch, Gate, Joined, Lane, LaneEnd, OpenGate};
 pub use xet_ties::LaneStep;

@@ -16,7 +16,7 @@ use Rattle.xet_terms.specs.Queries.{CutFrom, end_from}
 use Rattle.xet_terms.proofs.CallerLemmas.{cuts-take}
 use Rattle.xet_ties.specs.History.{actual_range}
 use Rattle.xet_ties.specs.Setup.{Setup}
-use Rattle.xet_ties.specs.steps.Parts.{blocks_of_answer, plan_event, terms_in}
+use Rattle.xet_ties.specs.PartCalls.{blocks_of_answer, plan_event, terms_in}
 use Rattle.xet_leader.specs.Led.{IsLedManager}
 use Rattle.xet_leader.proofs.NextQueries.{IsDue, cut_last, due_cuts, end_last, take_next}
 use Rattle.xet_ties.specs.Ties.{IsLong}

@@ -24,8 +24,8 @@ use Rattle.xet_ties.specs.Lanes.{Ask, IsFor}
 use Rattle.xet_ties.specs.Saids.{planned_of}
 use Rattle.xet_ties.specs.Setup.{RunTold, Setup}
 use Rattle.xet_ties.specs.Ties.{MayLeave, Slack, is_one, is_pair}
-use Rattle.xet_ties.specs.steps.Records.{AreUnkept, HasTry, IsFreshAsk, asks_for, blocks_all, key_of}
-use Rattle.xet_ties.specs.steps.Rounds.{IsMissingAsk}
+use Rattle.xet_ties.specs.Recordings.{AreUnkept, HasTry, IsFreshAsk, asks_for, blocks_all, key_of}
+use Rattle.xet_ties.specs.Rounds.{IsMissingAsk}
 use Rattle.xet_ties.proofs.CallerLemmas.{short_leaves}
 use Rattle.xet_lane.specs.declared.lane.Fetch.{Fetch}
 use Rattle.xet_lane.specs.Fetches.{ask_of}

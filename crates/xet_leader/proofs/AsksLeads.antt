@@ -22,8 +22,8 @@ use Rattle.xet_terms.specs.declared.manager.PlanDue.{PlanDue}
 use Rattle.xet_terms.proofs.CallerLemmas.{looked_same}
 use Rattle.xet_ties.specs.Saids.{InStep}
 use Rattle.xet_ties.specs.Setup.{RunTold, Setup}
-use Rattle.xet_ties.specs.steps.Moves.{heard_first}
-use Rattle.xet_ties.specs.steps.Parts.{plan_query}
+use Rattle.xet_ties.specs.Moves.{heard_first}
+use Rattle.xet_ties.specs.PartCalls.{plan_query}
 use Rattle.xet_ties.specs.Ties.{EachLane, IsFaultless, MayLeave, NoneLate, Slack, Ties, all_of, IsNextQuery}
 use Rattle.xet_ties.proofs.CallerLemmas.{asked_own, first_tells, none_hidden, none_late, short_leaves, steady_leaves}
 use Rattle.xet_parts.specs.DueQueries.{CancelledDue, NoneDue, OneDue, TakesDue}

@@ -31,7 +31,7 @@ use Rattle.xet_ties.specs.History.{block_at}
 use Rattle.xet_ties.specs.Saids.{has_bytes, planned_of}
 use Rattle.xet_ties.specs.Setup.{IsOver, RunTold, Setup}
 use Rattle.xet_ties.specs.Ties.{Slack}
-use Rattle.xet_ties.specs.steps.Windows.{is_wanted}
+use Rattle.xet_ties.specs.Windows.{is_wanted}
 use Rattle.xet_ties.proofs.CallerLemmas.{wanted_is}
 use Rattle.xet_leader.specs.ByNumber.{plan_index}
 use Rattle.xet_leader.specs.declared.leader.LedPlan.{LedPlan}

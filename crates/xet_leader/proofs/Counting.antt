@@ -10,7 +10,7 @@ use Rattle.std.proofs.lemmas.Bool.{cases_lt, cases_order, cond-true, eq-eqb, le-
 use Rattle.std.proofs.lemmas.List.{at_drop_all, at_drop_more, map-append}
 use Rattle.xet_error.specs.declared.error.FileReconstructionError.{FileReconstructionError}
 use Rattle.xet_error.specs.declared.error.FileReconstructionError.TheVariants as error
-use Rattle.xet_ties.specs.steps.Records.{Place}
+use Rattle.xet_ties.specs.Recordings.{Place}
 use Rattle.xet_leader.specs.declared.expiries.StalePlan.{StalePlan}
 use Rattle.xet_leader.specs.declared.leader.LedPlan.{LedPlan}
 use Rattle.xet_leader.specs.declared.missing_blocks.BlockAt.{BlockAt}

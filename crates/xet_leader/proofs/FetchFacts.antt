@@ -17,7 +17,7 @@ use Rattle.xet_history.specs.TrueHistory.{planned_term}
 use Rattle.xet_ties.specs.Saids.{planned_of}
 use Rattle.xet_ties.specs.Setup.{RunTold, Setup}
 use Rattle.xet_ties.specs.Ties.{Slack}
-use Rattle.xet_ties.specs.steps.Windows.{IsAt, is_wanted, open_terms}
+use Rattle.xet_ties.specs.Windows.{IsAt, is_wanted, open_terms}
 use Rattle.xet_ties.proofs.CallerLemmas.{wanted_is}
 use Rattle.xet_leader.specs.declared.leader.LedPlan.{LedPlan}
 use Rattle.xet_leader.specs.declared.missing_blocks.BlockAt.{BlockAt}

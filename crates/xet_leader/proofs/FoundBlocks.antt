@@ -12,7 +12,7 @@ use Rattle.xet_events.specs.Allowed.{IsMissing}
 use Rattle.xet_events.specs.Events.{Task, is_admit, is_kept, keeps, planned}
 use Rattle.xet_events.proofs.CallerLemmas.{any-push, planned-push}
 use Rattle.xet_ties.specs.History.{block_at}
-use Rattle.xet_ties.specs.steps.Windows.{open_terms}
+use Rattle.xet_ties.specs.Windows.{open_terms}
 use Rattle.xet_ties.proofs.CallerLemmas.{block_at-push, count-same, missing-push}
 use Rattle.xet_leader.specs.declared.missing_blocks.BlockAt.{BlockAt}
 use Rattle.xet_leader.specs.FetchLists.{AreApart, Each, IsFetchList, IsKeptOrListed, place_of}

@@ -8,7 +8,7 @@ use Rattle.xet_events.specs.Events.{expires}
 use Rattle.xet_parts.specs.Stops.{IsStopped}
 use Rattle.xet_ties.specs.RunCalls.{IsCancelled, IsUnspent}
 use Rattle.xet_ties.specs.Setup.{Setup}
-use Rattle.xet_ties.specs.steps.Parts.{stop_event}
+use Rattle.xet_ties.specs.PartCalls.{stop_event}
 use Rattle.xet_ties.specs.Ties.{IsFaultless}
 use Rattle.xet_leader.proofs.QuietEvents.{quiet_under}
 

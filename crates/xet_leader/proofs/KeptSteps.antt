@@ -7,8 +7,8 @@ use Rattle.std.proofs.lemmas.List.{append-nil}
 use Rattle.xet_offers.specs.declared.reconstruction_terms.xorb_block.XorbBlock.{XorbBlock}
 use Rattle.xet_offers.specs.declared.reconstruction_terms.xorb_block.XorbBlockData.{XorbBlockData}
 use Rattle.xet_ties.specs.declared.lane_step.LaneStep.{LaneStep}
-use Rattle.xet_ties.specs.steps.Records.{Place, places_in, places_of}
-use Rattle.xet_ties.specs.steps.Rounds.{got_in, got_of}
+use Rattle.xet_ties.specs.Recordings.{Place, places_in, places_of}
+use Rattle.xet_ties.specs.Rounds.{got_in, got_of}
 use Rattle.xet_lane.specs.declared.joined.LaneEnd.{LaneEnd}
 use Rattle.xet_leader.specs.ByNumber.{change_at, only, plan_index}
 use Rattle.xet_leader.specs.declared.keeping.RoundPlaces.{RoundPlaces}

@@ -25,9 +25,9 @@ use Rattle.xet_history.specs.TrueHistory.{planned_term, queries}
 use Rattle.xet_parts.proofs.CallerLemmas.{query_within}
 use Rattle.xet_terms.specs.Managers.{Manager, accepted}
 use Rattle.xet_ties.specs.Saids.{IsCutAnswer}
-use Rattle.xet_ties.specs.steps.Moves.{heard_first}
+use Rattle.xet_ties.specs.Moves.{heard_first}
 use Rattle.xet_ties.specs.Setup.{IsOver, RunTold, Setup}
-use Rattle.xet_ties.specs.steps.Parts.{blocks_of_answer, plan_event, plan_query, terms_in}
+use Rattle.xet_ties.specs.PartCalls.{blocks_of_answer, plan_event, plan_query, terms_in}
 use Rattle.xet_ties.specs.Ties.{Slack}
 use Rattle.xet_ties.proofs.CallerLemmas.{count-more, count-same}
 use Rattle.xet_leader.specs.declared.leader.LedPlan.{LedPlan}

@@ -13,7 +13,7 @@ use Rattle.xet_events.specs.declared.event.Event.{Event}
 use Rattle.xet_events.specs.declared.event.Event.TheVariants.{Cached}
 use Rattle.xet_events.specs.Allowed.{IsMissing, IsRunning}
 use Rattle.xet_events.specs.Events.{keeps}
-use Rattle.xet_ties.specs.steps.Parts.{FoundBlock}
+use Rattle.xet_ties.specs.PartCalls.{FoundBlock}
 use Rattle.xet_ties.proofs.CallerLemmas.{IsStill, missing-push, running-push}
 use Rattle.xet_leader.specs.ByNumber.{plan_index}
 use Rattle.xet_leader.specs.declared.leader.LedPlan.{LedPlan}

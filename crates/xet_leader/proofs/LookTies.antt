@@ -25,7 +25,7 @@ use Rattle.xet_ties.specs.InCall.{Look}
 use Rattle.xet_ties.specs.Saids.{IsLookedData, planned_of}
 use Rattle.xet_ties.specs.Setup.{CacheTells, IsHonestEntry, IsOver, RunTold, Setup}
 use Rattle.xet_ties.specs.Ties.{Slack, is_one}
-use Rattle.xet_ties.specs.steps.Parts.{FoundBlock, LookedUp, looks_after}
+use Rattle.xet_ties.specs.PartCalls.{FoundBlock, LookedUp, looks_after}
 use Rattle.xet_ties.proofs.CallerLemmas.{count-append, count-same, look_up_ties, none_fetched, tie_rest}
 use Rattle.xet_parts.proofs.CallerLemmas.{look_tells}
 use Rattle.xet_leader.specs.ByNumber.{plan_index}

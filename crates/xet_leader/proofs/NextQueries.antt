@@ -21,7 +21,7 @@ use Rattle.xet_terms.specs.declared.manager.PlanDue.{PlanDue}
 use Rattle.xet_terms.proofs.CallerLemmas.{cuts-take, looked_same}
 use Rattle.xet_ties.specs.Saids.{IsMadeOf, IsMadeOfPlan}
 use Rattle.xet_ties.specs.Setup.{Setup}
-use Rattle.xet_ties.specs.steps.Parts.{blocks_of_answer, plan_query, terms_in}
+use Rattle.xet_ties.specs.PartCalls.{blocks_of_answer, plan_query, terms_in}
 use Rattle.xet_ties.specs.Ties.{CutsRange, IsLong, IsNextQuery}
 use Rattle.xet_ties.proofs.CallerLemmas.{answer_makes}
 use Rattle.xet_parts.specs.DueQueries.{TakesDue}

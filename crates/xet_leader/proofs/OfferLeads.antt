@@ -22,8 +22,8 @@ use Rattle.xet_ties.specs.Gains.{MayOffer}
 use Rattle.xet_ties.specs.History.{block_at, blocks_in, fetches}
 use Rattle.xet_ties.specs.Saids.{planned_of}
 use Rattle.xet_ties.specs.Setup.{CacheTells, IsOver, RunTold, Setup}
-use Rattle.xet_ties.specs.steps.Parts.{offers_in, offers_of}
-use Rattle.xet_ties.specs.steps.Rounds.{blocks_at}
+use Rattle.xet_ties.specs.PartCalls.{offers_in, offers_of}
+use Rattle.xet_ties.specs.Rounds.{blocks_at}
 use Rattle.xet_ties.specs.Ties.{MayLeave, Slack, Ties, has_one}
 use Rattle.xet_ties.proofs.CallerLemmas.{grew_none, short_leaves}
 use Rattle.xet_parts.specs.Offers.{OfferBlockCall}

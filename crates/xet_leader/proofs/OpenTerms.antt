@@ -13,7 +13,7 @@ use Rattle.xet_history.specs.TrueHistory.{planned_term}
 use Rattle.xet_ties.specs.Saids.{planned_of}
 use Rattle.xet_ties.specs.Setup.{RunTold, Setup}
 use Rattle.xet_ties.specs.Ties.{Slack}
-use Rattle.xet_ties.specs.steps.Windows.{open_terms}
+use Rattle.xet_ties.specs.Windows.{open_terms}
 use Rattle.xet_leader.specs.declared.leader.LedPlan.{LedPlan}
 use Rattle.xet_leader.specs.Lacking.{first_of}
 use Rattle.xet_leader.specs.Led.{BeginsWith, FollowOn, IsLed, IsLedPlan, IsRecordedPlan, LastTermsAre, Led}

@@ -40,8 +40,8 @@ use Rattle.xet_ties.specs.History.{actual_range, blocks_in, range_in}
 use Rattle.xet_ties.specs.InCall.{EachGrew, Exchange}
 use Rattle.xet_ties.specs.Saids.{IsCutAnswer, planned_of}
 use Rattle.xet_ties.specs.Setup.{IsOver, RunTold, Setup}
-use Rattle.xet_ties.specs.steps.Moves.{heard_first}
-use Rattle.xet_ties.specs.steps.Parts.{plan_event, plan_query}
+use Rattle.xet_ties.specs.Moves.{heard_first}
+use Rattle.xet_ties.specs.PartCalls.{plan_event, plan_query}
 use Rattle.xet_ties.specs.Ties.{Slack}
 use Rattle.xet_ties.proofs.CallerLemmas.{count-same, fetched_before, expired-push, first_stays, grew_first, range_at-push}
 use Rattle.xet_leader.specs.declared.leader.LedPlan.{LedPlan}

@@ -16,7 +16,7 @@ use Rattle.xet_events.specs.declared.event.Event.{Event}
 use Rattle.xet_events.specs.declared.event.Event.TheVariants.{Refreshed}
 use Rattle.xet_ties.specs.History.{range_at}
 use Rattle.xet_ties.specs.Setup.{RunTold, Setup}
-use Rattle.xet_ties.specs.steps.Moves.{heard_first}
+use Rattle.xet_ties.specs.Moves.{heard_first}
 use Rattle.xet_ties.specs.Ties.{NoneLate, Slack, all_of}
 use Rattle.xet_ties.proofs.CallerLemmas.{drop_at, grew_first, none_hidden, none_late, steady_leaves}
 use Rattle.xet_parts.specs.PlanRefreshes.{again}

@@ -29,7 +29,7 @@ use Rattle.xet_fetch.proofs.CallerLemmas.{honest_tables}
 use Rattle.xet_ties.specs.Setup.{Setup}
 use Rattle.xet_ties.proofs.CallerLemmas.{past_none}
 use Rattle.xet_parts.specs.PlanRefreshes.{again}
-use Rattle.xet_ties.specs.steps.Parts.{plan_refresh}
+use Rattle.xet_ties.specs.PartCalls.{plan_refresh}
 use Rattle.xet_leader.specs.declared.leader.LedPlan.{LedPlan}
 use Rattle.xet_leader.specs.Led.{IsLedTable, bare}
 

@@ -12,7 +12,7 @@ use Rattle.xet_terms.specs.Queries.{end_from}
 use Rattle.xet_ties.specs.Causes.{failing_setting}
 use Rattle.xet_ties.specs.Saids.{InStep}
 use Rattle.xet_ties.specs.Setup.{RunTold, Setup}
-use Rattle.xet_ties.specs.steps.Moves.{no_exchange, no_slack}
+use Rattle.xet_ties.specs.Moves.{no_exchange, no_slack}
 use Rattle.xet_ties.proofs.CallerLemmas.{step_start, tie_start}
 use Rattle.xet_leader.specs.declared.leader.Job.{Job}
 use Rattle.xet_leader.specs.declared.leader.LedPlan.{LedPlan}

@@ -8,7 +8,7 @@ use Rattle.xet_blocks.specs.declared.reconstruction_terms.file_term.TermBlock.{T
 use Rattle.xet_events.specs.declared.event.Event.{Event}
 use Rattle.xet_terms.specs.Managers.{Manager}
 use Rattle.xet_terms.specs.declared.manager.PlanDue.{PlanDue}
-use Rattle.xet_ties.specs.steps.Parts.{plan_query}
+use Rattle.xet_ties.specs.PartCalls.{plan_query}
 use Rattle.xet_parts.specs.DueQueries.{DueFails, NoneDue, OneDue}
 use Rattle.xet_parts.specs.PlanAsks.{AskPlanCall}
 use Rattle.xet_leader.specs.declared.leader.Job.{Job}

@@ -5,7 +5,7 @@ use Rattle.std.specs.List.{list_any}
 use Rattle.std.specs.Vec.{with_item}
 use Rattle.xet_error.specs.declared.error.FileReconstructionError.{FileReconstructionError}
 use Rattle.xet_error.specs.declared.error.FileReconstructionError.TheVariants as error
-use Rattle.xet_ties.specs.steps.Records.{Place}
+use Rattle.xet_ties.specs.Recordings.{Place}
 use Rattle.xet_leader.specs.ByNumber.{change_plan, plan_index}
 use Rattle.xet_leader.specs.declared.leader.LedPlan.{LedPlan}
 use Rattle.xet_leader.specs.Led.{Led}

@@ -4,7 +4,7 @@ use Rattle.xet_events.specs.declared.event.Event.{Event}
 use Rattle.xet_events.specs.Allowed.{IsMissing}
 use Rattle.xet_events.specs.Events.{Task, is_kept}
 use Rattle.xet_ties.specs.Saids.{has_bytes}
-use Rattle.xet_ties.specs.steps.Windows.{open_terms}
+use Rattle.xet_ties.specs.Windows.{open_terms}
 use Rattle.xet_leader.specs.declared.missing_blocks.BlockAt.{BlockAt}
 use Rattle.xet_leader.specs.Lacking.{lists}
 

@@ -6,8 +6,8 @@ use Rattle.xet_offers.specs.declared.reconstruction_terms.xorb_block.XorbBlock.{
 use Rattle.xet_offers.specs.declared.reconstruction_terms.xorb_block.XorbBlockData.{XorbBlockData}
 use Rattle.xet_ties.specs.declared.lane_step.LaneStep.{LaneStep}
 use Rattle.xet_ties.specs.declared.lane_step.LaneStep.TheVariants as step
-use Rattle.xet_ties.specs.steps.Records.{places_of}
-use Rattle.xet_ties.specs.steps.Rounds.{got_of}
+use Rattle.xet_ties.specs.Recordings.{places_of}
+use Rattle.xet_ties.specs.Rounds.{got_of}
 use Rattle.xet_lane.specs.declared.joined.LaneEnd.{LaneEnd}
 use Rattle.xet_leader.specs.ByNumber.{change_at, change_plan}
 use Rattle.xet_leader.specs.declared.keeping.RoundPlaces.{RoundPlaces}

@@ -13,7 +13,7 @@ use Rattle.xet_events.specs.Allowed.{IsMissing, IsRunning}
 use Rattle.xet_ties.specs.History.{block_at}
 use Rattle.xet_ties.specs.Setup.{RunTold, Setup}
 use Rattle.xet_ties.specs.Ties.{Slack}
-use Rattle.xet_ties.specs.steps.Parts.{LookedShort, LookedUp}
+use Rattle.xet_ties.specs.PartCalls.{LookedShort, LookedUp}
 use Rattle.xet_leader.specs.declared.leader.LedPlan.{LedPlan}
 use Rattle.xet_leader.specs.declared.missing_blocks.BlockAt.{BlockAt}
 use Rattle.xet_leader.specs.ByNumber.{plan_index}

@@ -10,7 +10,7 @@ use Rattle.xet_parts.specs.Offers.{OfferBlockCall}
 use Rattle.xet_ties.specs.History.{fetches}
 use Rattle.xet_ties.specs.Setup.{Setup}
 use Rattle.xet_ties.specs.Ties.{has_one}
-use Rattle.xet_ties.specs.steps.Rounds.{blocks_at}
+use Rattle.xet_ties.specs.Rounds.{blocks_at}
 use Rattle.xet_leader.specs.declared.leader.LedPlan.{LedPlan}
 use Rattle.xet_leader.specs.declared.missing_blocks.BlockAt.{BlockAt}
 use Rattle.xet_leader.specs.Led.{Led}

@@ -1,5 +1,5 @@
 -- Blocks by their places.
-use Rattle.xet_ties.specs.steps.Records.{Place}
+use Rattle.xet_ties.specs.Recordings.{Place}
 use Rattle.xet_leader.specs.declared.missing_blocks.BlockAt.{BlockAt}
 
 -- a plan's number, and the block's number in it

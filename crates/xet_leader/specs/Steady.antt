@@ -12,7 +12,7 @@ use Rattle.xet_ties.specs.Causes.{Cause}
 use Rattle.xet_ties.specs.RunCalls.{IsCancelled, IsUnspent, Unfailed}
 use Rattle.xet_ties.specs.Saids.{InStep}
 use Rattle.xet_ties.specs.Setup.{CacheTells, IsOver, RunTold, Setup}
-use Rattle.xet_ties.specs.steps.Moves.{no_hidden, no_late}
+use Rattle.xet_ties.specs.Moves.{no_hidden, no_late}
 use Rattle.xet_ties.specs.Ties.{MayLeave, Slack, Ties}
 use Rattle.xet_leader.specs.Led.{IsLed, Led}
 

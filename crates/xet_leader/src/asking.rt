@@ -1,7 +1,7 @@
 //! Asks for the plan that is due.
 ghost use Rattle.std.specs.Prelude.{◌≡◌, ◌<◌, false, IfErr, IfOk, OnOk, Some, length, map, slice_get};
 ghost use Rattle.xet_events.specs.Allowed.{IsRunning};
-ghost use Rattle.xet_ties.specs.steps.Parts.{plan_query};
+ghost use Rattle.xet_ties.specs.PartCalls.{plan_query};
 ghost use Rattle.xet_parts.specs.PlanAsks.{PlansAllowed};
 ghost use Rattle.xet_terms.specs.Managers.{IsCovered};
 ghost use Rattle.xet_leader.specs.Asking.{AskLeads, AskTurn, FirstAsked, HandsOn};

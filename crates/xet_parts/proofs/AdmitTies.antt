@@ -10,7 +10,7 @@ use Rattle.xet_events.specs.Allowed.{IsRunning, MayAdmit}
 use Rattle.xet_events.specs.Limits.{LimitTold}
 use Rattle.xet_events.specs.Events.{first_error, is_admit, planned}
 use Rattle.xet_events.proofs.CallerLemmas.{count_by-push, error-push, planned-push}
-use Rattle.xet_ties.specs.steps.Parts.{AdmitsCall}
+use Rattle.xet_ties.specs.PartCalls.{AdmitsCall}
 use Rattle.xet_ties.proofs.CallerLemmas.{admits_asked, admits_none, admits_one}
 use Rattle.xet_parts.specs.Admissions.{Admitted, AdmitsOk, GaveLimits, IsWaiting, admits}
 

@@ -12,8 +12,8 @@ use Rattle.xet_blocks.specs.PlanQuery.{PlanQuery}
 use Rattle.xet_blocks.specs.TermBlockCalls.{TermBlockCall}
 use Rattle.xet_events.specs.declared.event.Event.{Event}
 use Rattle.xet_terms.specs.Managers.{Manager, PassesKnownEnd, accepted}
-use Rattle.xet_ties.specs.steps.Parts.{plan_event}
-use Rattle.xet_ties.specs.steps.Records.{Recorded}
+use Rattle.xet_ties.specs.PartCalls.{plan_event}
+use Rattle.xet_ties.specs.Recordings.{Recorded}
 use Rattle.xet_parts.specs.PlanAsks.{AnswerFails, AskPlanCall, TakenCall}
 
 -- why a manager didn't take an answer

@@ -29,8 +29,8 @@ use Rattle.xet_ties.specs.Causes.{Cause, LowestRose, SomeFailed}
 use Rattle.xet_ties.specs.InCall.{EachExchange, Exchange, Place}
 use Rattle.xet_ties.specs.Saids.{AllPassed, InStep, ServedPassed}
 use Rattle.xet_ties.specs.Setup.{AllTell, IsOver, RunTold, Setup}
-use Rattle.xet_ties.specs.steps.Moves.{heard_first}
-use Rattle.xet_ties.specs.steps.Parts.{AskedSaid, plan_query, AskedShort}
+use Rattle.xet_ties.specs.Moves.{heard_first}
+use Rattle.xet_ties.specs.PartCalls.{AskedSaid, plan_query, AskedShort}
 use Rattle.xet_ties.specs.Ties.{IsQuiet, IsFaultless, CutsRange, EachLane, Slack, Ties, IsNextQuery}
 use Rattle.xet_ties.proofs.CallerLemmas.{all_passed, ask_said, asked_own, corrupted, file_missing, first_tells, plan_fails, missing_file, ask_short}
 use Rattle.xet_parts.proofs.AskTies.{ask_fails_ties}

@@ -10,8 +10,8 @@ use Rattle.xet_events.specs.Events.{planned}
 use Rattle.xet_terms.specs.Managers.{Manager}
 use Rattle.xet_ties.specs.Saids.{InStep}
 use Rattle.xet_ties.specs.Setup.{RunTold, Setup}
-use Rattle.xet_ties.specs.steps.Moves.{heard_first}
-use Rattle.xet_ties.specs.steps.Parts.{AskedShort, plan_query}
+use Rattle.xet_ties.specs.Moves.{heard_first}
+use Rattle.xet_ties.specs.PartCalls.{AskedShort, plan_query}
 use Rattle.xet_ties.specs.Ties.{Slack, Ties, IsNextQuery}
 use Rattle.xet_ties.proofs.CallerLemmas.{ask_short, ask_ties}
 use Rattle.xet_parts.specs.PlanAsks.{AskPlanCall, AskedPlan, PlanFails, QueryFails}

@@ -10,7 +10,7 @@ use Rattle.xet_terms.specs.declared.manager.PlanDue.{PlanDue}
 use Rattle.xet_terms.specs.Managers.{IsManager, Manager, looked_ahead, scheduled_end}
 use Rattle.xet_terms.proofs.CallerLemmas.{covered, looked_goes_on, looked_same}
 use Rattle.xet_ties.specs.Setup.{RunTold, Setup}
-use Rattle.xet_ties.specs.steps.Parts.{PollCall}
+use Rattle.xet_ties.specs.PartCalls.{PollCall}
 use Rattle.xet_ties.specs.Ties.{Slack, Ties}
 use Rattle.xet_ties.proofs.CallerLemmas.{poll_ties, stop_ties}
 use Rattle.xet_parts.specs.DueQueries.{CancelledDue, NextDueCall, NoneDue, OneDue, TakesDue}

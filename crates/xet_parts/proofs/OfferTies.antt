@@ -13,7 +13,7 @@ use Rattle.xet_offers.specs.BlockChecks.{block_data}
 use Rattle.xet_fetch.specs.CachedBlocks.{IsOffered, entry_of}
 use Rattle.xet_fetch.proofs.CallerLemmas.{entries_return}
 use Rattle.xet_ties.specs.Setup.{CacheTells, IsHonestEntry}
-use Rattle.xet_ties.specs.steps.Parts.{OfferOneCall, OffersCall, offers_in}
+use Rattle.xet_ties.specs.PartCalls.{OfferOneCall, OffersCall, offers_in}
 use Rattle.xet_ties.proofs.CallerLemmas.{offers_none, offers_one}
 use Rattle.xet_parts.specs.Offers.{OfferBlockCall, OffersKept}
 

@@ -22,8 +22,8 @@ use Rattle.xet_events.specs.Events.{is_stale}
 use Rattle.xet_ties.specs.History.{range_at}
 use Rattle.xet_ties.specs.Saids.{InStep, IsPlanAccepted}
 use Rattle.xet_ties.specs.Setup.{IsOver, RunTold, Setup}
-use Rattle.xet_ties.specs.steps.Moves.{heard_first}
-use Rattle.xet_ties.specs.steps.Parts.{AskedSaid, AskedShort, plan_refresh}
+use Rattle.xet_ties.specs.Moves.{heard_first}
+use Rattle.xet_ties.specs.PartCalls.{AskedSaid, AskedShort, plan_refresh}
 use Rattle.xet_ties.specs.Ties.{IsQuiet, Slack, Ties}
 use Rattle.xet_ties.proofs.CallerLemmas.{accepted_more, grew_first, refresh_fails, refresh_said, refresh_short}
 use Rattle.xet_parts.specs.PlanRefreshes.{RefreshPlanCall, again}

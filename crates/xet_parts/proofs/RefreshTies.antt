@@ -11,9 +11,9 @@ use Rattle.xet_events.specs.declared.event.Event.{Event}
 use Rattle.xet_ties.specs.History.{range_at}
 use Rattle.xet_ties.specs.Saids.{InStep, IsPlanAccepted}
 use Rattle.xet_ties.specs.Setup.{RunTold, Setup}
-use Rattle.xet_ties.specs.steps.Moves.{heard_first}
+use Rattle.xet_ties.specs.Moves.{heard_first}
 use Rattle.xet_ties.specs.Ties.{Slack, Ties}
-use Rattle.xet_ties.specs.steps.Parts.{AskedShort, plan_refresh}
+use Rattle.xet_ties.specs.PartCalls.{AskedShort, plan_refresh}
 use Rattle.xet_ties.proofs.CallerLemmas.{refresh_short, refresh_ties}
 use Rattle.xet_parts.specs.PlanRefreshes.{RefreshPlanCall, again}
 

@@ -9,7 +9,7 @@ use Rattle.xet_events.specs.Events.{expires}
 use Rattle.xet_ties.specs.Causes.{Cause}
 use Rattle.xet_ties.specs.InCall.{Exchange}
 use Rattle.xet_ties.specs.Setup.{RunTold, Setup}
-use Rattle.xet_ties.specs.steps.Parts.{stop_event}
+use Rattle.xet_ties.specs.PartCalls.{stop_event}
 use Rattle.xet_ties.specs.Ties.{MayLeave, Slack, Ties}
 use Rattle.xet_ties.proofs.CallerLemmas.{short_leaves, tie_short, tie_stop}
 use Rattle.xet_parts.specs.Stops.{IsStopped}

@@ -11,7 +11,7 @@ use Rattle.xet_blocks.specs.TermBlockCalls.{FromSaid, TermBlockCall}
 use Rattle.xet_events.specs.declared.event.Event.{Event}
 use Rattle.xet_events.specs.Allowed.{IsAllowed}
 use Rattle.xet_terms.specs.Managers.{Manager, PassesKnownEnd, accepted}
-use Rattle.xet_ties.specs.steps.Parts.{plan_event}
+use Rattle.xet_ties.specs.PartCalls.{plan_event}
 
 -- whatever a connection answers to the query, the plan that is made of it may be recorded, unless it passes the known
 -- end

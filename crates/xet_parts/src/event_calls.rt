@@ -2,7 +2,7 @@
 ghost use Rattle.std.specs.Prelude.{◌≡◌, ◌+◌, [], ◌∷◌, OnErr};
 ghost use Rattle.xet_events.specs.Allowed.{IsAllowed};
 ghost use Rattle.xet_events.specs.Events.{plan_count};
-ghost use Rattle.xet_ties.specs.steps.Records.{Recorded};
+ghost use Rattle.xet_ties.specs.Recordings.{Recorded};
 
 use std::alloc::Global;
 use xet_base::FileRange;

@@ -1,7 +1,7 @@
 //! Looks for a missing block in the cache.
 ghost use Rattle.std.specs.Prelude.{◌≡◌, OnErr};
 ghost use Rattle.xet_events.specs.Allowed.{IsAllowed};
-ghost use Rattle.xet_ties.specs.steps.Parts.{LookUpCall};
+ghost use Rattle.xet_ties.specs.PartCalls.{LookUpCall};
 
 use crate::event_calls::add_cached;
 use std::alloc::Global;

@@ -4,7 +4,7 @@ ghost use Rattle.xet_events.specs.Allowed.{IsAllowed};
 ghost use Rattle.xet_history.specs.TrueHistory.{planned_term};
 ghost use Rattle.xet_terms.specs.Managers.{PassesKnownEnd, waiting_after};
 ghost use Rattle.xet_ties.specs.Saids.{planned_of};
-ghost use Rattle.xet_ties.specs.steps.Parts.{blocks_of_answer, plan_event, terms_in};
+ghost use Rattle.xet_ties.specs.PartCalls.{blocks_of_answer, plan_event, terms_in};
 ghost use Rattle.xet_parts.specs.PlanAsks.{AskPlanCall, PlansAllowed, TakenCall};
 
 use crate::answered_plan::AnsweredPlan;

@@ -1,7 +1,7 @@
 //! Records what the lanes and the writer of a turn did.
 ghost use Rattle.xet_events.specs.Allowed.{AllowedAfter};
-ghost use Rattle.xet_ties.specs.steps.Records.{Recorded, expired_event, expired_on, fetched_event, fetched_on};
-ghost use Rattle.xet_ties.specs.steps.Records.{wrote_event, wrote_of};
+ghost use Rattle.xet_ties.specs.Recordings.{Recorded, expired_event, expired_on, fetched_event, fetched_on};
+ghost use Rattle.xet_ties.specs.Recordings.{wrote_event, wrote_of};
 
 use crate::event_calls::{add_expired, add_fetched, add_wrote};
 use xet_error::Result;

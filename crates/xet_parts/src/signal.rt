@@ -1,5 +1,5 @@
 //! Asks the cancel signal.
-ghost use Rattle.xet_ties.specs.steps.Parts.{PollCall};
+ghost use Rattle.xet_ties.specs.PartCalls.{PollCall};
 
 use xet_error::{FileReconstructionError, Result};
 use xet_outside::CancelSignal;

@@ -2,7 +2,7 @@
 ghost use Rattle.std.specs.Prelude.{◌≡◌};
 ghost use Rattle.xet_error.specs.declared.error.FileReconstructionError.TheVariants as error;
 ghost use Rattle.xet_events.specs.Allowed.{IsRunning};
-ghost use Rattle.xet_ties.specs.steps.Parts.{stop_event};
+ghost use Rattle.xet_ties.specs.PartCalls.{stop_event};
 ghost use Rattle.xet_parts.specs.Stops.{IsStopped};
 
 use xet_error::FileReconstructionError;

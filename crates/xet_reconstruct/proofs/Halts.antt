@@ -11,7 +11,7 @@ use Rattle.xet_ties.specs.Causes.{failing_setting}
 use Rattle.xet_ties.specs.Legal.{Legal}
 use Rattle.xet_ties.specs.RunCalls.{DidNothing, IsLocal, RunCall, RunTies}
 use Rattle.xet_ties.specs.Setup.{RunTold, Setup}
-use Rattle.xet_ties.specs.steps.Moves.{no_slack}
+use Rattle.xet_ties.specs.Moves.{no_slack}
 use Rattle.xet_reconstruct.specs.ToFile.{UnreadyCause}
 use Rattle.xet_ties.proofs.CallerLemmas.{legal_of, none_hidden, none_late, short_leaves, steady_leaves, tie_flush}
 use Rattle.xet_ties.proofs.CallerLemmas.{tie_short, tie_start, tie_stop}

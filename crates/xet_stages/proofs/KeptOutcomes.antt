@@ -6,8 +6,8 @@ use Rattle.std.proofs.lemmas.Grind.{flat_map-append}
 use Rattle.xet_error.specs.declared.error.FileReconstructionError.{FileReconstructionError}
 use Rattle.xet_error.specs.declared.error.FileReconstructionError.TheVariants as error
 use Rattle.xet_ties.specs.declared.lane_step.LaneStep.{LaneStep}
-use Rattle.xet_ties.specs.steps.Records.{Place, places_in, places_of}
-use Rattle.xet_ties.specs.steps.Rounds.{got_in}
+use Rattle.xet_ties.specs.Recordings.{Place, places_in, places_of}
+use Rattle.xet_ties.specs.Rounds.{got_in}
 use Rattle.xet_lane.specs.declared.joined.LaneEnd.{LaneEnd}
 use Rattle.xet_stages.specs.Advances.{advanced}
 use Rattle.xet_leader.specs.declared.keeping.RoundPlaces.{RoundPlaces}

@@ -17,8 +17,8 @@ use Rattle.xet_events.proofs.CallerLemmas.{flat-push, last_of-append, planned-pu
 use Rattle.xet_history.specs.TrueHistory.{queries, queries_end, queries_in}
 use Rattle.xet_terms.specs.Queries.{end_from}
 use Rattle.xet_ties.specs.Setup.{Setup}
-use Rattle.xet_ties.specs.steps.Measures.{left, left_of}
-use Rattle.xet_ties.specs.steps.Records.{Place}
+use Rattle.xet_ties.specs.Measures.{left, left_of}
+use Rattle.xet_ties.specs.Recordings.{Place}
 use Rattle.xet_ties.specs.Ties.{CutsRange}
 use Rattle.xet_ties.proofs.CallerLemmas.{count-same, left-push, left_cached, left_expired, left_fetched}
 use Rattle.xet_parts.specs.Admissions.{admits}

@@ -7,7 +7,7 @@ use Rattle.xet_events.specs.declared.event.Event.{Event}
 use Rattle.xet_events.specs.Limits.{LimitTold}
 use Rattle.xet_events.specs.Events.{is_admit, plan_count, planned}
 use Rattle.xet_ties.specs.Setup.{Setup}
-use Rattle.xet_ties.specs.steps.Parts.{blocks_of_answer, terms_in}
+use Rattle.xet_ties.specs.PartCalls.{blocks_of_answer, terms_in}
 use Rattle.xet_parts.specs.Admissions.{admits}
 use Rattle.xet_leader.specs.declared.leader.Job.{Job}
 use Rattle.xet_leader.specs.Admission.{AdmittedTerms, at_once}

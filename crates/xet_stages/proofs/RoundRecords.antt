@@ -6,7 +6,7 @@ use Rattle.xet_error.specs.declared.error.FileReconstructionError.{FileReconstru
 use Rattle.xet_events.specs.declared.event.Event.{Event}
 use Rattle.xet_events.specs.Allowed.{AllowedAfter}
 use Rattle.xet_ties.specs.declared.lane_step.LaneStep.{LaneStep}
-use Rattle.xet_ties.specs.steps.Records.{Recorded, lane_events, wrote_of}
+use Rattle.xet_ties.specs.Recordings.{Recorded, lane_events, wrote_of}
 use Rattle.xet_ties.proofs.CallerLemmas.{allowed_first, allowed_rest}
 use Rattle.xet_lane.specs.declared.joined.LaneEnd.{LaneEnd}
 use Rattle.xet_stages.specs.RoundRecords.{lanes_events, lanes_of, window_events}

@@ -18,7 +18,7 @@ use Rattle.xet_events.proofs.CallerLemmas.{written-push}
 use Rattle.xet_terms.specs.Managers.{IsCovered}
 use Rattle.xet_ties.specs.RunCalls.{IsFinished}
 use Rattle.xet_ties.specs.Setup.{RunTold, Setup}
-use Rattle.xet_ties.specs.steps.Parts.{plan_event}
+use Rattle.xet_ties.specs.PartCalls.{plan_event}
 use Rattle.xet_parts.specs.Admissions.{IsWaiting, admits}
 use Rattle.xet_leader.specs.declared.leader.Job.{Job}
 use Rattle.xet_leader.specs.Admission.{AdmitLeads, AdmitTurn, AdmittedTerms, at_once}

@@ -32,7 +32,7 @@ use Rattle.xet_ties.specs.InCall.{Exchange, SomeOne}
 use Rattle.xet_ties.specs.Saids.{IsLookedData, IsServedData, IsTaskPiece, IsTestedData, TermOfPlan, planned_of}
 use Rattle.xet_ties.specs.Setup.{CacheTells, IsOver, RunTold, Setup}
 use Rattle.xet_ties.specs.Ties.{Slack}
-use Rattle.xet_ties.specs.steps.Windows.{AreKept}
+use Rattle.xet_ties.specs.Windows.{AreKept}
 use Rattle.xet_leader.specs.Led.{IsLedBlock, IsLedData, bare, true_data}
 use Rattle.xet_stages.specs.RunWindows.{task_of}
 use Rattle.xet_stages.specs.Windows.{IsPieceIn, PlanTerm, kept_in, some_in}

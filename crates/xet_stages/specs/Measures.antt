@@ -4,8 +4,8 @@ use Rattle.xet_events.specs.declared.event.Event.{Event}
 use Rattle.xet_events.specs.Events.{Task, is_admit, planned}
 use Rattle.xet_history.specs.TrueHistory.{queries_end}
 use Rattle.xet_ties.specs.Setup.{Setup}
-use Rattle.xet_ties.specs.steps.Measures.{left}
-use Rattle.xet_ties.specs.steps.Records.{Place}
+use Rattle.xet_ties.specs.Measures.{left}
+use Rattle.xet_ties.specs.Recordings.{Place}
 use Rattle.xet_leader.specs.Led.{Led}
 
 -- the bytes of the range that weren't asked for

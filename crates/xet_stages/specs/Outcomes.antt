@@ -5,8 +5,8 @@ use Rattle.xet_error.specs.declared.error.FileReconstructionError.{FileReconstru
 use Rattle.xet_error.specs.declared.error.FileReconstructionError.TheVariants as error
 use Rattle.xet_events.specs.declared.event.Event.{Event}
 use Rattle.xet_ties.specs.declared.lane_step.LaneStep.{LaneStep}
-use Rattle.xet_ties.specs.steps.Records.{Recorded, places_of}
-use Rattle.xet_ties.specs.steps.Rounds.{got_of}
+use Rattle.xet_ties.specs.Recordings.{Recorded, places_of}
+use Rattle.xet_ties.specs.Rounds.{got_of}
 use Rattle.xet_lane.specs.declared.joined.Joined.{Joined}
 use Rattle.xet_lane.specs.declared.joined.LaneEnd.{LaneEnd}
 use Rattle.xet_lane.specs.JoinErrors.{first_error}

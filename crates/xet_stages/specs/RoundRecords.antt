@@ -4,7 +4,7 @@ use Rattle.xet_error.specs.declared.error.FileReconstructionError.{FileReconstru
 use Rattle.xet_events.specs.declared.event.Event.{Event}
 use Rattle.xet_events.specs.Allowed.{AllowedAfter}
 use Rattle.xet_ties.specs.declared.lane_step.LaneStep.{LaneStep}
-use Rattle.xet_ties.specs.steps.Records.{expired_on, fetched_on, lane_events, wrote_of}
+use Rattle.xet_ties.specs.Recordings.{expired_on, fetched_on, lane_events, wrote_of}
 use Rattle.xet_lane.specs.declared.joined.LaneEnd.{LaneEnd}
 use Rattle.xet_lane.specs.Ends.{ended, steps_of}
 

@@ -12,7 +12,7 @@ use Rattle.xet_writers.specs.Sequential.{Sequential, told_of}
 use Rattle.xet_ties.specs.Saids.{IsTaskPiece, has_bytes, planned_of}
 use Rattle.xet_ties.specs.Setup.{CacheTells, IsOver, RunTold, Setup}
 use Rattle.xet_ties.specs.Ties.{Slack}
-use Rattle.xet_ties.specs.steps.Windows.{AreKept}
+use Rattle.xet_ties.specs.Windows.{AreKept}
 use Rattle.xet_leader.specs.Led.{Led}
 use Rattle.xet_leader.specs.Steady.{IsFailing, IsGoing, Loose, Moment}
 use Rattle.xet_stages.specs.Windows.{PlanTerm, with_pieces}

@@ -1,7 +1,7 @@
 //! Records what a round did.
 ghost use Rattle.std.specs.Prelude.{◌≤◌, ◌++◌, length};
 ghost use Rattle.xet_events.specs.Allowed.{AllowedAfter};
-ghost use Rattle.xet_ties.specs.steps.Records.{Recorded};
+ghost use Rattle.xet_ties.specs.Recordings.{Recorded};
 ghost use Rattle.xet_stages.specs.RoundRecords.{RoundMayBe, expired_events, fetched_events, lanes_events, lanes_of};
 ghost use Rattle.xet_stages.specs.RoundRecords.{window_events};
 

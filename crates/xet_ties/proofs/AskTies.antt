@@ -41,8 +41,8 @@ use Rattle.xet_ties.specs.History.{actual_range, range_at}
 use Rattle.xet_ties.specs.InCall.{Exchange, Place}
 use Rattle.xet_ties.specs.Saids.{FirstRenewed, InStep, IsCutAnswer, IsMadeOf, IsMadeOfPlan, IsPlanAccepted, planned_of}
 use Rattle.xet_ties.specs.Setup.{AllTell, RunTold, Setup}
-use Rattle.xet_ties.specs.steps.Moves.{QueryStep, heard_first}
-use Rattle.xet_ties.specs.steps.Parts.{blocks_of_answer, plan_event, plan_query, plan_refresh, terms_in}
+use Rattle.xet_ties.specs.Moves.{QueryStep, heard_first}
+use Rattle.xet_ties.specs.PartCalls.{blocks_of_answer, plan_event, plan_query, plan_refresh, terms_in}
 use Rattle.xet_ties.specs.Ties.{CutsRange, EachLane, FirstStarts, HeardAsked, IsLost, Slack, Ties, IsNextQuery}
 use Rattle.xet_ties.proofs.ClientMoves.{first_unfailed, tie_planned, tie_query}
 use Rattle.xet_ties.proofs.Heard.{FirstEvent, step_query}

@@ -17,7 +17,7 @@ use Rattle.xet_events.specs.declared.event.Event.TheVariants.{Cached}
 use Rattle.xet_events.specs.declared.event.PlannedBlock.{PlannedBlock}
 use Rattle.xet_events.proofs.CallerLemmas.{count_by-push}
 use Rattle.xet_ties.specs.History.{IsNumberedNext, IsOneCached, IsRenewed, block_at, cached_in, fetched_in, kept_in, telling, IsWithin}
-use Rattle.xet_ties.specs.steps.Moves.{LookStep, PutEntry, PutStep}
+use Rattle.xet_ties.specs.Moves.{LookStep, PutEntry, PutStep}
 use Rattle.xet_ties.specs.Saids.{EventPassed}
 use Rattle.xet_ties.specs.Setup.{IsOver, RunTold, Setup, download_of}
 use Rattle.xet_ties.specs.InCall.{Look, EachGrew, Exchange}

@@ -12,7 +12,7 @@ use Rattle.xet_outside.proofs.CallerLemmas.{count_by-cons}
 use Rattle.xet_events.specs.declared.event.Event.{Event}
 use Rattle.xet_events.specs.declared.event.Event.TheVariants.{Planned, Admit, Fetched, Cached, Expired, Refreshed, Wrote, Fail, Cancel}
 use Rattle.xet_events.specs.Events.{expires}
-use Rattle.xet_ties.specs.steps.Moves.{no_exchange}
+use Rattle.xet_ties.specs.Moves.{no_exchange}
 use Rattle.xet_ties.specs.LegalWords.{EachCounted}
 use Rattle.xet_ties.specs.Causes.{HaveExpired, NoneAtEnd, expired_answers, late_answers, total_expiries}
 use Rattle.xet_ties.specs.History.{IsOnLane, expired_by, expires_on, is_expiry, late_by, late_on}

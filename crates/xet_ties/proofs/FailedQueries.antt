@@ -15,8 +15,8 @@ use Rattle.xet_ties.specs.History.{range_at}
 use Rattle.xet_ties.specs.InCall.{Exchange}
 use Rattle.xet_ties.specs.Saids.{InStep, IsQueryAnswer}
 use Rattle.xet_ties.specs.Setup.{ClientGoesOn, RunTold, Setup}
-use Rattle.xet_ties.specs.steps.Moves.{QueryStep, heard_first}
-use Rattle.xet_ties.specs.steps.Parts.{AskedSaid, AskedShort, plan_query}
+use Rattle.xet_ties.specs.Moves.{QueryStep, heard_first}
+use Rattle.xet_ties.specs.PartCalls.{AskedSaid, AskedShort, plan_query}
 use Rattle.xet_ties.specs.Ties.{FirstUnfailed, IsLost, IsNextQuery, MayBeAsked, Slack, Ties}
 use Rattle.xet_ties.proofs.AskTies.{query_now}
 use Rattle.xet_ties.proofs.ClientMoves.{first_unfailed, tie_query}

@@ -19,7 +19,7 @@ use Rattle.xet_ties.specs.Cuts.{AskedCut}
 use Rattle.xet_ties.specs.LegalWords.{AsksFew, FirstAsksFew}
 use Rattle.xet_ties.specs.Setup.{RunTold, Setup}
 use Rattle.xet_ties.specs.Ties.{CutsRange, IsLost, Slack, Stop, Ties, IsNextQuery, HeardAsked}
-use Rattle.xet_ties.specs.steps.Moves.{no_exchange}
+use Rattle.xet_ties.specs.Moves.{no_exchange}
 use Rattle.xet_ties.proofs.Asks.{AreIn, asked_cut, none_in}
 use Rattle.xet_ties.proofs.Expiries.{all_expired}
 use Rattle.xet_ties.proofs.Renewals.{refreshes_few, stale_few}

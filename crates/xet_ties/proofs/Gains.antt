@@ -7,7 +7,7 @@ use Rattle.xet_outside.proofs.CallerLemmas.{added_both, added_none}
 use Rattle.xet_ties.specs.Gains.{GainedServed, IsServedEntry}
 use Rattle.xet_ties.specs.InCall.{EachGrew, Exchange}
 use Rattle.xet_ties.specs.Setup.{Setup}
-use Rattle.xet_ties.specs.steps.Moves.{PutEntry}
+use Rattle.xet_ties.specs.Moves.{PutEntry}
 use Rattle.xet_ties.proofs.Heard.{block_more, served_more}
 
 -- an entry of a served block stays one

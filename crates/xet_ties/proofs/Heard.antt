@@ -24,7 +24,7 @@ use Rattle.xet_ties.specs.InCall.{EachExchange, EachGrew, Exchange, ExchangeGrew
 use Rattle.xet_ties.specs.Saids.{BlockOfPlan, EventPassed, FirstSaid, HasPassed, InStep, IsEventSaid, IsLookedData, IsPlanAccepted, IsQueryAnswer, IsServedData, IsTaskPiece, IsTested, IsTestedData, IsUnasked, PassedIn, TermOfPlan, planned_of, some_of}
 use Rattle.xet_ties.specs.Setup.{Setup}
 use Rattle.xet_ties.proofs.CutPlaces.{answer_of_more, cut_answer_more}
-use Rattle.xet_ties.specs.steps.Moves.{EachJoined, FirstQuery, JoinStep, QueryStep, heard_first, heard_join, no_exchange}
+use Rattle.xet_ties.specs.Moves.{EachJoined, FirstQuery, JoinStep, QueryStep, heard_first, heard_join, no_exchange}
 
 -- ---- lists of connections
 

@@ -13,7 +13,7 @@ use Rattle.xet_events.specs.declared.event.PlannedBlock.{PlannedBlock}
 use Rattle.xet_ties.specs.History.{block_at, entry_of, served_by, served_in}
 use Rattle.xet_ties.specs.InCall.{Exchange, served_of_all}
 use Rattle.xet_ties.specs.Ties.{EachServed, all_of}
-use Rattle.xet_ties.specs.steps.Moves.{heard_first, heard_join, no_exchange, no_hidden}
+use Rattle.xet_ties.specs.Moves.{heard_first, heard_join, no_exchange, no_hidden}
 use Rattle.xet_ties.proofs.Heard.{Match}
 use Rattle.xet_ties.proofs.Telling.{all_left, all_right, telling-push, telling-same}
 

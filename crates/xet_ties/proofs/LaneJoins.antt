@@ -11,10 +11,10 @@ use Rattle.xet_events.specs.declared.event.Event.{Event}
 use Rattle.xet_events.specs.declared.event.Event.TheVariants.{Fetched, Expired}
 use Rattle.xet_ties.specs.declared.lane_step.LaneStep.{LaneStep}
 use Rattle.xet_ties.specs.Lanes.{AreAt, AreOf, Ask, DrewApart, EachDrew, HidesNone, IsFor, IsHidden, LaneDid, entries_in, entries_of, expired_count, hides_at, lates_in, lates_of, may_hide}
-use Rattle.xet_ties.specs.steps.Records.{asks_for, keys_of, places, places_of, Key, Place, entries_all, expired_on, expired_all, fetched_all, fetched_on, lanes_entries, lanes_expired, lanes_fetched, lanes_late, AreFresh, EachFresh, IsFreshAsk, blocks_all, key_of, lane_events}
+use Rattle.xet_ties.specs.Recordings.{asks_for, keys_of, places, places_of, Key, Place, entries_all, expired_on, expired_all, fetched_all, fetched_on, lanes_entries, lanes_expired, lanes_fetched, lanes_late, AreFresh, EachFresh, IsFreshAsk, blocks_all, key_of, lane_events}
 use Rattle.xet_claims.specs.ClaimViews.{once_below, times}
-use Rattle.xet_ties.specs.steps.Moves.{EachJoined, JoinStep, heard_join, no_hidden, no_late}
-use Rattle.xet_ties.specs.steps.Rounds.{AreLaneEnds, EachHides, IsHeardStep, IsLaneEnd, got_of}
+use Rattle.xet_ties.specs.Moves.{EachJoined, JoinStep, heard_join, no_hidden, no_late}
+use Rattle.xet_ties.specs.Rounds.{AreLaneEnds, EachHides, IsHeardStep, IsLaneEnd, got_of}
 use Rattle.xet_ties.specs.InCall.{Exchange, place_of}
 use Rattle.xet_ties.proofs.Requests.{all_lates}
 use Rattle.xet_ties.proofs.Telling.{count-append}

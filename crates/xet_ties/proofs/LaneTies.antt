@@ -8,7 +8,7 @@ use Rattle.xet_outside.specs.declared.served.Served.{Served}
 use Rattle.xet_events.specs.declared.event.Event.{Event}
 use Rattle.xet_events.specs.declared.event.Event.TheVariants.{Fetched, Expired}
 use Rattle.xet_ties.specs.History.{expiry_of}
-use Rattle.xet_ties.specs.steps.Records.{AreFresh, EachFresh, EachMayExpire, Key, MayExpire, Place, blocks_all, entries_all, expired_all, fetched_all, lanes_entries, lanes_expired, lanes_fetched, lanes_late}
+use Rattle.xet_ties.specs.Recordings.{AreFresh, EachFresh, EachMayExpire, Key, MayExpire, Place, blocks_all, entries_all, expired_all, fetched_all, lanes_entries, lanes_expired, lanes_fetched, lanes_late}
 use Rattle.xet_ties.specs.InCall.{Exchange}
 use Rattle.xet_ties.specs.Saids.{HasPassed}
 use Rattle.xet_ties.specs.Setup.{RunTold, Setup}

@@ -16,7 +16,7 @@ use Rattle.xet_events.proofs.CallerLemmas.{flat-push}
 use Rattle.xet_ties.specs.History.{late_by, late_on}
 use Rattle.xet_ties.specs.InCall.{Exchange, Place, late_places, place_of}
 use Rattle.xet_ties.specs.Ties.{EachExpired, IsPlannedEntry, LatePlanned, NoneLate}
-use Rattle.xet_ties.specs.steps.Moves.{EachJoined, heard_first, heard_join, no_exchange, no_late}
+use Rattle.xet_ties.specs.Moves.{EachJoined, heard_first, heard_join, no_exchange, no_late}
 use Rattle.xet_ties.proofs.Heard.{Match}
 use Rattle.xet_ties.proofs.Lanes.{entries_push}
 

@@ -40,7 +40,7 @@ use Rattle.xet_ties.proofs.SaidTies.{block_said}
 use Rattle.xet_ties.proofs.ServedChunks.{chunks_heard}
 use Rattle.xet_ties.proofs.Wholes.{took_all}
 use Rattle.xet_outside.proofs.CallerLemmas.{added_none}
-use Rattle.xet_ties.specs.steps.Moves.{no_exchange, no_hidden, no_late}
+use Rattle.xet_ties.specs.Moves.{no_exchange, no_hidden, no_late}
 use Rattle.xet_ties.proofs.Heard.{exchange_start}
 use Rattle.xet_ties.proofs.HeardServed.{each_heard, heard_served_start}
 use Rattle.xet_ties.proofs.Pushes.{grew_by_any, grew_by_none, reaches_any, reaches_start}

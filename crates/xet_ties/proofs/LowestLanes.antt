@@ -20,7 +20,7 @@ use Rattle.xet_ties.specs.Saids.{AllPassed, EntryPassed, EventPassed, ServedPass
 use Rattle.xet_ties.specs.Setup.{Setup}
 use Rattle.xet_ties.specs.Ties.{EachLane, EachServed, all_of, is_pair}
 use Rattle.xet_ties.specs.History.{served_by}
-use Rattle.xet_ties.specs.steps.Rounds.{IsLaneEnd, IsLaneError, NoneBelow}
+use Rattle.xet_ties.specs.Rounds.{IsLaneEnd, IsLaneError, NoneBelow}
 use Rattle.xet_ties.proofs.HeardServed.{each_heard}
 use Rattle.xet_ties.proofs.Pairs.{served_passed}
 

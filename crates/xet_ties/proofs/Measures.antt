@@ -6,8 +6,8 @@ use Rattle.xet_events.specs.declared.event.Event.{Event}
 use Rattle.xet_events.specs.declared.event.Event.TheVariants.{Fetched, Cached, Expired}
 use Rattle.xet_events.specs.Events.{expires, is_kept, keeps}
 use Rattle.xet_events.proofs.CallerLemmas.{any-push, count_by-push}
-use Rattle.xet_ties.specs.steps.Measures.{left, left_of}
-use Rattle.xet_ties.specs.steps.Records.{Place}
+use Rattle.xet_ties.specs.Measures.{left, left_of}
+use Rattle.xet_ties.specs.Recordings.{Place}
 
 falls : (v w : Bool) (n m : ℕ) → n ≤ m → cond {A = ℕ} (v || w) 0 n ≤ cond v 0 m
 falls true w n m h = omega arith

@@ -11,7 +11,7 @@ use Rattle.xet_events.specs.declared.event.Event.TheVariants.{Fetched, Expired}
 use Rattle.xet_events.specs.Allowed.{AllowedAfter, IsMissing, IsRunning}
 use Rattle.xet_events.specs.Events.{Task, ended, error_in, expires, first_error, has_more, is_admit, keeps, needs, planned, taken_in, tasks_in, unfinished, written}
 use Rattle.xet_events.proofs.CallerLemmas.{error-push, planned-push, written-push}
-use Rattle.xet_ties.specs.steps.Records.{EachMayExpire, Key, MayExpire, Place, expired_all, fetched_all, lanes_expired, lanes_fetched, Apart, AreMissing, HaveTries, Spot, at_spot, expired_at, fetched_at, lane_spots, places, spots}
+use Rattle.xet_ties.specs.Recordings.{EachMayExpire, Key, MayExpire, Place, expired_all, fetched_all, lanes_expired, lanes_fetched, Apart, AreMissing, HaveTries, Spot, at_spot, expired_at, fetched_at, lane_spots, places, spots}
 use Rattle.xet_ties.proofs.Telling.{count-append, count-same, expired-push}
 
 -- ---- one event

@@ -20,7 +20,7 @@ use Rattle.xet_ties.proofs.Gains.{gained_as}
 use Rattle.xet_ties.specs.InCall.{EachExchange, Exchange, Look}
 use Rattle.xet_ties.specs.Saids.{EventPassed, FirstRenewed, FirstSaid, IsTested}
 use Rattle.xet_ties.proofs.Heard.{said_push}
-use Rattle.xet_ties.specs.steps.Moves.{Fits}
+use Rattle.xet_ties.specs.Moves.{Fits}
 use Rattle.xet_ties.specs.Setup.{CacheTells, IsOver, RunTold, Setup, download_of}
 use Rattle.xet_ties.specs.Ties.{all_of, FirstUnfailed, AllAre, EachExpired, HeardAsked, IsAmong, IsEntryOf, IsLooked, IsTaken, LatePlanned, Slack, Ties, AllWithin, EachServed, lates_of, is_one, is_served}
 use Rattle.xet_ties.proofs.Lanes.{served_same}

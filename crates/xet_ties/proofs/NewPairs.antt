@@ -8,7 +8,7 @@ use Rattle.xet_events.specs.declared.event.Event.{Event}
 use Rattle.xet_events.specs.declared.event.Event.TheVariants.{Planned, Admit, Fetched, Cached, Expired, Refreshed, Wrote, Fail, Cancel}
 use Rattle.xet_events.specs.Events.{is_kept, keeps}
 use Rattle.xet_ties.specs.Lanes.{Ask}
-use Rattle.xet_ties.specs.steps.Records.{asks_for, AreUnkept}
+use Rattle.xet_ties.specs.Recordings.{asks_for, AreUnkept}
 use Rattle.xet_ties.specs.History.{fetches}
 use Rattle.xet_ties.specs.Ties.{is_pair}
 use Rattle.xet_ties.proofs.Telling.{count-same}

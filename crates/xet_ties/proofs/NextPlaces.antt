@@ -20,7 +20,7 @@ use Rattle.xet_ties.specs.History.{IsWithin, asked_by}
 use Rattle.xet_ties.specs.InCall.{Exchange}
 use Rattle.xet_ties.specs.Saids.{AnswerOf, InStep, IsCutAnswer, cut_places}
 use Rattle.xet_ties.specs.Setup.{RunTold, Setup}
-use Rattle.xet_ties.specs.steps.Moves.{heard_first}
+use Rattle.xet_ties.specs.Moves.{heard_first}
 use Rattle.xet_ties.specs.Ties.{CutsRange, HeardAsked, Slack, Stop, Ties, IsNextQuery}
 use Rattle.xet_ties.proofs.Asks.{asked_cut, none_in}
 use Rattle.xet_ties.proofs.CutPlaces.{cut_end, next_at, places_append}

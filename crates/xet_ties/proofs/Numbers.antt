@@ -18,7 +18,7 @@ use Rattle.xet_history.specs.Queries.{CutFrom}
 use Rattle.xet_history.specs.TrueHistory.{queries}
 use Rattle.xet_ties.specs.History.{EachAfter, IsNumberedNext, asked_by, asked_in, blocks_in}
 use Rattle.xet_ties.specs.InCall.{Exchange}
-use Rattle.xet_ties.specs.steps.Moves.{heard_first, heard_join}
+use Rattle.xet_ties.specs.Moves.{heard_first, heard_join}
 use Rattle.xet_ties.specs.Ties.{HeardAsked}
 use Rattle.xet_ties.proofs.Heard.{Match}
 use Rattle.xet_ties.proofs.Telling.{count-more, count-same, telling-push}

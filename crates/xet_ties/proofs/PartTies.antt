@@ -18,8 +18,8 @@ use Rattle.xet_events.specs.declared.event.PlannedBlock.{PlannedBlock}
 use Rattle.xet_events.proofs.CallerLemmas.{count_by-push}
 use Rattle.xet_ties.specs.History.{block_at}
 use Rattle.xet_ties.specs.Gains.{GrewBy, IsOfferOf, MayOffer}
-use Rattle.xet_ties.specs.steps.Moves.{LookStep, PutEntry}
-use Rattle.xet_ties.specs.steps.Parts.{FoundBlock, LookedShort, LookedUp, OfferOneCall, OffersCall, PollCall, offers_in, looks_after, pending_after}
+use Rattle.xet_ties.specs.Moves.{LookStep, PutEntry}
+use Rattle.xet_ties.specs.PartCalls.{FoundBlock, LookedShort, LookedUp, OfferOneCall, OffersCall, PollCall, offers_in, looks_after, pending_after}
 use Rattle.xet_ties.specs.Saids.{planned_of}
 use Rattle.xet_ties.specs.Setup.{IsOver, RunTold, Setup}
 use Rattle.xet_ties.specs.Ties.{IsEntryOf, Slack, Ties, gave, has_one, is_look, is_one, is_range, lacks, missed, same_bytes}

@@ -7,7 +7,7 @@ use Rattle.std.proofs.lemmas.Grind.{flat_map-append}
 use Rattle.xet_error.specs.declared.error.FileReconstructionError.{FileReconstructionError}
 use Rattle.xet_events.specs.declared.event.Event.{Event}
 use Rattle.xet_events.specs.Allowed.{AllowedAfter}
-use Rattle.xet_ties.specs.steps.Records.{Recorded}
+use Rattle.xet_ties.specs.Recordings.{Recorded}
 
 -- ---- events that are allowed one after another
 

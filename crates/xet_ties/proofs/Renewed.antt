@@ -26,7 +26,7 @@ use Rattle.xet_ties.specs.History.{IsWithin}
 use Rattle.xet_ties.specs.InCall.{Exchange, ExchangeGrew}
 use Rattle.xet_ties.specs.Saids.{AllRenewed, FirstRenewed, InStep, IsPlanAccepted, IsRenewal, cut_places}
 use Rattle.xet_ties.specs.Setup.{Setup}
-use Rattle.xet_ties.specs.steps.Moves.{heard_first, heard_join, no_exchange}
+use Rattle.xet_ties.specs.Moves.{heard_first, heard_join, no_exchange}
 use Rattle.xet_ties.specs.Ties.{CutsRange, HeardAsked}
 use Rattle.xet_ties.proofs.CutPlaces.{answer_of_more, cut_end, first_at, next_at, places_append}
 use Rattle.xet_ties.proofs.Heard.{Match}

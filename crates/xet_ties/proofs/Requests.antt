@@ -8,7 +8,7 @@ use Rattle.xet_outside.specs.Told.{Query}
 use Rattle.xet_outside.specs.declared.said.Said.{Said}
 use Rattle.xet_outside.specs.declared.served.Served.{Served}
 use Rattle.xet_ties.specs.InCall.{Exchange}
-use Rattle.xet_ties.specs.steps.Moves.{heard_first, heard_join}
+use Rattle.xet_ties.specs.Moves.{heard_first, heard_join}
 use Rattle.xet_ties.specs.Ties.{lates_of}
 use Rattle.xet_ties.proofs.Heard.{Match}
 use Rattle.xet_ties.proofs.Lates.{late_both}

@@ -15,8 +15,8 @@ use Rattle.xet_ties.specs.Lanes.{AreOf, Ask, DrewApart, EachDrew, entries_of}
 use Rattle.xet_ties.specs.Ties.{is_pair}
 use Rattle.xet_ties.specs.declared.lane_step.LaneStep.{LaneStep}
 use Rattle.xet_ties.specs.declared.lane_step.LaneStep.TheVariants as step
-use Rattle.xet_ties.specs.steps.Records.{AreMissing, Spot, asks_for, at_spot, expired_at, expired_on, fetched_at, fetched_on, lane_events, lane_spots, places_of, spots}
-use Rattle.xet_ties.specs.steps.Rounds.{IsMissingAsk, got_of}
+use Rattle.xet_ties.specs.Recordings.{AreMissing, Spot, asks_for, at_spot, expired_at, expired_on, fetched_at, fetched_on, lane_events, lane_spots, places_of, spots}
+use Rattle.xet_ties.specs.Rounds.{IsMissingAsk, got_of}
 use Rattle.xet_ties.proofs.LaneJoins.{at_append, made_of, made_weighs, numbers_weigh, once_most, once_past, weigh, weigh_at}
 use Rattle.xet_ties.proofs.Missing.{IsStill, expired_allowed, fetched_allowed, missing_after, running-push}
 use Rattle.xet_ties.proofs.RoundTries.{counts, counts_pairs, pair_is}

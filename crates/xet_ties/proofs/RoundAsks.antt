@@ -8,7 +8,7 @@ use Rattle.xet_outside.specs.declared.served.Served.{Served}
 use Rattle.xet_events.specs.declared.event.Event.{Event}
 use Rattle.xet_ties.specs.Lanes.{AreAt, AreOf, Ask, EachDrew, entries_of}
 use Rattle.xet_ties.specs.declared.lane_step.LaneStep.{LaneStep}
-use Rattle.xet_ties.specs.steps.Records.{lane_events}
+use Rattle.xet_ties.specs.Recordings.{lane_events}
 use Rattle.xet_ties.proofs.RoundCounts.{MayFetch}
 
 none_made : (ks : List ℕ) (qs : List Ask) → AreAt [] ks qs → qs ≡ []

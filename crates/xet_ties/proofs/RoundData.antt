@@ -18,8 +18,8 @@ use Rattle.xet_ties.specs.Setup.{AllTell}
 use Rattle.xet_ties.specs.Ties.{EachLane}
 use Rattle.xet_ties.specs.declared.lane_step.LaneStep.{LaneStep}
 use Rattle.xet_ties.specs.declared.lane_step.LaneStep.TheVariants as step
-use Rattle.xet_ties.specs.steps.Moves.{heard_join}
-use Rattle.xet_ties.specs.steps.Rounds.{IsHeardStep}
+use Rattle.xet_ties.specs.Moves.{heard_join}
+use Rattle.xet_ties.specs.Rounds.{IsHeardStep}
 use Rattle.xet_ties.proofs.SaidTies.{step_data}
 
 -- connections go on telling their store

@@ -12,8 +12,8 @@ use Rattle.xet_ties.specs.InCall.{Place}
 use Rattle.xet_ties.specs.Lanes.{Ask, DrewApart}
 use Rattle.xet_ties.specs.Ties.{all_late, at_place}
 use Rattle.xet_ties.specs.declared.lane_step.LaneStep.{LaneStep}
-use Rattle.xet_ties.specs.steps.Moves.{no_late}
-use Rattle.xet_ties.specs.steps.Records.{EachMayExpire, Key, MayExpire, expired_all, fetched_all, fetched_on, lane_events, lanes_expired, lanes_fetched, lanes_late, places_of}
+use Rattle.xet_ties.specs.Moves.{no_late}
+use Rattle.xet_ties.specs.Recordings.{EachMayExpire, Key, MayExpire, expired_all, fetched_all, fetched_on, lane_events, lanes_expired, lanes_fetched, lanes_late, places_of}
 use Rattle.xet_ties.proofs.LaneJoins.{are_joined}
 use Rattle.xet_ties.proofs.Starts.{none_late_count}
 use Rattle.xet_ties.proofs.Telling.{count-append}

@@ -17,10 +17,10 @@ use Rattle.xet_ties.specs.InCall.{Exchange}
 use Rattle.xet_ties.specs.Setup.{RunTold, Setup}
 use Rattle.xet_ties.specs.Ties.{Slack, Ties, has_one, is_one, is_pair}
 use Rattle.xet_ties.specs.declared.lane_step.LaneStep.{LaneStep}
-use Rattle.xet_ties.specs.steps.Moves.{heard_join, no_hidden, no_late}
-use Rattle.xet_ties.specs.steps.Parts.{total}
-use Rattle.xet_ties.specs.steps.Rounds.{IsPlanAsk}
-use Rattle.xet_ties.specs.steps.Records.{AreFresh, EachFresh, EachMayExpire, IsFreshAsk, Key, MayExpire, Place, asks_for, blocks_all, entries_all, expired_all, expired_on, fetched_all, fetched_on, key_of, lane_events, lanes_entries, lanes_expired, lanes_fetched, lanes_late, places_of, wrote_of}
+use Rattle.xet_ties.specs.Moves.{heard_join, no_hidden, no_late}
+use Rattle.xet_ties.specs.PartCalls.{total}
+use Rattle.xet_ties.specs.Rounds.{IsPlanAsk}
+use Rattle.xet_ties.specs.Recordings.{AreFresh, EachFresh, EachMayExpire, IsFreshAsk, Key, MayExpire, Place, asks_for, blocks_all, entries_all, expired_all, expired_on, fetched_all, fetched_on, key_of, lane_events, lanes_entries, lanes_expired, lanes_fetched, lanes_late, places_of, wrote_of}
 use Rattle.xet_ties.proofs.LaneJoins.{are_joined}
 use Rattle.xet_ties.proofs.LaneTies.{ArePassed, EachPassed, tie_lanes_expired, tie_lanes_fetched}
 use Rattle.xet_ties.proofs.Recording.{tie_wrote}

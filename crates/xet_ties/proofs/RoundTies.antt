@@ -14,12 +14,12 @@ use Rattle.xet_ties.specs.declared.lane_step.LaneStep.TheVariants as step
 use Rattle.xet_ties.specs.InCall.{EachGrew, Exchange, SomeOne}
 use Rattle.xet_ties.specs.Lanes.{Ask, DrewApart, EachDrew, IsFor, any_faults}
 use Rattle.xet_ties.specs.Saids.{HasPassed, IsServedData, PassedIn}
-use Rattle.xet_ties.specs.steps.Records.{AreFresh, asks_for, Key, Place, places, places_of, EachFresh, EachMayExpire, blocks_all, expired_on, fetched_on, lanes_entries, lane_events, lanes_late, IsFreshAsk, key_of, lanes_expired, lanes_fetched}
-use Rattle.xet_ties.specs.steps.Moves.{no_hidden, no_late, heard_join}
+use Rattle.xet_ties.specs.Recordings.{AreFresh, asks_for, Key, Place, places, places_of, EachFresh, EachMayExpire, blocks_all, expired_on, fetched_on, lanes_entries, lane_events, lanes_late, IsFreshAsk, key_of, lanes_expired, lanes_fetched}
+use Rattle.xet_ties.specs.Moves.{no_hidden, no_late, heard_join}
 use Rattle.xet_ties.specs.Setup.{RunTold, Setup, most_lanes}
 use Rattle.xet_ties.specs.Ties.{EachLane, FirstUnfailed, Slack, Ties, all_of, has_one, is_one, is_pair, is_served, IsPlannedEntry}
 use Rattle.xet_ties.specs.History.{block_at, fetches}
-use Rattle.xet_ties.specs.steps.Rounds.{AfterRound, calm_after, IsHeardData, IsHeardStep, IsPlanAsk, blocks_at, got_of}
+use Rattle.xet_ties.specs.Rounds.{AfterRound, calm_after, IsHeardData, IsHeardStep, IsPlanAsk, blocks_at, got_of}
 use Rattle.xet_ties.proofs.Heard.{block_more, grew_join, join_match, step_join}
 use Rattle.xet_ties.proofs.ClientMoves.{tie_join}
 use Rattle.xet_ties.proofs.Requests.{all_lates}

@@ -17,7 +17,7 @@ use Rattle.xet_ties.specs.Lanes.{AreOf, Ask, DrewApart, EachDrew, entries_of}
 use Rattle.xet_ties.specs.Ties.{is_pair}
 use Rattle.xet_ties.specs.declared.lane_step.LaneStep.{LaneStep}
 use Rattle.xet_ties.specs.declared.lane_step.LaneStep.TheVariants as step
-use Rattle.xet_ties.specs.steps.Records.{EachMayExpire, HasTry, HaveTries, Spot, asks_for, at_spot, fetched_on, lane_events, lane_spots, places_of, spots}
+use Rattle.xet_ties.specs.Recordings.{EachMayExpire, HasTry, HaveTries, Spot, asks_for, at_spot, fetched_on, lane_events, lane_spots, places_of, spots}
 use Rattle.xet_ties.proofs.LaneJoins.{at_append, made_of, made_weighs, numbers_weigh, once_most, once_past, weigh, weigh_at}
 use Rattle.xet_ties.proofs.Missing.{lanes_may_expire}
 use Rattle.xet_ties.proofs.Telling.{count-append, count-same, expired-push}

@@ -30,7 +30,7 @@ use Rattle.xet_ties.specs.InCall.{Exchange, SomeOne}
 use Rattle.xet_ties.specs.Lanes.{Ask, BytesFail, IsFor}
 use Rattle.xet_ties.specs.Saids.{BlockOfPlan, IsMadeOf, IsMadeOfPlan, IsCutAnswer, IsPlanAccepted, IsPlannedBy, IsQueryAnswer, TermOfPlan, planned_of}
 use Rattle.xet_ties.specs.Setup.{Setup}
-use Rattle.xet_ties.specs.steps.Parts.{plan_query}
+use Rattle.xet_ties.specs.PartCalls.{plan_query}
 use Rattle.xet_ties.proofs.SaidTies.{fetch_entry}
 
 -- ---- a plan of the history

@@ -19,7 +19,7 @@ use Rattle.xet_events.specs.Events.{expires, first_error}
 use Rattle.xet_history.specs.TrueHistory.{IsTrueEvent}
 use Rattle.xet_events.proofs.CallerLemmas.{error-push}
 use Rattle.xet_ties.specs.History.{IsNumberedNext, IsOneCached, IsRenewed, IsOnLane, IsWithin}
-use Rattle.xet_ties.specs.steps.Moves.{no_slack, no_hidden, no_late, no_exchange}
+use Rattle.xet_ties.specs.Moves.{no_slack, no_hidden, no_late, no_exchange}
 use Rattle.xet_ties.specs.Causes.{failing_setting}
 use Rattle.xet_ties.specs.Setup.{RunTold, Setup, download_of}
 use Rattle.xet_ties.specs.Ties.{all_late, all_of, at_place, is_pair, is_served, EachLane, EachUnasked, EachUnfailed, FirstAsked, IsFaultless, HeardAsked, IsEntryOf, IsLane, MayLeave, NoneLate, Slack, Ties, IsPlannedEntry, LeavesNothing, IsServed, lates_of}
@@ -32,7 +32,7 @@ use Rattle.xet_ties.proofs.Telling.{count-append, count-same, each-push}
 use Rattle.xet_error.specs.declared.error.FileReconstructionError.TheVariants as error
 use Rattle.xet_terms.specs.Settings as settings
 use Rattle.xet_ties.specs.Saids.{EventPassed, FirstSaid, IsEventSaid, IsUnasked}
-use Rattle.xet_ties.specs.steps.Parts.{AdmitsCall, stop_event}
+use Rattle.xet_ties.specs.PartCalls.{AdmitsCall, stop_event}
 use Rattle.xet_ties.proofs.Heard.{exchange_start, said_push}
 use Rattle.xet_ties.proofs.Renewed.{renewed_start}
 use Rattle.xet_ties.proofs.Gains.{gained_none}

@@ -5,8 +5,8 @@ use Rattle.std.proofs.lemmas.List.{append-nil}
 use Rattle.std.proofs.lemmas.Bool.Decides.{nat_tests}
 use Rattle.xet_events.specs.declared.event.Event.{Event}
 use Rattle.xet_events.specs.declared.event.Event.TheVariants.{Wrote}
-use Rattle.xet_ties.specs.steps.Parts.{total}
-use Rattle.xet_ties.specs.steps.Records.{wrote_of}
+use Rattle.xet_ties.specs.PartCalls.{total}
+use Rattle.xet_ties.specs.Recordings.{wrote_of}
 use Rattle.xet_ties.specs.Setup.{RunTold, Setup}
 use Rattle.xet_ties.specs.Ties.{Slack, Ties}
 use Rattle.xet_ties.proofs.Recording.{tie_wrote}

@@ -13,8 +13,8 @@ use Rattle.xet_events.specs.declared.event.Event.TheVariants.{Wrote}
 use Rattle.xet_events.specs.Allowed.{AllowedAfter, IsRunning, MayWrite}
 use Rattle.xet_events.specs.Events.{Task, admitted, ended, has_more, is_admit, is_kept, keeps, needs, planned, size, unfinished, written}
 use Rattle.xet_events.proofs.CallerLemmas.{any-push, error-push, planned-push, written-push}
-use Rattle.xet_ties.specs.steps.Records.{wrote_event, wrote_of}
-use Rattle.xet_ties.specs.steps.Windows.{IsAt, AreKept, end_has_bytes, is_wanted, open_terms}
+use Rattle.xet_ties.specs.Recordings.{wrote_event, wrote_of}
+use Rattle.xet_ties.specs.Windows.{IsAt, AreKept, end_has_bytes, is_wanted, open_terms}
 use Rattle.xet_ties.proofs.Telling.{count-same}
 
 -- ---- ends

@@ -47,15 +47,15 @@ use Rattle.xet_ties.specs.Saids.{IsTested, planned_of, IsTaskPiece, has_bytes}
 use Rattle.xet_ties.specs.Setup.{AllTell, CacheTells, IsOver, RunTold, Setup}
 use Rattle.xet_ties.specs.declared.lane_step.LaneStep.{LaneStep}
 use Rattle.xet_ties.specs.declared.lane_step.LaneStep.TheVariants as step
-use Rattle.xet_ties.specs.steps.Measures.{left}
-use Rattle.xet_ties.specs.steps.Moves.{no_hidden, no_late, no_slack}
-use Rattle.xet_ties.specs.steps.Parts.{AdmitsCall, LookedShort, LookedUp, OfferOneCall, looks_after, pending_after}
-use Rattle.xet_ties.specs.steps.Parts.{plan_event, plan_query, plan_refresh, stop_event, total, AskedSaid, AskedShort}
-use Rattle.xet_ties.specs.steps.Rounds.{AfterRound, IsMissingAsk, IsPlanAsk}
-use Rattle.xet_ties.specs.steps.Records.{Apart, AreMissing, AreUnkept, EachMayExpire, HasTry, IsFreshAsk, HaveTries}
-use Rattle.xet_ties.specs.steps.Records.{Place, Spot, asks_for, blocks_all, expired_at, expired_on, fetched_at}
-use Rattle.xet_ties.specs.steps.Records.{fetched_on, key_of, lane_events, lane_spots, places_of, wrote_of}
-use Rattle.xet_ties.specs.steps.Windows.{AreKept, IsAt, is_wanted, open_terms}
+use Rattle.xet_ties.specs.Measures.{left}
+use Rattle.xet_ties.specs.Moves.{no_hidden, no_late, no_slack}
+use Rattle.xet_ties.specs.PartCalls.{AdmitsCall, LookedShort, LookedUp, OfferOneCall, looks_after, pending_after}
+use Rattle.xet_ties.specs.PartCalls.{plan_event, plan_query, plan_refresh, stop_event, total, AskedSaid, AskedShort}
+use Rattle.xet_ties.specs.Rounds.{AfterRound, IsMissingAsk, IsPlanAsk}
+use Rattle.xet_ties.specs.Recordings.{Apart, AreMissing, AreUnkept, EachMayExpire, HasTry, IsFreshAsk, HaveTries}
+use Rattle.xet_ties.specs.Recordings.{Place, Spot, asks_for, blocks_all, expired_at, expired_on, fetched_at}
+use Rattle.xet_ties.specs.Recordings.{fetched_on, key_of, lane_events, lane_spots, places_of, wrote_of}
+use Rattle.xet_ties.specs.Windows.{AreKept, IsAt, is_wanted, open_terms}
 use Rattle.xet_ties.specs.Ties.{IsNextQuery, IsQuiet, Slack, Stop, Ties, is_one, is_pair}
 
 -- ---- runs

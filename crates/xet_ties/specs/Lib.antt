@@ -8,8 +8,13 @@ pub mod Laws
 pub mod Legal
 pub mod LegalParts
 pub mod LegalWords
+pub mod Measures
+pub mod Moves
+pub mod PartCalls
+pub mod Recordings
+pub mod Rounds
 pub mod RunCalls
 pub mod Saids
 pub mod Setup
-pub mod steps
 pub mod Ties
+pub mod Windows

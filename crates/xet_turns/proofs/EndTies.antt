@@ -17,7 +17,7 @@ use Rattle.xet_ties.specs.Causes.{Cause, failing_setting}
 use Rattle.xet_ties.specs.InCall.{Exchange}
 use Rattle.xet_ties.specs.RunCalls.{IsFinished}
 use Rattle.xet_ties.specs.Setup.{CacheTells, IsOver, RunTold, Setup}
-use Rattle.xet_ties.specs.steps.Moves.{no_slack}
+use Rattle.xet_ties.specs.Moves.{no_slack}
 use Rattle.xet_ties.specs.Ties.{LeavesNothing, NoneLate, Slack, Ties, all_of}
 use Rattle.xet_ties.proofs.CallerLemmas.{none_hidden, none_late, steady_ends, steady_leaves, tie_flush, tie_start}
 use Rattle.xet_parts.proofs.CallerLemmas.{stopped_cause, stopped_leaves, stopped_ties}

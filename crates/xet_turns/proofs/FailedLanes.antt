@@ -24,7 +24,7 @@ use Rattle.xet_ties.specs.InCall.{AllBelow, answers_of, EachExchange, EachGrew, 
 use Rattle.xet_ties.specs.Lanes.{Ask, EachDrew, HoldsAsk, IsFor, bytes_of_ask, entries_of, error_faults}
 use Rattle.xet_ties.specs.Saids.{BlockOfPlan, EventPassed, ServedPassed}
 use Rattle.xet_ties.specs.Setup.{AllTell, IsOver, RunTold, Setup}
-use Rattle.xet_ties.specs.steps.Rounds.{AreLaneEnds, FailsAsk, IsLaneEnd, IsMissingAsk, LaneFailure, NoneBelow}
+use Rattle.xet_ties.specs.Rounds.{AreLaneEnds, FailsAsk, IsLaneEnd, IsMissingAsk, LaneFailure, NoneBelow}
 use Rattle.xet_ties.specs.Ties.{EachServed, FirstAsked, FirstUnfailed, IsFaultless, Slack, Ties, is_pair}
 use Rattle.xet_ties.proofs.CallerLemmas.{accepted_more, below_passed, fetch_entry, is_check, others_passed, rose_since, tells_now}
 use Rattle.xet_lane.specs.Fetches.{error_at, last_error}

@@ -15,9 +15,9 @@ use Rattle.xet_events.proofs.CallerLemmas.{planned-push, written-push}
 use Rattle.xet_ties.specs.declared.lane_step.LaneStep.{LaneStep}
 use Rattle.xet_ties.specs.declared.lane_step.LaneStep.TheVariants as step
 use Rattle.xet_ties.specs.History.{block_at, blocks_in}
-use Rattle.xet_ties.specs.steps.Records.{Place, expired_on, fetched_on, lane_events, wrote_of}
-use Rattle.xet_ties.specs.steps.Rounds.{blocks_at}
-use Rattle.xet_ties.specs.steps.Windows.{AreKept}
+use Rattle.xet_ties.specs.Recordings.{Place, expired_on, fetched_on, lane_events, wrote_of}
+use Rattle.xet_ties.specs.Rounds.{blocks_at}
+use Rattle.xet_ties.specs.Windows.{AreKept}
 use Rattle.xet_ties.proofs.CallerLemmas.{IsStill, count-same, running-push}
 use Rattle.xet_leader.specs.FetchLists.{Each}
 use Rattle.xet_stages.specs.RoundRecords.{expired_events, fetched_events, lanes_events}

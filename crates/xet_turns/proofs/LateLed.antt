@@ -11,7 +11,7 @@ use Rattle.xet_events.specs.Events.{expires}
 use Rattle.xet_ties.specs.declared.lane_step.LaneStep.{LaneStep}
 use Rattle.xet_ties.specs.declared.lane_step.LaneStep.TheVariants as step
 use Rattle.xet_ties.specs.Setup.{RunTold, Setup}
-use Rattle.xet_ties.specs.steps.Records.{Place, expired_on, lane_events, places_of}
+use Rattle.xet_ties.specs.Recordings.{Place, expired_on, lane_events, places_of}
 use Rattle.xet_ties.specs.Ties.{Slack}
 use Rattle.xet_ties.proofs.CallerLemmas.{allowed_first, allowed_rest, count-append, count-more}
 use Rattle.xet_leader.specs.declared.leader.LedPlan.{LedPlan}

@@ -4,8 +4,8 @@ mod FailedLanes
 mod Finishing
 mod FirstSettles
 mod HonestBlocks
-mod JoinRuns
-mod JoinTurns
+mod JoinedRuns
+mod JoinSteps
 mod LaneEvents
 mod LastSteps
 mod LateLed

@@ -7,7 +7,7 @@ use Rattle.xet_events.specs.declared.event.PlannedBlock.{PlannedBlock}
 use Rattle.xet_events.specs.Allowed.{IsMissing}
 use Rattle.xet_ties.specs.Lanes.{IsFor}
 use Rattle.xet_ties.specs.Setup.{RunTold, Setup}
-use Rattle.xet_ties.specs.steps.Records.{blocks_all, key_of}
+use Rattle.xet_ties.specs.Recordings.{blocks_all, key_of}
 use Rattle.xet_ties.specs.Ties.{Slack, is_one}
 use Rattle.xet_lane.specs.declared.lane.Fetch.{Fetch}
 use Rattle.xet_lane.specs.Fetches.{ask_of}

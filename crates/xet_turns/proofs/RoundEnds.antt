@@ -13,8 +13,8 @@ use Rattle.xet_ties.specs.Setup.{Setup}
 use Rattle.xet_leader.specs.declared.missing_blocks.BlockAt.{BlockAt}
 use Rattle.xet_stages.specs.declared.outcomes.Outcome.{Outcome}
 use Rattle.xet_leader.specs.Admission.{SameCounts}
-use Rattle.xet_turns.specs.JoinCalls.{CanJoin, JoinLead, JoinLeads, Joining}
-use Rattle.xet_turns.specs.Joins.{to_settle}
+use Rattle.xet_turns.specs.JoinedRuns.{CanJoin, JoinLead, JoinLeads, Joining}
+use Rattle.xet_turns.specs.RoundCalls.{to_settle}
 use Rattle.xet_leader.specs.Led.{AreStale, Led}
 use Rattle.xet_stages.specs.Measures.{measure}
 use Rattle.xet_leader.specs.Plans.{Answer, find_plan}

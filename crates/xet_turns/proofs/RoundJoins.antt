@@ -20,9 +20,9 @@ use Rattle.xet_ties.specs.declared.lane_step.LaneStep.{LaneStep}
 use Rattle.xet_ties.specs.Lanes.{Ask}
 use Rattle.xet_ties.specs.Saids.{has_bytes}
 use Rattle.xet_ties.specs.Setup.{RunTold, Setup}
-use Rattle.xet_ties.specs.steps.Parts.{total}
-use Rattle.xet_ties.specs.steps.Records.{Place, Recorded, places_of, wrote_of}
-use Rattle.xet_ties.specs.steps.Rounds.{blocks_at, got_of}
+use Rattle.xet_ties.specs.PartCalls.{total}
+use Rattle.xet_ties.specs.Recordings.{Place, Recorded, places_of, wrote_of}
+use Rattle.xet_ties.specs.Rounds.{blocks_at, got_of}
 use Rattle.xet_ties.specs.Ties.{Slack, Ties, has_one}
 use Rattle.xet_ties.proofs.CallerLemmas.{grew_none, some_sum, tasks_sized}
 use Rattle.xet_lane.specs.declared.joined.Joined.{Joined}
@@ -35,7 +35,7 @@ use Rattle.xet_leader.specs.declared.missing_blocks.BlockAt.{BlockAt}
 use Rattle.xet_stages.specs.declared.outcomes.Outcome.{Outcome}
 use Rattle.xet_leader.specs.Expiries.{spends}
 use Rattle.xet_leader.specs.FetchLists.{Each}
-use Rattle.xet_turns.specs.Joins.{FetchRefused, FetchedBeside, IsPrepared, RoundLeads, RoundStops, RoundTurn, fetched_led, to_settle}
+use Rattle.xet_turns.specs.RoundCalls.{FetchRefused, FetchedBeside, IsPrepared, RoundLeads, RoundStops, RoundTurn, fetched_led, to_settle}
 use Rattle.xet_leader.specs.Led.{IsLed, Led}
 use Rattle.xet_leader.specs.Offering.{AreServed, due_of}
 use Rattle.xet_stages.specs.Outcomes.{KeepFails, OutcomeFails, OutcomeStops, TookOutcome, is_spent, join_error, join_events, plans_after, plans_kept}

@@ -18,10 +18,10 @@ use Rattle.xet_ties.specs.InCall.{EachGrew}
 use Rattle.xet_ties.specs.Lanes.{Ask, HidesNone}
 use Rattle.xet_ties.specs.Saids.{InStep}
 use Rattle.xet_ties.specs.Setup.{CacheTells, IsOver, RunTold, Setup}
-use Rattle.xet_ties.specs.steps.Moves.{no_hidden, no_late}
-use Rattle.xet_ties.specs.steps.Parts.{total}
-use Rattle.xet_ties.specs.steps.Records.{Recorded, expired_on, fetched_on, lane_events, places_of, wrote_of}
-use Rattle.xet_ties.specs.steps.Rounds.{blocks_at, calm_after, got_of}
+use Rattle.xet_ties.specs.Moves.{no_hidden, no_late}
+use Rattle.xet_ties.specs.PartCalls.{total}
+use Rattle.xet_ties.specs.Recordings.{Recorded, expired_on, fetched_on, lane_events, places_of, wrote_of}
+use Rattle.xet_ties.specs.Rounds.{blocks_at, calm_after, got_of}
 use Rattle.xet_ties.specs.Ties.{NoneLate, Slack, Ties, all_of, has_one}
 use Rattle.xet_ties.proofs.CallerLemmas.{grew_none, have_expired, none_hidden, none_late, short_leaves, steady_leaves, tie_written, written_short}
 use Rattle.xet_leader.specs.Expiries.{spends, stale_after}

@@ -12,8 +12,8 @@ use Rattle.xet_writers.specs.Sequential.{Sequential}
 use Rattle.xet_ties.specs.declared.lane_step.LaneStep.{LaneStep}
 use Rattle.xet_ties.specs.Lanes.{DrewApart}
 use Rattle.xet_ties.specs.Setup.{RunTold, Setup}
-use Rattle.xet_ties.specs.steps.Records.{wrote_of}
-use Rattle.xet_ties.specs.steps.Windows.{IsAt}
+use Rattle.xet_ties.specs.Recordings.{wrote_of}
+use Rattle.xet_ties.specs.Windows.{IsAt}
 use Rattle.xet_ties.specs.Ties.{FirstAsked}
 use Rattle.xet_ties.proofs.CallerLemmas.{round_allowed, wrote_allowed}
 use Rattle.xet_lane.specs.declared.joined.Joined.{Joined}
@@ -23,7 +23,7 @@ use Rattle.xet_lanes.specs.Rounds.{RoundTold}
 use Rattle.xet_leader.specs.declared.missing_blocks.BlockAt.{BlockAt}
 use Rattle.xet_leader.specs.FetchLists.{Each, IsFetchList}
 use Rattle.xet_leader.specs.Fetching.{AreFetches}
-use Rattle.xet_turns.specs.Joins.{CanRound, FetchedBeside}
+use Rattle.xet_turns.specs.RoundCalls.{CanRound, FetchedBeside}
 use Rattle.xet_leader.specs.Led.{Led}
 use Rattle.xet_leader.specs.Looks.{CanRequest, to_round}
 use Rattle.xet_stages.specs.RoundRecords.{RoundMayBe, lanes_events, lanes_of, window_events}

@@ -16,7 +16,7 @@ use Rattle.xet_ties.specs.declared.lane_step.LaneStep.{LaneStep}
 use Rattle.xet_ties.specs.declared.lane_step.LaneStep.TheVariants as step
 use Rattle.xet_ties.specs.Saids.{has_bytes}
 use Rattle.xet_ties.specs.Setup.{RunTold, Setup}
-use Rattle.xet_ties.specs.steps.Records.{expired_on, fetched_on, lane_events, wrote_of}
+use Rattle.xet_ties.specs.Recordings.{expired_on, fetched_on, lane_events, wrote_of}
 use Rattle.xet_ties.proofs.CallerLemmas.{count-append, round_allowed}
 use Rattle.xet_lane.specs.declared.joined.Joined.{Joined}
 use Rattle.xet_lane.specs.declared.lane.Fetch.{Fetch}
@@ -30,7 +30,7 @@ use Rattle.xet_leader.specs.declared.missing_blocks.BlockAt.{BlockAt}
 use Rattle.xet_stages.specs.declared.outcomes.Outcome.{Outcome}
 use Rattle.xet_leader.specs.FetchLists.{Each, IsFetchList, IsKeptOrListed, place_of}
 use Rattle.xet_leader.specs.Fetching.{AreFetches}
-use Rattle.xet_turns.specs.Joins.{FetchedBeside, IsPrepared, fetched_led}
+use Rattle.xet_turns.specs.RoundCalls.{FetchedBeside, IsPrepared, fetched_led}
 use Rattle.xet_leader.specs.Lacking.{lists}
 use Rattle.xet_leader.specs.Led.{IsCounted, Led}
 use Rattle.xet_stages.specs.Measures.{LeavesLess, measure, unfinished_terms}

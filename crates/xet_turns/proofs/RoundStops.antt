@@ -17,8 +17,8 @@ use Rattle.xet_ties.specs.Causes.{Cause}
 use Rattle.xet_ties.specs.InCall.{Exchange}
 use Rattle.xet_ties.specs.Lanes.{Ask}
 use Rattle.xet_ties.specs.Setup.{CacheTells, IsOver, RunTold, Setup}
-use Rattle.xet_ties.specs.steps.Parts.{total}
-use Rattle.xet_ties.specs.steps.Records.{wrote_of}
+use Rattle.xet_ties.specs.PartCalls.{total}
+use Rattle.xet_ties.specs.Recordings.{wrote_of}
 use Rattle.xet_ties.specs.Ties.{FirstUnfailed, IsFaultless, MayLeave, NoneLate, Slack, Ties, all_of}
 use Rattle.xet_ties.proofs.CallerLemmas.{none_hidden, none_late, tells_now, tie_written}
 use Rattle.xet_lane.specs.JoinErrors.{end_error, first_error, lacks_memory, memory_was_short, wants_memory}

@@ -19,9 +19,9 @@ use Rattle.xet_ties.specs.InCall.{Exchange, SomeOne}
 use Rattle.xet_ties.specs.Lanes.{Ask, DrewApart, IsFor}
 use Rattle.xet_ties.specs.Saids.{IsServedData, planned_of}
 use Rattle.xet_ties.specs.Setup.{RunTold, Setup}
-use Rattle.xet_ties.specs.steps.Moves.{no_hidden, no_late}
-use Rattle.xet_ties.specs.steps.Records.{AreUnkept, HasTry, IsFreshAsk, key_of, places_of}
-use Rattle.xet_ties.specs.steps.Rounds.{AfterRound, IsHeardData, IsHeardStep, IsMissingAsk, IsPlanAsk}
+use Rattle.xet_ties.specs.Moves.{no_hidden, no_late}
+use Rattle.xet_ties.specs.Recordings.{AreUnkept, HasTry, IsFreshAsk, key_of, places_of}
+use Rattle.xet_ties.specs.Rounds.{AfterRound, IsHeardData, IsHeardStep, IsMissingAsk, IsPlanAsk}
 use Rattle.xet_ties.specs.Ties.{Slack, Ties}
 use Rattle.xet_ties.proofs.CallerLemmas.{fetched_once, new_pairs, round_allowed, round_may_expire, round_short, round_tied, tells_now}
 use Rattle.xet_leader.specs.Expiries.{stale_after}

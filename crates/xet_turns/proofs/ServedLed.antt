@@ -14,7 +14,7 @@ use Rattle.xet_events.specs.Events.{is_kept}
 use Rattle.xet_ties.specs.declared.lane_step.LaneStep.{LaneStep}
 use Rattle.xet_ties.specs.declared.lane_step.LaneStep.TheVariants as step
 use Rattle.xet_ties.specs.Setup.{RunTold, Setup}
-use Rattle.xet_ties.specs.steps.Records.{fetched_on, lane_events}
+use Rattle.xet_ties.specs.Recordings.{fetched_on, lane_events}
 use Rattle.xet_ties.specs.Ties.{Slack}
 use Rattle.xet_ties.proofs.CallerLemmas.{allowed_first, allowed_rest, grew_none}
 use Rattle.xet_leader.specs.declared.leader.LedPlan.{LedPlan}

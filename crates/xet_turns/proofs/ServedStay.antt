@@ -18,9 +18,9 @@ use Rattle.xet_ties.specs.InCall.{Exchange}
 use Rattle.xet_ties.specs.Lanes.{Ask}
 use Rattle.xet_ties.specs.Saids.{has_bytes}
 use Rattle.xet_ties.specs.Setup.{RunTold, Setup}
-use Rattle.xet_ties.specs.steps.Records.{Place, fetched_on, lane_events}
-use Rattle.xet_ties.specs.steps.Rounds.{IsHeardData, IsHeardStep, IsMissingAsk, got_of}
-use Rattle.xet_ties.specs.steps.Windows.{AreKept, is_wanted, open_terms}
+use Rattle.xet_ties.specs.Recordings.{Place, fetched_on, lane_events}
+use Rattle.xet_ties.specs.Rounds.{IsHeardData, IsHeardStep, IsMissingAsk, got_of}
+use Rattle.xet_ties.specs.Windows.{AreKept, is_wanted, open_terms}
 use Rattle.xet_ties.specs.Ties.{Slack}
 use Rattle.xet_ties.proofs.CallerLemmas.{count-append, count-more, none_fetched, wanted_is}
 use Rattle.xet_leader.specs.declared.leader.LedPlan.{LedPlan}

@@ -13,7 +13,7 @@ use Rattle.xet_events.proofs.CallerLemmas.{planned-push}
 use Rattle.xet_terms.specs.Managers.{Manager}
 use Rattle.xet_ties.specs.Setup.{RunTold, Setup}
 use Rattle.xet_ties.specs.Ties.{Slack}
-use Rattle.xet_ties.specs.steps.Records.{wrote_of}
+use Rattle.xet_ties.specs.Recordings.{wrote_of}
 use Rattle.xet_ties.proofs.CallerLemmas.{count-same}
 use Rattle.xet_stages.specs.Advances.{advanced, finished_at}
 use Rattle.xet_leader.specs.Led.{AreLedPlans, AreStale, IsLed, IsLedManager, IsLedPlan, Led}

@@ -1,9 +1,9 @@
 pub mod EmptyRuns
 pub mod Ending
-pub mod JoinCalls
-pub mod JoinTurns
-pub mod Joins
+pub mod JoinedRuns
+pub mod JoinSteps
 pub mod LoopRuns
+pub mod RoundCalls
 pub mod Rounds
 pub mod Turns
 pub mod Works

@@ -11,8 +11,8 @@ use Rattle.xet_events.specs.Events.{expires}
 use Rattle.xet_ties.specs.declared.lane_step.LaneStep.{LaneStep}
 use Rattle.xet_ties.specs.Lanes.{Ask, IsFor}
 use Rattle.xet_ties.specs.Setup.{RunTold, Setup}
-use Rattle.xet_ties.specs.steps.Records.{asks_for, blocks_all, key_of, places_of}
-use Rattle.xet_ties.specs.steps.Rounds.{AfterRound, IsMissingAsk}
+use Rattle.xet_ties.specs.Recordings.{asks_for, blocks_all, key_of, places_of}
+use Rattle.xet_ties.specs.Rounds.{AfterRound, IsMissingAsk}
 use Rattle.xet_ties.specs.Ties.{Slack, Ties, is_one, is_pair}
 use Rattle.xet_leader.specs.declared.leader.LedPlan.{LedPlan}
 use Rattle.xet_leader.specs.Expiries.{spends, stale_after}

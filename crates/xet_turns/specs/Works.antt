@@ -6,7 +6,7 @@ use Rattle.xet_writers.specs.Sequential.{Sequential}
 use Rattle.xet_ties.specs.Setup.{RunTold, Setup}
 use Rattle.xet_stages.specs.declared.outcomes.Outcome.{Outcome}
 use Rattle.xet_leader.specs.Admission.{SameCounts}
-use Rattle.xet_turns.specs.JoinCalls.{Joining}
+use Rattle.xet_turns.specs.JoinedRuns.{Joining}
 use Rattle.xet_leader.specs.Led.{Led}
 use Rattle.xet_stages.specs.Measures.{LeavesLess}
 use Rattle.xet_leader.specs.Plans.{Answer}

@@ -2,8 +2,8 @@
 ghost use Rattle.std.specs.Prelude.{◌≡◌, ◌<◌, None, OnErr, length, map};
 ghost use Rattle.xet_writers.specs.Calls.{closed_by};
 ghost use Rattle.xet_writers.specs.Sequential.{told_of};
-ghost use Rattle.xet_turns.specs.JoinCalls.{CanJoin, JoinLeads, PolledFor, PrepareLeads};
-ghost use Rattle.xet_turns.specs.JoinTurns.{JoinTurn, PrepareTurn};
+ghost use Rattle.xet_turns.specs.JoinedRuns.{CanJoin, JoinLeads, PolledFor, PrepareLeads};
+ghost use Rattle.xet_turns.specs.JoinSteps.{JoinTurn, PrepareTurn};
 ghost use Rattle.xet_leader.specs.Looks.{IsLedBy};
 
 use crate::round::run_round;

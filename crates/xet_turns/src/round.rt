@@ -2,7 +2,7 @@
 ghost use Rattle.std.specs.Prelude.{◌≡◌, ◌<◌, length, map};
 ghost use Rattle.xet_leader.specs.FetchLists.{Each};
 ghost use Rattle.xet_leader.specs.Looks.{CanRequest};
-ghost use Rattle.xet_turns.specs.Joins.{CanRound, FetchTurn, RoundLeads, RoundTurn};
+ghost use Rattle.xet_turns.specs.RoundCalls.{CanRound, FetchTurn, RoundLeads, RoundTurn};
 
 use crate::reporting::report;
 use std::sync::Wait;

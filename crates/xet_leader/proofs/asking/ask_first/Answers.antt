@@ -1,5 +1,5 @@
 use Rattle.xet_leader.specs.Led.{Led, setup_of_job}
-use Rattle.xet_ties.specs.steps.Parts.{plan_query}
+use Rattle.xet_ties.specs.PartCalls.{plan_query}
 use Rattle.xet_leader.proofs.AskSteps.{allowed_inside}
 use Rattle.xet_leader.proofs.asking.ask_first.Goals as goal
 

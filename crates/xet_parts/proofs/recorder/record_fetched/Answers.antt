@@ -1,5 +1,5 @@
 use Rattle.std.proofs.Common.{rules}
-use Rattle.xet_ties.specs.steps.Records.{fetched_event}
+use Rattle.xet_ties.specs.Recordings.{fetched_event}
 use Rattle.xet_ties.proofs.CallerLemmas.{short_at}
 use Rattle.xet_parts.proofs.recorder.record_fetched.Goals as goal
 

@@ -1,4 +1,4 @@
-use Rattle.xet_ties.specs.steps.Records.{fetched_event}
+use Rattle.xet_ties.specs.Recordings.{fetched_event}
 use Rattle.xet_ties.proofs.CallerLemmas.{SoFar}
 use Rattle.xet_parts.proofs.recorder.record_fetched.Given as goal
 

@@ -1,5 +1,5 @@
 use Rattle.std.proofs.Common.{rules}
-use Rattle.xet_ties.specs.steps.Records.{wrote_event}
+use Rattle.xet_ties.specs.Recordings.{wrote_event}
 use Rattle.xet_ties.proofs.CallerLemmas.{so_short}
 use Rattle.xet_parts.proofs.recorder.record_window.Goals as goal
 

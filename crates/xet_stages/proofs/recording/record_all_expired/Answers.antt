@@ -1,5 +1,5 @@
 use Rattle.std.proofs.Common.{rules}
-use Rattle.xet_ties.specs.steps.Records.{expired_on}
+use Rattle.xet_ties.specs.Recordings.{expired_on}
 use Rattle.xet_stages.proofs.RoundRecords.{lanes_more, lanes_next, lanes_short}
 use Rattle.xet_stages.proofs.recording.record_all_expired.Goals as goal
 

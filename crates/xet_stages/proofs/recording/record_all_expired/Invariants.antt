@@ -1,4 +1,4 @@
-use Rattle.xet_ties.specs.steps.Records.{expired_on}
+use Rattle.xet_ties.specs.Recordings.{expired_on}
 use Rattle.xet_stages.proofs.RoundRecords.{LanesLeft}
 use Rattle.xet_stages.proofs.recording.record_all_expired.Given as goal
 

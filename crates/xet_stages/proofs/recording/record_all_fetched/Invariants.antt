@@ -1,4 +1,4 @@
-use Rattle.xet_ties.specs.steps.Records.{fetched_on}
+use Rattle.xet_ties.specs.Recordings.{fetched_on}
 use Rattle.xet_stages.proofs.RoundRecords.{LanesLeft}
 use Rattle.xet_stages.proofs.recording.record_all_fetched.Given as goal
 

@@ -3,8 +3,8 @@ use Rattle.std.proofs.Common.{[], ◌∷◌, ◌++◌, refl}
 use Rattle.xet_outside.specs.declared.plan.PlanAnswer.TheVariants.{Found}
 use Rattle.xet_outside.specs.declared.said.Said.TheVariants as said
 use Rattle.xet_events.specs.declared.event.Event.TheVariants.{Refreshed}
-use Rattle.xet_ties.specs.steps.Moves.{heard_first}
-use Rattle.xet_ties.specs.steps.Parts.{plan_event}
+use Rattle.xet_ties.specs.Moves.{heard_first}
+use Rattle.xet_ties.specs.PartCalls.{plan_event}
 use Rattle.xet_ties.proofs.Heard.{grew_first}
 use Rattle.xet_ties.proofs.laws.queries_are_tied.Goals as goal
 

@@ -1,7 +1,7 @@
 use Rattle.std.proofs.Common.{◌≡◌, inl, refl, rules}
-use Rattle.xet_turns.specs.JoinCalls.{Touching}
-use Rattle.xet_turns.proofs.JoinRuns.{can_round, join_done, join_refused, led_by}
-use Rattle.xet_turns.proofs.JoinTurns.{join_ran}
+use Rattle.xet_turns.specs.JoinedRuns.{Touching}
+use Rattle.xet_turns.proofs.JoinedRuns.{can_round, join_done, join_refused, led_by}
+use Rattle.xet_turns.proofs.JoinSteps.{join_ran}
 use Rattle.xet_turns.proofs.joining.join.Goals as goal
 
 pub prepare-requires : goal.prepare-requires

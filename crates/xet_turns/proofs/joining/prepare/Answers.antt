@@ -1,5 +1,5 @@
 use Rattle.std.proofs.Common.{◌≡◌, length, rules}
-use Rattle.xet_turns.proofs.JoinRuns.{look_fails, may_poll, poll_fails, polled_as, window_fails, window_made}
+use Rattle.xet_turns.proofs.JoinedRuns.{look_fails, may_poll, poll_fails, polled_as, window_fails, window_made}
 use Rattle.xet_turns.proofs.joining.prepare.Goals as goal
 
 pub returns-in-Err-clause-leads : goal.returns-in-Err-clause-leads

@@ -1,5 +1,5 @@
 use Rattle.std.proofs.Common.{◌≡◌, rules}
-use Rattle.xet_turns.specs.Joins.{fetched_led}
+use Rattle.xet_turns.specs.RoundCalls.{fetched_led}
 use Rattle.xet_turns.proofs.RoundJoins.{round_leads, turn_done, turn_refused}
 use Rattle.xet_turns.proofs.RoundMays.{can_fetch, may_record}
 use Rattle.xet_turns.proofs.round.run_round.Goals as goal

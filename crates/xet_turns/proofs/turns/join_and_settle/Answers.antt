@@ -1,7 +1,7 @@
 use Rattle.std.proofs.Common.{Err, Ok, map, refl}
-use Rattle.xet_turns.specs.JoinCalls.{Joining}
+use Rattle.xet_turns.specs.JoinedRuns.{Joining}
 use Rattle.xet_leader.specs.Led.{setup_of_job}
-use Rattle.xet_turns.proofs.JoinTurns.{join_counts}
+use Rattle.xet_turns.proofs.JoinSteps.{join_counts}
 use Rattle.xet_turns.proofs.RoundEnds.{can_join, can_settle, work_fails, work_leads}
 use Rattle.xet_turns.proofs.turns.join_and_settle.Goals as goal
 

@@ -5,8 +5,8 @@ use Rattle.xet_error.specs.declared.error.FileReconstructionError.{FileReconstru
 use Rattle.xet_turns.specs.declared.joining.Prepared.{Prepared}
 use Rattle.xet_stages.specs.declared.outcomes.Outcome.{Outcome}
 use Rattle.xet_leader.specs.Admission.{SameCounts}
-use Rattle.xet_turns.specs.JoinCalls.{Joining, PolledFor, Touching}
-use Rattle.xet_turns.specs.Joins.{RoundTurn}
+use Rattle.xet_turns.specs.JoinedRuns.{Joining, PolledFor, Touching}
+use Rattle.xet_turns.specs.RoundCalls.{RoundTurn}
 use Rattle.xet_leader.specs.Led.{Led}
 
 -- what preparing a round does to the signal and to the leader's counts, which stay: the signal was asked exactly where

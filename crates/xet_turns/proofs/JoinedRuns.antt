@@ -14,7 +14,7 @@ use Rattle.xet_writers.specs.Calls.{closed_by}
 use Rattle.xet_writers.specs.Sequential.{Sequential, told_of}
 use Rattle.xet_writers.proofs.CallerLemmas.{open_writer}
 use Rattle.xet_ties.specs.Setup.{RunTold, Setup}
-use Rattle.xet_ties.specs.steps.Parts.{FoundBlock, PollCall}
+use Rattle.xet_ties.specs.PartCalls.{FoundBlock, PollCall}
 use Rattle.xet_ties.specs.Ties.{all_of, NoneLate, Slack}
 use Rattle.xet_ties.proofs.CallerLemmas.{none_hidden, none_late, poll_ties, steady_leaves, stop_ties, grew_none}
 use Rattle.xet_turns.specs.declared.joining.Prepared.{Prepared}
@@ -22,8 +22,8 @@ use Rattle.xet_leader.specs.declared.leader.LedPlan.{LedPlan}
 use Rattle.xet_leader.specs.declared.missing_blocks.BlockAt.{BlockAt}
 use Rattle.xet_stages.specs.declared.outcomes.Outcome.{Outcome}
 use Rattle.xet_leader.specs.FetchLists.{IsFetchList}
-use Rattle.xet_turns.specs.JoinCalls.{CanJoin, JoinLeads, PolledFor, PrepareLeads, Touching}
-use Rattle.xet_turns.specs.Joins.{CanRound, RoundLeads}
+use Rattle.xet_turns.specs.JoinedRuns.{CanJoin, JoinLeads, PolledFor, PrepareLeads, Touching}
+use Rattle.xet_turns.specs.RoundCalls.{CanRound, RoundLeads}
 use Rattle.xet_leader.specs.Lacking.{missing_of}
 use Rattle.xet_leader.specs.Led.{IsLed, Led}
 use Rattle.xet_leader.specs.Looks.{IsLedBy, LookLeads, LookTurn, LooksFrom, to_fetch, to_round}

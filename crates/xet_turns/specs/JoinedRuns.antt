@@ -5,10 +5,10 @@ use Rattle.xet_error.specs.declared.error.FileReconstructionError.{FileReconstru
 use Rattle.xet_events.specs.declared.event.Event.{Event}
 use Rattle.xet_writers.specs.Sequential.{Sequential}
 use Rattle.xet_ties.specs.Setup.{RunTold, Setup}
-use Rattle.xet_ties.specs.steps.Parts.{PollCall}
+use Rattle.xet_ties.specs.PartCalls.{PollCall}
 use Rattle.xet_turns.specs.declared.joining.Prepared.{Prepared}
 use Rattle.xet_stages.specs.declared.outcomes.Outcome.{Outcome}
-use Rattle.xet_turns.specs.Joins.{IsPrepared, to_settle}
+use Rattle.xet_turns.specs.RoundCalls.{IsPrepared, to_settle}
 use Rattle.xet_leader.specs.Led.{Led}
 use Rattle.xet_stages.specs.Measures.{LeavesLess, LeavesSame}
 use Rattle.xet_leader.specs.Offering.{AreServed}

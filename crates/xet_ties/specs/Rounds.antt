@@ -24,8 +24,8 @@ use Rattle.xet_ties.specs.Setup.{AllTell, Setup}
 use Rattle.xet_ties.specs.Ties.{Slack, has_one}
 use Rattle.xet_ties.specs.declared.lane_step.LaneStep.{LaneStep}
 use Rattle.xet_ties.specs.declared.lane_step.LaneStep.TheVariants as step
-use Rattle.xet_ties.specs.steps.Moves.{no_hidden, no_late}
-use Rattle.xet_ties.specs.steps.Records.{Place}
+use Rattle.xet_ties.specs.Moves.{no_hidden, no_late}
+use Rattle.xet_ties.specs.Recordings.{Place}
 
 -- the places of a lane's Served steps
 abbrev pub got_in : LaneStep → List Place

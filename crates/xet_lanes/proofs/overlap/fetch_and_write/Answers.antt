@@ -4,7 +4,7 @@ use Rattle.xet_lane.specs.Fetches.{ask_of}
 use Rattle.xet_lane.specs.Ends.{End, ended}
 use Rattle.xet_lanes.specs.Rounds.{LanesDrew}
 use Rattle.xet_lanes.proofs.RoundEnds.{no_lanes, round_past}
-use Rattle.xet_lanes.proofs.round.fetch_and_write.Goals as goal
+use Rattle.xet_lanes.proofs.overlap.fetch_and_write.Goals as goal
 
 pub returns-then-lanes-eq0-clause-call : goal.returns-then-lanes-eq0-clause-call
 returns-then-lanes-eq0-clause-call g c =

@@ -9,9 +9,9 @@ use Rattle.xet_turns.specs.declared.joining.Prepared.{Prepared}
 use Rattle.xet_leader.specs.declared.missing_blocks.BlockAt.{BlockAt}
 use Rattle.xet_stages.specs.declared.outcomes.Outcome.{Outcome}
 use Rattle.xet_leader.specs.Admission.{SameCounts}
-use Rattle.xet_turns.specs.JoinCalls.{Joining, Touching}
-use Rattle.xet_turns.specs.Joins.{RoundTurn}
-use Rattle.xet_turns.specs.JoinTurns.{JoinTurn, PrepareTurn, RoundJoined, Unprepared}
+use Rattle.xet_turns.specs.JoinedRuns.{Joining, Touching}
+use Rattle.xet_turns.specs.RoundCalls.{RoundTurn}
+use Rattle.xet_turns.specs.JoinSteps.{JoinTurn, PrepareTurn, RoundJoined, Unprepared}
 use Rattle.xet_leader.specs.Led.{Led}
 use Rattle.xet_leader.specs.Looks.{LookTurn}
 

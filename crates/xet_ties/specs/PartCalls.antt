@@ -31,7 +31,7 @@ use Rattle.xet_ties.specs.Gains.{MayOffer}
 use Rattle.xet_ties.specs.InCall.{Look}
 use Rattle.xet_ties.specs.Saids.{IsQueryAnswer, planned_of}
 use Rattle.xet_ties.specs.Setup.{RunTold, Setup}
-use Rattle.xet_ties.specs.steps.Moves.{heard_first}
+use Rattle.xet_ties.specs.Moves.{heard_first}
 use Rattle.xet_ties.specs.Ties.{Slack, Ties, has_one}
 
 -- ---- limits

@@ -6,7 +6,7 @@ use Rattle.xet_claims.specs.ClaimPasses.{IsPassOf, drawn_of, misses_of, raised_c
 use Rattle.xet_claims.specs.ClaimViews.{times}
 use Rattle.xet_lane.specs.Fetches.{ask_of}
 use Rattle.xet_lanes.proofs.RoundEnds.{drew_ends, drew_parts, drew_passes, drew_some, drew_weight, lanes_drew}
-use Rattle.xet_lanes.proofs.round.join_lanes.Goals as goal
+use Rattle.xet_lanes.proofs.overlap.join_lanes.Goals as goal
 
 pub take_apart-requires-clause-one : goal.take_apart-requires-clause-one
 take_apart-requires-clause-one g c = drew_parts _ c.in_ok-claims.claims _ _ _ _ c.draw_and_write-wrote.ensures.drew

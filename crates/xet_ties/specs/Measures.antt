@@ -2,8 +2,8 @@
 use Rattle.std.specs.Prelude.{ℕ, ◌+◌, ◌-◌, cond, List, map, count_by}
 use Rattle.xet_events.specs.declared.event.Event.{Event}
 use Rattle.xet_events.specs.Events.{expires, is_kept}
-use Rattle.xet_ties.specs.steps.Parts.{total}
-use Rattle.xet_ties.specs.steps.Records.{Place}
+use Rattle.xet_ties.specs.PartCalls.{total}
+use Rattle.xet_ties.specs.Recordings.{Place}
 
 -- of a block that isn't kept, how often its URL may still expire, and 1; of a kept one nothing
 abbrev pub left_of : ℕ → List Event → Place → ℕ
