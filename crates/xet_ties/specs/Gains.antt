@@ -41,7 +41,7 @@ GaveServed g xs looks = All (λ l. IfSome l.2 (λ e. IsServedEntry g xs (l.0, l.
 abbrev pub one_range : Served → Bool
 one_range e = nat_eq (length e.ranges) 1
 
--- so many entries were offered, one at most for each block of one range that was served
+-- so many entries were offered, as many at most as blocks of one range were served
 pub record OffersFew (xs : List Exchange) (before after : CacheTold) : Type 0 where
   pub puts : ℕ
   pub offers : GrewBy before.offers after.offers puts

@@ -26,7 +26,7 @@ pub record Legal (g : Setup) (before after : RunTold) (answer : Result ℕ FileR
   pub blocks : Blocks g told.heard before.clients before.cache answer
   -- no block is asked for once too often
   pub tries : Tries g told.heard before.clients after.clients answer
-  -- a cache gains blocks of this call alone, one for each at most
+  -- a cache gains blocks of this call alone, as many as were served at most
   pub cached : Cached g told.heard before.cache after.cache answer
   -- what goes on afterwards: connections, cache, writer and counts
   pub later : Later before after

@@ -92,7 +92,7 @@ pub record Tries (g : Setup) (xs : List Exchange) (before after : List ClientTol
 pub record Cached (g : Setup) (xs : List Exchange) (before after : CacheTold)
     (answer : Result ℕ FileReconstructionError) : Type 0 where
   pub gained : GainedServed g xs before after
-  -- it was offered one entry at most for each served block of one range, and on Ok one for each
+  -- it was offered as many entries at most as blocks of one range were served, and on Ok as many
   pub offers : OffersFew xs before after
   pub all_offered : OnOk answer (offers.puts ≡ count_by one_range (served_of_all xs))
 
