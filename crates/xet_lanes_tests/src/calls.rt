@@ -1,168 +1,122 @@
-//! The calls of a run under its lock, and what its history keeps of them.
-ghost use Rattle.std.specs.Prelude.{◌≡◌, ◌^◌};
-
+//! Calls of a writer as texts.
+use crate::rows::{cut, number, put};
+use bytes::Bytes;
 use std::alloc::Global;
-use std::marker::Brand;
-use std::sync::Wait;
-use std::sync::ledger::{Blank, Ledger};
-use xet_base::{List, MerkleHash, OutOfMemory};
+use xet_base::FileRange;
+use xet_blocks::DataSource;
 use xet_error::FileReconstructionError;
-use xet_run::{CallLog, KeptCalls, RunCall, RunError, RunPass, RunState, ToldCalls};
+use xet_run::{Admission, Budget};
+use xet_writers::DataWriter;
 
-/// Calls, a letter each: a small one by the run's first pass, and a great one by the pass that is split from it.
-const CALLS: &str = "iUeTtsCBR";
+/// One call of a writer.
+#[derive(Clone, Copy)]
+pub(crate) enum Call {
+    /// A term whose bytes are there.
+    Ready(u64, u64, &'static [u8]),
+    /// The same with an admission of as many bytes.
+    Admitted(u64, u64, &'static [u8]),
+    /// A term whose bytes are wanted.
+    Wanted(u64, u64),
+    /// Bytes for a wanted term.
+    Supply(u64, &'static [u8]),
+    /// The end.
+    Finish,
+}
 
-/// What a history has of them.
-const HISTORY: [RunCall; 9] = [
-    RunCall::SetError(FileReconstructionError::IoError),
-    RunCall::SetError(FileReconstructionError::UrlExpired),
-    RunCall::CheckError(Some(FileReconstructionError::IoError)),
-    RunCall::NewTerm(5),
-    RunCall::NewTerm(7),
-    RunCall::Scheduled(12),
-    RunCall::Cancel,
-    RunCall::NewBlock,
-    RunCall::CheckRunState(Some(RunError::Error(FileReconstructionError::IoError))),
-];
+/// An admission of so many bytes.
+fn admission(length: u64) -> Option<Admission> {
+    Budget::new().admit(length, length)
+}
 
-/// Asks by this letter.
-fn ask<L: Ledger, C: CallLog, R: Wait>(
-    rt: &R,
-    state: &RunState<L, C>,
-    pass: &mut RunPass<L>,
-    letter: char,
-) {
-    match letter {
-        'e' => {
-            let _ = state.check_error(rt, pass);
-        }
-        's' => {
-            let _ = state.total_bytes_scheduled(rt, pass);
-        }
-        _ => {
-            let _ = state.check_run_state(rt, pass);
-        }
+/// A call that answers no number answers 0.
+fn done(answer: xet_error::Result<()>) -> xet_error::Result<u64> {
+    match answer {
+        Ok(()) => Ok(0),
+        Err(error) => Err(error),
     }
 }
 
-/// Makes the call of this letter.
-fn make<L: Ledger, C: CallLog, R: Wait>(
-    rt: &R,
-    state: &RunState<L, C>,
-    pass: &mut RunPass<L>,
-    letter: char,
-) -> Result<(), OutOfMemory> {
-    match letter {
-        'i' => state.set_error(rt, pass, FileReconstructionError::IoError),
-        'U' => state.set_error(rt, pass, FileReconstructionError::UrlExpired),
-        'T' => state.record_new_term(rt, pass, 5),
-        't' => state.record_new_term(rt, pass, 7),
-        'C' => state.cancel(rt, pass),
-        'B' => state.record_new_block(rt, pass),
-        _ => {
-            ask(rt, state, pass, letter);
-            Ok(())
-        }
-    }
-}
-
-/// Makes the call of this letter, and adds what the pass tells of it.
-fn make_told<L: Ledger, C: CallLog, R: Wait>(
-    rt: &R,
-    state: &RunState<L, C>,
-    pass: &mut RunPass<L>,
-    letter: char,
-    made: &mut Vec<RunCall>,
-) {
-    let _ = make(rt, state, pass, letter);
-    if let Some(call) = pass.last() {
-        let _ = made.push(call);
-    }
-}
-
-/// Makes the calls, and adds what the passes tell of each.
-fn make_all<L: Ledger, C: CallLog, R: Wait>(
-    rt: &R,
-    state: &RunState<L, C>,
-    pass: &mut RunPass<L>,
-    other: &mut RunPass<L>,
-    made: &mut Vec<RunCall>,
-) {
-    for letter in CALLS.chars() {
-        if letter.is_ascii_uppercase() {
-            make_told(rt, state, other, letter, made);
-        } else {
-            make_told(rt, state, pass, letter, made);
-        }
-    }
-}
-
-/// What the passes tell of the calls.
-fn told_of<L: Ledger, C: CallLog, R: Wait>(
-    rt: &R,
+/// Makes one call.
+pub(crate) fn make<W: DataWriter>(
     alloc: Global,
-    state: &RunState<L, C>,
-    pass: &mut RunPass<L>,
-) -> Vec<RunCall>
-    requires parts { pass.old.share.parts ≡ 2 ^ 32 }
-{
-    let mut made = Vec::new(alloc);
-    let mut other = pass.split(1);
-    make_all(rt, state, pass, &mut other, &mut made);
-    pass.gather(other);
-    made
-}
-
-/// The calls of a run that keeps them, as the passes tell them and as its history has them.
-fn kept_calls<L: Ledger, R: Wait>(
-    rt: &R,
-    alloc: Global,
-    blank: Blank,
-) -> Result<(Vec<RunCall>, List<RunCall>), OutOfMemory>
-    requires name { blank.name ≡ L.name }
-    requires parts { (blank.parts ≡ L.parts) × (L.parts ≡ 2 ^ 32) }
-{
-    let (state, mut pass) = RunState::<L, KeptCalls>::new(alloc, blank, MerkleHash([1; 32]))?;
-    let made = told_of(rt, alloc, &state, &mut pass);
-    Ok((made, state.close(pass)))
-}
-
-/// The calls of a run that keeps none, as the passes tell them.
-fn told_calls<L: Ledger, R: Wait>(
-    rt: &R,
-    alloc: Global,
-    blank: Blank,
-) -> Result<Vec<RunCall>, OutOfMemory>
-    requires name { blank.name ≡ L.name }
-    requires parts { (blank.parts ≡ L.parts) × (L.parts ≡ 2 ^ 32) }
-{
-    let (state, mut pass) = RunState::<L, ToldCalls>::new(alloc, blank, MerkleHash([1; 32]))?;
-    Ok(told_of(rt, alloc, &state, &mut pass))
-}
-
-fn kept_run<R: Wait>(rt: &R, alloc: Global) -> Result<(Vec<RunCall>, List<RunCall>), OutOfMemory> {
-    kept_calls::<Brand, R>(rt, alloc, Blank::new(1 << 32))
-}
-
-fn told_run<R: Wait>(rt: &R, alloc: Global) -> Result<Vec<RunCall>, OutOfMemory> {
-    told_calls::<Brand, R>(rt, alloc, Blank::new(1 << 32))
-}
-
-#[test]
-fn a_run_keeps_its_calls(rt: HostRuntime) {
-    match kept_run(&rt, rt.alloc()) {
-        Ok((made, kept)) => {
-            assert!(rt; made.as_slice() == HISTORY.as_slice());
-            assert!(rt; kept.as_slice() == HISTORY.as_slice());
+    writer: &mut W,
+    call: Call,
+) -> xet_error::Result<u64> {
+    match call {
+        Call::Ready(start, end, text) => {
+            let source = DataSource::Ready(Bytes::from_static(text));
+            let range = FileRange::new(start, end);
+            done(writer.set_next_term_data_source(alloc, range, None, source))
         }
-        Err(_) => panic!(rt; "memory"),
+        Call::Admitted(start, end, text) => {
+            let source = DataSource::Ready(Bytes::from_static(text));
+            let (range, length) = (FileRange::new(start, end), text.len() as u64);
+            done(writer.set_next_term_data_source(alloc, range, admission(length), source))
+        }
+        Call::Wanted(start, end) => {
+            let (range, source) = (FileRange::new(start, end), DataSource::Wanted(0));
+            done(writer.set_next_term_data_source(alloc, range, None, source))
+        }
+        Call::Supply(start, text) => done(writer.supply(alloc, start, Bytes::from_static(text))),
+        Call::Finish => writer.finish(alloc),
     }
 }
 
-#[test]
-fn a_run_that_keeps_no_calls_answers_the_same(rt: HostRuntime) {
-    match told_run(&rt, rt.alloc()) {
-        Ok(made) => assert!(rt; made.as_slice() == HISTORY.as_slice()),
-        Err(_) => panic!(rt; "memory"),
+/// A half-open range, with a hyphen between its ends.
+fn range_of(text: &str) -> (u64, u64) {
+    let (start, end) = cut(text, "-");
+    (number(start), number(end))
+}
+
+fn ready(range: &str, bytes: &'static str) -> Call {
+    let (start, end) = range_of(range);
+    Call::Ready(start, end, bytes.as_bytes())
+}
+
+fn admitted(range: &str, bytes: &'static str) -> Call {
+    let (start, end) = range_of(range);
+    Call::Admitted(start, end, bytes.as_bytes())
+}
+
+fn wanted(range: &str) -> Call {
+    let (start, end) = range_of(range);
+    Call::Wanted(start, end)
+}
+
+fn supply(start: &str, bytes: &'static str) -> Call {
+    Call::Supply(number(start), bytes.as_bytes())
+}
+
+/// One call: `0-5:Hello` a term with its bytes, `0-5=Hello` one that has an admission, `0-5` a wanted one, `0+Hello`
+/// bytes for it, and `finish`.
+pub(crate) fn call_of(text: &'static str) -> Call {
+    if text == "finish" {
+        return Call::Finish;
+    }
+    if let Some((range, bytes)) = text.split_once(':') {
+        return ready(range, bytes);
+    }
+    if let Some((range, bytes)) = text.split_once('=') {
+        return admitted(range, bytes);
+    }
+    match text.split_once('+') {
+        Some((start, bytes)) => supply(start, bytes),
+        None => wanted(text),
+    }
+}
+
+/// Shows an error: the failed test with its numbers, or its name.
+pub(crate) fn show_error(told: &mut String, error: FileReconstructionError) {
+    let _ = match error {
+        FileReconstructionError::InternalWriterError(fault) => write!(told, "{fault:?}"),
+        error => write!(told, "{error:?}"),
+    };
+}
+
+/// Shows an answer.
+pub(crate) fn show(told: &mut String, answer: xet_error::Result<u64>) {
+    match answer {
+        Ok(count) => put(told, count),
+        Err(error) => show_error(told, error),
     }
 }

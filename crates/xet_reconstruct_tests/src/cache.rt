@@ -1,6 +1,6 @@
 //! A cache by a text.
 use crate::row::Row;
-use crate::said::block;
+use crate::script::block;
 use std::alloc::Global;
 use xet_base::{ChunkRange, MerkleHash};
 use xet_outside::{BlockBytes, CacheError, ChunkCache};
@@ -41,7 +41,7 @@ impl Cache {
 fn entries(alloc: Global, row: Row<'_>) -> MapCache {
     let mut made = MapCache::new(alloc);
     if let Some(text) = row.find("cached")
-        && let Ok(entry) = block(alloc, text)
+        && let Some(entry) = block(alloc, text)
     {
         let _ = made.put(alloc, &X1, ChunkRange::new(0, 4), &entry);
     }

@@ -1,9 +1,10 @@
 //! A connection by a text.
 use crate::meter::Meter;
-use crate::row::{Row, put};
-use crate::said::{block, plan};
+use crate::row::Row;
+use crate::script::{answered, given};
+use crate::told::tell_request;
 use std::alloc::Global;
-use xet_base::{FileRange, MerkleHash, OutOfMemory};
+use xet_base::{FileRange, MerkleHash};
 use xet_connections::MemClient;
 use xet_outside::{BlockAnswer, BlockRequest, Client, ClientError, PlanAnswer};
 use xet_store::MemStore;
@@ -20,7 +21,7 @@ pub(crate) struct Connection<'a> {
     waits: bool,
     pub(crate) plans: u64,
     pub(crate) blocks: u64,
-    /// The URL, the acquisition and the bytes of each request for a block.
+    /// Each request for a block.
     pub(crate) asked: String,
 }
 
@@ -57,35 +58,6 @@ impl<'a> Connection<'a> {
     }
 }
 
-/// Adds ` URL PLAN.REFRESH`.
-fn note_url(text: &mut String, request: &BlockRequest) {
-    put(text, ' ');
-    put(text, request.url.as_str());
-    put(text, ' ');
-    put(text, request.acquisition.plan);
-    put(text, '.');
-    put(text, request.acquisition.refresh);
-}
-
-/// Adds ` URL PLAN.REFRESH START-END` with each range of bytes.
-fn note(text: &mut String, request: &BlockRequest) {
-    note_url(text, request);
-    for range in request.bytes.as_slice() {
-        put(text, ' ');
-        put(text, range.start);
-        put(text, '-');
-        put(text, range.end);
-    }
-}
-
-/// The block of this text.
-fn served(alloc: Global, text: &str) -> Result<BlockAnswer, ClientError> {
-    match block(alloc, text) {
-        Ok(block) => Ok(BlockAnswer::Bytes(block)),
-        Err(OutOfMemory) => Err(ClientError::OutOfMemory),
-    }
-}
-
 impl<'a> Client for Connection<'a> {
     ghost use Rattle.std.specs.Prelude.{◌-◌, ◌^◌, [], None};
     ghost use Rattle.xet_outside.specs.Told.{ClientTold};
@@ -117,7 +89,7 @@ impl<'a> Client for Connection<'a> {
             b'f' => Err(ClientError::Failed),
             b'n' => Ok(PlanAnswer::NoFile),
             b'e' => Ok(PlanAnswer::PastEnd),
-            b'p' => Ok(PlanAnswer::Found(plan(alloc, self.plan))),
+            b'p' => answered(alloc, self.plan),
             _ => self.inner.plan(alloc, file, range),
         }
     }
@@ -126,11 +98,11 @@ impl<'a> Client for Connection<'a> {
         let word = self.word();
         self.blocks = self.blocks.saturating_add(1);
         self.meter.enter();
-        note(&mut self.asked, request);
+        tell_request(&mut self.asked, request);
         match word {
             b'f' => Err(ClientError::Failed),
             b'x' => Ok(BlockAnswer::Expired),
-            b's' => served(alloc, self.block),
+            b's' => given(alloc, self.block),
             _ => self.inner.block(alloc, request),
         }
     }

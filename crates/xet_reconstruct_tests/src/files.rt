@@ -1,5 +1,6 @@
 //! What a file holds after a run into it.
-use crate::played::{comes_to, tell_answer};
+use crate::played::tell_answer;
+use crate::told::comes_to;
 use std::alloc::Global;
 use std::sync::Wait;
 use std::thread::Threads;

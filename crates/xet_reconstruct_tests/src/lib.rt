@@ -1,5 +1,6 @@
-//! Tests of `xet_reconstruct`: what runs answer and write, row by row. They stand in a crate of their own, since a
-//! crate with tests is proved twice.
+//! Tests of `xet_blocks`, `xet_fetch`, `xet_terms` and `xet_reconstruct`: what plans are made into, how blocks and
+//! plans are asked for, and what runs answer and write, row by row. They stand in a crate of their own, since a crate
+//! with tests is proved twice.
 #![tactic(auto)]
 
 #[cfg(test)]
@@ -9,17 +10,31 @@ mod connection;
 #[cfg(test)]
 mod crowd;
 #[cfg(test)]
+mod fake_cache;
+#[cfg(test)]
+mod fake_client;
+#[cfg(test)]
 mod faults;
+#[cfg(test)]
+mod fetches;
+#[cfg(test)]
+mod fetching;
 #[cfg(test)]
 mod files;
 #[cfg(test)]
 mod lies;
 #[cfg(test)]
+mod managers;
+#[cfg(test)]
 mod meter;
 #[cfg(test)]
 mod output;
 #[cfg(test)]
+mod plans;
+#[cfg(test)]
 mod played;
+#[cfg(test)]
+mod refreshes;
 #[cfg(test)]
 mod reports;
 #[cfg(test)]
@@ -27,6 +42,8 @@ mod row;
 #[cfg(test)]
 mod runs;
 #[cfg(test)]
-mod said;
+mod script;
 #[cfg(test)]
 mod signal;
+#[cfg(test)]
+mod told;

@@ -3,17 +3,16 @@ use crate::played::come_to;
 
 /// A plan that lies, in the first turn and in the third: that turn writes nothing. Then what plans may say.
 const PLANS: &str = "\
-lanes p; plan 0/0 4 13/: NoXorb { term: 0 } '' 1/0
-size 4; lanes ....p; plan 0/0 4 13/: NoXorb { term: 0 } 'Hell' 3/2
-multi; lanes p; plan 0/0 4 13/0 2, 1 4: Ranges { xorb: MerkleHash([17, 17, 17, 17, 17, 17, 17, 17, 17, 17, 17, 17, \
-17, 17, 17, 17, 17, 17, 17, 17, 17, 17, 17, 17, 17, 17, 17, 17, 17, 17, 17, 17]), entry: 0 } '' 1/0
-lanes p; plan 0/0 4 13/0 3: NoRange { term: 0 } '' 1/0
-lanes p; plan 0/0 1 5, 3 3 0/0 4: NoRange { term: 1 } '' 1/0
-lanes p; plan 14/0 4 13/0 4: Offset { offset: 14, length: 13 } '' 1/0
-from 18446744073709551610; lanes p; plan 0/0 4 13/0 4: Position { term: 0 } '' 1/0
-to 4; lanes p; plan 0/0 1 5, 0 1 5/0 1: Trim { excess: 6, length: 5 } '' 1/0
-lanes p; plan 0/0 2 9, 3 4 9/0 4: TermPastBlock { end: 21, length: 13 } '' 1/1
-lanes p; plan 0//: 0 '' 1/0
+lanes p; plan 0;17 13 0 4;: NoXorb { term: 0 } '' 1/0
+size 4; lanes ....p; plan 0;17 13 0 4;: NoXorb { term: 0 } 'Hell' 3/2
+multi; lanes p; plan 0;17 13 0 4;17:0 2 1 4: Ranges 17 0 '' 1/0
+lanes p; plan 0;17 13 0 4;17:0 3: NoRange { term: 0 } '' 1/0
+lanes p; plan 0;17 5 0 1 17 0 3 3;17:0 4: NoRange { term: 1 } '' 1/0
+lanes p; plan 14;17 13 0 4;17:0 4: Offset { offset: 14, length: 13 } '' 1/0
+from 18446744073709551610; lanes p; plan 0;17 13 0 4;17:0 4: Position { term: 0 } '' 1/0
+to 4; lanes p; plan 0;17 5 0 1 17 5 0 1;17:0 1: Trim { excess: 6, length: 5 } '' 1/0
+lanes p; plan 0;17 9 0 2 17 9 3 4;17:0 4: TermPastBlock { end: 21, length: 13 } '' 1/1
+lanes p; plan 0;;: 0 '' 1/0
 lanes e: 0 '' 1/0
 lanes n: FileNotFound '' 1/0";
 
@@ -21,35 +20,35 @@ lanes n: FileNotFound '' 1/0";
 const REFRESHES: &str = "\
 size 4; lanes ...xe: RefreshPastEnd 'Hell' 3/2
 lanes .xe: RefreshPastEnd '' 2/1
-lanes .xp; plan 0//: RefreshPastEnd '' 2/1
+lanes .xp; plan 0;;: RefreshPastEnd '' 2/1
 lanes .xn: FileNotFound '' 2/1
 lanes .xf: ClientError '' 2/1
-lanes .xp; plan 0/0 4 13/: NoXorb { term: 0 } '' 2/1
-lanes .xp; plan 0/0 4 12/0 4: RefreshRange { returned: FileRange { start: 0, end: 12 } } '' 2/1
-lanes .xp; plan 0/0 3 12, 3 4 1/0 3, 3 4: RefreshBlocks { index: 0 } '' 2/1
-lanes .xp; plan 0/0 4 13/0 4: 13 'Hello, world!' 2/2";
+lanes .xp; plan 0;17 13 0 4;: NoXorb { term: 0 } '' 2/1
+lanes .xp; plan 0;17 12 0 4;17:0 4: RefreshRange { returned: FileRange { start: 0, end: 12 } } '' 2/1
+lanes .xp; plan 0;17 12 0 3 17 1 3 4;17:0 3 3 4: RefreshBlocks { index: 0 } '' 2/1
+lanes .xp; plan 0;17 13 0 4;17:0 4: 13 'Hello, world!' 2/2";
 
 /// Bytes that fail a test, in the second turn and in the first. What passes its tests is written, whatever the store
 /// has.
 const BLOCKS: &str = "\
-size 4; lanes ...s; block 0 5/Hello,: OffsetCount { expected: 3, actual: 2 } 'Hell' 2/2
-lanes .s; block 0 5 7/Hello, world!: OffsetCount { expected: 4, actual: 3 } '' 1/1
-lanes .s; block 0 5 5 12/Hello, world!: OffsetOrder { place: 2 } '' 1/1
-lanes .s; block 1 5 7 12/Hello, world!: OffsetOrder { place: 0 } '' 1/1
-lanes .s; block 0 5 7 13/Hello, world!: OffsetOrder { place: 3 } '' 1/1
-lanes .s; block 0 5 7 12/Hello, worl!: OffsetOrder { place: 3 } '' 1/1
-lanes .s; block 0 5 7 12/Hello, world!!: BlockLength { expected: 13, actual: 14 } '' 1/1
-lanes .s; block 0 5 7 12/Jello, world!: 13 'Jello, world!' 1/1";
+size 4; lanes ...s; block 0 5|Hello,: OffsetCount { expected: 3, actual: 2 } 'Hell' 2/2
+lanes .s; block 0 5 7|Hello, world!: OffsetCount { expected: 4, actual: 3 } '' 1/1
+lanes .s; block 0 5 5 12|Hello, world!: OffsetOrder { place: 2 } '' 1/1
+lanes .s; block 1 5 7 12|Hello, world!: OffsetOrder { place: 0 } '' 1/1
+lanes .s; block 0 5 7 13|Hello, world!: OffsetOrder { place: 3 } '' 1/1
+lanes .s; block 0 5 7 12|Hello, worl!: OffsetOrder { place: 3 } '' 1/1
+lanes .s; block 0 5 7 12|Hello, world!!: BlockLength { expected: 13, actual: 14 } '' 1/1
+lanes .s; block 0 5 7 12|Jello, world!: 13 'Jello, world!' 1/1";
 
 /// An entry of the cache that fails a test is a miss, and of one that passes its tests the bytes are written: then the
 /// connection isn't asked for the block.
 const ENTRIES: &str = "\
-cached 0 5 7/Hello, world!: 13 'Hello, world!' 1/1
-cached 0 5 7 12/Hello, worl!: 13 'Hello, world!' 1/1
-cached 0 5 7 11/Hello, worl!: 13 'Hello, world!' 1/1
-file b; cached 0 5 7 11/Hello, worl!: 23 'world!HelloHello, world' 1/1
-lanes .f; cached 0 5 7 12/Hello, world!: 13 'Hello, world!' 1/0
-lanes .f; cached 0 5 7 12/Jello, world!: 13 'Jello, world!' 1/0";
+cached 0 5 7|Hello, world!: 13 'Hello, world!' 1/1
+cached 0 5 7 12|Hello, worl!: 13 'Hello, world!' 1/1
+cached 0 5 7 11|Hello, worl!: 13 'Hello, world!' 1/1
+file b; cached 0 5 7 11|Hello, worl!: 23 'world!HelloHello, world' 1/1
+lanes .f; cached 0 5 7 12|Hello, world!: 13 'Hello, world!' 1/0
+lanes .f; cached 0 5 7 12|Jello, world!: 13 'Jello, world!' 1/0";
 
 #[test]
 fn lies_are_told_with_their_numbers(rt: HostRuntime) {

@@ -1,5 +1,6 @@
 //! A meter that a writer shares with connections.
-use crate::row::{Row, number_of};
+use crate::row::Row;
+use crate::script::number;
 use std::sync::atomic::{AtomicBool, AtomicU64, Ordering};
 
 /// How many bytes are fetched and not yet written.
@@ -35,20 +36,20 @@ impl<'a> Meter<'a> {
     }
 
     /// How many bytes the fetch of this number has.
-    fn length(&self, number: u64) -> u64 {
-        match self.lengths.split(' ').nth(number as usize) {
-            Some(word) => number_of(word),
+    fn length(&self, fetch: u64) -> u64 {
+        match self.lengths.split(' ').nth(fetch as usize) {
+            Some(word) => number(word),
             None => 0,
         }
     }
 
     /// A fetch begins.
     pub(crate) fn enter(&self) {
-        let number = self.fetches.fetch_add(1, Ordering::SeqCst);
+        let fetch = self.fetches.fetch_add(1, Ordering::SeqCst);
         if self.lengths.is_empty() {
             return;
         }
-        let length = self.length(number);
+        let length = self.length(fetch);
         let before = self.level.fetch_add(length, Ordering::SeqCst);
         if self.most < before.saturating_add(length) {
             self.passed.store(true, Ordering::SeqCst);

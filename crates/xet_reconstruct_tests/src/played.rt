@@ -6,15 +6,16 @@ use crate::connection::Connection;
 use crate::crowd::Crowd;
 use crate::meter::Meter;
 use crate::output::Output;
-use crate::row::{Row, cut, put};
+use crate::row::Row;
 use crate::signal::Signal;
+use crate::told::{comes_to, cut, put, tell_error};
 use std::alloc::Global;
 use std::process::Abort;
 use std::sync::{Arc, Wait};
 use std::thread::Threads;
 use xet_base::OutOfMemory;
 use xet_blocks::Steady;
-use xet_error::{FileReconstructionError, Result};
+use xet_error::Result;
 use xet_progress::ItemProgressUpdater;
 use xet_reconstruct::FileReconstructor;
 use xet_run::{BookView, BudgetBook, BudgetSettings, FixedBudget, RunCore};
@@ -134,13 +135,12 @@ fn answered<R: Threads + Wait + Sync>(
     wanted.reconstruct_to_writer(rt, alloc, clients, cache, &mut signal, output)
 }
 
-/// Adds how many bytes there are, or the error, of a failed test that test.
+/// Adds how many bytes there are, or the error.
 fn tell_count(text: &mut String, answer: Result<u64>) {
-    let _ = match answer {
-        Ok(count) => write!(text, "{count}"),
-        Err(FileReconstructionError::CorruptedReconstruction(test)) => write!(text, "{test:?}"),
-        Err(error) => write!(text, "{error:?}"),
-    };
+    match answer {
+        Ok(count) => put(text, count),
+        Err(error) => tell_error(text, error),
+    }
 }
 
 /// Adds `ANSWER 'BYTES'`.
@@ -275,11 +275,6 @@ pub(crate) fn played<R: Threads + Wait + Sync>(
         Ok(store) => over_store(rt, alloc, row, &store, updater, &mut output),
         Err(_) => String::new(alloc),
     }
-}
-
-/// Asserts what a row comes to.
-pub(crate) fn comes_to(rt: &impl Abort, row: &str, told: String, wanted: &str) {
-    assert!(rt; told.as_str() == wanted, "{row}: {told}");
 }
 
 /// Plays each line's row, which comes to what stands behind the colon.

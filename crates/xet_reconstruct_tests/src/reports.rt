@@ -1,6 +1,7 @@
 //! What an updater is told.
-use crate::played::{comes_to, played};
-use crate::row::{Row, put};
+use crate::played::played;
+use crate::row::Row;
+use crate::told::{comes_to, put};
 use std::alloc::Global;
 use std::sync::Wait;
 use std::thread::Threads;

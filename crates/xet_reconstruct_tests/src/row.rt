@@ -1,5 +1,6 @@
 //! One run as a text: fields with semicolons between them, each a name alone or with what it says.
-use std::fmt::Display;
+use crate::script::number;
+use crate::told::cut;
 use xet_base::{FileRange, MerkleHash};
 use xet_store::worked::{FILE_OF_ALL, FILE_OF_NOTHING, FILE_OF_REPEATS, FILE_OF_TWO_ENDS};
 use xet_terms::ReconstructionConfig;
@@ -17,7 +18,7 @@ plan block cached forgets down up yes takes unflushed lengths most meet first be
 ///
 /// `lanes` are the connections, with commas between them, each by what it does at its calls: `.` is honest, `f` fails,
 /// `x` says that the URL has expired, `n` that there is no such file, `e` that the range is past the end, `s` serves
-/// `block` and `p` says `plan`. With `ready` they answer at once.
+/// `block` and `p` says `plan`, both as `script` reads them. With `ready` they answer at once.
 ///
 /// `cached` is what the cache has for the first xorb's chunks. It keeps nothing more where it `forgets`. Its calls from
 /// `down` to before `up` fail. The signal says yes at its ask `yes`. `takes` is what the writer does at each write: `1`
@@ -52,7 +53,7 @@ impl<'a> Row<'a> {
     /// The number that the field of this name says, else the usual one.
     pub(crate) fn number(self, name: &str, usual: u64) -> u64 {
         match self.find(name) {
-            Some(said) => number_of(said),
+            Some(said) => number(said),
             None => usual,
         }
     }
@@ -101,16 +102,6 @@ impl<'a> Row<'a> {
     }
 }
 
-/// Adds a word or a number.
-pub(crate) fn put<T: Display + Drop>(text: &mut String, value: T) {
-    let _ = write!(text, "{value}");
-}
-
-/// What stands before the first of these, and what behind it: where there is none, all and nothing.
-pub(crate) fn cut<'a>(text: &'a str, at: &str) -> (&'a str, &'a str) {
-    text.split_once(at).unwrap_or((text, ""))
-}
-
 /// Whether a row has fields of this name.
 fn is_name(found: &str) -> bool {
     for name in NAMES.split(' ') {
@@ -119,14 +110,4 @@ fn is_name(found: &str) -> bool {
         }
     }
     false
-}
-
-/// The number that a text says, and the greatest where it says none.
-pub(crate) fn number_of(text: &str) -> u64 {
-    text.parse::<u64>().unwrap_or(u64::MAX)
-}
-
-/// The same of 32 bits.
-pub(crate) fn short_number_of(text: &str) -> u32 {
-    u32::try_from(number_of(text)).unwrap_or(u32::MAX)
 }

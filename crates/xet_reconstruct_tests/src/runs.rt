@@ -11,8 +11,8 @@ file b; least 4; greatest 8; prefetch 0; ahead 1000; tell plans: 23 'world!Hello
 /// Terms without bytes in the range, one at the start and two at the end, have blocks of their own, which are never
 /// asked for.
 const EMPTY: &str = "\
-to 5; lanes p.f; plan 6/2 4 6, 0 1 5/2 4, 0 1: 5 'Hello' 1/1
-to 5; lanes p.f; plan 0/0 1 5, 1 2 0, 2 3 2/0 1, 1 2, 2 3: 5 'Hello' 1/1";
+to 5; lanes p.f; plan 6;17 6 2 4 17 5 0 1;17:2 4 0 1: 5 'Hello' 1/1
+to 5; lanes p.f; plan 0;17 5 0 1 17 0 1 2 17 2 2 3;17:0 1 1 2 2 3: 5 'Hello' 1/1";
 
 /// A setting that fails; a write and a fetch that fail in one join; of two blocks of one round the first is out of
 /// tries, and the fetch of the second fails, or doesn't.
@@ -22,16 +22,19 @@ size 4; lanes ...f; takes f; tell plans: IoError '' 2
 file e; tries 1; lanes .xf: ClientError '' 1/2
 file e; tries 1; lanes .x: UrlExpired '' 1/2";
 
-/// The URL of each request for a block, its plan and how often that was asked for again, and the bytes. After a refresh
-/// they are those of the refresh, and the last try has no refresh.
+/// Each request for a block: its URL, its plan and how often that was asked for again, its block's number, and its
+/// chunks with their bytes. After a refresh URLs and bytes are those of the refresh, and the last try has no refresh.
 const REQUESTS: &str = "\
-size 4; tell requests: 13 'Hello, world!' 4 mem:1 1.0 0-5 mem:2 2.0 0-12 mem:3 3.0 7-12 mem:4 4.0 12-13
-file e; multi; tell requests: 6 'Hello!' 1 mem:1 1.0 0-5 12-13
-tries 1; tell requests: 13 'Hello, world!' 1 mem:1 1.0 0-13
-tries 2; lanes .x; tell requests: 13 'Hello, world!' 2 mem:1 1.0 0-13 mem:2 1.1 0-13
-tries 3; lanes .x.x; tell requests: 13 'Hello, world!' 3 mem:1 1.0 0-13 mem:2 1.1 0-13 mem:3 1.2 0-13
-tries 1; lanes .x; tell requests: UrlExpired '' 1 mem:1 1.0 0-13
-tries 3; lanes .x.x.x; tell requests: UrlExpired '' 3 mem:1 1.0 0-13 mem:2 1.1 0-13 mem:3 1.2 0-13";
+size 4; tell requests: 13 'Hello, world!' 4 !mem:1 1.0 b0 0..1@0..5 !mem:2 2.0 b0 0..3@0..12 \
+!mem:3 3.0 b0 2..3@7..12 !mem:4 4.0 b0 3..4@12..13
+file e; multi; tell requests: 6 'Hello!' 1 !mem:1 1.0 b0 0..1@0..5 3..4@12..13
+tries 1; tell requests: 13 'Hello, world!' 1 !mem:1 1.0 b0 0..4@0..13
+tries 2; lanes .x; tell requests: 13 'Hello, world!' 2 !mem:1 1.0 b0 0..4@0..13 !mem:2 1.1 b0 0..4@0..13
+tries 3; lanes .x.x; tell requests: 13 'Hello, world!' 3 !mem:1 1.0 b0 0..4@0..13 !mem:2 1.1 b0 0..4@0..13 \
+!mem:3 1.2 b0 0..4@0..13
+tries 1; lanes .x; tell requests: UrlExpired '' 1 !mem:1 1.0 b0 0..4@0..13
+tries 3; lanes .x.x.x; tell requests: UrlExpired '' 3 !mem:1 1.0 b0 0..4@0..13 !mem:2 1.1 b0 0..4@0..13 \
+!mem:3 1.2 b0 0..4@0..13";
 
 /// Each block has tries of its own: two of one plan that expire in one round, for which the plan is asked for again
 /// once, and one of each of two plans.
@@ -52,15 +55,15 @@ size 4; lanes .,.,.; budget 13; lengths 4 4 4 1; most 13: 13 'Hello, world!' 4 w
 /// Without a limit three blocks are fetched before the first is written. A limit of five bytes of the settings, or of a
 /// book with one download, leaves one block at a time.
 const LIMITS: &str = "\
-lanes p; plan 0/0 1 5, 1 2 2, 2 3 5/0 1, 1 2, 2 3; lengths 5 2 5; most 5: 12 'Hello, world' 1 past 0
-lanes p; plan 0/0 1 5, 1 2 2, 2 3 5/0 1, 1 2, 2 3; budget 5; lengths 5 2 5; most 5: 12 'Hello, world' 1 within 0
-lanes p; plan 0/0 1 5, 1 2 2, 2 3 5/0 1, 1 2, 2 3; book 5; lengths 5 2 5; most 5: 12 'Hello, world' 1 within 0";
+lanes p; plan 0;17 5 0 1 17 2 1 2 17 5 2 3;17:0 1 1 2 2 3; lengths 5 2 5; most 5: 12 'Hello, world' 1 past 0
+lanes p; plan 0;17 5 0 1 17 2 1 2 17 5 2 3;17:0 1 1 2 2 3; budget 5; lengths 5 2 5; most 5: 12 'Hello, world' 1 within 0
+lanes p; plan 0;17 5 0 1 17 2 1 2 17 5 2 3;17:0 1 1 2 2 3; book 5; lengths 5 2 5; most 5: 12 'Hello, world' 1 within 0";
 
 /// The second fetch and the first write wait for each other, and three fetches for one another, of which each
 /// connection serves one. The gate is that of the caller.
 const BESIDE: &str = "\
 size 4; budget 13; meet 2; first 1; beside: 13 'Hello, world!' 4 met 4 0 0
-lanes p,.,.; plan 0/0 1 5, 1 2 2, 2 3 5/0 1, 1 2, 2 3; budget 12; meet 3: 12 'Hello, world' 1 met 1 1 1";
+lanes p,.,.; plan 0;17 5 0 1 17 2 1 2 17 5 2 3;17:0 1 1 2 2 3; budget 12; meet 3: 12 'Hello, world' 1 met 1 1 1";
 
 #[test]
 fn plans_ahead_by_setting_and_policy(rt: HostRuntime) {

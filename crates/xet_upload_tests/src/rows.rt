@@ -1,14 +1,19 @@
 //! Rows of a text, and what each comes to.
 use std::alloc::Global;
-use std::fmt::Debug;
+use std::fmt::{Debug, Display};
 use std::process::Abort;
 
-/// Shows a value behind a space.
+/// Adds a word or a number.
+pub(crate) fn put<T: Display + Drop>(told: &mut String, value: T) {
+    let _ = write!(told, "{value}");
+}
+
+/// Adds a value behind a space.
 pub(crate) fn show<T: Debug>(told: &mut String, value: &T) {
     let _ = write!(told, " {value:?}");
 }
 
-/// Shows a word behind a space.
+/// Adds a word behind a space.
 pub(crate) fn word(told: &mut String, word: &str) {
     let _ = write!(told, " {word}");
 }

@@ -1,8 +1,8 @@
 //! A connection that follows a script and keeps what it was asked.
-use crate::script::{answered, block, hash};
-use crate::told::{cut, put, put_id, put_range};
+use crate::script::{answered, given, hash};
+use crate::told::{cut, put, put_range, tell_request};
 use std::alloc::Global;
-use xet_base::{ChunkRange, FileRange, HttpRange, MerkleHash, UniqueId};
+use xet_base::{FileRange, MerkleHash, UniqueId};
 use xet_blocks::{TermBlock, retrieve_file_term_block};
 use xet_outside::{BlockAnswer, BlockRequest, Client, ClientError, PlanAnswer};
 
@@ -51,45 +51,6 @@ fn note_query(log: &mut String, range: FileRange) {
     put_range(log, range.start, range.end);
 }
 
-/// ` 4..7@40..70`: chunks with their bytes.
-fn note_range(log: &mut String, chunks: ChunkRange, bytes: HttpRange) {
-    put(log, ' ');
-    put_range(log, chunks.start, chunks.end);
-    put(log, '@');
-    put_range(log, bytes.start, bytes.end);
-}
-
-/// ` !a 1.0 b0`: the URL, the acquisition and the block's number of a request.
-fn note_block(log: &mut String, request: &BlockRequest) {
-    put(log, " !");
-    put(log, request.url.as_str());
-    put(log, ' ');
-    put_id(log, request.acquisition);
-    put(log, " b");
-    put(log, request.index);
-}
-
-/// ` !a 1.0 b0 4..7@40..70`: a request by its URL, its acquisition, the block's number, and each range with its bytes.
-fn note_request(log: &mut String, request: &BlockRequest) {
-    note_block(log, request);
-    let ranges = request.chunks.as_slice().iter();
-    for (chunks, bytes) in ranges.zip(request.bytes.as_slice()) {
-        note_range(log, *chunks, *bytes);
-    }
-}
-
-/// What a connection answers to a request by this step.
-fn given(alloc: Global, step: &str) -> Result<BlockAnswer, ClientError> {
-    match step {
-        "expired" => Ok(BlockAnswer::Expired),
-        "no memory" => Err(ClientError::OutOfMemory),
-        text => match block(alloc, text) {
-            Some(bytes) => Ok(BlockAnswer::Bytes(bytes)),
-            None => Err(ClientError::Failed),
-        },
-    }
-}
-
 impl<'a> Client for FakeClient<'a> {
     ghost use Rattle.std.specs.Prelude.{◌-◌, ◌^◌, [], None};
     ghost use Rattle.xet_outside.specs.Told.{ClientTold};
@@ -116,7 +77,7 @@ impl<'a> Client for FakeClient<'a> {
     }
 
     fn block(&mut self, alloc: Global, request: &BlockRequest) -> Result<BlockAnswer, ClientError> {
-        note_request(&mut self.log, request);
+        tell_request(&mut self.log, request);
         given(alloc, self.step())
     }
 }

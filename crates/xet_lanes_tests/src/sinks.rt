@@ -1,7 +1,7 @@
 //! A sink by a script that watches its calls, and one whose flush fails.
 ghost use Rattle.std.specs.Prelude.{◌≡◌};
 
-use crate::calls::{number, put, put_two};
+use crate::rows::{number, put, put_two};
 use bytes::Bytes;
 use std::alloc::Global;
 use xet_outside::{Sink, SinkError};

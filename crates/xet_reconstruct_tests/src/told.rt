@@ -1,8 +1,10 @@
 //! What rows come to, as text. Where memory is refused a text lacks what was to be added.
+use crate::script::hash;
 use std::fmt::{Debug, Display};
 use std::process::Abort;
-use xet_base::UniqueId;
+use xet_base::{ChunkRange, HttpRange, UniqueId};
 use xet_blocks::{Corruption, FileReconstructionError, Result, TermBlockRetrievalURLs};
+use xet_outside::BlockRequest;
 
 /// What stands before the first of these, and what behind it: where there is none, all and nothing.
 pub(crate) fn cut<'a>(text: &'a str, at: &str) -> (&'a str, &'a str) {
@@ -33,7 +35,7 @@ pub(crate) fn put_id(text: &mut String, id: UniqueId) {
     put(text, id.refresh);
 }
 
-/// `Ranges 1 0`: a xorb's bad entry, with the first byte of the xorb's hash.
+/// `Ranges 1 0`: a xorb's bad entry, with the number of the xorb's hash.
 fn tell_entry(text: &mut String, xorb: u8, entry: usize) {
     put(text, "Ranges ");
     put(text, xorb);
@@ -44,9 +46,8 @@ fn tell_entry(text: &mut String, xorb: u8, entry: usize) {
 /// An error, a failed test with its numbers, or a xorb's bad entry.
 pub(crate) fn tell_error(text: &mut String, error: FileReconstructionError) {
     match error {
-        FileReconstructionError::CorruptedReconstruction(Corruption::Ranges { xorb, entry }) => {
-            tell_entry(text, xorb.0[0], entry)
-        }
+        FileReconstructionError::CorruptedReconstruction(Corruption::Ranges { xorb, entry })
+            if xorb == hash(xorb.0[0]) => { tell_entry(text, xorb.0[0], entry) }
         FileReconstructionError::CorruptedReconstruction(fault) => put_debug(text, fault),
         error => put_debug(text, error),
     }
@@ -69,6 +70,33 @@ pub(crate) fn tell_table(text: &mut String, urls: &TermBlockRetrievalURLs) {
             put(text, found.url.as_str());
         }
         None => put(text, "no URL"),
+    }
+}
+
+/// ` 4..7@40..70`: chunks with their bytes.
+fn tell_range(text: &mut String, chunks: ChunkRange, bytes: HttpRange) {
+    put(text, ' ');
+    put_range(text, chunks.start, chunks.end);
+    put(text, '@');
+    put_range(text, bytes.start, bytes.end);
+}
+
+/// ` !a 1.0 b0`: the URL, the acquisition and the block's number of a request.
+fn tell_asked(text: &mut String, request: &BlockRequest) {
+    put(text, " !");
+    put(text, request.url.as_str());
+    put(text, ' ');
+    put_id(text, request.acquisition);
+    put(text, " b");
+    put(text, request.index);
+}
+
+/// ` !a 1.0 b0 4..7@40..70`: a request by its URL, its acquisition, the block's number, and each range with its bytes.
+pub(crate) fn tell_request(text: &mut String, request: &BlockRequest) {
+    tell_asked(text, request);
+    let ranges = request.chunks.as_slice().iter();
+    for (chunks, bytes) in ranges.zip(request.bytes.as_slice()) {
+        tell_range(text, *chunks, *bytes);
     }
 }
 

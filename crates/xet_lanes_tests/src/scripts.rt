@@ -1,5 +1,6 @@
 //! Scripts of calls of the writer in order, and what they come to.
-use crate::calls::{Call, call_of, make, number, put, show, show_error};
+use crate::calls::{Call, call_of, make, show, show_error};
+use crate::rows::{number, put};
 use std::alloc::Global;
 use xet_outside::Sink;
 use xet_writers::SequentialWriter;

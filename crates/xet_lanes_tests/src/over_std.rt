@@ -1,5 +1,5 @@
 //! The writer in order over std's writers and files.
-use crate::calls::{comes_to, cut, number, put, put_two};
+use crate::rows::{comes_to, cut, number, put, put_two};
 use crate::scripts::played;
 use std::alloc::Global;
 use std::fs::{self, File};

@@ -5,14 +5,13 @@ use bytes::Bytes;
 use std::alloc::Global;
 use xet_base::{ChunkRange, HttpRange, List, MerkleHash, OutOfMemory, SharedText};
 use xet_outside::{
-    BlockBytes, ClientError, FetchEntry, FetchRange, Offsets, Plan, PlanAnswer, PlanTerm, PlanXorb,
+    BlockAnswer, BlockBytes, ClientError, FetchEntry, FetchRange, Offsets, Plan, PlanAnswer,
+    PlanTerm, PlanXorb,
 };
 
-/// The hash whose first byte is this number, before zeros.
+/// The hash each byte of which is this number.
 pub(crate) fn hash(number: u8) -> MerkleHash {
-    let mut bytes = [0; 32];
-    bytes[0] = number;
-    MerkleHash(bytes)
+    MerkleHash([number; 32])
 }
 
 /// The number of a word.
@@ -90,10 +89,10 @@ fn plan_xorb(alloc: Global, text: &str) -> PlanXorb {
     }
 }
 
-/// Xorbs with semicolons between them.
+/// Xorbs with semicolons between them, none where the text is empty.
 fn plan_xorbs(alloc: Global, text: &str) -> List<PlanXorb> {
     let mut made = List::new(alloc);
-    for xorb in text.split(';') {
+    for xorb in text.split_terminator(';') {
         let _ = made.push(plan_xorb(alloc, xorb));
     }
     made
@@ -135,5 +134,17 @@ pub(crate) fn block(alloc: Global, text: &str) -> Option<BlockBytes> {
     match text.split_once('|') {
         Some((offsets, bytes)) => block_of(alloc, offsets, bytes).ok(),
         None => None,
+    }
+}
+
+/// What a connection answers to a request by this step; it fails at one that is no answer.
+pub(crate) fn given(alloc: Global, step: &str) -> Result<BlockAnswer, ClientError> {
+    match step {
+        "expired" => Ok(BlockAnswer::Expired),
+        "no memory" => Err(ClientError::OutOfMemory),
+        text => match block(alloc, text) {
+            Some(bytes) => Ok(BlockAnswer::Bytes(bytes)),
+            None => Err(ClientError::Failed),
+        },
     }
 }

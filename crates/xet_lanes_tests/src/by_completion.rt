@@ -1,5 +1,6 @@
 //! The writer by completion: worked rows.
-use crate::calls::{call_of, comes_to, make, put, show};
+use crate::calls::{call_of, make, show};
+use crate::rows::{comes_to, put};
 use std::alloc::Global;
 use xet_run::Admission;
 use xet_writers::{CompletedTerm, UnorderedWriter};

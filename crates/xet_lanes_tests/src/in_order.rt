@@ -1,5 +1,5 @@
 //! The writer in order: worked rows.
-use crate::calls::{comes_to, cut, put};
+use crate::rows::{comes_to, cut, put};
 use crate::scripts::played;
 use crate::sinks::{Unflushed, Watched, sink_of};
 use std::alloc::Global;
