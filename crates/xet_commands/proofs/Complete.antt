@@ -1,6 +1,6 @@
 -- Where nothing that the program is given fails, it answers by words and input alone, or for want of memory.
-use Rattle.std.proofs.Common.{◌≡◌, ◌⊎◌, ℕ, zero, suc, true, false, List, [], ◌∷◌, Option, Some, None, refl, subst, inl, inr, ⊎_elim}
-use Rattle.std.specs.Prelude.{All, take}
+use Rattle.std.proofs.Common.{◌≡◌, ◌⊎◌, ℕ, true, false, List, Option, Some, None, refl, subst, inl, inr, ⊎_elim}
+use Rattle.std.proofs.lemmas.List.Elements.{All-take}
 use Rattle.xet_store.specs.Taps.{TapTold}
 use Rattle.xet_room.specs.declared.status.Status.{Status}
 use Rattle.xet_room.specs.declared.status.Status.TheVariants as status
@@ -17,14 +17,8 @@ use Rattle.xet_commands.specs.declared.commands.Command.TheVariants as command
 use Rattle.xet_commands.specs.Commands.{Outcome, command_of}
 use Rattle.xet_commands.specs.Completeness.{AnswersAreComplete, GetBy, IsDocument, NothingFails, StatusBy, TrackBy}
 
--- the first taps are as honest as all
-take_all : {A : Type 0} (P : A → Type 0) (n : ℕ) (xs : List A) → All P xs → All P (take n xs)
-take_all P zero xs h = tt
-take_all P (suc n) [] h = tt
-take_all P (suc n) (x ∷ xs) h = (h.0, take_all P n xs h.1)
-
 lanes_honest : (wanted : Wanted) (text : List ℕ) (b n : Told) → NothingFails text b n → LanesHonest wanted b.taps
-lanes_honest wanted text b n f = take_all (λ (t : TapTold). t.honest ≡ true) (lanes_of wanted.options) b.taps f.taps
+lanes_honest wanted text b n f = All-take (λ (t : TapTold). t.honest ≡ true) (lanes_of wanted.options) b.taps f.taps
 
 module _ (limit : ℕ) (text : List ℕ) (b n : Told) (f : NothingFails text b n) where
 
@@ -65,7 +59,7 @@ module _ (limit : ℕ) (text : List ℕ) (b n : Told) (f : NothingFails text b n
   text_by : {t : List ℕ} (whole s : Status) → Finished t whole b.sink n.sink s → (s ≡ status.NoMemory) ⊎ (s ≡ whole)
   text_by whole s o =
       ⊎_elim (λ d. inr d.0)
-      (λ r. ⊎_elim (λ w. absurd (f.writes w.1.0)) (λ m. inl m.0) r)
+      (λ r. ⊎_elim (λ w. absurd (f.writes w.1)) (λ m. inl m.0) r)
       o
 
   outcome_by : (o : Option Command) (s : Status) → Outcome limit o b n s → (s ≡ status.NoMemory) ⊎ StatusBy limit o text s
