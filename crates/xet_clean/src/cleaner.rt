@@ -16,6 +16,7 @@ ghost use Rattle.xet_clean_parts.specs.Pending.{bytes_left};
 ghost use Rattle.xet_clean_parts.specs.SessionCalls.{Calls};
 ghost use Rattle.xet_clean.specs.FileEnds.{EndsFile, IsSame, TookFile};
 ghost use Rattle.xet_clean.specs.Showing.{cleaner_of};
+ghost use Rattle.xet_waiting.specs.Limits.{most_chunk_bytes};
 
 use bytes::Bytes;
 use sha2::{Digest, Sha256};
@@ -106,7 +107,7 @@ impl<T: Cutter> SingleFileCleaner<T> {
     fn next_chunk(&mut self, alloc: Global, last: bool) -> Result<Option<Bytes>, OutOfMemory>
         ensures next { IfOk result (NextChunk (cleaner_of self.old) (cleaner_of self.new) last) }
         ensures some { IfOk result (λ o. IfSome o (λ chunk. 0 < length chunk)) }
-        ensures short { IfOk result (λ o. IfSome o (λ chunk. length chunk ≤ 131072)) }
+        ensures short { IfOk result (λ o. IfSome o (λ chunk. length chunk ≤ most_chunk_bytes)) }
         ensures failed { self.new.failed ≡ self.old.failed }
     {
         if self.pending.as_slice().is_empty() {
@@ -128,7 +129,7 @@ impl<T: Cutter> SingleFileCleaner<T> {
         now: u64,
     ) -> Result<(), DataError>
         requires some { 0 < length chunk }
-        requires short { length chunk ≤ 131072 }
+        requires short { length chunk ≤ most_chunk_bytes }
         ensures leaves { Leaves (told_by U.told R.told session.old) (told_by U.told R.told session.new) }
         ensures cleans { OnOk result (Cleans (told_by U.told R.told session.old) (told_by U.told R.told session.new)
             self.old.parts self.new.parts (chunk ∷ [])) }

@@ -34,6 +34,7 @@ use Rattle.xet_clean_parts.specs.Premises.{IsSteady, NoClash}
 use Rattle.xet_clean_parts.proofs.Worlds.{opened}
 use Rattle.xet_clean_parts.proofs.Picked.{into-both, into-cut, into-found, into-none, into-own}
 use Rattle.xet_clean_parts.proofs.Worlds.{agree-alone, agree-made, found-agrees, found-chunks, listed-stored, world-has}
+use Rattle.xet_waiting.specs.Limits.{most_chunk_bytes}
 
 -- ---- calls that leave what waits
 
@@ -332,11 +333,11 @@ cut-cleans b n p q x now y some is e r =
 
 -- ---- room
 
-pub within-one : (c : List ℕ) → length c ≤ 131072 → IsWithin (c ∷ [])
+pub within-one : (c : List ℕ) → length c ≤ most_chunk_bytes → IsWithin (c ∷ [])
 within-one c short = let one = ap length (append-nil c) in (omega arith, omega (arith, one, short))
 
 -- where there is no room for a chunk, some wait
-pub some-wait : (cs : List (List ℕ)) (c : List ℕ) → length c ≤ 131072 → (IsWithin (cs ++ c ∷ []) → ⊥) → 0 < length cs
+pub some-wait : (cs : List (List ℕ)) (c : List ℕ) → length c ≤ most_chunk_bytes → (IsWithin (cs ++ c ∷ []) → ⊥) → 0 < length cs
 some-wait [] c short full = absurd (full (within-one c short))
 some-wait (d ∷ cs) c short full = omega arith
 
@@ -437,6 +438,6 @@ new-adds b m n p q c info is l h found cleans =
 
 -- after a cut there is room for a chunk
 pub room-after : (w : Waiting) (c : List ℕ) (answer : Result (Unit {0}) DataError) → OnOk answer (w ≡ no_waiting)
-    → length c ≤ 131072 → OnOk answer (IsWithin (w.chunks ++ c ∷ []))
+    → length c ≤ most_chunk_bytes → OnOk answer (IsWithin (w.chunks ++ c ∷ []))
 room-after w c (Err e) is short = tt
 room-after w c (Ok u) is short = subst (λ (v : Waiting). IsWithin (v.chunks ++ c ∷ [])) (sym is) (within-one c short)

@@ -6,6 +6,7 @@ ghost use Rattle.xet_session.specs.Telling.{KeepsGroup, told_by};
 ghost use Rattle.xet_clean_parts.specs.Cleanings.{ChunkFails, Cleans, FoundChunk, Leaves, TrackFails};
 ghost use Rattle.xet_clean_parts.specs.FileCalls.{IsLate, IsPartOf, TellsOf};
 ghost use Rattle.xet_clean_parts.specs.SessionCalls.{Calls};
+ghost use Rattle.xet_waiting.specs.Limits.{most_chunk_bytes};
 
 use bytes::Bytes;
 use std::alloc::Global;
@@ -59,7 +60,7 @@ fn make_room<U: Uploader, R: ShardStore, W: Wait>(
     chunk: &[u8],
     now: u64,
 ) -> Result<(), DataError>
-    requires { length chunk.now ≤ 131072 }
+    requires { length chunk.now ≤ most_chunk_bytes }
     ensures leaves { Leaves (told_by U.told R.told session.old) (told_by U.told R.told session.new) }
     ensures cleans { OnOk result (Cleans (told_by U.told R.told session.old) (told_by U.told R.told session.new)
         parts.old parts.new []) }
@@ -89,7 +90,7 @@ fn add_new<U: Uploader, R: ShardStore, W: Wait>(
 ) -> Result<(), DataError>
     requires info { info ≡ info_of chunk }
     requires some { 0 < length chunk }
-    requires short { length chunk ≤ 131072 }
+    requires short { length chunk ≤ most_chunk_bytes }
     ensures leaves { Leaves (told_by U.told R.told session.old) (told_by U.told R.told session.new) }
     ensures cleans { OnOk result (Cleans (told_by U.told R.told session.old) (told_by U.told R.told session.new)
         parts.old parts.new (chunk ∷ [])) }
@@ -105,7 +106,7 @@ fn add_new<U: Uploader, R: ShardStore, W: Wait>(
 
 // The hash and the length of a chunk.
 fn chunk_info(chunk: &[u8]) -> ChunkInfo
-    requires { length chunk.now ≤ 131072 }
+    requires { length chunk.now ≤ most_chunk_bytes }
     ensures { result ≡ info_of chunk.now }
 {
     ChunkInfo {
@@ -186,7 +187,7 @@ pub fn add_chunk<U: Uploader, R: ShardStore, W: Wait>(
     now: u64,
 ) -> Result<bool, DataError>
     requires some { 0 < length chunk }
-    requires short { length chunk ≤ 131072 }
+    requires short { length chunk ≤ most_chunk_bytes }
     ensures leaves { Leaves (told_by U.told R.told session.old) (told_by U.told R.told session.new) }
     ensures cleans { OnOk result (Cleans (told_by U.told R.told session.old) (told_by U.told R.told session.new)
         parts.old parts.new (chunk ∷ [])) }

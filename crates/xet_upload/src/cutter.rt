@@ -1,6 +1,7 @@
 //! Where files are cut into chunks.
 ghost use Rattle.std.specs.Prelude.{◌≡◌, ◌<◌, ◌≤◌, ℕ, Bool, List, Option, IfSome, None, Some, false, length};
 ghost use Rattle.xet_upload.specs.Cuts.{clamped, fixed_cut};
+ghost use Rattle.xet_waiting.specs.Limits.{most_chunk_bytes};
 
 use xet_waiting::CHUNK_BYTES;
 
@@ -58,9 +59,9 @@ pub fn next_cut<T: Cutter>(cutter: &mut T, pending: &[u8], last: bool) -> Option
         result ≡ clamped answer (length pending.now) last) }
     ensures some { IfSome result (λ n. 0 < n) }
     ensures within { IfSome result (λ n. n ≤ length pending.now) }
-    ensures short { IfSome result (λ n. n ≤ 131072) }
+    ensures short { IfSome result (λ n. n ≤ most_chunk_bytes) }
     ensures not_last { result ≡ None → last ≡ false }
-    ensures few { result ≡ None → length pending.now < 131072 }
+    ensures few { result ≡ None → length pending.now < most_chunk_bytes }
     ensures kept { T.told cutter.new ≡ T.told cutter.old }
 {
     let most = pending.len().min(CHUNK_BYTES);

@@ -12,6 +12,7 @@ use Rattle.xet_waiting.specs.declared.waiting.TermXorb.TheVariants.{Own, Stored}
 use Rattle.xet_waiting.specs.declared.waiting.WaitingFile.{WaitingFile}
 use Rattle.xet_waiting.specs.declared.waiting.WaitingTerm.{WaitingTerm}
 use Rattle.xet_waiting.specs.declared.raw_xorb.PendingFile.{PendingFile}
+use Rattle.xet_waiting.specs.Limits.{most_xorb_bytes, most_xorb_chunks}
 
 -- ---- terms
 
@@ -43,7 +44,7 @@ no_waiting = record { chunks = []; files = [] }
 
 -- a xorb of these chunks is within the limits
 abbrev pub IsWithin : List (List ℕ) → Type 0
-IsWithin cs = (length cs ≤ 8192) × (length (concat cs) ≤ 67108864)
+IsWithin cs = (length cs ≤ most_xorb_chunks) × (length (concat cs) ≤ most_xorb_bytes)
 
 -- a range of waiting chunks is not empty and ends within n of them; one of stored chunks may be any
 abbrev pub LiesIn : ℕ → TermXorb → ℕ → ℕ → Type 0
