@@ -7,16 +7,19 @@ use Rattle.std.proofs.lemmas.List.{length-map}
 use Rattle.xet_base.specs.declared.cas_types.FileRange.{FileRange}
 use Rattle.xet_base.specs.Lists.{first_some}
 use Rattle.xet_base.proofs.CallerLemmas.{position_no}
+use Rattle.xet_outside.specs.declared.client.ClientError.{ClientError}
+use Rattle.xet_outside.specs.declared.client.ClientError.TheVariants as client_error
 use Rattle.xet_outside.specs.declared.plan.Plan.{Plan}
 use Rattle.xet_outside.specs.declared.plan.PlanAnswer.{PlanAnswer}
 use Rattle.xet_outside.specs.declared.plan.PlanAnswer.TheVariants.{Found, PastEnd, NoFile}
 use Rattle.xet_outside.specs.declared.plan.PlanTerm.{PlanTerm}
 use Rattle.xet_outside.specs.Plan.{Shape, shape}
-use Rattle.xet_outside.specs.Told.{ClientTold, PlanCall}
+use Rattle.xet_outside.specs.Told.{ClientTold, Grew, PlanCall}
 use Rattle.xet_error.specs.declared.error.Corruption.{Corruption}
 use Rattle.xet_error.specs.declared.error.Corruption.TheVariants.{Offset, Position}
 use Rattle.xet_error.specs.declared.error.FileReconstructionError.{FileReconstructionError}
 use Rattle.xet_error.specs.declared.error.FileReconstructionError.TheVariants as error
+use Rattle.xet_error.specs.Errors.{of_client_error}
 use Rattle.xet_blocks.specs.declared.reconstruction_terms.file_term.TermBlock.{TermBlock}
 use Rattle.xet_blocks.specs.declared.reconstruction_terms.plan_blocks.PlanBlocks.{PlanBlocks}
 use Rattle.xet_blocks.specs.declared.reconstruction_terms.plan_blocks.TermStart.{TermStart}
@@ -27,7 +30,7 @@ use Rattle.xet_offers.specs.Blocks.{PlanBlock, transfer_sum}
 use Rattle.xet_blocks.specs.steps.Planning.{Fit, IsMadeOf, IsPlanned, PlacedTerm, numbered_block, plan_block, retrieval_url, term_start, terms_at, with_starts}
 use Rattle.xet_blocks.specs.PlanQuery.{PlanQuery}
 use Rattle.xet_offers.specs.Refusals.{IsRefusal}
-use Rattle.xet_blocks.specs.TermBlockCalls.{Answer, FromAnswer, FromSaid, FromTerms, FromTested, TermBlockCall, TermBlockCause}
+use Rattle.xet_blocks.specs.TermBlockCalls.{Answer, AskedAtMostOnce, FromAnswer, FromSaid, FromTerms, FromTested, TermBlockCall, TermBlockCause}
 use Rattle.xet_offers.specs.PlanChecks.{covered, ends, entry_tests, failed_test, no_range_test, no_xorb_test, offset_test, place_tests, position_test, ranges_test, sizes, sizes_from, trim_test}
 use Rattle.xet_blocks.specs.TermBlocks.{IsTermBlock, block_url}
 use Rattle.xet_blocks.specs.Terms.{file_term, terms_from}
@@ -257,3 +260,25 @@ module _ (before now : ClientTold) (query : PlanQuery) where
       go : ((e ≡ error.OutOfMemory) ⊎ FromAnswer query a (Err e)) → TermBlockCause before now query e
       go (inl h) = subst (λ (e : FileReconstructionError). TermBlockCause before now query e) (sym h) tt
       go (inr h) = cause_of e (refused_by query a e h) (record { plan = a; asked = c.asked; said = c.said; unfailed = c.unfailed; honest = λ s e. c.honest s e; from = h })
+
+  asked_once : (now.asked ≡ before.asked) ⊎ Grew before.asked now.asked (query.file, query.range) → now.said ≡ before.said → AskedAtMostOnce before now (query.file, query.range)
+  asked_once (inl none) same = inr (inr (none, same))
+  asked_once (inr grew) same = inr (inl (grew, same))
+
+  cause_of_fault : (f : ClientError) → PlanCall before now query.file query.range (Err f) → TermBlockCause before now query (of_client_error f)
+  cause_of_fault client_error.OutOfMemory c = tt
+  cause_of_fault client_error.Failed c = c.failed refl
+
+  -- and one that failed
+  pub call_failed : (f : ClientError) → PlanCall before now query.file query.range (Err f) → TermBlockCall before now query (Err (of_client_error f))
+  call_failed f c = record {
+    made = tt;
+    cause = cause_of_fault f c;
+    store = c.store;
+    asks = asked_once c.maybe_asked c.unsaid;
+    unsaid = λ _. c.unsaid;
+    served = c.served;
+    faults = c.faults;
+    expiries = c.expiries;
+    link = c.link;
+  }

@@ -40,13 +40,14 @@ use Rattle.xet_offers.specs.BlockCalls.{IsRequestOf, failed_check}
 use Rattle.xet_offers.specs.PlanChecks.{covered, failed_test}
 use Rattle.xet_offers.specs.Refusals.{IsRefusal}
 use Rattle.xet_blocks.specs.TermBlockCalls.{AskedAtMostOnce, QueryAnswered}
-use Rattle.xet_fetch.specs.declared.block_fetch.Fetched.{Fetched}
+use Rattle.xet_requests.specs.declared.fetched_block.Fetched.{Fetched}
 use Rattle.xet_fetch.specs.declared.fetch_settings.FetchSettings.{FetchSettings}
 use Rattle.xet_fetch.specs.CachedBlocks.{FoundIn, IsOffered, LookCall, LookedFor}
 use Rattle.xet_fetch.specs.Fetches.{FetchesCall, FetchesFail, FetchesKeep, GaveBad, GaveBytes, GaveData, IsDishonest, Lapsed, PassesRefresh, Refused, Replied, RoseBy, TableKeeps, Tried, Unrefreshed, own_entry, refresh_queries, refresh_query, refreshed, renewed, renewed_by}
-use Rattle.xet_fetch.specs.Refreshes.{Extent, Refresh, RefreshCall, IsRefused, blocks_test, extent_of, failed_refresh, first_difference, next_id, plan_extents, range_test, refresh_of, refusal_of, same_extent}
+use Rattle.xet_requests.specs.Refreshes.{Extent, Refresh, RefreshCall, IsRefused, blocks_test, extent_of, failed_refresh, first_difference, next_id, plan_extents, range_test, refresh_of, refusal_of, same_extent}
 use Rattle.xet_fetch.specs.RetrieveData.{DataCall, FetchTold, FromCache, RetrieveCall}
-use Rattle.xet_fetch.specs.steps.Tries.{AskCall, AskFails, Requested, TryCall}
+use Rattle.xet_requests.specs.Asks.{AskCall, AskFails, Requested}
+use Rattle.xet_fetch.specs.steps.Tries.{TryCall}
 
 -- ---- tables
 

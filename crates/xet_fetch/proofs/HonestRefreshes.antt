@@ -32,7 +32,7 @@ use Rattle.xet_offers.specs.declared.reconstruction_terms.xorb_block.XorbBlock.{
 use Rattle.xet_offers.specs.Blocks.{PlanBlock, block_ranges, blocks_of, range_eq}
 use Rattle.xet_blocks.specs.Extracts.{term_size}
 use Rattle.xet_fetch.specs.Laws.{HonestTables}
-use Rattle.xet_fetch.specs.Refreshes.{Extent, blocks_test, extent_of, first_difference, plan_extents, range_test, refusal_of, same_extent}
+use Rattle.xet_requests.specs.Refreshes.{Extent, blocks_test, extent_of, first_difference, plan_extents, range_test, refusal_of, same_extent}
 use Rattle.xet_blocks.specs.Terms.{term_piece, terms_of}
 use Rattle.xet_offers.specs.PlanChecks.{covered, failed_test, sizes}
 use Rattle.xet_blocks.specs.TermBlocks.{xorb_block, xorb_blocks}
@@ -41,7 +41,7 @@ use Rattle.xet_blocks.specs.Laws.{TellsLength}
 use Rattle.xet_blocks.proofs.CallerLemmas.{honest_accepted}
 use Rattle.xet_blocks.proofs.CallerLemmas.{honest_block_passes, known_sizes, length_passes, pieces_join, pieces_sized, sized_passes}
 use Rattle.xet_fetch.proofs.HonestEntries.{all_map, blocks_held}
-use Rattle.xet_fetch.proofs.Refreshing.{extents_are, refused_after}
+use Rattle.xet_requests.proofs.CallerLemmas.{extents_are, refused_after}
 use Rattle.xet_fetch.proofs.TermRows.{Follow, terms_follow}
 
 -- ---- two queries that touch the same chunks

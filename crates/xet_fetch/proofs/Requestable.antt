@@ -11,7 +11,7 @@ use Rattle.xet_offers.specs.declared.reconstruction_terms.xorb_block.XorbBlock.{
 use Rattle.xet_blocks.specs.PlanQuery.{PlanQuery}
 use Rattle.xet_blocks.specs.TermBlocks.{IsTermBlock}
 use Rattle.xet_fetch.specs.Laws.{CanBeRequested, FetchableBlocks}
-use Rattle.xet_fetch.specs.Refreshes.{extent_of}
+use Rattle.xet_requests.specs.Refreshes.{extent_of}
 use Rattle.xet_fetch.proofs.Fetchable.{fetchable}
 
 -- a block that the table has

@@ -23,8 +23,8 @@ use Rattle.xet_offers.specs.declared.reconstruction_terms.xorb_block.XorbBlock.{
 use Rattle.xet_offers.specs.BlockCalls.{failed_check}
 use Rattle.xet_offers.specs.BlockChecks.{block_data}
 use Rattle.xet_blocks.specs.TermBlocks.{urls_of}
-use Rattle.xet_fetch.specs.declared.block_fetch.Fetched.{Fetched}
-use Rattle.xet_fetch.specs.Refreshes.{Refresh, next_id, refusal_of}
+use Rattle.xet_requests.specs.declared.fetched_block.Fetched.{Fetched}
+use Rattle.xet_requests.specs.Refreshes.{Refresh, next_id, refusal_of}
 
 -- ---- refreshes
 

@@ -23,7 +23,7 @@ use Rattle.xet_offers.specs.BlockCalls.{RequestCall, Requested}
 use Rattle.xet_offers.specs.BlockChecks.{block_data}
 use Rattle.xet_fetch.specs.CachedBlocks.{entry_of, is_sound}
 use Rattle.xet_blocks.specs.Extracts.{failed_term_test}
-use Rattle.xet_fetch.specs.Refreshes.{Refresh, refresh_of}
+use Rattle.xet_requests.specs.Refreshes.{Refresh, refresh_of}
 use Rattle.xet_fetch.specs.Fetches.{IsHonestFor, TableKeeps, refresh_queries, refresh_query, refreshed}
 use Rattle.xet_offers.specs.Chain.{known_size}
 use Rattle.xet_blocks.specs.TermBlocks.{IsTermBlock, references}

@@ -7,7 +7,7 @@ use Rattle.xet_error.specs.declared.error.FileReconstructionError.TheVariants as
 use Rattle.xet_offers.specs.declared.reconstruction_terms.retrieval_urls.RetrievalUrl.{RetrievalUrl}
 use Rattle.xet_offers.specs.declared.reconstruction_terms.retrieval_urls.TermBlockRetrievalURLs.{TermBlockRetrievalURLs}
 use Rattle.xet_offers.specs.declared.reconstruction_terms.xorb_block.XorbBlock.{XorbBlock}
-use Rattle.xet_fetch.specs.Refreshes.{RefreshCall}
+use Rattle.xet_requests.specs.Refreshes.{RefreshCall}
 
 -- a URL of the table was handed out, and its id is the last one then
 pub record HandedCall (t : TermBlockRetrievalURLs) (index : ℕ) (before now : UniqueId)

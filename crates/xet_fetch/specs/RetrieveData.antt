@@ -10,11 +10,11 @@ use Rattle.xet_offers.specs.declared.reconstruction_terms.retrieval_urls.TermBlo
 use Rattle.xet_offers.specs.declared.reconstruction_terms.xorb_block.XorbBlock.{XorbBlock}
 use Rattle.xet_offers.specs.declared.reconstruction_terms.xorb_block.XorbBlockData.{XorbBlockData}
 use Rattle.xet_offers.specs.BlockChecks.{block_data}
-use Rattle.xet_fetch.specs.declared.block_fetch.Fetched.{Fetched}
+use Rattle.xet_requests.specs.declared.fetched_block.Fetched.{Fetched}
 use Rattle.xet_fetch.specs.declared.fetch_settings.FetchSettings.{FetchSettings}
 use Rattle.xet_fetch.specs.CachedBlocks.{FoundIn, IsOffered, LookKeeps, LookedFor, MaybeLooked, passes_cached}
 use Rattle.xet_fetch.specs.Fetches.{FetchesCall}
-use Rattle.xet_fetch.specs.Refreshes.{Refresh, refresh_of}
+use Rattle.xet_requests.specs.Refreshes.{Refresh, refresh_of}
 
 -- ---- data
 

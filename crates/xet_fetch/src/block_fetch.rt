@@ -2,29 +2,20 @@
 ghost use Rattle.std.specs.Prelude.{◌≡◌, ◌<◌, length, slice_get, Some};
 ghost use Rattle.xet_offers.specs.declared.reconstruction_terms.xorb_block.XorbBlock.{XorbBlock};
 ghost use Rattle.xet_fetch.specs.Fetches.{FetchesCall};
-ghost use Rattle.xet_fetch.specs.Refreshes.{refresh_of};
+ghost use Rattle.xet_requests.specs.Refreshes.{refresh_of};
 ghost use Rattle.xet_fetch.specs.RetrieveData.{DataCall, IsFetchable, RetrieveCall};
-ghost use Rattle.xet_fetch.specs.steps.Tries.{AskCall, TryCall};
+ghost use Rattle.xet_fetch.specs.steps.Tries.{TryCall};
 
 use crate::cached_block::{look_up, offer};
 use crate::fetch_settings::FetchSettings;
-use crate::retrieval_urls::refresh_retrieval_urls;
 use crate::transfer_report::report_transfer;
 use std::alloc::Global;
 use std::sync::Wait;
 use xet_blocks::{TermBlockRetrievalURLs, XorbBlock, XorbBlockData};
 use xet_error::{FileReconstructionError, Result, Setting};
-use xet_outside::{BlockAnswer, BlockBytes, ChunkCache, Client};
+use xet_outside::{ChunkCache, Client};
 use xet_progress::ItemProgressUpdater;
-
-/// A fetched block: its bytes as they came, and its data.
-#[derive(Drop)]
-pub struct Fetched {
-    /// The bytes as the connection answered them.
-    pub bytes: BlockBytes,
-    /// The data that was made of them.
-    pub found: XorbBlockData,
-}
+use xet_requests::{Fetched, ask, refresh_retrieval_urls};
 
 /// Keeps the data of the block of this number, where none is kept. The other blocks stay.
 ///
@@ -65,28 +56,6 @@ pub fn retrieve_data<R: Wait, C: Client, K: ChunkCache>(
     blocks[index].keep(found);
     report_transfer(rt, progress, url_info, index);
     Ok(())
-}
-
-/// Asks once for the block's bytes, and tests them; none where the answer is expired.
-fn ask<C: Client>(
-    alloc: Global,
-    block: &XorbBlock,
-    client: &mut C,
-    urls: &TermBlockRetrievalURLs,
-) -> Result<Option<Fetched>>
-    requires { block.now.xorb_block_index < length urls.now.retrieval_urls }
-    ensures { AskCall block.now urls.now (C.told client.old) (C.told client.new) result }
-{
-    let Some(request) = block.request(alloc, urls)? else {
-        unreachable!()
-    };
-    match client.block(alloc, &request)? {
-        BlockAnswer::Bytes(bytes) => {
-            let found = block.check(alloc, &bytes)?;
-            Ok(Some(Fetched { bytes, found }))
-        }
-        BlockAnswer::Expired => Ok(None),
-    }
 }
 
 /// One try of a block, of which so many are left: its bytes, or none after an expired answer and a refresh. The last

@@ -3,12 +3,12 @@ ghost use Rattle.std.specs.Prelude.{◌≡◌, ◌<◌, IfErr, length};
 ghost use Rattle.xet_error.specs.declared.error.FileReconstructionError.TheVariants.{OutOfMemory};
 ghost use Rattle.xet_fetch.specs.Providers.{HandedCall, IsRefreshError, RefreshedCall};
 
-use crate::retrieval_urls::refresh_retrieval_urls;
 use std::alloc::Global;
 use xet_base::UniqueId;
 use xet_blocks::{RetrievalUrl, TermBlockRetrievalURLs, XorbBlock};
 use xet_error::Result;
 use xet_outside::Client;
+use xet_requests::refresh_retrieval_urls;
 
 /// Hands out a URL, and a newer one after a refresh.
 ///

@@ -139,6 +139,26 @@ impl<L: Ledger, C: CallLog> Logged<L, C> {
         *kept = book;
     }
 
+    /// Keeps a call that was made on the book before it, once there is room for it.
+    fn add(
+        &mut self,
+        mine: &mut RunPass<L>,
+        call: RunCall,
+        book: RunBook,
+    ) -> Result<(), OutOfMemory>
+        requires reply { replied self.old.book call ≡ call }
+        requires book { book ≡ book_after self.old.book call }
+        ensures kept { OnOk result (Logs (log (C.calls self.old.history) mine.old.share.amount mine.old.last)
+            (log (C.calls self.new.history) mine.new.share.amount mine.new.last) call) }
+        ensures refused { OnErr result (LogsNone (log (C.calls self.old.history) mine.old.share.amount mine.old.last)
+            (log (C.calls self.new.history) mine.new.share.amount mine.new.last)) }
+        ensures parts { mine.new.share.parts ≡ mine.old.share.parts }
+    {
+        self.history.reserve(1)?;
+        self.keep(mine, call, book);
+        Ok(())
+    }
+
     // Room for so many calls more.
     pub(crate) fn make_room(&mut self, calls: usize) -> Result<(), OutOfMemory> {
         self.history.reserve(calls)?;
@@ -156,11 +176,9 @@ impl<L: Ledger, C: CallLog> Logged<L, C> {
             (log (C.calls self.new.history) mine.new.share.amount mine.new.last)) }
         ensures parts { mine.new.share.parts ≡ mine.old.share.parts }
     {
-        self.history.reserve(1)?;
         let mut book = self.book;
         book.set_error(error);
-        self.keep(mine, RunCall::SetError(error), book);
-        Ok(())
+        self.add(mine, RunCall::SetError(error), book)
     }
 
     fn check_error(&mut self, mine: &mut RunPass<L>) -> Result<(), FileReconstructionError>
@@ -168,13 +186,12 @@ impl<L: Ledger, C: CallLog> Logged<L, C> {
             (log (C.calls self.new.history) mine.new.share.amount mine.new.last) result }
         ensures parts { mine.new.share.parts ≡ mine.old.share.parts }
     {
-        if self.history.reserve(1).is_err() {
-            return Err(FileReconstructionError::OutOfMemory);
-        }
         let mut book = self.book;
         let reply = book.check_error();
-        self.keep(mine, RunCall::CheckError(reply.err()), book);
-        reply
+        match self.add(mine, RunCall::CheckError(reply.err()), book) {
+            Ok(()) => reply,
+            Err(_) => Err(FileReconstructionError::OutOfMemory),
+        }
     }
 
     fn check_run_state(&mut self, mine: &mut RunPass<L>) -> Result<(), RunError>
@@ -183,13 +200,12 @@ impl<L: Ledger, C: CallLog> Logged<L, C> {
         ensures memory { result ≡ Err run_error.OutOfMemory → mine.new.share.amount ≡ mine.old.share.amount }
         ensures parts { mine.new.share.parts ≡ mine.old.share.parts }
     {
-        if self.history.reserve(1).is_err() {
-            return Err(RunError::OutOfMemory);
-        }
         let mut book = self.book;
         let reply = book.check_run_state();
-        self.keep(mine, RunCall::CheckRunState(reply.err()), book);
-        reply
+        match self.add(mine, RunCall::CheckRunState(reply.err()), book) {
+            Ok(()) => reply,
+            Err(_) => Err(RunError::OutOfMemory),
+        }
     }
 
     fn cancel(&mut self, mine: &mut RunPass<L>) -> Result<(), OutOfMemory>
@@ -199,11 +215,9 @@ impl<L: Ledger, C: CallLog> Logged<L, C> {
             (log (C.calls self.new.history) mine.new.share.amount mine.new.last)) }
         ensures parts { mine.new.share.parts ≡ mine.old.share.parts }
     {
-        self.history.reserve(1)?;
         let mut book = self.book;
         book.cancel();
-        self.keep(mine, RunCall::Cancel, book);
-        Ok(())
+        self.add(mine, RunCall::Cancel, book)
     }
 
     pub(crate) fn record_new_block(&mut self, mine: &mut RunPass<L>) -> Result<(), OutOfMemory>
@@ -213,11 +227,9 @@ impl<L: Ledger, C: CallLog> Logged<L, C> {
             (log (C.calls self.new.history) mine.new.share.amount mine.new.last)) }
         ensures parts { mine.new.share.parts ≡ mine.old.share.parts }
     {
-        self.history.reserve(1)?;
         let mut book = self.book;
         book.record_new_block();
-        self.keep(mine, RunCall::NewBlock, book);
-        Ok(())
+        self.add(mine, RunCall::NewBlock, book)
     }
 
     pub(crate) fn record_new_term(
@@ -231,11 +243,9 @@ impl<L: Ledger, C: CallLog> Logged<L, C> {
             (log (C.calls self.new.history) mine.new.share.amount mine.new.last)) }
         ensures parts { mine.new.share.parts ≡ mine.old.share.parts }
     {
-        self.history.reserve(1)?;
         let mut book = self.book;
         book.record_new_term(term_size);
-        self.keep(mine, RunCall::NewTerm(term_size), book);
-        Ok(())
+        self.add(mine, RunCall::NewTerm(term_size), book)
     }
 
     fn total_bytes_scheduled(&mut self, mine: &mut RunPass<L>) -> Result<u64, OutOfMemory>
@@ -245,10 +255,9 @@ impl<L: Ledger, C: CallLog> Logged<L, C> {
             (log (C.calls self.new.history) mine.new.share.amount mine.new.last)) }
         ensures parts { mine.new.share.parts ≡ mine.old.share.parts }
     {
-        self.history.reserve(1)?;
         let mut book = self.book;
         let reply = book.total_bytes_scheduled();
-        self.keep(mine, RunCall::Scheduled(reply), book);
+        self.add(mine, RunCall::Scheduled(reply), book)?;
         Ok(reply)
     }
 }

@@ -1,7 +1,7 @@
 use Rattle.std.proofs.Common.{◌≡◌, ◌<◌, ◌≤◌, ℕ, Err, rules}
 use Rattle.xet_base.proofs.CallerLemmas.{err-of}
 use Rattle.xet_error.specs.declared.error.FileReconstructionError.{FileReconstructionError}
-use Rattle.xet_fetch.specs.Refreshes.{refresh_of}
+use Rattle.xet_requests.specs.Refreshes.{refresh_of}
 use Rattle.xet_fetch.proofs.Fetching.{fetch_done, fetch_fails, fetch_more, fetch_none, fetch_start}
 use Rattle.xet_fetch.proofs.block_fetch.fetch.Goals as goal
 

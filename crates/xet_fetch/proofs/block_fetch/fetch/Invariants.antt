@@ -1,4 +1,4 @@
-use Rattle.xet_fetch.specs.Refreshes.{refresh_of}
+use Rattle.xet_requests.specs.Refreshes.{refresh_of}
 use Rattle.xet_fetch.proofs.Fetching.{IsFetching}
 use Rattle.xet_fetch.proofs.block_fetch.fetch.Given as goal
 

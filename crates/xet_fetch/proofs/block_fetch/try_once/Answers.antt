@@ -1,7 +1,7 @@
 use Rattle.std.proofs.Common.{◌≡◌, ◌<◌, Err, arith, rules}
 use Rattle.xet_base.proofs.CallerLemmas.{err-of}
 use Rattle.xet_error.specs.declared.error.FileReconstructionError.{FileReconstructionError}
-use Rattle.xet_fetch.specs.Refreshes.{refresh_of}
+use Rattle.xet_requests.specs.Refreshes.{refresh_of}
 use Rattle.xet_fetch.proofs.Fetching.{try_err, try_last, try_refreshed, try_some, try_unrefreshed}
 use Rattle.xet_fetch.proofs.block_fetch.try_once.Goals as goal
 

@@ -3,10 +3,10 @@ use Rattle.xet_base.specs.Lists.{first_some}
 use Rattle.xet_base.proofs.CallerLemmas.{err-of}
 use Rattle.xet_error.specs.declared.error.FileReconstructionError.{FileReconstructionError}
 use Rattle.xet_blocks.specs.declared.reconstruction_terms.file_term.TermBlock.{TermBlock}
-use Rattle.xet_fetch.specs.Refreshes.{Refresh, blocks_test, extent_of, range_test}
+use Rattle.xet_requests.specs.Refreshes.{Refresh, blocks_test, extent_of, range_test}
 use Rattle.xet_blocks.specs.TermBlockCalls.{TermBlockCall}
-use Rattle.xet_fetch.proofs.Refreshing.{fresh_err, fresh_fails, fresh_ok}
-use Rattle.xet_fetch.proofs.retrieval_urls.fresh_urls.Goals as goal
+use Rattle.xet_requests.proofs.Refreshing.{fresh_err, fresh_fails, fresh_ok}
+use Rattle.xet_requests.proofs.retrieval_urls.fresh_urls.Goals as goal
 
 pub returns-in_err-made : goal.returns-in_err-made
 returns-in_err-made g c =

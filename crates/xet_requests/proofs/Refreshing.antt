@@ -20,7 +20,7 @@ use Rattle.xet_blocks.specs.declared.reconstruction_terms.file_term.TermBlock.{T
 use Rattle.xet_offers.specs.declared.reconstruction_terms.retrieval_urls.RetrievalUrl.{RetrievalUrl}
 use Rattle.xet_blocks.specs.PlanQuery.{PlanQuery}
 use Rattle.xet_offers.specs.Blocks.{PlanBlock, block_ranges, blocks_of}
-use Rattle.xet_fetch.specs.Refreshes.{Answered, Extent, FreshCall, IsRefused, MayAsk, Refresh, RefreshCause, blocks_test, extent_of, plan_extents, range_test, refusal_of}
+use Rattle.xet_requests.specs.Refreshes.{Answered, Extent, FreshCall, IsRefused, MayAsk, Refresh, RefreshCause, blocks_test, extent_of, plan_extents, range_test, refusal_of}
 use Rattle.xet_blocks.specs.TermBlockCalls.{FromAnswer, FromSaid, FromTerms, FromTested, TermBlockCall, TermBlockCause}
 use Rattle.xet_offers.specs.PlanChecks.{covered, failed_test}
 use Rattle.xet_blocks.specs.TermBlocks.{IsTermBlock, xorb_block}

@@ -1,8 +1,8 @@
 use Rattle.std.proofs.Common.{◌≡◌, ◌<◌, true, length, sym, ◌∙◌, ap, rules}
 use Rattle.xet_offers.specs.declared.reconstruction_terms.xorb_block.XorbBlock.{XorbBlock}
-use Rattle.xet_fetch.specs.Refreshes.{extent_of, same_extent}
-use Rattle.xet_fetch.proofs.Differences.{difference_from, difference_later, difference_long}
-use Rattle.xet_fetch.proofs.retrieval_urls.first_difference.Goals as goal
+use Rattle.xet_requests.specs.Refreshes.{extent_of, same_extent}
+use Rattle.xet_requests.proofs.Differences.{difference_from, difference_later, difference_long}
+use Rattle.xet_requests.proofs.retrieval_urls.first_difference.Goals as goal
 
 pub loop-index-preserved : goal.loop-index-preserved
 loop-index-preserved c =

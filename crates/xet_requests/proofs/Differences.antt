@@ -3,7 +3,7 @@ use Rattle.std.proofs.Common.{◌≡◌, ℕ, zero, suc, ◌+◌, ◌<◌, ◌�
 use Rattle.std.specs.Prelude.{option_map}
 use Rattle.std.proofs.lemmas.List.{drop_all}
 use Rattle.xet_offers.specs.declared.reconstruction_terms.xorb_block.XorbBlock.{XorbBlock}
-use Rattle.xet_fetch.specs.Refreshes.{Extent, extent_of, first_difference, same_extent}
+use Rattle.xet_requests.specs.Refreshes.{Extent, extent_of, first_difference, same_extent}
 
 -- the first difference from an index on
 abbrev pub difference_from : List XorbBlock → List XorbBlock → ℕ → Option ℕ
