@@ -4,14 +4,13 @@
 A section a crate in the order of crates.txt, a row a word. The meaning of a word is the comment above its definition;
 where a definition follows another one without a comment of its own, the comment of that one is about both, and where
 it is the first of a part of the file, the title of that part stands for it.
-Words of `specs/steps` have a row where another crate takes them up.
+Words of `specs/steps` are the crate's own and have none.
 """
 import re
 from pathlib import Path
 
 TOP = Path(__file__).resolve().parent.parent
 DEFINES = re.compile(r"(?:(?:abbrev|unfoldable|opaque) pub|pub record) ([\w'-]+)")
-TAKES = re.compile(r"use Rattle\.(xet_\w+)\.specs\.steps\.(\w+)\.\{([^}]*)\}")
 HEAD = """# Definitions
 
 The words that contracts cite, each with the file that defines it and the comment that stands above it there. The page
@@ -23,17 +22,6 @@ of crates. Numbers in definitions have no upper bound; `a - b` is 0 where b is g
 def crates():
     lines = (TOP / "crates.txt").read_text().splitlines()
     return [line.split(":")[0] for line in lines if line and not line.startswith("#")]
-
-
-def taken_up():
-    """The words of specs/steps that another crate than their own names: (crate, file, word)."""
-    found = set()
-    for path in TOP.glob("crates/*/[sp]*/**/*"):
-        if path.suffix in (".rt", ".antt"):
-            for crate, file, names in TAKES.findall(path.read_text()):
-                if crate != path.relative_to(TOP).parts[1]:
-                    found |= {(crate, file, name) for name in re.findall(r"[\w'-]+", names)}
-    return found
 
 
 def words(path):
@@ -53,22 +41,21 @@ def words(path):
             fresh = False
 
 
-def rows(crate, shared):
+def rows(crate):
     folder = TOP / "crates" / crate / "specs"
     for path in sorted(folder.glob("**/*.antt")):
         file = path.relative_to(folder).with_suffix("").as_posix()
+        if file.startswith("steps/"):
+            continue
         for word, owner, text in words(path):
-            if file.startswith("steps/") and (crate, file[6:], word) not in shared:
-                continue
             text = (f"with `{owner}`: " if owner else "") + text.replace("|", "\\|")
             yield f"| `{word}` | {file} | {text} |"
 
 
 def main() -> None:
     print(HEAD, end="")
-    shared = taken_up()
     for crate in crates():
-        lines = list(rows(crate, shared)) if (TOP / "crates" / crate / "specs").is_dir() else []
+        lines = list(rows(crate)) if (TOP / "crates" / crate / "specs").is_dir() else []
         if lines:
             print(f"\n## `{crate}`\n\n| word | file | meaning |\n|---|---|---|", *lines, sep="\n")
 

@@ -1,3 +1,2 @@
 pub mod KeyIndexes
 pub mod ShortLists
-pub mod Words

@@ -28,7 +28,7 @@ use Rattle.xet_session.specs.Calls.{Backs}
 use Rattle.xet_clean_parts.specs.Learnings.{AskedSome, Completes, Learns, Queried, QueriedAll, found_among}
 use Rattle.xet_session.specs.Sessions.{HasListed, SessionTold, Stands, Tells, known_of, log_of}
 use Rattle.xet_session.specs.Sounds.{IsSound, searched}
-use Rattle.xet_session.specs.steps.SessionSteps.{AsksFor}
+use Rattle.xet_session.specs.Calls.{AsksFor}
 use Rattle.xet_session.proofs.CallerLemmas.{stands-at}
 use Rattle.xet_session.proofs.CallerLemmas.{backs-same}
 use Rattle.xet_session.proofs.CallerLemmas.{listed-more}

@@ -5,7 +5,7 @@ ghost use Rattle.std.specs.Cmp.Lexicographic.{nat_list_cmp_total, nat_list_eq_eq
 ghost use Rattle.std.specs.Cmp.Lexicographic.{texts_po, texts_ties};
 ghost use Rattle.std.specs.Ordering.{nat_cmp};
 ghost use Rattle.std.proofs.Common.{rules};
-ghost use Rattle.xet_base.specs.steps.Words.{number_of};
+ghost use Rattle.xet_base.specs.Words.{number_of};
 ghost use Rattle.xet_document.specs.steps.Leads.{IsLead};
 
 use std::cmp::Ordering;

@@ -178,12 +178,12 @@ pub(crate) fn draw_alone<R: Wait, C: Client, G: Gate, L: Ledger>(
     let mut lane = Lane::with_room(shared.alloc, client, shared.room);
     let short = draw_all(shared, &mut lane, &mut job.claim, &mut job.run);
     let (client, steps) = lane.into_parts();
-    give_back(client);
+    recall_client(client);
     job.steps = steps;
     job.short = short;
 }
 
 /// Ties, for proofs alone, a reference that was handed back to the parameter that lent it.
-fn give_back<C>(client: &mut C)
+fn recall_client<C>(client: &mut C)
     ensures { client.new ≡ client.old }
 {}

@@ -7,7 +7,8 @@ use Rattle.std.proofs.lemmas.List.Folds.{concat-append}
 use Rattle.xet_queue.specs.declared.queued_term.QueuedTerm.{QueuedTerm}
 use Rattle.xet_queue.specs.Queues.{admissions, ready}
 use Rattle.xet_queue.specs.Sequential.{Sequential, Passed}
-use Rattle.xet_queue.specs.steps.QueueSteps.{IsStuck, PassedAll, PassedTerm}
+use Rattle.xet_queue.specs.steps.QueueSteps.{IsStuck, PassedTerm}
+use Rattle.xet_queue.specs.Sequential.{PassedAll}
 use Rattle.xet_queue.proofs.Joined.{split}
 use Rattle.xet_queue.proofs.Terms.{drop_next, drop_none, drop_some, ready_front, take_next}
 

@@ -12,7 +12,7 @@ use Rattle.xet_queue.specs.Pieces.{WrotePieces, bytes_before}
 use Rattle.xet_queue.specs.Queues.{admissions, ready, ready_bytes}
 use Rattle.xet_queue.specs.Sequential.{Sequential, Passed}
 use Rattle.xet_queue.specs.steps.Batches.{BatchCall, SentReady}
-use Rattle.xet_queue.specs.steps.QueueSteps.{PassedAll}
+use Rattle.xet_queue.specs.Sequential.{PassedAll}
 use Rattle.xet_queue.proofs.Batches.{WroteTerms, batch_done, batch_err, batch_room, before_both}
 use Rattle.xet_queue.proofs.Joined.{each_all, split}
 use Rattle.xet_queue.proofs.Gone.{admissions_both}

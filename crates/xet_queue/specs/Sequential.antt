@@ -6,6 +6,9 @@ use Rattle.xet_error.specs.declared.error.FileReconstructionError.{FileReconstru
 use Rattle.xet_queue.specs.declared.queued_term.QueuedTerm.{QueuedTerm}
 use Rattle.xet_queue.specs.Calls.{WriterTold}
 use Rattle.xet_queue.specs.Queues.{admissions, ready, wanted}
+use Rattle.std.specs.Prelude.{◌<◌, get_or}
+use Rattle.xet_queue.specs.Pieces.{bytes_before}
+use Rattle.xet_queue.specs.Queues.{ready_bytes}
 
 -- what contracts see of it: the sink; whether one write is handed many pieces; the terms that are not wholly written,
 -- in order; the admissions of written terms that were not given back; the place at which the next term must start; the
@@ -43,3 +46,14 @@ abbrev pub TookReleased : {S : Type 0} → Sequential S → Sequential S → Opt
 TookReleased before after None = (before.released ≡ []) × (after ≡ before)
 TookReleased before after (Some a) = (before.released ≡ a ∷ after.released)
     × (after ≡ record before { released = after.released })
+
+-- the terms were passed that so many bytes fill
+pub record PassedAll {S : Type 0} (before after : Sequential S) (count : ℕ) : Type 0 where
+  pub terms : ℕ
+  pub passed : Passed before after terms
+  pub used : bytes_before terms (ready before.queue) ≤ count
+  pub stuck : terms < length (ready before.queue)
+      → count < bytes_before terms (ready before.queue) + length (get_or (ready before.queue) terms [])
+  pub whole : count ≡ length (ready_bytes before.queue) → terms ≡ length (ready before.queue)
+  pub sink : after.sink ≡ before.sink
+  pub kept : after.kept ≡ before.kept

@@ -11,7 +11,8 @@ ghost use Rattle.xet_queue.specs.Calls.{closed_by, finish_fault, kept_fault};
 ghost use Rattle.xet_queue.specs.Queues.{fits, is_wanted_at, ready_bytes, wanted};
 ghost use Rattle.xet_queue.specs.Sequential.{TookReleased, most_pieces, told_of};
 ghost use Rattle.xet_queue.specs.steps.Batches.{BatchCall, SentReady};
-ghost use Rattle.xet_queue.specs.steps.QueueSteps.{GiveCall, PassedAll, PassedFront};
+ghost use Rattle.xet_queue.specs.steps.QueueSteps.{GiveCall, PassedFront};
+ghost use Rattle.xet_queue.specs.Sequential.{PassedAll};
 ghost use Rattle.xet_queue.specs.steps.WantedPlaces.{places_of};
 
 use crate::faults::{error_to_keep, test_length};

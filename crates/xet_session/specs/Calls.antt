@@ -37,6 +37,7 @@ use Rattle.xet_session_parts.specs.declared.cut_thresholds.CutThresholds.{CutThr
 use Rattle.xet_session.specs.Sounds.{IsSound, XorbsAgree}
 use Rattle.xet_session.specs.Sessions.{HasListed, IsBackedSession, IsListed, SessionTold, Stands, Tells, known_of}
 use Rattle.xet_session.specs.Sessions.{log_of}
+use Rattle.xet_shard_interface.specs.Puts.{Asks}
 
 -- a session in which nothing waits and nothing was put
 abbrev pub new_session : UploaderTold → InterfaceTold → Bool → CutThresholds → SessionTold
@@ -415,3 +416,8 @@ pub record Counted (b n : SessionTold) (m : DeduplicationMetrics) : Type 0 where
 -- the file records of the session
 abbrev pub HasFiles : SessionTold → SessionTold → List MDBFileInfo → Type 0
 HasFiles b n fs = Tells b → fs ≡ (records_of n.shards.session).files
+
+-- the uploader was asked for records that know a chunk
+pub record AsksFor (b n : SessionTold) (chunk : MerkleHash) (answer : Result Bool DataError) : Type 0 where
+  pub same : n ≡ record b { uploader = n.uploader; shards = n.shards }
+  pub asks : Asks b.uploader n.uploader b.shards n.shards chunk answer

@@ -21,7 +21,8 @@ ghost use Rattle.xet_session.specs.Completions.{with_file_counts};
 ghost use Rattle.xet_session.specs.Sessions.{HasListed, IsBackedSession, waiting_names};
 ghost use Rattle.xet_session.specs.Trackings.{StartsFile, Tracks, TracksCut, TracksXorb, xorb_calls};
 ghost use Rattle.xet_session.specs.steps.Listings.{AreListed};
-ghost use Rattle.xet_session.specs.steps.SessionSteps.{AddedFinished, AddedRecord, AsksFor, GivenCounted, OnList};
+ghost use Rattle.xet_session.specs.steps.SessionSteps.{AddedFinished, AddedRecord, GivenCounted, OnList};
+ghost use Rattle.xet_session.specs.Calls.{AsksFor};
 ghost use Rattle.xet_session.specs.steps.SessionSteps.{PutCounted, PutFinished, PutRaw, PutRecords};
 ghost use Rattle.xet_session.specs.steps.SessionSteps.{TookWaiting};
 

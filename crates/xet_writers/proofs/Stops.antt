@@ -12,7 +12,7 @@ use Rattle.xet_queue.specs.Calls.{SinkCause}
 use Rattle.xet_queue.specs.Pieces.{StoppedAt, WrotePieces, bytes_before}
 use Rattle.xet_queue.specs.Queues.{admissions, ready}
 use Rattle.xet_queue.specs.Sequential.{most_pieces}
-use Rattle.xet_queue.specs.steps.QueueSteps.{PassedAll}
+use Rattle.xet_queue.specs.Sequential.{PassedAll}
 use Rattle.xet_writers.specs.Sequential.{Sequential, Wrote}
 
 -- one place alone has these bytes before it and the next within the piece

@@ -1,6 +1,6 @@
 -- The number that the first bytes of a text write.
 use Rattle.std.specs.Prelude.{ℕ, ◌≡◌, ◌<◌, ◌≤◌, List, All, length, take}
-use Rattle.xet_base.specs.steps.Words.{number_of}
+use Rattle.xet_base.specs.Words.{number_of}
 
 -- the text has eight bytes or more, and the number is the one that its first eight write
 pub record IsLead (lead : ℕ) (text : List ℕ) : Type 0 where

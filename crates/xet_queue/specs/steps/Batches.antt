@@ -5,7 +5,7 @@ use Rattle.xet_outside.specs.Told.{SinkTold}
 use Rattle.xet_queue.specs.Pieces.{WrotePieces}
 use Rattle.xet_queue.specs.Queues.{ready}
 use Rattle.xet_queue.specs.Sequential.{Sequential, Passed}
-use Rattle.xet_queue.specs.steps.QueueSteps.{PassedAll}
+use Rattle.xet_queue.specs.Sequential.{PassedAll}
 
 -- the first terms, so many, were written by at most 24 pieces a write and left the queue, or a write failed, and those
 -- of them left that were written wholly

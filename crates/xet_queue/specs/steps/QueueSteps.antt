@@ -42,14 +42,3 @@ IsStuck ts left = (bytes : List ℕ) (rest : List (List ℕ)) → ready ts ≡ b
 abbrev pub PassedFront : {S : Type 0} → Sequential S → Sequential S → ℕ → Option ℕ → Type 0
 PassedFront before after left None = (after ≡ before) × IsStuck before.queue left
 PassedFront before after left (Some rest) = PassedTerm before after left rest
-
--- the terms were passed that so many bytes fill
-pub record PassedAll {S : Type 0} (before after : Sequential S) (count : ℕ) : Type 0 where
-  pub terms : ℕ
-  pub passed : Passed before after terms
-  pub used : bytes_before terms (ready before.queue) ≤ count
-  pub stuck : terms < length (ready before.queue)
-      → count < bytes_before terms (ready before.queue) + length (get_or (ready before.queue) terms [])
-  pub whole : count ≡ length (ready_bytes before.queue) → terms ≡ length (ready before.queue)
-  pub sink : after.sink ≡ before.sink
-  pub kept : after.kept ≡ before.kept

@@ -112,11 +112,6 @@ pub record PutRecords (b n : SessionTold) (answer : Result ℕ DataError) : Type
   pub same : n ≡ record b { uploader = n.uploader; shards = n.shards; failed = n.failed }
   pub uploads : Uploads b.uploader n.uploader b.shards n.shards b.failed n.failed answer
 
--- the uploader was asked for records that know a chunk
-pub record AsksFor (b n : SessionTold) (chunk : MerkleHash) (answer : Result Bool DataError) : Type 0 where
-  pub same : n ≡ record b { uploader = n.uploader; shards = n.shards }
-  pub asks : Asks b.uploader n.uploader b.shards n.shards chunk answer
-
 -- the xorb is on the list, which has it more at its end or is as it was
 pub record OnList (b n : SessionTold) (x : MerkleHash) : Type 0 where
   pub is_there : Contains n.listed x
