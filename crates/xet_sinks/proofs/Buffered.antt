@@ -1,8 +1,9 @@
 -- What a buffer holds, and what the sink below it took of it.
 use Rattle.std.proofs.Common.{◌≡◌, ℕ, ◌+◌, ◌<◌, ◌≤◌, Bool, true, false, List, [], ◌++◌, take, drop, length, Option}
-use Rattle.std.proofs.Common.{Some, None, Result, refl, sym, ap, ◌∙◌, arith, append_assoc, append-nil}
+use Rattle.std.proofs.Common.{Some, None, Ok, Result, refl, sym, ap, ◌∙◌, arith, append_assoc, append-nil}
 use Rattle.std.proofs.Common.{length-append, length-drop}
 use Rattle.std.specs.Prelude.{option_map}
+use Rattle.std.proofs.Math.Seq.{take-length}
 use Rattle.std.proofs.lemmas.List.{length-take-le, take-append-drop, take-append-le}
 use Rattle.xet_outside.specs.declared.sink.SinkError.{SinkError}
 use Rattle.xet_outside.specs.Told.{SinkTold, Took, TookPrefix, WriteCall}
@@ -109,3 +110,20 @@ passed s k n m piece answer h w =
       unfailed = w.unfailed;
       short = w.short;
     }
+
+-- a piece that is held
+pub held_write : (s k n : SinkTold) (bs ps : List ℕ)
+    → WriteCall (buffered_told s k n bs) (buffered_told s k n (bs ++ ps)) ps (Ok (length ps))
+held_write s k n bs ps = record {
+  count = omega arith;
+  some = λ h. h;
+  took = rw (take-length ps) (with_more k.took bs ps);
+  prefix = λ x. cc;
+  memory = λ x. cc;
+  flushed = refl;
+  link = refl;
+  faults = omega arith;
+  failed = λ x. cc;
+  unfailed = refl;
+  short = λ x. cc;
+}

@@ -1,5 +1,5 @@
 -- What the pieces leave together, and a flush.
-use Rattle.std.proofs.Common.{◌≡◌, ℕ, ◌+◌, ◌*◌, ◌<◌, ◌≤◌, Bool, List, ◌++◌, take, drop, length, Option, Ok, Err}
+use Rattle.std.proofs.Common.{◌≡◌, ◌≢◌, ℕ, ◌+◌, ◌*◌, ◌<◌, ◌≤◌, Bool, List, ◌++◌, take, drop, length, Option, Ok, Err}
 use Rattle.std.proofs.Common.{Result, refl, ◌∙◌, arith, length-drop, length-append, replicate}
 use Rattle.std.specs.Prelude.{OnOk}
 use Rattle.std.proofs.lemmas.List.{take-take, length-take, take_at}
@@ -12,6 +12,7 @@ use Rattle.xet_outside.proofs.CallerLemmas.{took_more, prefix_more}
 use Rattle.xet_sinks.specs.HexText.{hex_told, HexText}
 use Rattle.xet_sinks.specs.steps.HexPieces.{Stands, Filled}
 use Rattle.xet_sinks.specs.steps.Settled.{Settled}
+use Rattle.xet_sinks.proofs.Buffered.{with_nothing}
 use Rattle.xet_sinks.proofs.HexDigits.{all_hex-append, all_hex-drop, all_hex-encode}
 use Rattle.xet_sinks.proofs.DigitsOut.{count_taken, hex_text}
 
@@ -97,6 +98,63 @@ put_failed a b c piece at n i t f g l h = record {
   faults = let m = h.faults in omega arith;
   failed = λ _. let r = h.failed refl in omega arith;
   unfailed = tt;
+  short = λ x. cc;
+}
+
+-- memory ran out before the first byte
+pub put_none : (a b c : SinkTold) (piece : List ℕ) (at n : ℕ) → at ≡ 0 → Took a.took b.took (take at piece)
+    → b.flushed ≡ a.flushed → b.link ≡ a.link → b.faults ≡ a.faults
+    → WriteCall b c (take n (drop at piece)) (Err sink_error.OutOfMemory)
+    → WriteCall a c piece (Err sink_error.OutOfMemory)
+put_none a b c piece at n z t f g l h =
+    let nothing : Took a.took b.took (take 0 piece) = rw z at t in
+    let same : b.took ≡ a.took = nothing ∙ with_nothing a.took in record {
+      count = tt;
+      some = λ _. tt;
+      took = tt;
+      prefix = λ x. cc;
+      memory = λ _. h.memory refl ∙ same;
+      flushed = h.flushed ∙ f;
+      link = h.link ∙ g;
+      faults = let m = h.faults in omega arith;
+      failed = λ x. cc;
+      unfailed = tt;
+      short = λ _. h.short refl ∙ l;
+    }
+
+-- and after some bytes
+pub put_short : (a b c : SinkTold) (piece : List ℕ) (at n : ℕ) → at ≤ length piece → at ≢ 0
+    → Took a.took b.took (take at piece) → b.flushed ≡ a.flushed → b.link ≡ a.link → b.faults ≡ a.faults
+    → WriteCall b c (take n (drop at piece)) (Err sink_error.OutOfMemory) → WriteCall a c piece (Ok at)
+put_short a b c piece at n i z t f g l h = record {
+  count = i;
+  some = λ _. omega (arith, z);
+  took = h.memory refl ∙ t;
+  prefix = λ x. cc;
+  memory = λ x. cc;
+  flushed = h.flushed ∙ f;
+  link = h.link ∙ g;
+  faults = let m = h.faults in omega arith;
+  failed = λ x. cc;
+  unfailed = h.short refl ∙ l;
+  short = λ x. cc;
+}
+
+-- all of it was taken
+pub put_whole : (a b : SinkTold) (piece : List ℕ) (at : ℕ) → at ≤ length piece → length piece ≤ at
+    → Took a.took b.took (take at piece) → b.flushed ≡ a.flushed → b.link ≡ a.link → b.faults ≡ a.faults
+    → WriteCall a b piece (Ok at)
+put_whole a b piece at i w t f g l = record {
+  count = i;
+  some = λ h. omega (arith, h, w);
+  took = t;
+  prefix = λ x. cc;
+  memory = λ x. cc;
+  flushed = f;
+  link = g;
+  faults = omega (arith, l);
+  failed = λ x. cc;
+  unfailed = l;
   short = λ x. cc;
 }
 

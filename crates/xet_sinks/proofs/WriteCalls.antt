@@ -1,9 +1,9 @@
 -- Writes of a sink over another, by what the sink below did.
-use Rattle.std.proofs.Common.{◌≡◌, ◌⊎◌, inl, inr, ℕ, Bool, true, false, List, Err, IsErrOf, Ok, Result, refl, sym, ◌∙◌}
+use Rattle.std.proofs.Common.{◌≡◌, ◌⊎◌, inl, inr, ℕ, Bool, true, false, List, Err, IsErrOf, Ok, Result, refl, sym, ap, ◌∙◌}
 use Rattle.std.proofs.Common.{arith}
 use Rattle.xet_outside.specs.declared.sink.SinkError.{SinkError}
 use Rattle.xet_outside.specs.declared.sink.SinkError.TheVariants as sink_error
-use Rattle.xet_outside.specs.Told.{SinkTold, WriteCall}
+use Rattle.xet_outside.specs.Told.{SinkTold, FlushCall, WriteCall}
 use Rattle.xet_sinks.specs.steps.Held.{WroteOut}
 use Rattle.xet_sinks.proofs.Buffered.{with_nothing}
 
@@ -29,6 +29,10 @@ pub err_as : (T U : Type 0) (e : SinkError) → IsErrOf {T = T} {E = SinkError} 
 err_as T U sink_error.OutOfMemory x =
     absurd (let f : IsErrOf {T = T} {E = SinkError} (Err sink_error.OutOfMemory) sink_error.Failed = x in cc)
 err_as T U sink_error.Failed x = refl
+
+pub same_err : (T U : Type 0) (e f : SinkError) → ◌≡◌ {A = Result T SinkError} (Err e) (Err f)
+    → ◌≡◌ {A = Result U SinkError} (Err e) (Err f)
+same_err T U e f h = let s : e ≡ f = cc in ap Err s
 
 -- the second of two, said otherwise
 pub or_else : (A B C : Type 0) → (B → C) → A ⊎ B → A ⊎ C
@@ -86,3 +90,32 @@ written_after a b c piece buffer out stopped answer w h = record {
 pub still_runs : (A B : Type 0) (stopped : Bool) → stopped ≡ false → (stopped ≡ true) ⊎ B → A ⊎ B
 still_runs A B stopped f (inl t) = absurd (let e : true ≡ false = sym t ∙ f in cc)
 still_runs A B stopped f (inr b) = inr b
+
+-- nothing is written out by a sink that stopped
+pub out_stopped : (a : SinkTold) (buffer : List ℕ) (out : ℕ) (stopped : Bool)
+    → WroteOut a a buffer out stopped (Err sink_error.OutOfMemory)
+out_stopped a buffer out stopped = record {
+  took = refl;
+  flushed = refl;
+  link = refl;
+  faults = omega arith;
+  failed = λ x. cc;
+  unfailed = tt;
+  short = λ _. refl;
+  empty = tt;
+  whole = tt;
+}
+
+-- a flush that ends where the buffer can't be written out
+pub unwritten_flush : (a b : SinkTold) (buffer : List ℕ) (out : ℕ) (stopped : Bool) (e : SinkError)
+    → WroteOut a b buffer out stopped (Err e) → FlushCall a b (Err e)
+unwritten_flush a b buffer out stopped e w = record {
+  took = w.took;
+  flushed = tt;
+  unflushed = w.flushed;
+  link = w.link;
+  faults = w.faults;
+  failed = w.failed;
+  unfailed = tt;
+  short = w.short;
+}

@@ -1,5 +1,7 @@
 //! Taps: what sees each block on its way to a run.
-ghost use Rattle.std.specs.Prelude.{◌≡◌, [], drop, false, None, Ok, MatchOption, Some, slice_get, true};
+ghost use Rattle.std.specs.Prelude.{◌≡◌, ◌++◌, ◌∷◌, [], drop, false, None, Ok, MatchOption, OnErr, OnOk, Some, slice_get};
+ghost use Rattle.std.specs.Prelude.{true};
+ghost use Rattle.xet_outside.specs.Told.{served_of};
 ghost use Rattle.xet_store.specs.Taps.{PassCall, TapTold};
 
 use crate::tap_log::TapLog;
@@ -70,6 +72,22 @@ impl MemTap {
     {
         self.passed.as_slice()
     }
+
+    // Keeps a request.
+    fn keep(&mut self, alloc: Global, request: &BlockRequest) -> Result<(), OutOfMemory>
+        ensures ok { OnOk result (self.new.passed.items ≡ self.old.passed.items ++ served_of request.now ∷ []) }
+        ensures err { OnErr result (self.new.passed.items ≡ self.old.passed.items) }
+        ensures log { self.new.log ≡ self.old.log }
+    {
+        let served = Served {
+            plan: request.acquisition.plan,
+            index: request.index,
+            xorb: request.xorb,
+            ranges: request.chunks.copied(alloc)?,
+        };
+        self.passed.push(served)?;
+        Ok(())
+    }
 }
 
 impl Tap for MemTap {
@@ -81,13 +99,7 @@ impl Tap for MemTap {
         request: &BlockRequest,
         block: BlockBytes,
     ) -> Result<BlockBytes, OutOfMemory> {
-        let served = Served {
-            plan: request.acquisition.plan,
-            index: request.index,
-            xorb: request.xorb,
-            ranges: request.chunks.copied(alloc)?,
-        };
-        self.passed.push(served)?;
+        self.keep(alloc, request)?;
         self.log = self.log.and(request, &block);
         Ok(block)
     }

@@ -28,27 +28,30 @@ pub const FILE_OF_TWO_ENDS: MerkleHash = MerkleHash([0xee; 32]);
 pub fn worked_store(alloc: Global) -> Result<MemStore, StoreRefused>
     ensures { IfOk result (λ store. store ≡ worked) }
 {
-    let mut store = worked_xorbs(alloc)?;
-    put_file(&mut store, alloc, FILE_OF_ALL, &[(0, 4)])?;
-    put_file(
-        &mut store,
-        alloc,
-        FILE_OF_REPEATS,
-        &[(2, 4), (0, 1), (0, 3)],
-    )?;
-    put_file(&mut store, alloc, FILE_OF_NOTHING, &[])?;
-    put_file(&mut store, alloc, FILE_OF_TWO_ENDS, &[(0, 1), (3, 4)])?;
+    let mut store = MemStore::new(alloc);
+    put_xorbs(&mut store, alloc)?;
+    put_files(&mut store, alloc)?;
     Ok(store)
 }
 
-// Its xorbs, and no files.
-fn worked_xorbs(alloc: Global) -> Result<MemStore, StoreRefused>
-    ensures { IfOk result (λ store. store ≡ record { xorbs = worked.xorbs; files = [] }) }
+// Adds its xorbs to the empty store.
+fn put_xorbs(store: &mut MemStore, alloc: Global) -> Result<(), StoreRefused>
+    requires { store.old ≡ record { xorbs = []; files = [] } }
+    ensures { OnOk result (store.new ≡ record { xorbs = worked.xorbs; files = [] }) }
 {
-    let mut store = MemStore::new(alloc);
-    put_xorb(&mut store, alloc, X1, &["Hello", ", ", "world", "!"])?;
-    put_xorb(&mut store, alloc, X2, &["ab", "cde"])?;
-    Ok(store)
+    put_xorb(store, alloc, X1, &["Hello", ", ", "world", "!"])?;
+    put_xorb(store, alloc, X2, &["ab", "cde"])
+}
+
+// Adds its files to the store of its xorbs.
+fn put_files(store: &mut MemStore, alloc: Global) -> Result<(), StoreRefused>
+    requires { store.old ≡ record { xorbs = worked.xorbs; files = [] } }
+    ensures { OnOk result (store.new ≡ worked) }
+{
+    put_file(store, alloc, FILE_OF_ALL, &[(0, 4)])?;
+    put_file(store, alloc, FILE_OF_REPEATS, &[(2, 4), (0, 1), (0, 3)])?;
+    put_file(store, alloc, FILE_OF_NOTHING, &[])?;
+    put_file(store, alloc, FILE_OF_TWO_ENDS, &[(0, 1), (3, 4)])
 }
 
 // Adds a xorb whose chunks are the bytes of some texts.

@@ -1,5 +1,6 @@
 //! An uploader to a store in memory.
-ghost use Rattle.std.specs.Prelude.{◌≡◌, ◌↔◌, ◌+◌, ◌-◌, ◌^◌, ◌≤◌, [], Contains, IfErr, IfOk, IsErrOf, None, OnOk, Some};
+ghost use Rattle.std.specs.Prelude.{◌≡◌, ◌↔◌, ◌+◌, ◌-◌, ◌^◌, ◌≤◌, ◌++◌, ◌∷◌, [], Contains, IfErr, IfOk, IsErrOf, None};
+ghost use Rattle.std.specs.Prelude.{OnErr, OnOk, Some};
 ghost use Rattle.std.specs.Prelude.{if◌then◌else◌, map, min, option_map, slice_get, vec_capacity, vec_len};
 ghost use Rattle.std.specs.List.Sorted.{IsPermutation};
 ghost use Rattle.xet_base.specs.Records.{shard_size};
@@ -60,11 +61,15 @@ impl MemUploader {
     pub fn into_store(self, alloc: Global) -> Result<Option<MemStore>, OutOfMemory>
         ensures { IfOk result (λ store. store ≡ store_after self.store self.log.items) }
     {
-        let mut store = self.store;
-        if !add_puts(alloc, &mut store, self.log.as_slice())? {
-            return Ok(None);
-        }
-        Ok(Some(store))
+        let (store, log) = self.into_parts();
+        store_with(alloc, store, log.as_slice())
+    }
+
+    // The store and the log.
+    fn into_parts(self) -> (MemStore, Vec<Put>)
+        ensures { result ≡ (self.store, self.log) }
+    {
+        (self.store, self.log)
     }
 
     /// The puts that it accepted, in their order.
@@ -106,10 +111,9 @@ impl Uploader for MemUploader {
         if self.script.fails_now() {
             return Err(ClientError::Failed);
         }
-        let copy = xorb.copied(alloc)?;
-        let info = record_of(alloc, xorb)?;
         reserve(&mut self.log)?;
-        self.records.push(info)?;
+        let copy = xorb.copied(alloc)?;
+        add_record(&mut self.records, alloc, xorb)?;
         self.log.push_reserved(Put::Xorb(copy));
         Ok(xorb.num_bytes())
     }
@@ -130,8 +134,8 @@ impl Uploader for MemUploader {
         if self.script.fails_now() {
             return Err(ClientError::Failed);
         }
-        let copy = shard.copied(alloc)?;
         reserve(&mut self.log)?;
+        let copy = shard.copied(alloc)?;
         self.log.push_reserved(Put::Shard(copy));
         Ok(shard.num_bytes())
     }
@@ -150,10 +154,10 @@ impl Uploader for MemUploader {
         ensures script { self.new.script ≡ self.old.script }
         ensures store { self.new.store ≡ self.old.store }
     {
-        let found = self.record_with(alloc, chunk)?;
-        let copy = copied_answer(alloc, &found)?;
         reserve(&mut self.asked)?;
         reserve(&mut self.answered)?;
+        let found = self.record_with(alloc, chunk)?;
+        let copy = copied_answer(alloc, &found)?;
         self.asked.push_reserved(*chunk);
         self.answered.push_reserved(copy);
         Ok(found)
@@ -224,6 +228,15 @@ fn shard_of(alloc: Global, info: MDBXorbInfo) -> Result<ShardRecord, OutOfMemory
     })
 }
 
+// Adds the record of the xorb. Want of memory leaves the records as they were.
+fn add_record(records: &mut XorbRecords, alloc: Global, xorb: &Xorb) -> Result<(), OutOfMemory>
+    ensures ok { OnOk result (records.new ≡ records.old ++ record_of xorb.now ∷ []) }
+    ensures err { OnErr result (records.new ≡ records.old) }
+{
+    let info = record_of(alloc, xorb)?;
+    records.push(info)
+}
+
 // The record of the xorb.
 fn record_of(alloc: Global, xorb: &Xorb) -> Result<MDBXorbInfo, OutOfMemory>
     ensures { IfOk result (λ info. info ≡ record_of xorb.now) }
@@ -240,6 +253,20 @@ fn record_of(alloc: Global, xorb: &Xorb) -> Result<MDBXorbInfo, OutOfMemory>
         num_bytes: xorb.num_bytes().min(u64::from(u32::MAX)) as u32,
         chunks,
     })
+}
+
+// The store with all that was put, or none where it refuses something for another cause than a taken hash.
+fn store_with(
+    alloc: Global,
+    mut store: MemStore,
+    puts: &[Put],
+) -> Result<Option<MemStore>, OutOfMemory>
+    ensures { IfOk result (λ after. after ≡ store_after store puts.now) }
+{
+    if !add_puts(alloc, &mut store, puts)? {
+        return Ok(None);
+    }
+    Ok(Some(store))
 }
 
 // Adds all that was put, and tells whether the store took each or had its hash.

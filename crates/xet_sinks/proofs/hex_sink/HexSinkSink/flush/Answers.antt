@@ -1,7 +1,22 @@
+use Rattle.std.proofs.Common.{◌≡◌, Err}
+use Rattle.xet_base.proofs.CallerLemmas.{err-of}
 use Rattle.xet_outside.specs.Told.{SinkTold}
 use Rattle.xet_sinks.specs.HexText.{hex_told}
+use Rattle.xet_sinks.proofs.MissingDigit.{unsettled_flush}
 use Rattle.xet_sinks.proofs.WholePiece.{flush_call, flush_text}
 use Rattle.xet_sinks.proofs.hex_sink.HexSinkSink.flush.Goals as goal
+
+pub returns-in_err-settle : goal.returns-in_err-settle
+returns-in_err-settle g c =
+    let e : c.from_residual.result ≡ Err c.in_err-settle.field-0.0 = err-of _ _ c.from_residual.ensures in
+    let w = rw c.in_err-settle.was at c.settle.ensures in
+    rw e (record {
+      call = unsettled_flush _ _ _ _ _ w.call;
+      text = tt;
+      fault = w.fault;
+      runs = w.runs;
+      stopped = w.stopped;
+    })
 
 pub returns-clause-call : goal.returns-clause-call
 returns-clause-call g c =

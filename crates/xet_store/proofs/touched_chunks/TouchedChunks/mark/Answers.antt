@@ -1,4 +1,4 @@
-use Rattle.std.proofs.Common.{arith, ap, length, sym, ◌∙◌, true, false}
+use Rattle.std.proofs.Common.{arith, ap, length, sym, ◌∙◌}
 use Rattle.std.proofs.lemmas.Bool.{false≢true, leb-true}
 use Rattle.xet_store.proofs.ChunkMarks.{more_marked, more_within, refilled}
 use Rattle.xet_store.proofs.touched_chunks.TouchedChunks.mark.Goals as goal

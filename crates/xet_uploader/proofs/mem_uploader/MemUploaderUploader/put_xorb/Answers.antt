@@ -6,6 +6,6 @@ invariant_of-self-2 c =
     let old = c.args.self.now in
     record {
       indexed =
-          rw (c.push_reserved.ensures.items, c.in_ok-reserve.ensures.same, c.in_ok-push.ensures.ok, c.in_ok-info.ensures, c.in_ok-copy.ensures)
+          rw (c.push_reserved.ensures.items, c.in_ok-reserve.ensures.same, c.in_ok-add_record.ensures.ok, c.in_ok-copy.ensures)
           (records-push old.log.items c.args.xorb.now old.records old.indexed);
     }

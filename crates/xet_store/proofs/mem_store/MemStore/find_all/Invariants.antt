@@ -1,7 +1,7 @@
 use Rattle.std.proofs.Common.{◌≡◌, ◌^◌, ◌-◌, true, map, take, min}
 use Rattle.std.specs.List.{list_all, sum_by}
 use Rattle.xet_store.specs.Refusals.{is_term_in, stored_term, term_length}
-use Rattle.xet_store.proofs.mem_store.MemStore.find_terms.Given as goal
+use Rattle.xet_store.proofs.mem_store.MemStore.find_all.Given as goal
 
 abbrev pub invariant-loop-term : goal.invariant-loop-term
 invariant-loop-term l = record {
