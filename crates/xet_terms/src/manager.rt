@@ -278,19 +278,34 @@ impl<P: FetchPolicy> ReconstructionTermManager<P> {
         ensures kept { OnErr result (self.new ≡ self.old) }
         ensures ok { OnOk result (self.new ≡ with_answer self.old due.query answer) }
     {
-        let known = self.known_end;
-        let Some(block) = answer else {
-            self.settle(known.min(due.query.start), true);
-            return Ok(());
-        };
-        if known <= due.query.start {
-            return Err(past_known_end(known, due.query.start));
+        match answer {
+            Some(block) => {
+                let (known, start) = (self.known_end, due.query.start);
+                if known <= start {
+                    return Err(past_known_end(known, start));
+                }
+                self.take_plan(due.query, block)
+            }
+            None => {
+                let known = self.known_end;
+                self.settle(known.min(due.query.start), true);
+                Ok(())
+            }
         }
-        let end = block.byte_range.end;
+    }
+
+    /// Takes a plan as the answer to a query, which starts below the known end.
+    fn take_plan(&mut self, query: FileRange, block: TermBlock) -> Result<()>
+        requires { self.old.answered < self.old.asked }
+        ensures memory { IfErr result (λ e. e ≡ FileReconstructionError.OutOfMemory) }
+        ensures kept { OnErr result (self.new ≡ self.old) }
+        ensures ok { OnOk result (self.new ≡ with_answer self.old query (Some block)) }
+    {
+        let (known, end) = (self.known_end, block.byte_range.end);
         if self.waiting.push_back(block).is_err() {
             return Err(FileReconstructionError::OutOfMemory);
         }
-        let early = end < due.query.end;
+        let early = end < query.end;
         self.settle(known_after(known, end, early), early);
         Ok(())
     }
