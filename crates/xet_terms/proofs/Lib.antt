@@ -1,4 +1,5 @@
 mod Asking
 pub mod CallerLemmas
+mod Looking
 mod Managing
 mod Newest

@@ -1,10 +1,11 @@
 //! Cuts a range of a file into queries, and hands their plans out in order.
 ghost use Rattle.std.specs.Prelude.{◌≡◌, ◌+◌, ◌-◌, ◌<◌, ◌≤◌, ◌||◌, ◌&&◌, nat_le, ℕ, [], ◌∷◌, Bool, false, true, OnOk};
 ghost use Rattle.std.specs.Prelude.{OnErr, IfOk, IfErr, Err, Some, None, Ok, nat_lt, slice_get, length, MatchOption};
-ghost use Rattle.std.specs.Prelude.{IfSome, IfNone, min, ◌⊎◌};
+ghost use Rattle.std.specs.Prelude.{IfSome, IfNone, cond, min, ◌⊎◌, ◌*◌};
 ghost use Rattle.std.specs.List.Sorted.{IsNonDecreasingBy, IsPartitionPoint};
 ghost use Rattle.xet_outside.specs.Told.{ClientTold};
 ghost use Rattle.xet_terms.specs.Managers.{IsCovered, IsManager, Manager, PassesKnownEnd, ReachesEnd, accepted, begun};
+ghost use Rattle.xet_terms.specs.Managers.{bounded};
 ghost use Rattle.xet_terms.specs.Managers.{cut_at, ends_early, looked_ahead, scheduled, scheduled_end, settled};
 ghost use Rattle.xet_terms.specs.Managers.{with_answer};
 ghost use Rattle.xet_terms.specs.NextTerms.{AskCall, DueCall, NextCall, reopened};
@@ -146,13 +147,23 @@ impl<P: FetchPolicy + Drop> ReconstructionTermManager<P> {
             progress,
             planned: PlannedBytes::new(),
         };
-        manager.schedule(least)?;
-        manager.schedule(least.saturating_mul(2))?;
+        manager.schedule_first()?;
         Ok(manager)
     }
 }
 
 impl<P: FetchPolicy> ReconstructionTermManager<P> {
+    /// Schedules a query of the least size, and then one of twice that size.
+    fn schedule_first(&mut self) -> Result<()>
+        ensures ok { OnOk result (let n = record self.old { queries = scheduled self.old self.old.least } in
+            self.new ≡ record n { queries = scheduled n (bounded (n.least * 2)) }) }
+        ensures memory { IfErr result (λ e. e ≡ FileReconstructionError.OutOfMemory) }
+    {
+        let least = self.least;
+        self.schedule(least)?;
+        self.schedule(least.saturating_mul(2))
+    }
+
     /// The queries, those that were asked and then those that are scheduled.
     pub fn queries(&self) -> &[FileRange]
         ensures list { result.now ≡ self.now.queries }
@@ -267,23 +278,35 @@ impl<P: FetchPolicy> ReconstructionTermManager<P> {
         ensures kept { OnErr result (self.new ≡ self.old) }
         ensures ok { OnOk result (self.new ≡ with_answer self.old due.query answer) }
     {
-        let known = self.known_end;
-        let Some(block) = answer else {
-            self.settle(known.min(due.query.start), true);
-            return Ok(());
-        };
-        if known <= due.query.start {
-            return Err(past_known_end(known, due.query.start));
+        match answer {
+            Some(block) => {
+                let (known, start) = (self.known_end, due.query.start);
+                if known <= start {
+                    return Err(past_known_end(known, start));
+                }
+                self.take_plan(due.query, block)
+            }
+            None => {
+                let known = self.known_end;
+                self.settle(known.min(due.query.start), true);
+                Ok(())
+            }
         }
-        let end = block.byte_range.end;
+    }
+
+    /// Takes a plan as the answer to a query, which starts below the known end.
+    fn take_plan(&mut self, query: FileRange, block: TermBlock) -> Result<()>
+        requires { self.old.answered < self.old.asked }
+        ensures memory { IfErr result (λ e. e ≡ FileReconstructionError.OutOfMemory) }
+        ensures kept { OnErr result (self.new ≡ self.old) }
+        ensures ok { OnOk result (self.new ≡ with_answer self.old query (Some block)) }
+    {
+        let (known, end) = (self.known_end, block.byte_range.end);
         if self.waiting.push_back(block).is_err() {
             return Err(FileReconstructionError::OutOfMemory);
         }
-        if end < due.query.end {
-            self.settle(end, true);
-            return Ok(());
-        }
-        self.settle(known, false);
+        let early = end < query.end;
+        self.settle(known_after(known, end, early), early);
         Ok(())
     }
 
@@ -425,6 +448,13 @@ fn past_known_end(known: u64, start: u64) -> FileReconstructionError
     ensures { result ≡ FileReconstructionError.CorruptedReconstruction (Corruption.PastKnownEnd known start) }
 {
     FileReconstructionError::CorruptedReconstruction(Corruption::PastKnownEnd { known, start })
+}
+
+/// The known end after terms that end at a place, early or not.
+fn known_after(known: u64, end: u64, early: bool) -> u64
+    ensures { result ≡ cond early end known }
+{
+    if early { end } else { known }
 }
 
 /// How many of the queries start below a place. They go forward.

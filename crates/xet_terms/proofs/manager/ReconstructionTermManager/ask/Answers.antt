@@ -1,4 +1,4 @@
-use Rattle.std.proofs.Common.{◌≡◌, Ok, Err, Option, subst, rules}
+use Rattle.std.proofs.Common.{◌≡◌, Ok, Err, Option, subst}
 use Rattle.xet_base.proofs.CallerLemmas.{err-of}
 use Rattle.xet_error.specs.declared.error.FileReconstructionError.{FileReconstructionError}
 use Rattle.xet_blocks.specs.declared.reconstruction_terms.file_term.TermBlock.{TermBlock}
