@@ -36,6 +36,8 @@ mod played;
 #[cfg(test)]
 mod refreshes;
 #[cfg(test)]
+mod refused;
+#[cfg(test)]
 mod reports;
 #[cfg(test)]
 mod row;
