@@ -1,5 +1,6 @@
 -- What the missing digit leaves.
-use Rattle.std.proofs.Common.{ℕ, ◌≡◌, ◌<◌, Bool, false, true, List, [], ◌∷◌, slice_index, take, Ok, Err, Result, refl, sym, ◌∙◌, arith}
+use Rattle.std.proofs.Common.{ℕ, ◌≡◌, ◌<◌, Bool, false, true, List, [], ◌∷◌, slice_index, take}
+use Rattle.std.proofs.Common.{Ok, Err, Result, refl, sym, ◌∙◌, arith}
 use Rattle.xet_outside.specs.declared.sink.SinkError.{SinkError}
 use Rattle.xet_outside.specs.declared.sink.SinkError.TheVariants as sink_error
 use Rattle.xet_outside.specs.Told.{SinkTold, Took, FlushCall, WriteCall}

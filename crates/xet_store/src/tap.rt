@@ -1,6 +1,6 @@
 //! Taps: what sees each block on its way to a run.
-ghost use Rattle.std.specs.Prelude.{◌≡◌, ◌++◌, ◌∷◌, [], drop, false, None, Ok, MatchOption, OnErr, OnOk, Some, slice_get};
-ghost use Rattle.std.specs.Prelude.{true};
+ghost use Rattle.std.specs.Prelude.{◌≡◌, ◌++◌, ◌∷◌, [], drop, false, None, Ok, MatchOption, OnErr, OnOk, Some};
+ghost use Rattle.std.specs.Prelude.{slice_get, true};
 ghost use Rattle.xet_outside.specs.Told.{served_of};
 ghost use Rattle.xet_store.specs.Taps.{PassCall, TapTold};
 

@@ -63,4 +63,5 @@ loop-chunk-preserved c =
 pub returns : goal.returns
 returns c =
     ap (λ v. v.items) c.in_ok-new.ensures.ok ∙ c.loop-chunk.invariant.places
-    ∙ ap (λ xs. 0 ∷ ends_of 0 (lengths xs)) (take_all c.loop-chunk.chunk-index c.args.chunks.now c.loop-chunk-test.false)
+    ∙ ap (λ xs. 0 ∷ ends_of 0 (lengths xs)) (take_all c.loop-chunk.chunk-index c.args.chunks.now
+    c.loop-chunk-test.false)

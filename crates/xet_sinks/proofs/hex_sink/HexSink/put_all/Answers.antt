@@ -101,8 +101,8 @@ returns-in-Err-OutOfMemory-clause-call g c =
     let d : SinkTold = hex_told (told n.start.value) (told n.known.value) (told n.inner) n.digits in
     let i = c.loop-taken.invariant in
     let h = rw c.in-Err-OutOfMemory.field-0-is at (rw c.in-Err-OutOfMemory.is at c.put.ensures.call) in
-    put_short a b d c.args.piece.now c.loop-taken.taken _ i.in_range c.if-taken-eq0.false i.took i.flushed i.link i.faults
-    h
+    put_short a b d c.args.piece.now c.loop-taken.taken _ i.in_range c.if-taken-eq0.false i.took i.flushed i.link
+    i.faults h
 
 pub returns-in-Err-OutOfMemory-clause-fault : goal.returns-in-Err-OutOfMemory-clause-fault
 returns-in-Err-OutOfMemory-clause-fault g c = λ x. cc
@@ -115,7 +115,8 @@ returns-clause-call g c =
     let a : SinkTold = hex_told (told s.start.value) (told s.known.value) (told s.inner) s.digits in
     let b : SinkTold = hex_told (told m.start.value) (told m.known.value) (told m.inner) m.digits in
     let i = c.loop-taken.invariant in
-    put_whole a b c.args.piece.now c.loop-taken.taken i.in_range c.loop-taken-test.false i.took i.flushed i.link i.faults
+    put_whole a b c.args.piece.now c.loop-taken.taken i.in_range c.loop-taken-test.false i.took i.flushed i.link
+    i.faults
 
 pub returns-clause-fault : goal.returns-clause-fault
 returns-clause-fault g c = λ x. cc
