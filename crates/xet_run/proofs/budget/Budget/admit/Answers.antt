@@ -14,12 +14,12 @@ returns-then-self-eq0 c =
 pub returns-in-Some : goal.returns-in-Some
 returns-in-Some c =
     let total : c.in-Some.total ≡ c.args.self.now.unwritten + c.args.length = search rules in
-    record { refused = tt; kept = tt; fits = λ p. omega (arith, total, c.if-total-limit.true, p.1); given = refl; counted = ap of_bytes total }
+    record { refused = tt; kept = tt; fits = λ p. let past = p.1 in omega (arith, total); given = refl; counted = ap of_bytes total }
 
 pub returns-in_default : goal.returns-in_default
 returns-in_default c =
     let total : c.in-Some.total ≡ c.args.self.now.unwritten + c.args.length = search rules in
-    record { refused = (c.if-self-eq0.false, omega (arith, total, c.if-total-limit.false)); kept = refl; fits = tt; given = tt; counted = tt }
+    record { refused = (c.if-self-eq0.false, omega (arith, total)); kept = refl; fits = tt; given = tt; counted = tt }
 
 pub returns-in_default-2 : goal.returns-in_default-2
 returns-in_default-2 c =
