@@ -1,6 +1,6 @@
 -- A new item of a group, and what a group with all sums equal has open.
 use Rattle.std.proofs.Common.{◌≡◌, ℕ, Bool, true, false, cond, List, [], ◌∷◌, ◌++◌, refl, sym, ◌∙◌, ap, ◌+◌, ◌<◌, ◌≤◌, zero, suc, length, get_or, arith}
-use Rattle.std.specs.Prelude.{Option, Some, None, is_some, All, map, nat_eq}
+use Rattle.std.specs.Prelude.{Option, Some, None, is_some, All, map, nat_eq, Result, Ok, Err, OnOk, IfErr}
 use Rattle.std.specs.List.{sum_by}
 use Rattle.std.specs.Borrow.{Bor}
 use Rattle.std.specs.Map.{keys_of, lookup, values_of}
@@ -17,12 +17,14 @@ use Rattle.std.proofs.lemmas.Map.Views.{All-values-insert_entry}
 use Rattle.xet_base.specs.declared.item_id.UniqueID.{UniqueID}
 use Rattle.xet_base.specs.contracts.item_id.UniqueIDOrd.TheImpl.Laws.{total-law}
 use Rattle.xet_base.specs.Lists.{first_some}
+use Rattle.xet_progress_state.specs.declared.error.ProgressError.{ProgressError}
+use Rattle.xet_progress_state.specs.declared.error.ProgressError.TheVariants.{OutOfMemory}
 use Rattle.xet_progress_state.specs.declared.error.Incomplete.{Incomplete}
 use Rattle.xet_progress_state.specs.declared.item.ItemProgress.{ItemProgress}
 use Rattle.xet_progress_state.specs.declared.item.ItemProgressReport.{ItemProgressReport}
 use Rattle.xet_progress_state.specs.declared.item.GroupProgressReport.{GroupProgressReport}
 use Rattle.xet_progress_state.specs.Accepted.{or_else}
-use Rattle.xet_progress_state.specs.Group.{Group, IsGroup, IsWithin, IsWithinItem, group_completeness, group_sums, id_cmp, is_id, item_open, sums_completeness}
+use Rattle.xet_progress_state.specs.Group.{Group, IsGroup, IsWithin, IsWithinItem, NewItemCall, group_completeness, group_sums, id_cmp, is_id, item_open, sums_completeness}
 use Rattle.xet_progress_state.specs.Items.{blank_item, report_of}
 use Rattle.xet_progress_state.specs.Replies.{complete_or}
 use Rattle.xet_progress_state.proofs.Crediting.{sum_le_at}
@@ -61,6 +63,21 @@ group_new es added finished sums id name g absent =
         added_is = g.within.added_is;
       };
     }
+
+-- the group after a try to add an item
+pub group_after : (es fs : List (UniqueID × ItemProgress)) (added finished : ℕ) (sums : GroupProgressReport) (id : UniqueID) (name : List ℕ) (answer : Result (Unit {0}) ProgressError) → IsGroup es added finished sums → lookup (is_id id) es ≡ None
+    → OnOk answer (fs ≡ insert_entry id_cmp es id (blank_item id name)) → IfErr answer (λ e. (e ≡ OutOfMemory) × (fs ≡ es)) → IsGroup fs added finished sums
+group_after es fs added finished sums id name (Ok u) g absent ok err = rw ok (group_new es added finished sums id name g absent)
+group_after es fs added finished sums id name (Err e) g absent ok err = rw err.1 g
+
+-- and what that try is
+pub new_item_call : (before : Group) (fs : List (UniqueID × ItemProgress)) (id : UniqueID) (name : List ℕ) (answer : Result (Unit {0}) ProgressError) → lookup (is_id id) before.items ≡ None
+    → OnOk answer (fs ≡ insert_entry id_cmp before.items id (blank_item id name)) → IfErr answer (λ e. (e ≡ OutOfMemory) × (fs ≡ before.items)) → NewItemCall before (record before { items = fs }) id name answer
+new_item_call before fs id name (Ok u) absent ok err = record { accepted = (absent, ap (λ (l : List (UniqueID × ItemProgress)). let g : Group = record before { items = l } in g) ok); refused = tt }
+new_item_call before fs id name (Err e) absent ok err = record {
+  accepted = tt;
+  refused = (ap (λ (l : List (UniqueID × ItemProgress)). let g : Group = record before { items = l } in g) err.1, λ why q. let m = err.0 in absurd (cc));
+}
 
 -- numbers that are each at most others are equal where their sums are
 equal_each : {X : Type 0} (f g : X → ℕ) (xs : List X) → All (λ x. f x ≤ g x) xs → sum_by f xs ≡ sum_by g xs → All (λ x. f x ≡ g x) xs

@@ -1,6 +1,6 @@
 -- What a look for a registered xorb tells of the accepted calls, and what a call then answers.
 use Rattle.std.proofs.Common.{◌≡◌, ℕ, false, cond, List, [], ◌∷◌, ◌++◌, refl, sym, ◌∙◌, ap, ◌+◌, ◌<◌, ◌≤◌, ◌^◌, length, get_or, Ok, Err, arith}
-use Rattle.std.specs.Prelude.{Option, Some, None, find, position, unwrap_or, option_and_then}
+use Rattle.std.specs.Prelude.{Option, Some, None, Result, find, position, unwrap_or, option_and_then}
 use Rattle.std.specs.List.{position_or_len}
 use Rattle.std.proofs.lemmas.Bool.{le-leb, lt-leb, lt-ltb, le-ltb}
 use Rattle.std.proofs.lemmas.List.Sums.{passes_at_first}
@@ -9,7 +9,8 @@ use Rattle.xet_base.specs.Hashes.{hash_eq}
 use Rattle.xet_base.specs.declared.invalid.Invalid.{Invalid}
 use Rattle.xet_base.specs.declared.invalid.Invalid.TheVariants.{PastTotal, SumTooGreat}
 use Rattle.xet_base.proofs.CallerLemmas.{hash_eq-true}
-use Rattle.xet_progress_state.specs.declared.error.ProgressError.TheVariants.{InvalidOperation}
+use Rattle.xet_progress_state.specs.declared.error.ProgressError.{ProgressError}
+use Rattle.xet_progress_state.specs.declared.error.ProgressError.TheVariants.{InvalidOperation, OutOfMemory}
 use Rattle.xet_progress_state.specs.declared.step.TrackerStep.{TrackerStep}
 use Rattle.xet_progress_state.specs.declared.file.TrackedFile.{TrackedFile}
 use Rattle.xet_progress_state.specs.declared.xorb.TrackedXorb.{TrackedXorb}
@@ -70,6 +71,9 @@ refused_by before c reply why e = record { accepted = tt; refused = (e, refl) }
 
 pub accepted_by : {A : Type 0} (before now : List TrackerStep) (c : TrackerStep) (reply a : A) → refusal_of before c ≡ None → a ≡ reply → now ≡ before ++ c ∷ [] → CallOf before now c reply (Ok a)
 accepted_by before now c reply a e r n = record { accepted = (e, r, n); refused = tt }
+
+pub no_memory : {A : Type 0} (before : List TrackerStep) (c : TrackerStep) (reply : A) (answer : Result A ProgressError) → answer ≡ Err OutOfMemory → CallOf before before c reply answer
+no_memory before c reply answer e = rw e (record { accepted = tt; refused = (tt, refl) })
 
 pub past_total_no : (total counted more : ℕ) → counted + more ≤ total → past_total total counted more ≡ None
 past_total_no total counted more h = ap (λ b. cond b None (Some (PastTotal total counted more))) (le-leb (counted + more) total h)

@@ -21,21 +21,21 @@ fn share_of(n: u64, sent: u64, size: u64) -> u64
 
 /// Credits a part with its share of the bytes sent.
 fn credit_part(
-    files: &mut [TrackedFile],
+    files: &mut Vec<TrackedFile>,
     part: &mut Part,
     completed: &mut u64,
     sent: u64,
     size: u64,
 )
     requires partly { sent ≤ size }
-    requires known { part.old.file < length files.old }
+    requires known { part.old.file < length files.old.items }
     requires rises { part.old.credited ≤ share part.old.waiting sent size }
     requires room { completed.old + gain sent size part.old < 2 ^ 64 }
-    requires file_room { (file_in files.old part.old.file).completed + gain sent size part.old < 2 ^ 64 }
+    requires file_room { (file_in files.old.items part.old.file).completed + gain sent size part.old < 2 ^ 64 }
     ensures part { part.new ≡ with_share sent size part.old }
     ensures completed { completed.new ≡ completed.old + gain sent size part.old }
-    ensures files { files.new
-        ≡ slice_set files.old part.old.file (with_more (gain sent size part.old) (file_in files.old part.old.file)) }
+    ensures files { files.new.items ≡ slice_set files.old.items part.old.file
+        (with_more (gain sent size part.old) (file_in files.old.items part.old.file)) }
 {
     let credited = share_of(part.waiting, sent, size);
     let gained = credited - part.credited;
@@ -45,38 +45,21 @@ fn credit_part(
 }
 
 /// Credits each part with its share of the bytes sent.
-fn credit(files: &mut [TrackedFile], parts: &mut [Part], completed: &mut u64, sent: u64, size: u64)
-    requires can { CanCredit files.old parts.old sent size }
-    requires sum { completed.old ≡ completed_in files.old }
-    ensures parts { parts.new ≡ map (with_share sent size) parts.old }
-    ensures files { Credited files.old files.new parts.old sent size }
-    ensures sum { completed.new ≡ completed_in files.new }
-{
-    for part in parts.iter_mut() {
-        credit_part(files, part, completed, sent, size);
-    }
-}
-
-/// Credits each of these parts with its share of the bytes sent.
-pub(crate) fn credit_all(
+pub(crate) fn credit(
     files: &mut Vec<TrackedFile>,
-    parts: &mut Vec<Part>,
+    parts: &mut [Part],
     completed: &mut u64,
     sent: u64,
     size: u64,
 )
-    requires can { CanCredit files.old.items parts.old.items sent size }
+    requires can { CanCredit files.old.items parts.old sent size }
     requires sum { completed.old ≡ completed_in files.old.items }
-    ensures parts { parts.new.items ≡ map (with_share sent size) parts.old.items }
-    ensures files { Credited files.old.items files.new.items parts.old.items sent size }
+    ensures parts { parts.new ≡ map (with_share sent size) parts.old }
+    ensures files { Credited files.old.items files.new.items parts.old sent size }
     ensures count { length files.new.items ≡ length files.old.items }
     ensures sum { completed.new ≡ completed_in files.new.items }
 {
-    credit(
-        files.as_mut_slice(),
-        parts.as_mut_slice(),
-        completed,
-        sent,
-        size,
-    );
+    for part in parts.iter_mut() {
+        credit_part(files, part, completed, sent, size);
+    }
 }

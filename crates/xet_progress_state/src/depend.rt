@@ -1,10 +1,11 @@
 //! Dependencies of files on xorbs.
 ghost use Rattle.std.specs.Prelude.{◌≡◌, ◌+◌, ◌^◌, ◌<◌, ◌≤◌, ℕ, [], All, Some, None, true, false, map, take, length};
-ghost use Rattle.std.specs.Prelude.{slice_index_or, MatchOption};
+ghost use Rattle.std.specs.Prelude.{slice_index_or, IfNone, MatchOption};
 ghost use Rattle.std.specs.List.{sum_by};
 ghost use Rattle.xet_base.specs.Lists.{first_some};
 ghost use Rattle.xet_progress_state.specs.declared.file.TrackedFile.{TrackedFile};
 ghost use Rattle.xet_progress_state.specs.declared.step.FileXorbDependency.{FileXorbDependency};
+ghost use Rattle.xet_progress_state.specs.Accepted.{past_total};
 ghost use Rattle.xet_progress_state.specs.Counts.{of_file};
 ghost use Rattle.xet_progress_state.specs.steps.Depends.{CanDepend, CountedIn, Depended, has_room, pasts_in};
 ghost use Rattle.xet_progress_state.specs.steps.Depends.{unknown_in};
@@ -36,6 +37,22 @@ struct Past {
     why: Invalid,
 }
 
+/// Why bytes of a file don't count as registered, where they pass its total.
+fn refusal(file: TrackedFile, bytes: u64) -> Option<Invalid>
+    requires { file.registered ≤ file.total }
+    ensures refused { result ≡ past_total file.total file.registered bytes }
+    ensures fits { IfNone result (file.registered + bytes < 2 ^ 64) }
+{
+    if bytes <= file.total - file.registered {
+        return None;
+    }
+    Some(Invalid::PastTotal {
+        total: file.total,
+        counted: file.registered,
+        increment: bytes,
+    })
+}
+
 /// Counts dependencies as registered, up to the first that passes its file's total.
 fn count_in(files: &mut Vec<TrackedFile>, dependencies: &[FileXorbDependency]) -> Option<Past>
     requires known { All (λ d. d.file_id < length files.old.items) dependencies.now }
@@ -48,13 +65,7 @@ fn count_in(files: &mut Vec<TrackedFile>, dependencies: &[FileXorbDependency]) -
         × (pasts_in files.old.items [] dependencies.now ≡ Some p.why)) }
 {
     for (at, dependency) in dependencies.iter().enumerate() {
-        let file = files[dependency.file_id as usize];
-        if dependency.n_bytes > file.total - file.registered {
-            let why = Invalid::PastTotal {
-                total: file.total,
-                counted: file.registered,
-                increment: dependency.n_bytes,
-            };
+        if let Some(why) = refusal(files[dependency.file_id as usize], dependency.n_bytes) {
             return Some(Past { at, why });
         }
         files[dependency.file_id as usize].registered += dependency.n_bytes;

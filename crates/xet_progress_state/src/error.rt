@@ -2,6 +2,7 @@
 ghost use Rattle.std.specs.Prelude.{◌≡◌};
 ghost use Rattle.xet_progress_state.specs.declared.error.ProgressError.TheVariants as error;
 
+use std::fmt;
 use thiserror::Error;
 use xet_base::{Invalid, MerkleHash, OutOfMemory, UniqueID};
 
@@ -29,37 +30,53 @@ impl From<OutOfMemory> for ProgressError {
 /// What is still missing, in bytes. It prints its variant's name.
 ///
 /// In the Rust crate: the text of a failed assertion.
-#[derive(Clone, Copy, PartialEq, Eq, Debug, Drop, Error)]
+#[derive(Clone, Copy, PartialEq, Eq, Debug, Drop)]
 pub enum Incomplete {
     /// Bytes of an item or a group.
-    #[error("Bytes")]
     Bytes {
         completed: u64,
         total: u64,
     },
     /// Bytes to be transferred of an item or a group.
-    #[error("Transfer")]
     Transfer {
         completed: u64,
         total: u64,
     },
     /// Bytes of the item of this id.
-    #[error("Item")]
     Item {
         id: UniqueID,
         completed: u64,
         total: u64,
     },
     /// Bytes of the file of this id.
-    #[error("File")]
     File {
         id: u64,
         completed: u64,
         total: u64,
     },
     /// The xorb of this hash, which a call named and none completed.
-    #[error("Xorb")]
     Xorb {
         hash: MerkleHash,
     },
 }
+
+impl Incomplete {
+    // The variant's name.
+    fn name(&self) -> &'static str {
+        match self {
+            Incomplete::Bytes { .. } => "Bytes",
+            Incomplete::Transfer { .. } => "Transfer",
+            Incomplete::Item { .. } => "Item",
+            Incomplete::File { .. } => "File",
+            Incomplete::Xorb { .. } => "Xorb",
+        }
+    }
+}
+
+impl fmt::Display for Incomplete {
+    fn fmt<W: fmt::Write>(&self, f: &mut fmt::Formatter<W>) -> fmt::Result {
+        f.write_str(self.name())
+    }
+}
+
+impl std::error::Error for Incomplete {}

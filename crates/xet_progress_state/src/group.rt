@@ -1,12 +1,15 @@
 //! The plain state of a progress group.
-ghost use Rattle.std.specs.Prelude.{◌≡◌, ◌≢◌, ◌+◌, ◌<◌, ◌≤◌, ◌^◌, [], max, IfSome, IfOk, MatchOption, option_map};
+ghost use Rattle.std.specs.Prelude.{◌≡◌, ◌≢◌, ◌+◌, ◌<◌, ◌≤◌, ◌^◌, [], map, max, IfSome, IfOk, IfErr, OnOk};
+ghost use Rattle.std.specs.Prelude.{MatchOption, option_map};
+ghost use Rattle.std.specs.BTreeMap.{insert_entry};
 ghost use Rattle.std.specs.Map.{lookup, set_value};
 ghost use Rattle.xet_progress_state.specs.Group.{Group, IsSound, IsWithin, ItemAnswer, ItemCall, NewItemCall};
 ghost use Rattle.xet_progress_state.specs.Group.{TransferCall};
-ghost use Rattle.xet_progress_state.specs.Group.{group_completeness, group_sums, is_id, item_of, more_completed};
+ghost use Rattle.xet_progress_state.specs.Group.{group_completeness, group_sums, id_cmp, is_id, item_of};
+ghost use Rattle.xet_progress_state.specs.Group.{more_completed};
 ghost use Rattle.xet_progress_state.specs.Group.{more_transferred, reports_of, sized, sums_completeness};
 ghost use Rattle.xet_progress_state.specs.Group.{transfer_sized};
-ghost use Rattle.xet_progress_state.specs.Items.{item_completeness, report_of};
+ghost use Rattle.xet_progress_state.specs.Items.{blank_item, item_completeness, report_of};
 
 use crate::error::{Incomplete, ProgressError};
 use crate::item::{GroupProgressReport, ItemProgress, ItemProgressReport};
@@ -255,9 +258,7 @@ impl GroupState {
         ensures same { self.new ≡ self.old }
     {
         let mut reports = BTreeMap::new(alloc);
-        for (id, item) in self.items.iter() {
-            reports.insert(*id, item.report()?)?;
-        }
+        add_reports(&mut reports, &self.items)?;
         Ok(reports)
     }
 
@@ -280,14 +281,7 @@ impl GroupState {
         if self.items.contains_key(&id) {
             return Err(ProgressError::InvalidOperation(Invalid::DuplicateId { id }));
         }
-        let Ok(name) = String::from_str(alloc, name) else {
-            return Err(ProgressError::OutOfMemory);
-        };
-        let item = ItemProgress::blank(id, Text::from_string(name));
-        if self.items.insert(id, item).is_err() {
-            return Err(ProgressError::OutOfMemory);
-        }
-        Ok(())
+        add_blank(&mut self.items, alloc, id, name)
     }
 
     /// Counts written bytes of an item as completed, which is `report_bytes_completed`.
@@ -332,6 +326,55 @@ impl GroupProgressReport {
         }
         Ok(())
     }
+}
+
+/// Adds an item with no bytes, whose size is not final.
+fn add_blank(
+    items: &mut BTreeMap<UniqueID, ItemProgress>,
+    alloc: Global,
+    id: UniqueID,
+    name: &str,
+) -> Result<(), ProgressError>
+    ensures ok { OnOk result
+        (items.new.entries ≡ insert_entry id_cmp items.old.entries id (blank_item id name.now)) }
+    ensures memory { IfErr result
+        (λ e. (e ≡ ProgressError.OutOfMemory) × (items.new.entries ≡ items.old.entries)) }
+{
+    let Ok(name) = String::from_str(alloc, name) else {
+        return Err(ProgressError::OutOfMemory);
+    };
+    let item = ItemProgress::blank(id, Text::from_string(name));
+    if items.insert(id, item).is_err() {
+        return Err(ProgressError::OutOfMemory);
+    }
+    Ok(())
+}
+
+/// Adds the report of an item.
+fn add_report(
+    reports: &mut BTreeMap<UniqueID, ItemProgressReport>,
+    id: UniqueID,
+    item: &ItemProgress,
+) -> Result<(), OutOfMemory>
+    ensures { OnOk result
+        (reports.new.entries ≡ insert_entry id_cmp reports.old.entries id (report_of item.now)) }
+{
+    reports.insert(id, item.report()?)?;
+    Ok(())
+}
+
+/// Adds the reports of items, where there is none yet.
+fn add_reports(
+    reports: &mut BTreeMap<UniqueID, ItemProgressReport>,
+    items: &BTreeMap<UniqueID, ItemProgress>,
+) -> Result<(), OutOfMemory>
+    requires { reports.old.entries ≡ [] }
+    ensures { OnOk result (reports.new.entries ≡ map (λ e. (e.0, report_of e.1)) items.now.entries) }
+{
+    for (id, item) in items.iter() {
+        add_report(reports, *id, item)?;
+    }
+    Ok(())
 }
 
 /// Writes more completed bytes of an item.

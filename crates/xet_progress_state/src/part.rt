@@ -4,7 +4,7 @@ ghost use Rattle.std.specs.Prelude.{MatchOption, OnOk, IfErr};
 ghost use Rattle.xet_progress_state.specs.steps.Credits.{CanCredit, Credited, completed_in, with_share};
 ghost use Rattle.xet_progress_state.specs.steps.Depends.{PartFits, PartsAlike, WithPart, with_waiting};
 
-use crate::credit::credit_all;
+use crate::credit::credit;
 use crate::error::ProgressError;
 use crate::file::TrackedFile;
 use crate::recent::Recent;
@@ -122,7 +122,7 @@ impl Parts {
         ensures count { length files.new.items ≡ length files.old.items }
         ensures sum { completed.new ≡ completed_in files.new.items }
     {
-        credit_all(files, &mut self.list, completed, sent, size);
+        credit(files, self.list.as_mut_slice(), completed, sent, size);
     }
 }
 

@@ -11,45 +11,45 @@ use std::alloc::Global;
 use xet_base::OutOfMemory;
 
 /// The reply of a call that gives an id.
-fn id_reply(answer: &Result<u64, ProgressError>) -> Result<TrackerReply, OutOfMemory>
-    ensures { result ≡ said FileId answer.now }
+fn id_reply(answer: Result<u64, ProgressError>) -> Result<TrackerReply, OutOfMemory>
+    ensures { result ≡ said FileId answer }
 {
     match answer {
-        Ok(id) => Ok(TrackerReply::FileId(*id)),
-        Err(ProgressError::InvalidOperation(why)) => Ok(TrackerReply::Refused(*why)),
+        Ok(id) => Ok(TrackerReply::FileId(id)),
+        Err(ProgressError::InvalidOperation(why)) => Ok(TrackerReply::Refused(why)),
         Err(ProgressError::OutOfMemory) => Err(OutOfMemory),
     }
 }
 
 /// The reply of a call that says whether something is new.
-fn flag_reply(answer: &Result<bool, ProgressError>) -> Result<TrackerReply, OutOfMemory>
-    ensures { result ≡ said Flag answer.now }
+fn flag_reply(answer: Result<bool, ProgressError>) -> Result<TrackerReply, OutOfMemory>
+    ensures { result ≡ said Flag answer }
 {
     match answer {
-        Ok(flag) => Ok(TrackerReply::Flag(*flag)),
-        Err(ProgressError::InvalidOperation(why)) => Ok(TrackerReply::Refused(*why)),
+        Ok(flag) => Ok(TrackerReply::Flag(flag)),
+        Err(ProgressError::InvalidOperation(why)) => Ok(TrackerReply::Refused(why)),
         Err(ProgressError::OutOfMemory) => Err(OutOfMemory),
     }
 }
 
 /// The reply of a call that gives nothing.
-fn done_reply(answer: &Result<(), ProgressError>) -> Result<TrackerReply, OutOfMemory>
-    ensures { result ≡ said (λ _. Done) answer.now }
+fn done_reply(answer: Result<(), ProgressError>) -> Result<TrackerReply, OutOfMemory>
+    ensures { result ≡ said (λ _. Done) answer }
 {
     match answer {
         Ok(()) => Ok(TrackerReply::Done),
-        Err(ProgressError::InvalidOperation(why)) => Ok(TrackerReply::Refused(*why)),
+        Err(ProgressError::InvalidOperation(why)) => Ok(TrackerReply::Refused(why)),
         Err(ProgressError::OutOfMemory) => Err(OutOfMemory),
     }
 }
 
 /// The reply of a call that asks what is missing.
-fn complete_reply(answer: &Result<(), Incomplete>) -> TrackerReply
-    ensures { result ≡ said_complete answer.now }
+fn complete_reply(answer: Result<(), Incomplete>) -> TrackerReply
+    ensures { result ≡ said_complete answer }
 {
     match answer {
         Ok(()) => TrackerReply::Done,
-        Err(what) => TrackerReply::Unfinished(*what),
+        Err(what) => TrackerReply::Unfinished(what),
     }
 }
 
@@ -66,8 +66,7 @@ impl TrackerState {
     ) -> Result<TrackerReply, OutOfMemory>
         ensures { StepOf self.old self.new (RegisterDependencies dependencies.now) result }
     {
-        let answer = self.register_dependencies(alloc, dependencies);
-        done_reply(&answer)
+        done_reply(self.register_dependencies(alloc, dependencies))
     }
 
     /// Makes any call, and gives its reply. A refusal is a reply too.
@@ -80,56 +79,41 @@ impl TrackerState {
     {
         match step {
             TrackerStep::RegisterNewFile { n_bytes } => {
-                let answer = self.register_new_file(*n_bytes);
-                id_reply(&answer)
+                id_reply(self.register_new_file(*n_bytes))
             }
             TrackerStep::IncrementFileSize {
                 file_id,
                 size_increment,
-            } => {
-                let answer = self.increment_file_size(*file_id, *size_increment);
-                done_reply(&answer)
-            }
+            } => { done_reply(self.increment_file_size(*file_id, *size_increment)) }
             TrackerStep::RegisterNewXorb {
                 xorb_hash,
                 xorb_size,
-            } => {
-                let answer = self.register_new_xorb(alloc, *xorb_hash, *xorb_size);
-                flag_reply(&answer)
-            }
+            } => { flag_reply(self.register_new_xorb(alloc, *xorb_hash, *xorb_size)) }
             TrackerStep::RegisterDependencies { dependencies } => {
                 self.step_dependencies(alloc, dependencies.as_slice())
             }
             TrackerStep::RegisterXorbUploadCompletion { xorb_hash } => {
-                let answer = self.register_xorb_upload_completion(*xorb_hash);
-                done_reply(&answer)
+                done_reply(self.register_xorb_upload_completion(*xorb_hash))
             }
             TrackerStep::RegisterXorbUploadProgress {
                 xorb_hash,
                 new_byte_progress,
-            } => {
-                let answer = self.register_xorb_upload_progress(*xorb_hash, *new_byte_progress);
-                done_reply(&answer)
-            }
+            } => { done_reply(self.register_xorb_upload_progress(*xorb_hash, *new_byte_progress)) }
             TrackerStep::RegisterXorbUploadProgressBackground {
                 xorb_hash,
                 new_byte_progress,
             } => {
-                let answer = self.register_xorb_upload_progress_background(
+                done_reply(self.register_xorb_upload_progress_background(
                     *xorb_hash,
                     *new_byte_progress,
-                );
-                done_reply(&answer)
+                ))
             }
             TrackerStep::Status => {
                 let (completed, total) = self.status();
                 Ok(TrackerReply::Sums { completed, total })
             }
             TrackerStep::IsComplete => Ok(TrackerReply::Flag(self.is_complete())),
-            TrackerStep::AssertComplete => {
-                let answer = self.assert_complete();
-                Ok(complete_reply(&answer))
-            }
+            TrackerStep::AssertComplete => { Ok(complete_reply(self.assert_complete())) }
         }
     }
 }

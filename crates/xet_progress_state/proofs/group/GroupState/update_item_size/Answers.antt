@@ -16,10 +16,10 @@ use Rattle.xet_progress_state.proofs.group.GroupState.update_item_size.Goals as 
 pub invariant_of-self : goal.invariant_of-self
 invariant_of-self c =
     let s = c.self.inside in
-    let at : lookup (is_id c.args.id) s.items.entries ≡ Some c.in-Some.item.now = search rules in
+    let at : lookup (is_id c.args.id) s.items.entries ≡ Some c.in-Some.item.now = sym c.in-Some.ensures.value in
     let was = found_is IsWithinItem (is_id c.args.id) s.items.entries c.in-Some.item.now c.self.invariant.within.each at in
     let t = was.bytes in
-    let e : c.raise_size.new.items.entries ≡ set_value (is_id c.args.id) s.items.entries (record c.in-Some.item.now { total_bytes = max c.in-Some.item.now.total_bytes c.args.total; size_finalized = c.args.is_final }) = search rules in
+    let e : c.raise_size.new.items.entries ≡ set_value (is_id c.args.id) s.items.entries (record c.in-Some.item.now { total_bytes = max c.in-Some.item.now.total_bytes c.args.total; size_finalized = c.args.is_final }) = (rw at at c.raise_size.ensures) in
     let all : c.in-Some-checked_add.all ≡ s.sums.total_bytes + (c.args.total - c.in-Some.item.now.total_bytes) = search rules in
     rw e (group_set s.items.entries s.added s.finished s.sums (record s.sums { total_bytes = c.in-Some-checked_add.all }) c.self.invariant c.args.id c.in-Some.item.now
     (record c.in-Some.item.now { total_bytes = max c.in-Some.item.now.total_bytes c.args.total; size_finalized = c.args.is_final }) at (record { bytes = omega (arith, t); transfer = was.transfer }) (omega (arith, all)) (omega arith) (omega arith) (omega arith))
@@ -44,10 +44,10 @@ call_over g id v have total fin h n at is a b over =
 pub returns-then-item : goal.returns-then-item
 returns-then-item c =
     let s = c.self.inside in
-    rw (← c.self.view_is) (call_final (record { items = s.items.entries; added = s.added; finished = s.finished }) c.args.id c.in-Some.item.now _ c.args.total c.args.is_final (search rules) c.if-item.true)
+    rw (← c.self.view_is) (call_final (record { items = s.items.entries; added = s.added; finished = s.finished }) c.args.id c.in-Some.item.now _ c.args.total c.args.is_final (sym c.in-Some.ensures.value) c.if-item.true)
 
 pub returns-in_default-checked_add : goal.returns-in_default-checked_add
 returns-in_default-checked_add c =
     let s = c.self.inside in
-    rw (← c.self.view_is) (call_over (record { items = s.items.entries; added = s.added; finished = s.finished }) c.args.id c.in-Some.item.now _ c.args.total c.args.is_final s.sums.total_bytes c.saturating_sub-rise.result (search rules) c.if-item.false
+    rw (← c.self.view_is) (call_over (record { items = s.items.entries; added = s.added; finished = s.finished }) c.args.id c.in-Some.item.now _ c.args.total c.args.is_final s.sums.total_bytes c.saturating_sub-rise.result (sym c.in-Some.ensures.value) c.if-item.false
     (ap (λ (r : GroupProgressReport). r.total_bytes) c.self.invariant.sums_are) (search rules) (search rules))
