@@ -9,7 +9,7 @@ use Rattle.xet_outside.specs.Told.{Rose}
 use Rattle.xet_uploader.specs.Uploads.{PutShardCall, PutXorbCall, UploaderTold, capped_info}
 
 -- an upload that changed the counts alone
-module _ (a b : UploaderTold) (puts : b.puts ≡ a.puts) (asked : b.asked ≡ a.asked)
+module _ (a b : UploaderTold) (first : b.first ≡ a.first) (puts : b.puts ≡ a.puts) (asked : b.asked ≡ a.asked)
     (answered : b.answered ≡ a.answered) (later : a.faults ≤ b.faults) where
   -- it failed
   pub xorb_failed : (x : Xorb) → Rose a.faults b.faults → PutXorbCall a b x (Err client_error.Failed)
@@ -17,6 +17,7 @@ module _ (a b : UploaderTold) (puts : b.puts ≡ a.puts) (asked : b.asked ≡ a.
     accepted = tt;
     refused = puts;
     sent = λ _. tt;
+    first = first;
     asked = asked;
     answered = answered;
     faults = later;
@@ -29,6 +30,7 @@ module _ (a b : UploaderTold) (puts : b.puts ≡ a.puts) (asked : b.asked ≡ a.
   shard_failed x rose = record {
     accepted = tt;
     refused = puts;
+    first = first;
     asked = asked;
     answered = answered;
     faults = later;
@@ -43,6 +45,7 @@ module _ (a b : UploaderTold) (puts : b.puts ≡ a.puts) (asked : b.asked ≡ a.
     accepted = tt;
     refused = puts;
     sent = λ _. tt;
+    first = first;
     asked = asked;
     answered = answered;
     faults = later;
@@ -55,6 +58,7 @@ module _ (a b : UploaderTold) (puts : b.puts ≡ a.puts) (asked : b.asked ≡ a.
   shard_refused x same = record {
     accepted = tt;
     refused = puts;
+    first = first;
     asked = asked;
     answered = answered;
     faults = later;

@@ -16,7 +16,7 @@ pub returns-then-fails_now : goal.returns-then-fails_now
 returns-then-fails_now c =
     let f = c.fails_now.ensures in
     record {
-      call = shard_failed _ _ refl refl refl f.later c.args.shard.now (f.rose c.if-fails_now.true);
+      call = shard_failed _ _ refl refl refl refl f.later c.args.shard.now (f.rose c.if-fails_now.true);
       sent = tt;
       fails = (λ _. f.is.0 c.if-fails_now.true, λ _. refl);
       counted = f.calls;
@@ -31,7 +31,7 @@ returns-in_err-reserve c =
     let e : c.from_residual.result ≡ Err client_error.OutOfMemory = err-of _ _ c.from_residual.ensures in
     let faults = rw c.if-fails_now.false at f.faults in
     rw e (record {
-      call = shard_refused _ _ (rw c.reserve.ensures.same refl) refl refl f.later c.args.shard.now faults;
+      call = shard_refused _ _ refl (rw c.reserve.ensures.same refl) refl refl f.later c.args.shard.now faults;
       sent = tt;
       fails = (λ x. cc, λ k. absurd (let t = f.is.1 k in let n = c.if-fails_now.false in cc));
       counted = f.calls;
@@ -47,7 +47,7 @@ returns-in_err-copy c =
     err-of _ _ c.from_residual-in_err-copy.ensures in
     let faults = rw c.if-fails_now.false at f.faults in
     rw e (record {
-      call = shard_refused _ _ (rw c.reserve.ensures.same refl) refl refl f.later c.args.shard.now faults;
+      call = shard_refused _ _ refl (rw c.reserve.ensures.same refl) refl refl f.later c.args.shard.now faults;
       sent = tt;
       fails = (λ x. cc, λ k. absurd (let t = f.is.1 k in let n = c.if-fails_now.false in cc));
       counted = f.calls;

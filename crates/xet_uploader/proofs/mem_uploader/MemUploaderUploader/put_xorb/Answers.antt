@@ -18,7 +18,7 @@ pub returns-then-fails_now : goal.returns-then-fails_now
 returns-then-fails_now c =
     let f = c.fails_now.ensures in
     record {
-      call = xorb_failed _ _ refl refl refl f.later c.args.xorb.now (f.rose c.if-fails_now.true);
+      call = xorb_failed _ _ refl refl refl refl f.later c.args.xorb.now (f.rose c.if-fails_now.true);
       fails = (λ _. f.is.0 c.if-fails_now.true, λ _. refl);
       counted = f.calls;
       faults = rw c.if-fails_now.true at f.faults;
@@ -32,7 +32,7 @@ returns-in_err-reserve c =
     let e : c.from_residual.result ≡ Err client_error.OutOfMemory = err-of _ _ c.from_residual.ensures in
     let faults = rw c.if-fails_now.false at f.faults in
     rw e (record {
-      call = xorb_refused _ _ (rw c.reserve.ensures.same refl) refl refl f.later c.args.xorb.now faults;
+      call = xorb_refused _ _ refl (rw c.reserve.ensures.same refl) refl refl f.later c.args.xorb.now faults;
       fails = (λ x. cc, λ k. absurd (let t = f.is.1 k in let n = c.if-fails_now.false in cc));
       counted = f.calls;
       faults = faults;
@@ -47,7 +47,7 @@ returns-in_err-copy c =
     err-of _ _ c.from_residual-in_err-copy.ensures in
     let faults = rw c.if-fails_now.false at f.faults in
     rw e (record {
-      call = xorb_refused _ _ (rw c.reserve.ensures.same refl) refl refl f.later c.args.xorb.now faults;
+      call = xorb_refused _ _ refl (rw c.reserve.ensures.same refl) refl refl f.later c.args.xorb.now faults;
       fails = (λ x. cc, λ k. absurd (let t = f.is.1 k in let n = c.if-fails_now.false in cc));
       counted = f.calls;
       faults = faults;
@@ -62,7 +62,7 @@ returns-in_err-add_record c =
     err-of _ _ c.from_residual-in_err-add_record.ensures in
     let faults = rw c.if-fails_now.false at f.faults in
     rw e (record {
-      call = xorb_refused _ _ (rw c.reserve.ensures.same refl) refl refl f.later c.args.xorb.now faults;
+      call = xorb_refused _ _ refl (rw c.reserve.ensures.same refl) refl refl f.later c.args.xorb.now faults;
       fails = (λ x. cc, λ k. absurd (let t = f.is.1 k in let n = c.if-fails_now.false in cc));
       counted = f.calls;
       faults = faults;
