@@ -263,8 +263,10 @@ fn store_with(
 ) -> Result<Option<MemStore>, OutOfMemory>
     ensures { IfOk result (λ after. after ≡ store_after store puts.now) }
 {
-    let added = add_puts(alloc, &mut store, puts)?;
-    Ok(added.then_some(store))
+    if !add_puts(alloc, &mut store, puts)? {
+        return Ok(None);
+    }
+    Ok(Some(store))
 }
 
 // Adds all that was put, and tells whether the store took each or had its hash.

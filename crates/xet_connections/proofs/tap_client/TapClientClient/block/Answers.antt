@@ -1,4 +1,4 @@
-use Rattle.std.proofs.Common.{ap, rules}
+use Rattle.std.proofs.Common.{Some, ap, arith, refl, rules}
 use Rattle.xet_store.specs.declared.client_log.ClientLog.{ClientLog}
 use Rattle.xet_connections.proofs.TapConnections.{given_block, honest_block, said_grew}
 use Rattle.xet_connections.proofs.tap_client.TapClientClient.block.Goals as goal
@@ -19,16 +19,16 @@ pub returns : goal.returns
 returns g c = record {
   store = search rules;
   honest = search rules;
-  asked = search rules;
+  asked = ap (λ (l : ClientLog). Some l.asked) c.and_block-self.ensures;
   said = said_grew (g.T.Tap.told c.args.self.now.start.value) c.args.self.now.log c.and_block-self.result _ (ap (λ
       (l : ClientLog). l.said) c.and_block-self.ensures);
-  unsaid = search rules;
+  unsaid = tt;
   served = c.in_ok-pass.ensures.passed;
-  unserved = search rules;
-  faults = search rules;
-  failed = search rules;
-  unfailed = search rules;
-  expiries = search rules;
+  unserved = tt;
+  faults = omega arith;
+  failed = λ x. cc;
+  unfailed = refl;
+  expiries = omega arith;
   link = search rules;
-  expired = search rules;
+  expired = λ e. cc;
 }
