@@ -1,8 +1,8 @@
 -- The chunks of a xorb in a document.
-use Rattle.std.proofs.Common.{◌≡◌, ℕ, ◌+◌, ◌%◌, ◌<◌, Bool, true, List, [], ◌∷◌, ◌++◌, length, drop, get_or, refl, sym, ◌∙◌, ap, subst, append_assoc, length-append, arith}
+use Rattle.std.proofs.Common.{◌≡◌, ℕ, ◌+◌, ◌%◌, ◌<◌, ◌≤◌, Bool, true, false, List, [], ◌∷◌, ◌++◌, length, drop, get_or, refl, sym, ◌∙◌, ap, subst, append_assoc, append-nil, length-append, arith}
 use Rattle.std.specs.Prelude.{Option, Some, None, option_and_then, option_map}
 use Rattle.std.proofs.lemmas.Bool.{false≢true}
-use Rattle.std.proofs.lemmas.List.{drop_more}
+use Rattle.std.proofs.lemmas.List.{drop_all, drop_more}
 use Rattle.hex.specs.Hex.{decode_pairs}
 use Rattle.hex.proofs.HexLemmas.{decode_of-odd}
 use Rattle.serde_json.specs.View.{view, items_view}
@@ -54,3 +54,23 @@ chunks_more vs i v added old now es more whole within is adds e push ends left =
               ∙ by_rest (parts old 0 es) chunk rest_of
               ∙ ap (λ (cs : List (List ℕ)). option_map (λ rest. cs ++ rest) rest_of) (sym cut),
         )
+
+not_added : (o : Option (List ℕ)) (added : Bool) (old now : List ℕ) → AddsChunk o added old now → added ≡ false → o ≡ None
+not_added None added old now h e = refl
+not_added (Some chunk) added old now h e = absurd (false≢true (sym e ∙ h.0))
+
+-- where one is no chunk, there are no chunks
+pub chunks_stop : (vs : List Value) (i : ℕ) (v : Value) (added : Bool) (old now : List ℕ) (front : List (List ℕ)) (whole : Option (List (List ℕ))) → i < length vs → v ≡ get_or vs i v
+    → AddsChunk (chunk_of (view v)) added old now → added ≡ false
+    → whole ≡ option_map (λ rest. front ++ rest) (chunks_of_items (items_view (drop i vs))) → whole ≡ None
+chunks_stop vs i v added old now front whole within is adds e left =
+    let none = not_added (chunk_of (view v)) added old now adds e in
+    let split : drop i vs ≡ v ∷ drop (i + 1) vs = drop_more vs i v within ∙ ap (λ (x : Value). x ∷ drop (i + 1) vs) (sym is) in
+    left ∙ ap (λ (xs : List Value). option_map (λ rest. front ++ rest) (chunks_of_items (items_view xs))) split
+    ∙ ap (λ (o : Option (List ℕ)). option_map (λ rest. front ++ rest) (option_and_then (λ c. option_map (λ cs. c ∷ cs) (chunks_of_items (items_view (drop (i + 1) vs)))) o)) none
+
+-- where none is left, these are all
+pub chunks_end : (vs : List Value) (i : ℕ) (front : List (List ℕ)) (whole : Option (List (List ℕ))) → length vs ≤ i
+    → whole ≡ option_map (λ rest. front ++ rest) (chunks_of_items (items_view (drop i vs))) → whole ≡ Some front
+chunks_end vs i front whole past left =
+    left ∙ ap (λ (xs : List Value). option_map (λ rest. front ++ rest) (chunks_of_items (items_view xs))) (drop_all i vs past) ∙ ap Some (append-nil front)

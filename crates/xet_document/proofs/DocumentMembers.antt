@@ -1,8 +1,9 @@
 -- One member of a document more.
-use Rattle.std.proofs.Common.{◌≡◌, ℕ, false, true, map, List, [], ◌∷◌, refl, sym, ◌∙◌, ap, subst, inl, inr, append_assoc}
-use Rattle.std.specs.Prelude.{Option, Some, None, Result, Ok, Err, IfErr, ◌⊎◌, codes, option_map, option_and_then}
+use Rattle.std.proofs.Common.{◌≡◌, ℕ, Bool, false, true, map, List, [], ◌∷◌, refl, sym, ◌∙◌, ap, subst, inl, inr, append_assoc}
+use Rattle.std.specs.Prelude.{Option, Some, None, Result, Ok, Err, IfErr, IfOk, MatchOption, ◌⊎◌, codes, option_map, option_and_then}
 use Rattle.serde_json.specs.Data.{Data, Members, member}
 use Rattle.serde_json.specs.Find.{as_array, as_object, get}
+use Rattle.serde_json.specs.Written.{has_float}
 use Rattle.xet_base.specs.HashText.{hash_of_text}
 use Rattle.xet_base.specs.declared.stored.StoredFile.{StoredFile}
 use Rattle.xet_base.specs.declared.mdb_shard.Xorb.{Xorb}
@@ -13,8 +14,8 @@ use Rattle.xet_base.specs.Store.{Store, IsValid}
 use Rattle.xet_store.specs.declared.mem_store.StoreRefused.{StoreRefused}
 use Rattle.xet_store.specs.declared.mem_store.StoreRefused.TheVariants.{OutOfMemory}
 use Rattle.xet_store.specs.Refusals.{xorb_refusal, file_refusal, stored_term}
-use Rattle.xet_document.specs.steps.AddedMembers.{with_xorbs, with_files, with_xorbs_of, with_files_of, AddsXorbs, AddsFiles}
-use Rattle.xet_document.specs.Document.{IsNoDocument, listed_store, terms_of_items, xorb_of_member, xorbs_of_members, file_of_member, files_of_members}
+use Rattle.xet_document.specs.steps.AddedMembers.{with_xorbs, with_files, with_xorbs_of, with_files_of, no_store, AddsBoth, AddsXorbs, AddsFiles, IsStoreOf}
+use Rattle.xet_document.specs.Document.{IsDocumentOf, IsNoDocument, listed_store, terms_of_items, xorb_of_member, xorbs_of_members, file_of_member, files_of_members}
 use Rattle.xet_document.proofs.StoreRefusals.{xorb_fits, file_fits}
 
 -- what is not added is refused for another reason than want of memory
@@ -118,3 +119,31 @@ module _ (d : Data) (ms : Members) (is : Some ms ≡ option_and_then as_object (
       let files : files_of_members ns ≡ Some s.files = ap (option_and_then files_of_members) are ∙ parts.1 in
       let xorbs : let w : Store = record { xorbs = s.xorbs; files = [] } in Some w ≡ Some t = sym (ap (option_map (with_xorbs (record { xorbs = []; files = [] }))) parts.0) ∙ added.0 in
       refused s (ap (option_map (with_files t)) files ∙ sym (ap (λ (o : Option Store). option_map (λ w. with_files w s.files) o) xorbs)) doc.valid
+
+-- the store of both is the document's
+document_is : (d : Data) (ms ns : Members) (m s : Store) → Some ms ≡ option_and_then as_object (get (codes "xorbs") d) → Some ns ≡ option_and_then as_object (get (codes "files") d)
+    → with_xorbs_of no_store ms ≡ Some m → with_files_of m ns ≡ Some s → listed_store d ≡ Some s
+document_is d ms ns m s is are e f = rw (← is, ← are) (go (xorbs_of_members ms) (files_of_members ns) e f)
+  where
+    go : (o : Option (List Xorb)) (p : Option (List StoredFile)) → option_map (with_xorbs no_store) o ≡ Some m → option_map (with_files m) p ≡ Some s
+        → option_and_then (λ xs. option_map (λ fs. let u : Store = record { xorbs = xs; files = fs } in u) p) o ≡ Some s
+    go None p e f = absurd (cc)
+    go (Some xs) None e f = absurd (cc)
+    go (Some xs) (Some fs) e f =
+        let first : with_xorbs no_store xs ≡ m = cc in
+        let last : with_files m fs ≡ s = cc in
+        ap Some (ap (λ (w : Store). with_files w fs) first ∙ last)
+
+-- what a value's objects come to is what the value comes to
+pub stored_document : {E : Type 0} (d : Data) (ms ns : Members) (r : Result (Option Store) E) → Some ms ≡ option_and_then as_object (get (codes "xorbs") d) → Some ns ≡ option_and_then as_object (get (codes "files") d)
+    → has_float d ≡ false → IfOk r (IsStoreOf ms ns) → IfOk r (λ o. MatchOption o (IsNoDocument d) (IsDocumentOf d))
+stored_document d ms ns (Err e) is are no_float h = tt
+stored_document d ms ns (Ok None) is are no_float (inl h) = no_document-xorbs d ms is no_store h
+stored_document d ms ns (Ok None) is are no_float (inr h) = no_document-files d ms is h.0 ns no_store are h.1 h.2
+stored_document d ms ns (Ok (Some s)) is are no_float h = record { listed = document_is d ms ns h.0 s is are h.1.0 h.2.0; no_float = no_float; valid = h.2.1 }
+
+-- the files after the xorbs
+pub adds_both : {E : Type 0} (s m t : Store) (ms ns : Members) (r : Result Bool E) → AddsXorbs s ms true m → IfOk r (λ added. AddsFiles m ns added t) → IfOk r (λ added. AddsBoth s ms ns added t)
+adds_both s m t ms ns (Err e) x h = tt
+adds_both s m t ms ns (Ok true) x h = (m, x, h)
+adds_both s m t ms ns (Ok false) x h = inr (m, x, h)

@@ -13,3 +13,4 @@ mod Placing
 mod PlainDocuments
 mod StoreRefusals
 mod Terms
+mod TextStores

@@ -1,6 +1,6 @@
 -- A document with two keys, and the store that it lists.
 use Rattle.std.proofs.Common.{◌≡◌, ℕ, ◌<◌, List, [], ◌∷◌, false, codes, length, map, refl, ◌∙◌, ap, arith}
-use Rattle.std.specs.Prelude.{Option, Some, None, IsUtf8, option_and_then, option_map}
+use Rattle.std.specs.Prelude.{Option, Some, None, Result, Ok, Err, IfOk, IsUtf8, option_and_then, option_map}
 use Rattle.json.specs.Token.{Token}
 use Rattle.json.specs.Lex.{tokens}
 use Rattle.json.specs.Json.{read_key}
@@ -18,8 +18,9 @@ use Rattle.xet_document.specs.declared.joined_chunks.JoinedChunks.{JoinedChunks}
 use Rattle.xet_document.specs.declared.joined_chunks.XorbPlace.{XorbPlace}
 use Rattle.xet_document.specs.declared.plain_files.ListedFile.{ListedFile}
 use Rattle.xet_document.specs.declared.plain_store.Listed.{Listed}
+use Rattle.xet_document.specs.steps.AddedMembers.{no_store}
 use Rattle.xet_document.specs.steps.Placed.{placed_xorb}
-use Rattle.xet_document.specs.steps.Reads.{IsRead, Lists, ListsFile, ListsXorb, ReadsMembers, document_of, stored_file}
+use Rattle.xet_document.specs.steps.Reads.{IsRead, Lists, ListsFile, ListsXorb, ReadsMembers, document_of, stored_file, with_listed}
 use Rattle.xet_document.proofs.Objects.{reads_object, no_members_yet, member_more, members_read}
 
 -- ---- what is listed
@@ -168,3 +169,7 @@ has_store text l s utf8 r xorbs files valid =
         valid = valid;
       };
     }
+
+pub stored : {E : Type 0} (text : List ℕ) (l : Listed) (r : Result Store E) → IsUtf8 text → IsRead text l → IfOk r (λ s. s ≡ with_listed no_store l) → IfOk r IsValid → IfOk r (HasStore text)
+stored text l (Ok s) utf8 read added valid = has_store text l s utf8 read (ap (λ (w : Store). w.xorbs) added) (ap (λ (w : Store). w.files) added) valid
+stored text l (Err e) utf8 read added valid = tt

@@ -1,5 +1,5 @@
 //! The files of a document, read in one pass.
-ghost use Rattle.std.specs.Prelude.{◌≡◌, ◌∷◌, ◌<◌, Some, IfErr, IfOk, IfSome, List as Items, OnOk, ℕ, length, map};
+ghost use Rattle.std.specs.Prelude.{◌≡◌, ◌∷◌, ◌<◌, ◌≤◌, Some, IfErr, IfOk, IfSome, List as Items, OnOk, ℕ, length, map};
 ghost use Rattle.std.specs.Prelude.{option_and_then};
 ghost use Rattle.json.specs.Token.{number};
 ghost use Rattle.serde_json.specs.Data.{Data, Items as DataItems, Members, unsigned};
@@ -37,17 +37,27 @@ pub(crate) fn read_files<'a>(
 {
     let mut found = BTreeMap::new(alloc);
     'members: while let Some(text) = reader.next_key()? {
-        let Some(hash) = hash_of(text) else {
-            return Err(Unread::NotPlain);
-        };
-        let Some(Token::BeginArray) = reader.next() else {
-            return Err(Unread::NotPlain);
-        };
-        let terms = read_terms(alloc, reader)?;
-        let file = ListedFile { hash, terms };
+        let file = read_file(alloc, reader, text)?;
         drop(found.insert(TextKey::of(text), file)?);
     }
     Ok(found)
+}
+
+// The file with the hash that this text spells.
+fn read_file(alloc: Global, reader: &mut Reader<'_>, text: &str) -> Result<ListedFile, Unread>
+    ensures value { IfOk result (λ file. (d : Data) × ReadsValue 125 reader.old d reader.new
+        × ListsFile text.now d file) }
+    ensures long { OnOk result (8 ≤ length text.now) }
+    ensures shorter { OnOk result (length reader.new < length reader.old) }
+{
+    let Some(hash) = hash_of(text) else {
+        return Err(Unread::NotPlain);
+    };
+    let Some(Token::BeginArray) = reader.next() else {
+        return Err(Unread::NotPlain);
+    };
+    let terms = read_terms(alloc, reader)?;
+    Ok(ListedFile { hash, terms })
 }
 
 // The terms of an array that was opened.

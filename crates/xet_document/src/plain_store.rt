@@ -1,11 +1,12 @@
 //! The store of a document that is written plainly, read in one pass.
-ghost use Rattle.std.specs.Prelude.{◌≡◌, ◌∷◌, All, Err, IfErr, IfOk, Ok, OnOk, map};
+ghost use Rattle.std.specs.Prelude.{◌≡◌, ◌∷◌, [], All, Err, IfErr, IfOk, None, Ok, OnOk, Some, map};
+ghost use Rattle.json.specs.Json.{read_key};
 ghost use Rattle.json.specs.Token.{begin_object, key as key_token};
 ghost use Rattle.xet_base.specs.Store.{IsValid};
 ghost use Rattle.xet_document.specs.Document.{HasStore};
-ghost use Rattle.xet_document.specs.steps.AddedMembers.{with_files, with_xorbs};
+ghost use Rattle.xet_document.specs.steps.AddedMembers.{no_store, with_files, with_xorbs};
 ghost use Rattle.xet_document.specs.steps.Placed.{IsPlaced, placed_xorb};
-ghost use Rattle.xet_document.specs.steps.Reads.{IsRead, stored_file};
+ghost use Rattle.xet_document.specs.steps.Reads.{IsLast, IsRead, stored_file, with_listed};
 
 use crate::joined_chunks::{JoinedChunks, xorb_at};
 use crate::plain_files::{ListedFile, read_files};
@@ -34,10 +35,7 @@ pub(crate) fn plain_store(alloc: Global, text: &[u8]) -> Result<MemStore, Unread
     };
     let mut scratch = Scratch::new(alloc);
     let listed = read_listed(alloc, text, &mut scratch)?;
-    let mut store = MemStore::new(alloc);
-    add_xorbs(alloc, listed.xorbs, &mut store)?;
-    add_files(alloc, listed.files, &mut store)?;
-    Ok(store)
+    listed_store(alloc, listed)
 }
 
 // What a text lists.
@@ -52,15 +50,35 @@ fn read_listed<'a>(
     open_object(&mut reader)?;
     open_member(&mut reader, "xorbs")?;
     let xorbs = read_xorbs(alloc, &mut reader, text.len() / 2)?;
-    open_member(&mut reader, "files")?;
-    let files = read_files(alloc, &mut reader)?;
+    let files = read_last(alloc, &mut reader)?;
+    Ok(Listed { xorbs, files })
+}
+
+// The files, which end the document.
+fn read_last<'a>(
+    alloc: Global,
+    reader: &mut Reader<'a>,
+) -> Result<BTreeMap<TextKey<'a>, ListedFile>, Unread>
+    ensures { IfOk result (λ found. IsLast reader.old found.entries) }
+{
+    open_member(reader, "files")?;
+    let files = read_files(alloc, reader)?;
+    close_document(reader)?;
+    Ok(files)
+}
+
+// Passes the brace that closes the document.
+fn close_document(reader: &mut Reader<'_>) -> Result<(), Unread>
+    ensures closed { OnOk result (read_key reader.old ≡ Some (None, [])) }
+    ensures refused { IfErr result (λ e. e ≡ Unread.NotPlain) }
+{
     let None = reader.next_key()? else {
         return Err(Unread::NotPlain);
     };
     let None = reader.next() else {
         return Err(Unread::NotPlain);
     };
-    Ok(Listed { xorbs, files })
+    Ok(())
 }
 
 // Passes the brace that opens an object.
@@ -132,4 +150,28 @@ fn add_files(
         taken(store.add_file(alloc, file.hash, file.terms))?;
     }
     Ok(())
+}
+
+// Adds what is listed.
+fn add_listed(alloc: Global, listed: Listed<'_>, store: &mut MemStore) -> Result<(), Unread>
+    requires valid { IsValid store.old }
+    requires placed { All (λ e. IsPlaced listed.xorbs.joined.bytes.items listed.xorbs.joined.ends.items e.1)
+        listed.xorbs.places.entries }
+    ensures added { OnOk result (store.new ≡ with_listed store.old listed.entry) }
+    ensures valid { OnOk result (IsValid store.new) }
+{
+    add_xorbs(alloc, listed.xorbs, store)?;
+    add_files(alloc, listed.files, store)
+}
+
+// The store of what is listed.
+fn listed_store(alloc: Global, listed: Listed<'_>) -> Result<MemStore, Unread>
+    requires { All (λ e. IsPlaced listed.xorbs.joined.bytes.items listed.xorbs.joined.ends.items e.1)
+        listed.xorbs.places.entries }
+    ensures added { IfOk result (λ store. store ≡ with_listed no_store listed.entry) }
+    ensures valid { IfOk result IsValid }
+{
+    let mut store = MemStore::new(alloc);
+    add_listed(alloc, listed, &mut store)?;
+    Ok(store)
 }

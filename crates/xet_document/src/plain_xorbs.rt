@@ -1,7 +1,8 @@
 //! The xorbs of a document, read in one pass.
-ghost use Rattle.std.specs.Prelude.{◌≡◌, ◌<◌, Some, IfOk, List, OnOk, length, option_and_then, ℕ};
+ghost use Rattle.std.specs.Prelude.{◌≡◌, ◌<◌, ◌≤◌, Some, IfOk, List, OnOk, length, option_and_then, ℕ};
 ghost use Rattle.serde_json.specs.Data.{Data, Items, Members};
 ghost use Rattle.serde_json.specs.Find.{as_array};
+ghost use Rattle.xet_base.specs.HashText.{hash_of_text};
 ghost use Rattle.xet_document.specs.Document.{chunks_of_items};
 ghost use Rattle.xet_document.specs.steps.Placed.{AddsChunks, IsPlaced, placed_xorb};
 ghost use Rattle.xet_document.specs.steps.Reads.{Lists, ListsXorb, ReadsItems, ReadsMembers, ReadsValue};
@@ -41,30 +42,31 @@ pub(crate) fn read_xorbs<'a>(
     };
     let mut places = BTreeMap::new(alloc);
     'members: while let Some(text) = reader.next_key()? {
-        let Some(hash) = hash_of(text) else {
-            return Err(Unread::NotPlain);
-        };
-        let place = read_xorb(hash, reader, &mut joined)?;
+        let place = read_xorb(text, reader, &mut joined)?;
         drop(places.insert(TextKey::of(text), place)?);
     }
     Ok(ListedXorbs { joined, places })
 }
 
-// The place of the xorb with this hash of the chunks in an array.
+// The place of the xorb with the hash that this text spells, of the chunks in an array.
 fn read_xorb(
-    hash: MerkleHash,
+    text: &str,
     reader: &mut Reader<'_>,
     joined: &mut JoinedChunks,
 ) -> Result<XorbPlace, Unread>
     ensures value { IfOk result (λ p. (d : Data) × ReadsValue 125 reader.old d reader.new
         × (option_and_then chunks_of_items (as_array d)
         ≡ Some (placed_xorb joined.new.bytes.items joined.new.ends.items p).chunks)) }
-    ensures hash { IfOk result (λ p. p.hash ≡ hash) }
+    ensures hash { IfOk result (λ p. hash_of_text text.now ≡ Some p.hash) }
+    ensures long { OnOk result (8 ≤ length text.now) }
     ensures placed { IfOk result (IsPlaced joined.new.bytes.items joined.new.ends.items) }
     ensures adds { IfOk result (λ p. AddsChunks joined.old joined.new
         (placed_xorb joined.new.bytes.items joined.new.ends.items p).chunks) }
     ensures shorter { OnOk result (length reader.new < length reader.old) }
 {
+    let Some(hash) = hash_of(text) else {
+        return Err(Unread::NotPlain);
+    };
     let Some(Token::BeginArray) = reader.next() else {
         return Err(Unread::NotPlain);
     };

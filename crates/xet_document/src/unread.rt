@@ -7,7 +7,7 @@ use std::alloc::{AllocError, AllocFailed};
 use xet_base::OutOfMemory;
 
 /// Why a document was not read in one pass.
-#[derive(Clone, Copy, PartialEq, Eq)]
+#[derive(Clone, Copy)]
 pub(crate) enum Unread {
     /// Memory was refused.
     OutOfMemory,

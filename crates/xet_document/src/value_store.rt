@@ -1,12 +1,13 @@
 //! Reads a store from a JSON document.
 ghost use Rattle.std.specs.Prelude.{◌≡◌, ◌≢◌, [], IfErr, IfOk, MatchOption, cond, length, map, option_and_then};
 ghost use Rattle.std.specs.Prelude.{option_map};
+ghost use Rattle.serde_json.specs.Data.{item, no_items};
 ghost use Rattle.serde_json.specs.Find.{as_array};
 ghost use Rattle.serde_json.specs.View.{items_view, members_view, view};
 ghost use Rattle.serde_json.specs.Written.{has_float};
 ghost use Rattle.xet_base.specs.Store.{IsValid};
 ghost use Rattle.xet_store.specs.Refusals.{stored_term};
-ghost use Rattle.xet_document.specs.steps.AddedMembers.{AddsFiles, AddsXorbs};
+ghost use Rattle.xet_document.specs.steps.AddedMembers.{AddsBoth, AddsFiles, AddsXorbs, IsStoreOf};
 ghost use Rattle.xet_document.specs.steps.ChunkEnds.{AddsChunk};
 ghost use Rattle.xet_document.specs.Document.{IsDocumentOf, IsNoDocument, chunk_of, chunk_of_text, chunks_of_items};
 ghost use Rattle.xet_document.specs.Document.{number_of_data, term_of_items, terms_of_items, xorb_of_member};
@@ -115,16 +116,28 @@ fn number(value: &Value) -> Option<u32>
 fn term_of<'a>(value: &'a Value, last: &mut LastHash<'a>) -> Option<FileDataSequenceEntry>
     ensures { option_map stored_term result ≡ option_and_then term_of_items (as_array (view value.now)) }
 {
-    let items = value.as_array()?;
-    match items.as_slice() {
-        [xorb, from, to] => Some(FileDataSequenceEntry {
-            xorb: last.hash_of(xorb.as_str()?)?,
-            from: number(from)?,
-            to: number(to)?,
-            bytes: 0,
-        }),
+    match value.as_array()?.as_slice() {
+        [xorb, from, to] => term_by(xorb, from, to, last),
         _ => None,
     }
+}
+
+// The term of three values.
+fn term_by<'a>(
+    xorb: &'a Value,
+    from: &Value,
+    to: &Value,
+    last: &mut LastHash<'a>,
+) -> Option<FileDataSequenceEntry>
+    ensures { option_map stored_term result
+        ≡ term_of_items (item (view xorb.now) (item (view from.now) (item (view to.now) no_items))) }
+{
+    Some(FileDataSequenceEntry {
+        xorb: last.hash_of(xorb.as_str()?)?,
+        from: number(from)?,
+        to: number(to)?,
+        bytes: 0,
+    })
 }
 
 // The terms of a file, or none where one hasn't the form.
@@ -205,6 +218,39 @@ fn add_files(
     Ok(true)
 }
 
+// Adds the listed xorbs, and then the listed files, or answers false where one hasn't the form or is refused.
+fn add_listed(
+    alloc: Global,
+    xorbs: &Map<String, Value>,
+    files: &Map<String, Value>,
+    store: &mut MemStore,
+) -> Result<bool, OutOfMemory>
+    requires { IsValid store.old }
+    ensures { IfOk result (λ added. AddsBoth store.old (members_view xorbs.now.entries)
+        (members_view files.now.entries) added store.new) }
+{
+    if !add_xorbs(alloc, xorbs, store)? {
+        return Ok(false);
+    }
+    add_files(alloc, files, store)
+}
+
+// The store of the listed xorbs and files, or none where one hasn't the form or is refused.
+fn listed_store(
+    alloc: Global,
+    xorbs: &Map<String, Value>,
+    files: &Map<String, Value>,
+) -> Result<Option<MemStore>, OutOfMemory>
+    ensures { IfOk result (IsStoreOf (members_view xorbs.now.entries) (members_view files.now.entries)) }
+{
+    let mut store = MemStore::new(alloc);
+    if add_listed(alloc, xorbs, files, &mut store)? {
+        Ok(Some(store))
+    } else {
+        Ok(None)
+    }
+}
+
 /// The store that a JSON value lists as `{"xorbs":{HASH:[HEXCHUNK,..]},"files":{HASH:[[HASH,from,to],..]}}`.
 ///
 /// None exactly where the value hasn't this form (other keys are passed over), two keys of xorbs or two of files spell
@@ -222,12 +268,5 @@ pub fn store_of(alloc: Global, value: &Value) -> Result<Option<MemStore>, OutOfM
     let Some(files) = value.get("files").and_then(Value::as_object) else {
         return Ok(None);
     };
-    let mut store = MemStore::new(alloc);
-    if !add_xorbs(alloc, xorbs, &mut store)? {
-        return Ok(None);
-    }
-    if !add_files(alloc, files, &mut store)? {
-        return Ok(None);
-    }
-    Ok(Some(store))
+    listed_store(alloc, xorbs, files)
 }

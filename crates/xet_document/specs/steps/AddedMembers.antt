@@ -1,5 +1,5 @@
 -- What adding the members of a document to a store gives.
-use Rattle.std.specs.Prelude.{◌≡◌, ◌++◌, Bool, true, false, List, Option, Some, option_map}
+use Rattle.std.specs.Prelude.{◌≡◌, ◌⊎◌, ◌++◌, Bool, true, false, List, [], Option, None, Some, option_map}
 use Rattle.serde_json.specs.Data.{Members}
 use Rattle.xet_base.specs.declared.mdb_shard.Xorb.{Xorb}
 use Rattle.xet_base.specs.declared.stored.StoredFile.{StoredFile}
@@ -30,3 +30,16 @@ AddsXorbs s ms false t = (u : Store) → with_xorbs_of s ms ≡ Some u
 abbrev pub AddsFiles : Store → Members → Bool → Store → Type 0
 AddsFiles s ms true t = (with_files_of s ms ≡ Some t) × IsValid t
 AddsFiles s ms false t = (u : Store) → with_files_of s ms ≡ Some u → IsValid u → ⊥
+
+-- the listed xorbs were added, and then the listed files; or there is no valid store with them
+abbrev pub AddsBoth : Store → Members → Members → Bool → Store → Type 0
+AddsBoth s xs fs true t = (m : Store) × AddsXorbs s xs true m × AddsFiles m fs true t
+AddsBoth s xs fs false t = AddsXorbs s xs false t ⊎ ((m : Store) × AddsXorbs s xs true m × AddsFiles m fs false t)
+
+abbrev pub no_store : Store
+no_store = record { xorbs = []; files = [] }
+
+-- the store of the listed xorbs and files, or none where there is no valid one
+abbrev pub IsStoreOf : Members → Members → Option Store → Type 0
+IsStoreOf xs fs None = AddsBoth no_store xs fs false no_store
+IsStoreOf xs fs (Some t) = AddsBoth no_store xs fs true t

@@ -1,17 +1,19 @@
 -- What a reader of tokens reads, in the words of the grammar.
-use Rattle.std.specs.Prelude.{ℕ, ◌≡◌, ⊤, List, [], ◌∷◌, codes, length, map, Some}
+use Rattle.std.specs.Prelude.{ℕ, ◌≡◌, ◌<◌, ⊤, List, [], ◌∷◌, ◌++◌, codes, length, map, None, Some}
 use Rattle.json.specs.Token.{Token}
 use Rattle.json.specs.Json as json
-use Rattle.json.specs.Json.{value, items, members}
+use Rattle.json.specs.Json.{value, items, members, read_key}
 use Rattle.serde_json.specs.Data.{Data, object, Items, Members, no_members, member}
 use Rattle.serde_json.specs.Read.{of_json, of_items, of_members, read}
 use Rattle.xet_base.specs.declared.stored.StoredFile.{StoredFile}
+use Rattle.xet_base.specs.Store.{Store}
 use Rattle.xet_store.specs.Refusals.{stored_term}
 use Rattle.xet_document.specs.Document.{file_of_member, xorb_of_member}
 use Rattle.xet_document.specs.declared.joined_chunks.JoinedChunks.{JoinedChunks}
 use Rattle.xet_document.specs.declared.joined_chunks.XorbPlace.{XorbPlace}
 use Rattle.xet_document.specs.declared.plain_files.ListedFile.{ListedFile}
 use Rattle.xet_document.specs.declared.plain_store.Listed.{Listed}
+use Rattle.xet_document.specs.declared.text_key.TextKey.{TextKey}
 use Rattle.xet_document.specs.steps.Placed.{IsPlaced, placed_xorb}
 
 -- the tokens give this value, which nests no deeper than the number, and these are left
@@ -58,6 +60,17 @@ abbrev pub document_of : Members → Members → Data
 document_of xorbs files =
     object (member (codes "files") (object files) (member (codes "xorbs") (object xorbs) no_members))
 
+-- the last member of a document has the key "files" and lists these, and behind it stands the end
+pub record IsLast (before : List Token) (files : List (TextKey × ListedFile)) : Type 0 where
+  pub file_members : Members
+  pub opened : List Token
+  pub left : List Token
+  pub opens : before ≡ Token.key (codes "files") ∷ Token.begin_object ∷ opened
+  pub reads : ReadsMembers 125 opened file_members left
+  pub shorter : length left < length opened
+  pub ends : read_key left ≡ Some (None, [])
+  pub lists : Lists (λ k. k.text.now) ListsFile file_members files
+
 -- the text reads as a document, whose members list these xorbs and files
 pub record IsRead (text : List ℕ) (listed : Listed) : Type 0 where
   pub xorb_members : Members
@@ -65,3 +78,11 @@ pub record IsRead (text : List ℕ) (listed : Listed) : Type 0 where
   pub reads : read text ≡ Some (document_of xorb_members file_members)
   pub xorbs : Lists (λ k. k.text.now) (ListsXorb listed.xorbs.joined) xorb_members listed.xorbs.places.entries
   pub files : Lists (λ k. k.text.now) ListsFile file_members listed.files.entries
+
+-- the store with what is listed behind its own
+abbrev pub with_listed : Store → Listed → Store
+with_listed s l =
+    let j = l.xorbs.joined in record {
+      xorbs = s.xorbs ++ map (λ e. placed_xorb j.bytes.items j.ends.items e.1) l.xorbs.places.entries;
+      files = s.files ++ map (λ e. stored_file e.1) l.files.entries;
+    }

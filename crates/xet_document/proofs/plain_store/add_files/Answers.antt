@@ -1,16 +1,17 @@
-use Rattle.std.proofs.Common.{◌≡◌, map, Ok, sym, ap, ◌∙◌, subst, rules}
+use Rattle.std.proofs.Common.{◌≡◌, map, Ok, sym, ap, ◌∙◌, subst}
 use Rattle.xet_base.specs.Store.{IsValid}
 use Rattle.xet_document.specs.steps.AddedMembers.{with_files}
 use Rattle.xet_document.specs.steps.Reads.{stored_file}
 use Rattle.xet_document.proofs.Adding.{file_then, no_files}
 use Rattle.xet_document.proofs.StoreRefusals.{valid_after_file}
+use Rattle.std.proofs.lemmas.Result.{IfOk-from_err}
 use Rattle.xet_document.proofs.plain_store.add_files.Goals as goal
 
 pub loop-file-preserved : goal.loop-file-preserved
 loop-file-preserved c =
     let l = c.loop-file in
     let file = c.in-Some.file in
-    let added : c.add_file.result ≡ Ok tt = search rules in
+    let added : c.add_file.result ≡ Ok tt = c.in_ok-taken.ensures.taken in
     let now = rw added at c.add_file.ensures.added in
     let accepted = rw added at c.add_file.ensures.accepted in
     let more = ap (map (λ e. stored_file e.1)) c.in-Some.ensures.steps in
@@ -25,3 +26,9 @@ pub returns-clause-added : goal.returns-clause-added
 returns-clause-added c =
     let l = c.loop-file in
     sym (l.invariant.left ∙ ap (λ fs. with_files l.store (map (λ e. stored_file e.1) fs)) c.in-None.ensures.steps.0 ∙ no_files l.store)
+
+pub returns-in_err-taken : goal.returns-in_err-taken
+returns-in_err-taken c = record { added = IfOk-from_err _ _ c.from_residual.ensures.0; valid = IfOk-from_err _ _ c.from_residual.ensures.0 }
+
+pub returns-clause-valid : goal.returns-clause-valid
+returns-clause-valid c = c.loop-file.invariant.valid

@@ -1,10 +1,11 @@
-use Rattle.std.proofs.Common.{◌≡◌, map, Ok, sym, ap, ◌∙◌, subst, rules}
+use Rattle.std.proofs.Common.{◌≡◌, map, Ok, sym, ap, ◌∙◌, subst}
 use Rattle.std.proofs.lemmas.List.Elements.{All-head, All-tail}
 use Rattle.xet_base.specs.Store.{IsValid}
 use Rattle.xet_document.specs.steps.AddedMembers.{with_xorbs}
 use Rattle.xet_document.specs.steps.Placed.{IsPlaced, placed_xorb}
 use Rattle.xet_document.proofs.Adding.{no_xorbs, xorb_then}
 use Rattle.xet_document.proofs.StoreRefusals.{valid_after_xorb}
+use Rattle.std.proofs.lemmas.Result.{IfOk-from_err}
 use Rattle.xet_document.proofs.plain_store.add_xorbs.Goals as goal
 
 pub xorb_at-requires : goal.xorb_at-requires
@@ -21,7 +22,7 @@ loop-place-preserved c =
     let place = c.in-Some.place in
     let xorb = placed_xorb own.bytes.items own.ends.items place in
     let made : c.in_ok-xorb.xorb ≡ xorb = rw (c.in_ok-bytes.ensures.ok, c.as_slice.ensures.value) at c.in_ok-xorb.ensures in
-    let added : c.add_joined.result ≡ Ok tt = search rules in
+    let added : c.add_joined.result ≡ Ok tt = c.in_ok-taken.ensures.taken in
     let now = rw (added, made) at c.add_joined.ensures.added in
     let accepted = rw (added, made) at c.add_joined.ensures.accepted in
     let more = ap (map (λ e. placed_xorb own.bytes.items own.ends.items e.1)) c.in-Some.ensures.steps in
@@ -39,3 +40,15 @@ returns-clause-added c =
     let l = c.loop-place in
     let own = c.args.xorbs.joined in
     sym (l.invariant.left ∙ ap (λ ps. with_xorbs l.store (map (λ e. placed_xorb own.bytes.items own.ends.items e.1) ps)) c.in-None.ensures.steps.0 ∙ no_xorbs l.store)
+
+pub returns-in_err-bytes : goal.returns-in_err-bytes
+returns-in_err-bytes c = record { added = IfOk-from_err _ _ c.from_residual.ensures.0; valid = IfOk-from_err _ _ c.from_residual.ensures.0 }
+
+pub returns-in_err-xorb : goal.returns-in_err-xorb
+returns-in_err-xorb c = record { added = IfOk-from_err _ _ c.from_residual-in_err-xorb.ensures.0; valid = IfOk-from_err _ _ c.from_residual-in_err-xorb.ensures.0 }
+
+pub returns-in_err-taken : goal.returns-in_err-taken
+returns-in_err-taken c = record { added = IfOk-from_err _ _ c.from_residual-in_err-taken.ensures.0; valid = IfOk-from_err _ _ c.from_residual-in_err-taken.ensures.0 }
+
+pub returns-clause-valid : goal.returns-clause-valid
+returns-clause-valid c = c.loop-place.invariant.valid

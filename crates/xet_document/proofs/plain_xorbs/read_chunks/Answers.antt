@@ -1,4 +1,4 @@
-use Rattle.std.proofs.Common.{◌≡◌, ◌<◌, ◌∷◌, ◌++◌, [], None, Some, length, refl, ap, arith, rules}
+use Rattle.std.proofs.Common.{◌≡◌, ◌<◌, ◌∷◌, ◌++◌, [], None, Some, length, refl, sym, ap, ◌∙◌, arith, rules}
 use Rattle.json.specs.Token.{Token}
 use Rattle.json.specs.Json.{after_end_array}
 use Rattle.serde_json.specs.Data.{string, no_items}
@@ -16,7 +16,7 @@ chunks-preserved c =
     let rest = c.next.new.self in
     let text = c.in-Some-String.text.now in
     let going : (after_end_array l.reader ≡ None) × (c.take_end_array.new.self ≡ l.reader) = grind arith in
-    let first : l.reader ≡ Token.string text ∷ rest = search rules in
+    let first : l.reader ≡ Token.string text ∷ rest = sym going.1 ∙ rw (c.in-Some-String.is, c.in-Some-String.field-0-is) at c.next.ensures.value in
     let found = chunk_added _ _ _ _ c.in_ok-add_digits.ensures c.if-not-branch.false in
     let less : length rest < length l.reader = omega (arith, ap length first) in
     let read = l.invariant.0 in

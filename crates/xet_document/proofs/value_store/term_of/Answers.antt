@@ -4,8 +4,8 @@ use Rattle.xet_document.proofs.value_store.term_of.Goals as goal
 
 pub returns-in_default : goal.returns-in_default
 returns-in_default c =
-    no_term-short _ c.in_ok-items.items.now.items c.in_ok-items.ensures (omega (arith, c.in_default.len_below, ap length c.as_slice.ensures.value))
+    no_term-short _ c.in_ok-as_array.field-0.now.items c.in_ok-as_array.ensures (omega (arith, c.in_default.len_below, ap length c.as_slice.ensures.value))
 
 pub returns-in_default-2 : goal.returns-in_default-2
 returns-in_default-2 c =
-    no_term-long _ c.in_ok-items.items.now.items c.in_ok-items.ensures (omega (arith, c.in_default.len_at_least, ap length c.as_slice.ensures.value))
+    no_term-long _ c.in_ok-as_array.field-0.now.items c.in_ok-as_array.ensures (omega (arith, c.in_default.len_at_least, ap length c.as_slice.ensures.value))
