@@ -1,7 +1,8 @@
+mod Ends
 mod GetOutcomes
-mod HonestRefreshes
 mod OptionWords
 mod PrintedDigits
+mod TapCalls
 mod TapLanes
 mod TapMoves
 mod TapRuns

@@ -14,7 +14,7 @@ use xet_run::BookView;
 use xet_store::{HexSink, MemStore, Sink, SinkError, Tap};
 
 /// How far the bytes of a range were printed.
-#[derive(Clone, Copy, PartialEq, Eq)]
+#[derive(Clone, Copy)]
 pub enum Printed {
     /// All of them, cut to the file's end: so many bytes.
     All(u64),

@@ -18,3 +18,6 @@ returns-in-Err g c =
     let b : SinkTold = hex_told (told m.start.value) (told m.known.value) (told m.inner) m.digits in
     let d : SinkTold = hex_told (told n.start.value) (told n.known.value) (told n.inner) n.digits in
     driven_err c.args.store.now c.args.wanted _ _ _ b d _ _ _ _ c.run-printed.ensures (rw c.in-Err.is at c.flush.ensures.call)
+
+pub returns-in-Stopped : goal.returns-in-Stopped
+returns-in-Stopped g c = record { ran = c.run-printed.ensures; text = rw c.in-Stopped.is tt }

@@ -1,6 +1,7 @@
-use Rattle.std.proofs.Common.{ap, rules}
-use Rattle.xet_store.specs.declared.client_log.ClientLog.{ClientLog}
-use Rattle.xet_connections.proofs.CallerLemmas.{given_block, honest_block, said_grew}
+use Rattle.std.proofs.Common.{refl}
+use Rattle.xet_base.proofs.CallerLemmas.{err-of}
+use Rattle.xet_connections.proofs.CallerLemmas.{given_block, honest_block}
+use Rattle.xet_get_command.proofs.TapCalls.{block_handed, block_kept, block_refused}
 use Rattle.xet_get_command.proofs.TapRuns.{unexpired_block}
 use Rattle.xet_get_command.proofs.tapped_client.TappedClientClient.block.Goals as goal
 
@@ -17,20 +18,23 @@ invariant_of-self-2 g c =
       unexpired = unexpired_block s.log c.and_block-self.result c.args.request.now c.in_ok-pass.field-0 c.and_block-self.ensures s.unexpired;
     }
 
+pub returns-in_err-block : goal.returns-in_err-block
+returns-in_err-block g c =
+    let s = c.args.self.now in
+    rw (err-of _ _ c.from_residual.ensures)
+    (block_refused s.inner.store.now c.block.new.self.store.now c.block.ensures.store s.log (g.T.Tap.told s.start.value) (g.T.Tap.told s.tap) c.args.request.now _ c.in_err-block.ensures.error)
+
+pub returns-in_default : goal.returns-in_default
+returns-in_default g c = absurd (let a = c.in_ok-block.ensures.exact in let b = c.in_default.is in cc)
+
+pub returns-in_err-pass : goal.returns-in_err-pass
+returns-in_err-pass g c =
+    let s = c.args.self.now in
+    rw (err-of _ _ c.from_residual-in_err-pass.ensures)
+    (block_kept s.inner.store.now c.block.new.self.store.now c.block.ensures.store s.log (g.T.Tap.told s.start.value) (g.T.Tap.told s.tap) c.args.request.now (g.T.Tap.told c.pass.new.self) c.in-Bytes.block _ (rw c.in_err-pass.was at c.pass.ensures))
+
 pub returns : goal.returns
-returns g c = record {
-  store = search rules;
-  honest = search rules;
-  asked = search rules;
-  said = said_grew (g.T.Tap.told c.args.self.now.start.value) c.args.self.now.log c.and_block-self.result _ (ap (λ
-      (l : ClientLog). l.said) c.and_block-self.ensures);
-  unsaid = search rules;
-  served = c.in_ok-pass.ensures.passed;
-  unserved = search rules;
-  faults = search rules;
-  failed = search rules;
-  unfailed = search rules;
-  expiries = search rules;
-  link = search rules;
-  expired = search rules;
-}
+returns g c =
+    let s = c.args.self.now in
+    block_handed s.inner.store.now c.block.new.self.store.now c.block.ensures.store s.log (g.T.Tap.told s.start.value) (g.T.Tap.told s.tap) c.args.request.now (g.T.Tap.told c.pass.new.self) c.in-Bytes.block
+    c.and_block-self.result c.in_ok-pass.field-0 c.and_block-self.ensures c.in_ok-pass.ensures (rw c.in-Bytes.is at (c.in_ok-block.ensures.call.honest s.inner.store.now refl))
