@@ -1,3 +1,2 @@
-mod Replay
 mod Held
 mod Nothing

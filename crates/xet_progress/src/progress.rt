@@ -1,8 +1,8 @@
 //! A progress group that several users share.
 ghost use Rattle.std.specs.Prelude.{◌≡◌, ◌≤◌, ◌^◌, IfOk, IfErr, option_map};
 ghost use Rattle.xet_base.specs.declared.invalid.Invalid.{Invalid};
-ghost use Rattle.xet_progress_state.specs.Group.{NewItemCall, TransferCall, group_completeness, group_sums, item_of};
-ghost use Rattle.xet_progress_state.specs.Group.{reports_of};
+ghost use Rattle.xet_progress_state.specs.Group.{IsSound, NewItemCall, TransferCall, group_completeness, group_sums};
+ghost use Rattle.xet_progress_state.specs.Group.{item_of, reports_of};
 ghost use Rattle.xet_progress.specs.Held.{Held};
 ghost use Rattle.xet_progress_state.specs.Items.{report_of};
 
@@ -11,7 +11,7 @@ use crate::updater::ItemProgressUpdater;
 use std::alloc::Global;
 use std::collections::BTreeMap;
 use std::sync::ledger::{Blank, Ledger};
-use std::sync::{Arc, Mutex, Wait};
+use std::sync::{Arc, Mutex, MutexGuard, Wait};
 use xet_base::{OutOfMemory, UniqueID};
 use xet_progress_state::{
     GroupProgressReport, GroupState, Incomplete, ItemProgressReport, ProgressError,
@@ -53,9 +53,13 @@ impl GroupProgress {
         GroupProgress::of(alloc, state)
     }
 
-    /// Its state, for one call.
-    pub(crate) fn state(&self) -> &Mutex<GroupState> {
-        &self.state
+    /// Its state for one call. What is true of every group is true of it.
+    pub(crate) fn lock<R: Wait>(&self, rt: &R) -> MutexGuard<'_, GroupState>
+        ensures { IsSound result.value }
+    {
+        let mut state = self.state.lock(rt);
+        state.sound();
+        state
     }
 
     /// Adds an item with no bytes, whose size is not final, and gives the updater that names it.
@@ -77,9 +81,8 @@ impl GroupProgress {
             → Held (λ before now. NewItemCall before now id name.now (Err e))) }
     {
         let updater = GroupProgress::updater(group, id)?;
-        let mut state = group.state.lock(rt);
-        state.sound();
-        state.new_item(alloc, id, name)?;
+        let made = group.lock(rt).new_item(alloc, id, name);
+        made?;
         Ok(updater)
     }
 
@@ -125,9 +128,7 @@ impl GroupProgress {
         ensures bytes { result.total_bytes_completed ≤ result.total_bytes }
         ensures transfer { result.total_transfer_bytes_completed ≤ result.total_transfer_bytes }
     {
-        let mut state = self.state.lock(rt);
-        state.sound();
-        state.report()
+        self.lock(rt).report()
     }
 
     /// Adds to the sums of the bytes to be transferred and of those transferred.
@@ -145,9 +146,7 @@ impl GroupProgress {
         ensures call { Held (λ before now. TransferCall before now total completed result) }
         ensures nothing { total ≡ 0 → completed ≡ 0 → result ≡ Ok tt }
     {
-        let mut state = self.state.lock(rt);
-        state.sound();
-        state.add_transfer(total, completed)
+        self.lock(rt).add_transfer(total, completed)
     }
 
     /// The report of an item, or none where no item has this id.
@@ -163,9 +162,7 @@ impl GroupProgress {
         ensures { IfOk result (λ report. Held
             (λ before now. (report ≡ option_map report_of (item_of before id)) × (now ≡ before))) }
     {
-        let mut state = self.state.lock(rt);
-        state.sound();
-        state.item_report(id)
+        self.lock(rt).item_report(id)
     }
 
     /// The reports of all items, by id.
@@ -180,9 +177,7 @@ impl GroupProgress {
     ) -> Result<BTreeMap<UniqueID, ItemProgressReport>, OutOfMemory>
         ensures { IfOk result (λ reports. Held (λ before now. (reports.entries ≡ reports_of before) × (now ≡ before))) }
     {
-        let mut state = self.state.lock(rt);
-        state.sound();
-        state.item_reports(alloc)
+        self.lock(rt).item_reports(alloc)
     }
 
     /// Whether all is completed: the first pair that differs of the bytes, the transferred bytes, and then of each item
@@ -192,8 +187,6 @@ impl GroupProgress {
     pub fn assert_complete<R: Wait>(&self, rt: &R) -> Result<(), Incomplete>
         ensures { Held (λ before now. (result ≡ group_completeness before) × (now ≡ before)) }
     {
-        let mut state = self.state.lock(rt);
-        state.sound();
-        state.assert_complete()
+        self.lock(rt).assert_complete()
     }
 }

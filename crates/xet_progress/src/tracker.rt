@@ -1,5 +1,5 @@
 //! The completion tracker that several users share.
-ghost use Rattle.std.specs.Prelude.{◌≡◌, ◌+◌, ◌-◌, ◌^◌, ◌<◌, ◌≤◌, true, [], map, length, min, vec_len, IfOk};
+ghost use Rattle.std.specs.Prelude.{◌≡◌, ◌^◌, ◌≤◌, true, [], map, length, IfOk};
 ghost use Rattle.xet_progress_state.specs.declared.step.TrackerReply.TheVariants.{Done, FileId, Flag, Sums};
 ghost use Rattle.xet_progress_state.specs.declared.step.TrackerStep.TheVariants.{RegisterNewFile, IncrementFileSize};
 ghost use Rattle.xet_progress_state.specs.declared.step.TrackerStep.TheVariants.{RegisterNewXorb, RegisterDependencies};
@@ -7,7 +7,7 @@ ghost use Rattle.xet_progress_state.specs.declared.step.TrackerStep.TheVariants.
 ghost use Rattle.xet_progress_state.specs.declared.step.TrackerStep.TheVariants.{RegisterXorbUploadProgress};
 ghost use Rattle.xet_progress_state.specs.declared.step.TrackerStep.TheVariants.{RegisterXorbUploadProgressBackground};
 ghost use Rattle.xet_progress_state.specs.declared.step.TrackerStep.TheVariants.{Status, IsComplete, AssertComplete};
-ghost use Rattle.xet_progress_state.specs.Replies.{Answered, Counted, KeptCall, after_all, gives, gives_id, map_ok};
+ghost use Rattle.xet_progress_state.specs.Replies.{Answered, Counted, KeptCall, gives, gives_id, map_ok};
 ghost use Rattle.xet_progress_state.specs.Replies.{replies_of, said, said_complete, steps_of};
 
 use crate::answer::{done_answer, flag_answer, id_answer, plain_answer, sums_answer, whole_answer};
@@ -15,90 +15,21 @@ use crate::progress::GroupProgress;
 use crate::report::Reports;
 use crate::updater::ItemProgressUpdater;
 use std::alloc::Global;
-use std::sync::ledger::{Blank, Book, Ledger, Share};
+use std::sync::ledger::{Blank, Ledger};
 use std::sync::{Arc, Mutex, Wait};
 use xet_base::{List, MerkleHash, OutOfMemory};
+pub use xet_progress_history::TrackerPass;
+use xet_progress_history::{TrackerHistory, dependencies_step};
 use xet_progress_state::{
     FileXorbDependency, Found, Incomplete, ProgressError, TrackerCall, TrackerReply, TrackerState,
     TrackerStep,
 };
 
-/// Counts the calls of one user of a tracker, and holds parts of its ledger, all 2^32 of them at first.
-///
-/// The Rust crate has no such type.
-#[derive(Drop)]
-pub struct TrackerPass<L: Ledger> {
-    share: Share<L>,
-    parts: u64,
-    calls: u64,
-    ghost some: { 0 < parts },
-    ghost backed: { parts ≤ share.parts },
-    ghost counted: { calls ≡ min share.amount (2 ^ 64 - 1) },
-}
-
-impl<L: Ledger> TrackerPass<L> {
-    /// A pass with some of the parts, at least one and fewer than there are, and no calls.
-    pub fn split(&mut self, parts: u64) -> TrackerPass<L>
-        requires some { 0 < parts }
-        requires rest { parts < self.old.parts }
-        ensures parts { result.parts ≡ parts }
-        ensures calls { result.calls ≡ 0 }
-        ensures left { self.new.parts + parts ≡ self.old.parts }
-        ensures same { self.new.calls ≡ self.old.calls }
-    {
-        let TrackerPass {
-            share,
-            parts: own,
-            calls: _,
-        } = self;
-        *own -= parts;
-        TrackerPass {
-            share: share.split_off(parts, 0),
-            parts,
-            calls: 0,
-        }
-    }
-
-    /// Takes the parts and calls of another pass. The sums stop at `u64::MAX`.
-    pub fn gather(&mut self, other: TrackerPass<L>)
-        ensures parts { self.new.parts ≡ min (self.old.parts + other.parts) (2 ^ 64 - 1) }
-        ensures calls { self.new.calls ≡ min (self.old.calls + other.calls) (2 ^ 64 - 1) }
-    {
-        let TrackerPass {
-            share,
-            parts,
-            calls,
-        } = self;
-        *parts = parts.saturating_add(other.parts);
-        *calls = calls.saturating_add(other.calls);
-        share.merge(other.share);
-    }
-
-    /// How many calls it counts.
-    pub fn calls(&self) -> u64
-        ensures { result ≡ self.now.calls }
-    {
-        self.calls
-    }
-
-    /// How many parts it holds.
-    pub fn parts(&self) -> u64
-        ensures { result ≡ self.now.parts }
-    {
-        self.parts
-    }
-}
-
-/// The state and what it was asked, in order.
+/// What was asked, and what is told of it.
 #[derive(Drop)]
 struct Kept<L: Ledger> {
-    state: TrackerState,
-    history: Vec<TrackerCall>,
-    made: Book<L>,
+    calls: TrackerHistory<L>,
     reports: Reports,
-    ghost replays: { state ≡ after_all [] (steps_of history.items) },
-    ghost replied: { map (λ c. c.reply) history.items ≡ replies_of [] (steps_of history.items) },
-    ghost counted: { vec_len history ≡ made.total },
 }
 
 impl<L: Ledger> Kept<L> {
@@ -111,28 +42,19 @@ impl<L: Ledger> Kept<L> {
         step: TrackerStep,
     ) -> Result<TrackerReply, OutOfMemory>
         ensures parts { pass.new.parts ≡ pass.old.parts }
-        ensures history { KeptCall self.old.history.items self.new.history.items step result }
+        ensures history { KeptCall self.old.calls.history.items self.new.calls.history.items step result }
         ensures calls { Counted pass.old.calls pass.new.calls result }
         ensures kind { IfOk result (λ r. gives step r ≡ true) }
         ensures answer { Answered step result }
     {
-        if self.history.reserve(1).is_err() || self.reports.prepare(&self.state, &step).is_err() {
+        let Kept { calls, reports } = self;
+        if reports.prepare(calls.state(), &step).is_err() {
             return Err(OutOfMemory);
         }
-        let Kept {
-            state,
-            history,
-            made,
-            reports,
-        } = self;
-        let before = entry_of(state, &step);
-        let reply = state.step(alloc, &step)?;
-        reports.tell(rt, state, &step, &reply, before);
-        if history.push(TrackerCall { step, reply }).is_err() {
-            unreachable!()
-        }
-        count(made, pass);
-        Ok(reply)
+        let before = entry_of(calls.state(), &step);
+        let answer = calls.step(alloc, pass, step);
+        tell(rt, calls, reports, &answer, before);
+        answer
     }
 
     /// Makes the call that registers a file, and keeps the file's item where it is accepted.
@@ -145,29 +67,33 @@ impl<L: Ledger> Kept<L> {
         n_bytes: Option<u64>,
     ) -> Result<TrackerReply, OutOfMemory>
         ensures parts { pass.new.parts ≡ pass.old.parts }
-        ensures history { KeptCall self.old.history.items self.new.history.items (RegisterNewFile n_bytes) result }
+        ensures history { KeptCall self.old.calls.history.items self.new.calls.history.items
+            (RegisterNewFile n_bytes) result }
         ensures calls { Counted pass.old.calls pass.new.calls result }
         ensures kind { IfOk result (λ r. gives_id r ≡ true) }
         ensures answer { Answered (RegisterNewFile n_bytes) result }
     {
-        let reply = self.step(rt, alloc, pass, TrackerStep::RegisterNewFile { n_bytes })?;
-        if let TrackerReply::FileId(_) = reply {
+        let answer = self.step(rt, alloc, pass, TrackerStep::RegisterNewFile { n_bytes });
+        if let Ok(TrackerReply::FileId(_)) = answer {
             self.reports.add_file(rt, updater, n_bytes);
         }
-        Ok(reply)
+        answer
     }
+}
 
-    /// What was asked, in order.
-    fn into_history(mut self, pass: TrackerPass<L>) -> Vec<TrackerCall>
-        ensures count { pass.parts ≡ L.parts → length result.items ≡ pass.calls }
-        ensures least { pass.calls ≤ length result.items }
-        ensures replied { map (λ c. c.reply) result.items ≡ replies_of [] (steps_of result.items) }
-    {
-        let mut pass = pass;
-        let mut none = pass.share.empty();
-        none.merge(pass.share);
-        self.made.audit(&mut none);
-        self.history
+/// Tells items and group of the last call, where it was made.
+fn tell<L: Ledger, R: Wait>(
+    rt: &R,
+    calls: &TrackerHistory<L>,
+    reports: &mut Reports,
+    answer: &Result<TrackerReply, OutOfMemory>,
+    before: Option<Found>,
+) {
+    if answer.is_err() {
+        return;
+    }
+    if let Some(call) = calls.last() {
+        reports.tell(rt, calls.state(), &call.step, &call.reply, before);
     }
 }
 
@@ -181,21 +107,6 @@ fn entry_of(state: &TrackerState, step: &TrackerStep) -> Option<Found> {
         }
         _ => None,
     }
-}
-
-/// Counts a call in the ledger and in the pass.
-fn count<L: Ledger>(made: &mut Book<L>, pass: &mut TrackerPass<L>)
-    ensures made { made.new.total ≡ made.old.total + 1 }
-    ensures parts { pass.new.parts ≡ pass.old.parts }
-    ensures calls { pass.new.calls ≡ min (pass.old.calls + 1) (2 ^ 64 - 1) }
-{
-    let TrackerPass {
-        share,
-        parts: _,
-        calls,
-    } = pass;
-    made.add(share, 1);
-    *calls = calls.saturating_add(1);
 }
 
 /// A tracker's state under a lock, with every call that it was asked and its reply, in order. Each call is one hold
@@ -224,17 +135,10 @@ impl<L: Ledger> CompletionTracker<L> {
         ensures parts { result.1.parts ≡ 2 ^ 32 }
         ensures calls { result.1.calls ≡ 0 }
     {
-        let (made, share) = blank.open::<L>();
+        let (calls, pass) = TrackerHistory::new(alloc, blank);
         let kept = Kept {
-            state: TrackerState::new(alloc),
-            history: Vec::new(alloc),
-            made,
+            calls,
             reports: Reports::new(alloc, group),
-        };
-        let pass = TrackerPass {
-            share,
-            parts: 4_294_967_296,
-            calls: 0,
         };
         (
             CompletionTracker {
@@ -242,6 +146,22 @@ impl<L: Ledger> CompletionTracker<L> {
             },
             pass,
         )
+    }
+
+    /// Makes a call in one hold of the lock.
+    fn call<R: Wait>(
+        &self,
+        rt: &R,
+        alloc: Global,
+        pass: &mut TrackerPass<L>,
+        step: TrackerStep,
+    ) -> Result<TrackerReply, OutOfMemory>
+        ensures parts { pass.new.parts ≡ pass.old.parts }
+        ensures calls { Counted pass.old.calls pass.new.calls result }
+        ensures kind { IfOk result (λ r. gives step r ≡ true) }
+        ensures answer { Answered step result }
+    {
+        self.kept.lock(rt).step(rt, alloc, pass, step)
     }
 
     /// Registers a file: `n_bytes` fixes its size, and with none it starts at 0 and grows. Answers its id, counted
@@ -268,7 +188,7 @@ impl<L: Ledger> CompletionTracker<L> {
             .kept
             .lock(rt)
             .add_file(rt, alloc, pass, updater, n_bytes);
-        id_answer(&reply)
+        id_answer(reply)
     }
 
     /// Adds to the size of a file that grows. A fixed size stays.
@@ -290,16 +210,11 @@ impl<L: Ledger> CompletionTracker<L> {
         ensures calls { Counted pass.old.calls pass.new.calls (said (λ _. Done) result) }
         ensures answer { Answered (IncrementFileSize file_id size_increment) (said (λ _. Done) result) }
     {
-        let reply = self.kept.lock(rt).step(
-            rt,
-            alloc,
-            pass,
-            TrackerStep::IncrementFileSize {
-                file_id,
-                size_increment,
-            },
-        );
-        done_answer(&reply)
+        let step = TrackerStep::IncrementFileSize {
+            file_id,
+            size_increment,
+        };
+        done_answer(self.call(rt, alloc, pass, step))
     }
 
     /// Registers a xorb with its size: true at its first registration, also where a dependency named it before.
@@ -321,16 +236,11 @@ impl<L: Ledger> CompletionTracker<L> {
         ensures calls { Counted pass.old.calls pass.new.calls (said Flag result) }
         ensures answer { Answered (RegisterNewXorb xorb_hash xorb_size) (said Flag result) }
     {
-        let reply = self.kept.lock(rt).step(
-            rt,
-            alloc,
-            pass,
-            TrackerStep::RegisterNewXorb {
-                xorb_hash,
-                xorb_size,
-            },
-        );
-        flag_answer(&reply)
+        let step = TrackerStep::RegisterNewXorb {
+            xorb_hash,
+            xorb_size,
+        };
+        flag_answer(self.call(rt, alloc, pass, step))
     }
 
     /// Registers dependencies of files on xorbs: all of them or none. External ones and those on a completed xorb
@@ -352,17 +262,10 @@ impl<L: Ledger> CompletionTracker<L> {
         ensures calls { Counted pass.old.calls pass.new.calls (said (λ _. Done) result) }
         ensures answer { Answered (RegisterDependencies dependencies.now) (said (λ _. Done) result) }
     {
-        let Ok(dependencies) = Vec::from_slice(alloc, dependencies) else {
-            return Err(ProgressError::OutOfMemory);
-        };
-        let dependencies = List::from_vec(dependencies);
-        let reply = self.kept.lock(rt).step(
-            rt,
-            alloc,
-            pass,
-            TrackerStep::RegisterDependencies { dependencies },
-        );
-        done_answer(&reply)
+        match dependencies_step(alloc, dependencies) {
+            Ok(step) => done_answer(self.call(rt, alloc, pass, step)),
+            Err(OutOfMemory) => Err(ProgressError::OutOfMemory),
+        }
     }
 
     /// Counts a xorb as completed, and credits the rest of each part that waits for it. It is ignored where it is
@@ -383,13 +286,8 @@ impl<L: Ledger> CompletionTracker<L> {
         ensures calls { Counted pass.old.calls pass.new.calls (said (λ _. Done) result) }
         ensures answer { Answered (RegisterXorbUploadCompletion xorb_hash) (said (λ _. Done) result) }
     {
-        let reply = self.kept.lock(rt).step(
-            rt,
-            alloc,
-            pass,
-            TrackerStep::RegisterXorbUploadCompletion { xorb_hash },
-        );
-        done_answer(&reply)
+        let step = TrackerStep::RegisterXorbUploadCompletion { xorb_hash };
+        done_answer(self.call(rt, alloc, pass, step))
     }
 
     /// Counts more bytes of a xorb as sent, and credits each part that waits for it with its share, rounded down.
@@ -411,16 +309,11 @@ impl<L: Ledger> CompletionTracker<L> {
         ensures calls { Counted pass.old.calls pass.new.calls (said (λ _. Done) result) }
         ensures answer { Answered (RegisterXorbUploadProgress xorb_hash new_byte_progress) (said (λ _. Done) result) }
     {
-        let reply = self.kept.lock(rt).step(
-            rt,
-            alloc,
-            pass,
-            TrackerStep::RegisterXorbUploadProgress {
-                xorb_hash,
-                new_byte_progress,
-            },
-        );
-        done_answer(&reply)
+        let step = TrackerStep::RegisterXorbUploadProgress {
+            xorb_hash,
+            new_byte_progress,
+        };
+        done_answer(self.call(rt, alloc, pass, step))
     }
 
     /// Counts more bytes of a xorb as sent, as `register_xorb_upload_progress` does. It is ignored where the xorb is
@@ -444,16 +337,11 @@ impl<L: Ledger> CompletionTracker<L> {
         ensures answer { Answered (RegisterXorbUploadProgressBackground xorb_hash new_byte_progress)
             (said (λ _. Done) result) }
     {
-        let reply = self.kept.lock(rt).step(
-            rt,
-            alloc,
-            pass,
-            TrackerStep::RegisterXorbUploadProgressBackground {
-                xorb_hash,
-                new_byte_progress,
-            },
-        );
-        done_answer(&reply)
+        let step = TrackerStep::RegisterXorbUploadProgressBackground {
+            xorb_hash,
+            new_byte_progress,
+        };
+        done_answer(self.call(rt, alloc, pass, step))
     }
 
     /// The sums of completed and total bytes over all files.
@@ -471,11 +359,10 @@ impl<L: Ledger> CompletionTracker<L> {
         ensures calls { Counted pass.old.calls pass.new.calls (map_ok (λ s. Sums s.0 s.1) result) }
         ensures answer { Answered Status (map_ok (λ s. Sums s.0 s.1) result) }
     {
-        let reply = self
-            .kept
-            .lock(rt)
-            .step(rt, alloc, pass, TrackerStep::Status)?;
-        Ok(sums_answer(&reply))
+        match self.call(rt, alloc, pass, TrackerStep::Status) {
+            Ok(reply) => Ok(sums_answer(reply)),
+            Err(OutOfMemory) => Err(OutOfMemory),
+        }
     }
 
     /// Whether all bytes of all files are completed.
@@ -493,11 +380,10 @@ impl<L: Ledger> CompletionTracker<L> {
         ensures calls { Counted pass.old.calls pass.new.calls (map_ok Flag result) }
         ensures answer { Answered IsComplete (map_ok Flag result) }
     {
-        let reply = self
-            .kept
-            .lock(rt)
-            .step(rt, alloc, pass, TrackerStep::IsComplete)?;
-        Ok(plain_answer(&reply))
+        match self.call(rt, alloc, pass, TrackerStep::IsComplete) {
+            Ok(reply) => Ok(plain_answer(reply)),
+            Err(OutOfMemory) => Err(OutOfMemory),
+        }
     }
 
     /// What is missing: the first file that isn't complete, then the first xorb by its hash that isn't completed, of
@@ -516,11 +402,10 @@ impl<L: Ledger> CompletionTracker<L> {
         ensures calls { Counted pass.old.calls pass.new.calls (map_ok said_complete result) }
         ensures answer { Answered AssertComplete (map_ok said_complete result) }
     {
-        let reply = self
-            .kept
-            .lock(rt)
-            .step(rt, alloc, pass, TrackerStep::AssertComplete)?;
-        Ok(whole_answer(&reply))
+        match self.call(rt, alloc, pass, TrackerStep::AssertComplete) {
+            Ok(reply) => Ok(whole_answer(reply)),
+            Err(OutOfMemory) => Err(OutOfMemory),
+        }
     }
 
     /// What the tracker was asked, in order, and what it answered. It has at least as many calls as the pass counts,
@@ -532,6 +417,6 @@ impl<L: Ledger> CompletionTracker<L> {
         ensures least { pass.calls ≤ length result }
         ensures replied { map (λ c. c.reply) result ≡ replies_of [] (steps_of result) }
     {
-        List::from_vec(self.kept.into_inner().into_history(pass))
+        List::from_vec(self.kept.into_inner().calls.into_calls(pass))
     }
 }

@@ -88,9 +88,11 @@ impl ItemProgressUpdater {
             (sized (group_sums before).total_bytes total is_final) result) }
         ensures nothing { total ≡ 0 → result ≡ Ok tt }
     {
-        let mut group = self.group.state().lock(rt);
-        group.sound();
-        known(group.update_item_size(self.id, total, is_final))
+        known(
+            self.group
+                .lock(rt)
+                .update_item_size(self.id, total, is_final),
+        )
     }
 
     /// Makes the bytes to be transferred for the item the greater of them and these.
@@ -103,9 +105,7 @@ impl ItemProgressUpdater {
             (transfer_sized (group_sums before).total_transfer_bytes total) result) }
         ensures nothing { total ≡ 0 → result ≡ Ok tt }
     {
-        let mut group = self.group.state().lock(rt);
-        group.sound();
-        known(group.update_transfer_size(self.id, total))
+        known(self.group.lock(rt).update_transfer_size(self.id, total))
     }
 
     /// Counts bytes of the item as completed.
@@ -121,9 +121,11 @@ impl ItemProgressUpdater {
         ensures call { Held (λ before now. UpdaterCall before now self.now (more_completed increment) result) }
         ensures nothing { increment ≡ 0 → result ≡ Ok tt }
     {
-        let mut group = self.group.state().lock(rt);
-        group.sound();
-        known(group.report_bytes_completed(self.id, increment))
+        known(
+            self.group
+                .lock(rt)
+                .report_bytes_completed(self.id, increment),
+        )
     }
 
     /// Counts written bytes of the item as completed, which is `report_bytes_completed`.
@@ -133,9 +135,7 @@ impl ItemProgressUpdater {
         ensures call { Held (λ before now. UpdaterCall before now self.now (more_completed increment) result) }
         ensures nothing { increment ≡ 0 → result ≡ Ok tt }
     {
-        let mut group = self.group.state().lock(rt);
-        group.sound();
-        known(group.report_bytes_written(self.id, increment))
+        known(self.group.lock(rt).report_bytes_written(self.id, increment))
     }
 
     /// Counts bytes as transferred for the item.
@@ -151,9 +151,11 @@ impl ItemProgressUpdater {
         ensures call { Held (λ before now. UpdaterCall before now self.now (more_transferred increment) result) }
         ensures nothing { increment ≡ 0 → result ≡ Ok tt }
     {
-        let mut group = self.group.state().lock(rt);
-        group.sound();
-        known(group.report_transfer_bytes_completed(self.id, increment))
+        known(
+            self.group
+                .lock(rt)
+                .report_transfer_bytes_completed(self.id, increment),
+        )
     }
 
     /// Counts bytes as transferred for the item, which is `report_transfer_bytes_completed`.
@@ -163,9 +165,7 @@ impl ItemProgressUpdater {
         ensures call { Held (λ before now. UpdaterCall before now self.now (more_transferred delta) result) }
         ensures nothing { delta ≡ 0 → result ≡ Ok tt }
     {
-        let mut group = self.group.state().lock(rt);
-        group.sound();
-        known(group.report_transfer_progress(self.id, delta))
+        known(self.group.lock(rt).report_transfer_progress(self.id, delta))
     }
 
     /// The completed bytes of the item.
@@ -174,9 +174,10 @@ impl ItemProgressUpdater {
     pub fn total_bytes_completed<R: Wait>(&self, rt: &R) -> u64
         ensures { Held (λ before now. (result ≡ said_or before self.now (λ i. i.bytes_completed) 0) × (now ≡ before)) }
     {
-        let mut group = self.group.state().lock(rt);
-        group.sound();
-        group.total_bytes_completed(self.id).unwrap_or(0)
+        self.group
+            .lock(rt)
+            .total_bytes_completed(self.id)
+            .unwrap_or(0)
     }
 
     /// Whether all of the item is completed: `Bytes` where its completed bytes aren't its total, then `Transfer` where
@@ -186,9 +187,10 @@ impl ItemProgressUpdater {
     pub fn assert_complete<R: Wait>(&self, rt: &R) -> Result<(), Incomplete>
         ensures { Held (λ before now. (result ≡ said_or before self.now item_completeness (Ok tt)) × (now ≡ before)) }
     {
-        let mut group = self.group.state().lock(rt);
-        group.sound();
-        group.assert_item_complete(self.id).unwrap_or(Ok(()))
+        self.group
+            .lock(rt)
+            .assert_item_complete(self.id)
+            .unwrap_or(Ok(()))
     }
 
     /// The counts of the item as they are now.
@@ -201,8 +203,7 @@ impl ItemProgressUpdater {
             (λ before now. (item ≡ said_or before self.now (λ i. record i { id = self.now })
             (blank_item self.now [])) × (now ≡ before))) }
     {
-        let mut group = self.group.state().lock(rt);
-        group.sound();
+        let mut group = self.group.lock(rt);
         match group.item(self.id) {
             Ok(item) => Ok(item),
             Err(ProgressError::OutOfMemory) => Err(OutOfMemory),

@@ -1,6 +1,7 @@
 //! The lines of replies.
 ghost use Rattle.std.specs.Prelude.{◌≡◌, ◌++◌, OnErr, OnOk, codes};
 ghost use Rattle.std.specs.Fmt.{decimal};
+ghost use Rattle.xet_progress_state.specs.declared.step.TrackerReply.TheVariants.{Flag, Sums};
 ghost use Rattle.xet_track.specs.Texts.{number_of_invalid, text_of_reply};
 
 use itoa::Buffer;
@@ -62,6 +63,24 @@ fn add_number_line(out: &mut Vec<u8>, front: &str, number: u64) -> Result<(), Ou
     add(out, "\n")
 }
 
+/// Adds the line of the sums.
+fn add_sums(out: &mut Vec<u8>, completed: u64, total: u64) -> Result<(), OutOfMemory>
+    ensures { OnOk result (out.new.items ≡ out.old.items ++ text_of_reply (Sums completed total)) }
+{
+    add_number(out, completed)?;
+    add_number_line(out, " ", total)
+}
+
+/// The line of a flag.
+fn flag_line(flag: bool) -> &'static str
+    ensures { result.now ≡ text_of_reply (Flag flag) }
+{
+    if flag {
+        return "true\n";
+    }
+    "false\n"
+}
+
 /// Adds the line of a reply.
 pub(crate) fn add_reply(out: &mut Vec<u8>, reply: &TrackerReply) -> Result<(), OutOfMemory>
     ensures { OnOk result (out.new.items ≡ out.old.items ++ text_of_reply reply.now) }
@@ -69,12 +88,8 @@ pub(crate) fn add_reply(out: &mut Vec<u8>, reply: &TrackerReply) -> Result<(), O
     match reply {
         TrackerReply::Done => add(out, "ok\n"),
         TrackerReply::FileId(id) => add_number_line(out, "", *id),
-        TrackerReply::Flag(true) => add(out, "true\n"),
-        TrackerReply::Flag(false) => add(out, "false\n"),
-        TrackerReply::Sums { completed, total } => {
-            add_number(out, *completed)?;
-            add_number_line(out, " ", *total)
-        }
+        TrackerReply::Flag(flag) => add(out, flag_line(*flag)),
+        TrackerReply::Sums { completed, total } => add_sums(out, *completed, *total),
         TrackerReply::Unfinished(_) => add(out, "unfinished\n"),
         TrackerReply::Refused(why) => add_number_line(out, "refused ", number_of(why)),
     }

@@ -6,9 +6,9 @@ use Rattle.xet_progress.proofs.updater.ItemProgressUpdater.report_transfer_bytes
 
 pub returns-clause-call : goal.returns-clause-call
 returns-clause-call g c =
-    let call : UpdaterCall c.deref_mut-2.result.now c.report_transfer_bytes_completed.new.self c.self.inside.id (more_transferred c.args.increment) (known_answer c.report_transfer_bytes_completed.result) =
-    updater_call c.deref_mut-2.result.now c.report_transfer_bytes_completed.new.self c.self.inside.id (more_transferred c.args.increment) (transferred_test c.args.increment) c.report_transfer_bytes_completed.result c.report_transfer_bytes_completed.ensures in
-    record { before = c.deref_mut-2.result.now; now = c.report_transfer_bytes_completed.new.self; sound = rw (c.deref_mut-2.ensures.value, c.sound.ensures.same) c.sound.ensures.sound; call = rw (c.known.ensures, ← c.self.view_is) call }
+    let call : UpdaterCall c.deref_mut.result.now c.report_transfer_bytes_completed.new.self c.self.inside.id (more_transferred c.args.increment) (known_answer c.report_transfer_bytes_completed.result) =
+    updater_call c.deref_mut.result.now c.report_transfer_bytes_completed.new.self c.self.inside.id (more_transferred c.args.increment) (transferred_test c.args.increment) c.report_transfer_bytes_completed.result c.report_transfer_bytes_completed.ensures in
+    record { before = c.deref_mut.result.now; now = c.report_transfer_bytes_completed.new.self; sound = rw c.deref_mut.ensures.value c.lock.ensures; call = rw (c.known.ensures, ← c.self.view_is) call }
 
 pub returns-clause-nothing : goal.returns-clause-nothing
 returns-clause-nothing g c = λ none. nothing_transferred c.args.self.now c.args.increment c.known.result none (returns-clause-call g c)
