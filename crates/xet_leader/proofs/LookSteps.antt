@@ -1,8 +1,8 @@
 -- Looks one after another, and when the next one may be made.
-use Rattle.std.proofs.Common.{◌≡◌, ℕ, ◌+◌, ◌-◌, ◌<◌, ◌==◌, ◌&&◌, suc, zero, Bool, true, false, cond, List, [], ◌∷◌, ◌++◌, length, take, drop, get_or, refl, sym, subst, ◌∙◌, ap, arith, inl, inr, ⊎_elim, Result, Ok, Err}
+use Rattle.std.proofs.Common.{◌≡◌, ℕ, ◌+◌, ◌-◌, ◌<◌, ◌≤◌, ◌==◌, ◌&&◌, suc, zero, Bool, true, false, cond, List, [], ◌∷◌, ◌++◌, length, take, drop, get_or, refl, sym, subst, ◌∙◌, ap, arith, inl, inr, ⊎_elim, Result, Ok, Err}
 use Rattle.std.specs.Prelude.{◌⊎◌, Option, Some, None, IfOk, OnErr, slice_get, slice_set}
 use Rattle.std.proofs.lemmas.Bool.{or_parts}
-use Rattle.std.proofs.lemmas.List.{drop_more, take-append-drop, take_more}
+use Rattle.std.proofs.lemmas.List.{drop_more, take-append-drop, take_all, take_more}
 use Rattle.std.proofs.lemmas.Option.{slice_get_read, slice_get_within}
 use Rattle.xet_outside.specs.Told.{CacheTold}
 use Rattle.xet_error.specs.declared.error.FileReconstructionError.{FileReconstructionError}
@@ -11,7 +11,7 @@ use Rattle.xet_offers.specs.declared.reconstruction_terms.xorb_block.XorbBlock.{
 use Rattle.xet_offers.specs.declared.reconstruction_terms.xorb_block.XorbBlockData.{XorbBlockData}
 use Rattle.xet_events.specs.declared.event.Event.{Event}
 use Rattle.xet_events.specs.declared.event.Event.TheVariants.{Cached}
-use Rattle.xet_events.specs.Allowed.{IsMissing, IsRunning}
+use Rattle.xet_events.specs.Allowed.{IsAllowed, IsMissing, IsRunning}
 use Rattle.xet_events.specs.Events.{keeps}
 use Rattle.xet_ties.specs.PartCalls.{FoundBlock}
 use Rattle.xet_ties.proofs.CallerLemmas.{IsStill, missing-push, running-push}
@@ -273,11 +273,26 @@ left_able before after es fs l k (Ok left) a t =
 
 -- ---- a look in a block, in its plan, and in the plans
 
+-- the block that was read
+pub block_read : (l : LedPlan) (xs : List XorbBlock) (n k : ℕ) (x : XorbBlock) → xs ≡ l.block.blocks → n ≡ length xs
+    → k < length l.block.blocks → x ≡ get_or xs k x → slice_get l.block.blocks k ≡ Some x
+block_read l xs n k x same many h is =
+    let long : length xs ≡ length l.block.blocks = ap length same in
+    ap (λ (ys : List XorbBlock). slice_get ys k) (sym same)
+    ∙ slice_get_read xs n k x many (omega (arith, h, many, long)) is
+
 pub looked_in : (before after : CacheTold) (es fs : List Event) (l m : LedPlan) (c : BlockAt) (x y : XorbBlock)
     (answer : Result Bool FileReconstructionError) → slice_get l.block.blocks c.block ≡ Some x
     → m ≡ with_block l c.block y → LookedBlock before after es fs x y c.plan answer
     → LookedIn before after es fs l m c answer
 looked_in before after es fs l m c x y answer h is a = record { block = x; of_plan = h; now = y; looked = a; is = is }
+
+-- the plan has it again
+pub block_again : (l : LedPlan) (xs zs : List XorbBlock) (k : ℕ) (y : XorbBlock) → xs ≡ l.block.blocks
+    → zs ≡ slice_set xs k y → record l { block = record l.block { blocks = zs } } ≡ with_block l k y
+block_again l xs zs k y same is =
+    ap (λ (bs : List XorbBlock). record l { block = record l.block { blocks = bs } })
+    (is ∙ ap (λ (ys : List XorbBlock). slice_set ys k y) same)
 
 pub place_ok : (before after : CacheTold) (es fs : List Event) (ls ms : List LedPlan) (p q : LedPlan) (c : BlockAt)
     (answer : Result Bool FileReconstructionError) → slice_get ls (plan_index ls c.plan) ≡ Some p
@@ -303,18 +318,55 @@ place_err before after es fs p q c (Ok found) l = tt
 place_err before after es fs p q c (Err e) l = inr
     (record { block = l.block; short = l.looked.short; entries = l.looked.entries })
 
+-- the plan that stands at the place
+plan_at : (es : List Event) (ls : List LedPlan) (i : ℕ) (p : LedPlan) (c : BlockAt) → i ≡ plan_index ls c.plan
+    → p ≡ get_or ls i p → CanLook es ls c → slice_get ls (plan_index ls c.plan) ≡ Some p
+plan_at es ls i p c e is can =
+    let w : plan_index ls c.plan < length ls = slice_get_within ls
+    (plan_index ls c.plan) can.request.plan can.request.at in
+    let here : i < length ls = omega (arith, e, w) in
+    ap (slice_get ls) (sym e) ∙ slice_get_read ls (length ls) i p refl here is
+
+-- has the block
+block_at_place : (es : List Event) (ls : List LedPlan) (i : ℕ) (p : LedPlan) (c : BlockAt) → i ≡ plan_index ls c.plan
+    → p ≡ get_or ls i p → (can : CanLook es ls c) → slice_get p.block.blocks c.block ≡ Some can.request.block
+block_at_place es ls i p c e is can =
+    let r = can.request in
+    let k = plan_index ls c.plan in
+    let same : r.plan ≡ p = same_found r.plan p ls k k r.at (plan_at es ls i p c e is can) refl in
+    ap (λ (q : LedPlan). slice_get q.block.blocks c.block) (sym same) ∙ r.of_plan
+
+pub place_within : (es : List Event) (ls : List LedPlan) (n i : ℕ) (c : BlockAt) → n ≡ length ls
+    → i ≡ plan_index ls c.plan → CanLook es ls c → i < n
+place_within es ls n i c many e can =
+    let w : plan_index ls c.plan < length ls = slice_get_within ls
+    (plan_index ls c.plan) can.request.plan can.request.at in
+    omega (arith, e, w, many)
+
+pub block_within : (es : List Event) (ls : List LedPlan) (i : ℕ) (p : LedPlan) (c : BlockAt)
+    → i ≡ plan_index ls c.plan → p ≡ get_or ls i p → CanLook es ls c → c.block < length p.block.blocks
+block_within es ls i p c e is can = slice_get_within p.block.blocks c.block can.request.block
+    (block_at_place es ls i p c e is can)
+
+-- and it may be recorded as found
+pub block_allowed : (es : List Event) (ls : List LedPlan) (i : ℕ) (p : LedPlan) (c : BlockAt)
+    → i ≡ plan_index ls c.plan → p ≡ get_or ls i p → IsRunning es → CanLook es ls c → (x : XorbBlock)
+    → slice_get p.block.blocks c.block ≡ Some x → IsAllowed es (Cached c.plan x.xorb_block_index)
+block_allowed es ls i p c e is running can x at =
+    let r = can.request in
+    let same : r.block ≡ x = same_found r.block x p.block.blocks c.block c.block
+    (block_at_place es ls i p c e is can) at refl in
+    let own : x.xorb_block_index ≡ c.block = ap (λ (y : XorbBlock). y.xorb_block_index) (sym same) ∙ r.index in
+    (running, subst (λ (k : ℕ). IsMissing es c.plan k) (sym own) can.missing)
+
 -- the place that was looked into, by the plan that stood there
 pub place_done : (before after : CacheTold) (es fs : List Event) (ls : List LedPlan) (i : ℕ) (p q : LedPlan)
     (c : BlockAt) (answer : Result Bool FileReconstructionError) → i ≡ plan_index ls c.plan → p ≡ get_or ls i p
     → CanLook es ls c → LookedIn before after es fs p q c answer
     → IfOk answer (LookedPlace before after es fs ls (slice_set ls i q) c)
 place_done before after es fs ls i p q c answer e is can l =
-    let w : plan_index ls c.plan < length ls = slice_get_within ls
-    (plan_index ls c.plan) can.request.plan can.request.at in
-    let here : i < length ls = omega (arith, e, w) in
-    let at : slice_get ls (plan_index ls c.plan) ≡ Some p =
-    ap (slice_get ls) (sym e) ∙ slice_get_read ls (length ls) i p refl here is in
-    place_ok before after es fs ls (slice_set ls i q) p q c answer at (ap (λ (j : ℕ). slice_set ls j q) e) l
+    place_ok before after es fs ls (slice_set ls i q) p q c answer (plan_at es ls i p c e is can)
+    (ap (λ (j : ℕ). slice_set ls j q) e) l
 
 -- ---- the walk
 
@@ -340,6 +392,35 @@ looks_step before middle after es gs fs ls ks ms cs left now i d found h l one i
     (subst (λ (ds : List BlockAt). LooksFrom before after es fs ls ms ds
     (cond found left (left ++ get_or cs i d ∷ []))) (sym (take_more cs i d h))
     (looks_more before middle after es gs fs ls ks ms (take i cs) left (get_or cs i d) found l one))
+
+-- the look found no memory
+pub short_at : (before middle after : CacheTold) (es gs fs : List Event) (ls ks ms : List LedPlan)
+    (cs left : List BlockAt) (i : ℕ) (e : FileReconstructionError)
+    → LooksFrom before middle es gs ls ks (take i cs) left → EndsShort middle after gs fs
+    → e ≡ error.OutOfMemory → LooksCall before after es fs ls ms cs (Err e)
+short_at before middle after es gs fs ls ks ms cs left i e l short memory = record {
+  ok = tt;
+  err = record {
+    count = i;
+    middle = middle;
+    events = gs;
+    plans = ks;
+    left = left;
+    from = l;
+    short = short;
+  };
+  memory = memory;
+}
+
+-- all were made
+pub looks_all : (before after : CacheTold) (es fs : List Event) (ls ms : List LedPlan) (cs left : List BlockAt) (i : ℕ)
+    → length cs ≤ i → LooksFrom before after es fs ls ms (take i cs) left
+    → LooksCall before after es fs ls ms cs (Ok left)
+looks_all before after es fs ls ms cs left i h l = record {
+  ok = subst (λ (ds : List BlockAt). LooksFrom before after es fs ls ms ds left) (take_all i cs h) l;
+  err = tt;
+  memory = tt;
+}
 
 -- the list found no memory for it
 pub short_here : (before middle after : CacheTold) (es gs fs : List Event) (ls ks ms : List LedPlan)

@@ -1,5 +1,6 @@
 -- Blocks that are offered one after another.
-use Rattle.std.proofs.Common.{◌≡◌, ℕ, ◌+◌, ◌<◌, List, [], ◌∷◌, ◌++◌, length, take, get_or, refl, sym, subst, Ok, Err}
+use Rattle.std.proofs.Common.{ℕ, ◌+◌, ◌<◌, ◌≤◌, List, [], ◌∷◌, ◌++◌, length, take, get_or, refl, sym, subst, Ok, Err}
+use Rattle.std.proofs.lemmas.List.{take_all}
 use Rattle.std.proofs.lemmas.Option.{slice_get-get_or}
 use Rattle.xet_outside.specs.Told.{CacheTold}
 use Rattle.xet_error.specs.declared.error.FileReconstructionError.{FileReconstructionError}
@@ -7,7 +8,6 @@ use Rattle.xet_ties.proofs.CallerLemmas.{take_at}
 use Rattle.xet_leader.specs.declared.leader.LedPlan.{LedPlan}
 use Rattle.xet_leader.specs.declared.missing_blocks.BlockAt.{BlockAt}
 use Rattle.xet_leader.specs.Offering.{OfferCalls, OfferedEach, OfferedOne}
-use Rattle.xet_leader.proofs.Refreshed.{take_all}
 
 each_more : (ls : List LedPlan) (ps : List BlockAt) (p : BlockAt) (c d e : CacheTold) → OfferedEach ls ps c d
     → OfferedOne ls p d e (Ok tt) → OfferedEach ls (ps ++ p ∷ []) c e
@@ -21,11 +21,11 @@ pub offered_more : (ls : List LedPlan) (places : List BlockAt) (k : ℕ) (p : Bl
 offered_more ls places k p c d e h o a = subst (λ (ps : List BlockAt). OfferedEach ls ps c e)
     (sym (take_at places k p h)) (each_more ls (take k places) (get_or places k p) c d e a o)
 
-pub offered_all : (ls : List LedPlan) (places : List BlockAt) (k : ℕ) (c d : CacheTold) → length places ≡ k
+pub offered_all : (ls : List LedPlan) (places : List BlockAt) (k : ℕ) (c d : CacheTold) → length places ≤ k
     → OfferedEach ls (take k places) c d → OfferCalls ls places c d (Ok tt)
 offered_all ls places k c d e a = record {
   ok = subst (λ (ps : List BlockAt). OfferedEach ls ps c d)
-      (take_all places k e) a;
+      (take_all k places e) a;
   err = tt;
 }
 

@@ -1,5 +1,6 @@
 -- Plans that are asked for again one after another.
-use Rattle.std.proofs.Common.{◌≡◌, ℕ, zero, suc, ◌+◌, ◌<◌, Bool, List, [], ◌∷◌, ◌++◌, length, take, drop, get_or, refl, sym, subst, ap, arith, Option, None, Some, Ok, Err}
+use Rattle.std.proofs.Common.{◌≡◌, ℕ, ◌+◌, ◌<◌, ◌≤◌, Bool, List, [], ◌∷◌, ◌++◌, length, take, drop, get_or, refl, sym, subst, Option, None, Some, Ok, Err}
+use Rattle.std.proofs.lemmas.List.{take_all}
 use Rattle.std.proofs.lemmas.Option.{slice_get-get_or}
 use Rattle.xet_error.specs.declared.error.FileReconstructionError.{FileReconstructionError}
 use Rattle.xet_events.specs.declared.event.Event.{Event}
@@ -70,17 +71,11 @@ so_more multi numbers k d a b c h o s =
       left = step.left (next_stale multi numbers k d a b h s);
     }
 
-pub take_all : {A : Type 0} (xs : List A) (k : ℕ) → length xs ≡ k → take k xs ≡ xs
-take_all [] zero e = refl
-take_all [] (suc k) e = refl
-take_all (x ∷ xs) zero e = absurd (omega arith)
-take_all (x ∷ xs) (suc k) e = ap (λ l. x ∷ l) (take_all xs k (omega arith))
-
-pub so_all : (multi : Bool) (numbers : List ℕ) (k : ℕ) (a b : Touched) → length numbers ≡ k
+pub so_all : (multi : Bool) (numbers : List ℕ) (k : ℕ) (a b : Touched) → length numbers ≤ k
     → SoRefreshed multi numbers k a b → RefreshCalls multi numbers a b (Ok tt)
 so_all multi numbers k a b e s = record {
   ok = subst (λ (ps : List ℕ). RefreshedEach multi ps a b)
-      (take_all numbers k e) s.each;
+      (take_all k numbers e) s.each;
   err = tt;
 }
 

@@ -1,7 +1,7 @@
 -- What a whole join does, by what preparing a round and the round do.
 use Rattle.std.proofs.Common.{◌≡◌, ℕ, ◌+◌, ◌-◌, ◌^◌, min, ◌∙◌, ⊎_elim, List, length, subst, ap, arith, inr, Ok, Err}
-use Rattle.std.specs.Prelude.{OnOk, Result}
-use Rattle.xet_outside.specs.Told.{CacheTold, ClientTold, SinkTold}
+use Rattle.std.specs.Prelude.{IfOk, OnOk, Result}
+use Rattle.xet_outside.specs.Told.{CacheTold, ClientTold, SignalTold, SinkTold}
 use Rattle.xet_error.specs.declared.error.FileReconstructionError.{FileReconstructionError}
 use Rattle.xet_events.specs.declared.event.Event.{Event}
 use Rattle.xet_writers.specs.Sequential.{Sequential}
@@ -9,16 +9,25 @@ use Rattle.xet_turns.specs.declared.joining.Prepared.{Prepared}
 use Rattle.xet_leader.specs.declared.missing_blocks.BlockAt.{BlockAt}
 use Rattle.xet_stages.specs.declared.outcomes.Outcome.{Outcome}
 use Rattle.xet_leader.specs.Admission.{SameCounts}
-use Rattle.xet_turns.specs.JoinedRuns.{Joining, Touching}
+use Rattle.xet_turns.specs.JoinedRuns.{Joining, PolledFor, Touching}
 use Rattle.xet_turns.specs.RoundCalls.{RoundTurn}
 use Rattle.xet_turns.specs.JoinSteps.{JoinTurn, PrepareTurn, RoundJoined, Unprepared}
 use Rattle.xet_leader.specs.Led.{Led}
 use Rattle.xet_leader.specs.Looks.{LookTurn}
 
--- looks keep the count of fetches
-pub looked_fetches : (c d : CacheTold) (es fs : List Event) (l k : Led)
-    (answer : Result (List BlockAt) FileReconstructionError) → LookTurn c d es fs l k answer → k.fetches ≡ l.fetches
-looked_fetches c d es fs l k answer t = ap (λ (z : Led). z.fetches) t.led
+-- looks keep the leader's counts
+pub looked_turn : (c d : CacheTold) (x y : SignalTold) (es fs : List Event) (l k : Led)
+    (looked : Result (List BlockAt) FileReconstructionError) (answer : Result Prepared FileReconstructionError)
+    → LookTurn c d es fs l k looked → IfOk answer (λ p. PolledFor (length p.places) x y (Ok tt))
+    → PrepareTurn x y l k answer
+looked_turn c d x y es fs l k looked answer t polled = record {
+  polled = polled;
+  numbers = ap (λ (z : Led). z.fetches) t.led;
+  counts = record {
+    planned_is = ap (λ (z : Led). z.planned) t.led;
+    admitted_is = ap (λ (z : Led). z.admitted) t.led;
+  };
+}
 
 -- the round counts its own
 round_counted : {S : Type 0} (told : S → SinkTold) (tries : ℕ) (p : Prepared) (cs ns : List ClientTold)

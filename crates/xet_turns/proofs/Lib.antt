@@ -11,6 +11,7 @@ mod LastSteps
 mod LateLed
 mod RoundAsks
 mod RoundEnds
+mod RoundFetches
 mod RoundJoins
 mod RoundLeads
 mod RoundMays

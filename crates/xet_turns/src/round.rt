@@ -61,7 +61,7 @@ pub fn run_round<
         result }
     ensures parts { pass.new.share.parts ≡ pass.old.share.parts }
 {
-    let beside = total(lengths.as_slice()) != 0 && wait_for(around.gate, clients);
+    let beside = writes_beside(around.gate, lengths.as_slice(), clients);
     let joined = match fetch_blocks(around, leader, pass, clients, writer, places, beside) {
         Ok(joined) => joined,
         Err(error) => return Err(error),
@@ -71,10 +71,10 @@ pub fn run_round<
     take_outcome(around.alloc, leader, core, joined, lengths, tries)
 }
 
-/// Whether fetches through this gate by these connections are worth a thread beside the writing: not where the gate is
-/// open, and there is one connection alone, which answers at once.
-fn wait_for<G: Gate, C: Client>(gate: &G, clients: &[C]) -> bool {
-    !gate.is_open() || clients.len() != 1 || clients[0].waits()
+/// Whether the writing of terms of these lengths is put beside fetches through this gate by these connections: not where
+/// there is nothing to write, nor where the gate is open and there is one connection alone, which answers at once.
+fn writes_beside<G: Gate, C: Client>(gate: &G, lengths: &[u64], clients: &[C]) -> bool {
+    total(lengths) != 0 && (!gate.is_open() || clients.len() != 1 || clients[0].waits())
 }
 
 /// The sum of these lengths, which stops at `u64::MAX`.
@@ -111,14 +111,14 @@ fn fetch_blocks<
         (record { clients = map C.told clients.new; writer = writer.new }) result }
     ensures parts { pass.new.share.parts ≡ pass.old.share.parts }
 {
-    let made = match fetches(around.alloc, leader, places) {
-        Ok(made) => made,
-        Err(error) => return Err(error),
-    };
     match record_blocks(around.rt, around.state, pass, places.len()) {
         Ok(()) => {}
         Err(error) => return Err(error),
     }
+    let made = match fetches(around.alloc, leader, places) {
+        Ok(made) => made,
+        Err(error) => return Err(error),
+    };
     match fetch_and_write(
         around.rt,
         around.alloc,

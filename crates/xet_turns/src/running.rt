@@ -5,7 +5,7 @@ ghost use Rattle.xet_ties.specs.RunCalls.{RunCall};
 ghost use Rattle.xet_ties.specs.Setup.{told_of};
 ghost use Rattle.xet_turns.specs.Ending.{RunEnds};
 ghost use Rattle.xet_leader.specs.Led.{setup_of_job};
-ghost use Rattle.xet_turns.specs.LoopRuns.{IsFresh, RunLed};
+ghost use Rattle.xet_turns.specs.LoopRuns.{IsFresh};
 
 use crate::empty::run_empty;
 use crate::ending::end_run;
@@ -34,75 +34,6 @@ pub struct Order<P: FetchPolicy> {
     pub policy: P,
     /// Where it reports what is planned, transferred and written.
     pub progress: Option<ItemProgressUpdater>,
-}
-
-/// The run up to its end.
-fn lead_from_start<
-    R: Threads + Wait + Sync,
-    G: Gate + Sync,
-    L: Ledger + Send + Sync,
-    P: FetchPolicy + Drop,
-    C: Client + Send,
-    K: ChunkCache,
-    X: CancelSignal,
-    S: Sink,
-    B: BudgetSource,
-    E: EventLog,
->(
-    rt: &R,
-    alloc: Global,
-    gate: &G,
-    blank: Blank,
-    order: Order<P>,
-    core: &mut RunCore<E>,
-    budget: &mut B,
-    clients: &mut [C],
-    cache: &mut K,
-    cancel: &mut X,
-    writer: &mut SequentialWriter<S>,
-) -> Result<()>
-    requires name { blank.name ≡ L.name }
-    requires parts { (blank.parts ≡ L.parts) × (L.parts ≡ 2 ^ 32) }
-    requires none { core.old ≡ [] }
-    requires settings { failing_setting (setup_of_job order.job) (map C.told clients.old) ≡ None }
-    requires some { order.job.byte_range.start < order.job.byte_range.end }
-    requires fresh { IsFresh writer.old }
-    ensures { RunLed S.told (setup_of_job order.job)
-        (told_of C.told K.told X.told S.told B.told clients.old cache.old cancel.old writer.old.sink budget.old)
-        (record {
-          told = told_of C.told K.told X.told S.told B.told clients.new cache.new cancel.new
-              writer.new.sink budget.new;
-          events = core.new;
-        }) writer.new result }
-{
-    let Order {
-        job,
-        policy,
-        progress,
-    } = order;
-    let (state, mut pass) = RunState::<L>::new(alloc, blank, job.file_hash)?;
-    let mut leader = match Leader::new(alloc, &job, policy, progress) {
-        Ok(leader) => leader,
-        Err(error) => return Err(error),
-    };
-    let around = Around {
-        rt,
-        alloc,
-        gate,
-        state: &state,
-    };
-    lead(
-        &around,
-        &mut pass,
-        job,
-        &mut leader,
-        core,
-        budget,
-        clients,
-        cache,
-        cancel,
-        writer,
-    )
 }
 
 /// The run over a writer that took nothing yet.
@@ -145,10 +76,38 @@ fn run_with<
           events = core.new;
         }) result }
 {
-    let led = lead_from_start::<R, G, L, P, C, K, X, S, B, E>(
-        rt, alloc, gate, blank, order, core, budget, clients, cache, cancel, writer,
-    );
-    end_run(alloc, core, writer, led)
+    let Order {
+        job,
+        policy,
+        progress,
+    } = order;
+    match Leader::new(alloc, &job, policy, progress) {
+        Ok(mut leader) => {
+            let Ok((state, mut pass)) = RunState::<L>::new(alloc, blank, job.file_hash) else {
+                unreachable!()
+            };
+            let around = Around {
+                rt,
+                alloc,
+                gate,
+                state: &state,
+            };
+            let led = lead(
+                &around,
+                &mut pass,
+                job,
+                &mut leader,
+                core,
+                budget,
+                clients,
+                cache,
+                cancel,
+                writer,
+            );
+            end_run(alloc, core, writer, led)
+        }
+        Err(error) => end_run(alloc, core, writer, Err(error)),
+    }
 }
 
 /// The run over a sink that it is lent, where all settings can be met and the range has bytes, under a ledger of its

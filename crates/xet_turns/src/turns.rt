@@ -45,7 +45,7 @@ pub fn lead<
     job: Job,
     leader: &mut Leader<P>,
     core: &mut RunCore<E>,
-    source: &mut B,
+    budget: &mut B,
     clients: &mut [C],
     cache: &mut K,
     cancel: &mut X,
@@ -55,17 +55,17 @@ pub fn lead<
     requires some { 0 < length clients.old }
     requires steady { IsSteadyRun S.told (setup_of_job job)
         (record {
-          told = told_of C.told K.told X.told S.told B.told clients.old cache.old cancel.old writer.old.sink source.old;
+          told = told_of C.told K.told X.told S.told B.told clients.old cache.old cancel.old writer.old.sink budget.old;
           events = core.old;
         })
         leader.old writer.old }
     ensures run { LeadRun S.told (setup_of_job job)
         (record {
-          told = told_of C.told K.told X.told S.told B.told clients.old cache.old cancel.old writer.old.sink source.old;
+          told = told_of C.told K.told X.told S.told B.told clients.old cache.old cancel.old writer.old.sink budget.old;
           events = core.old;
         })
         (record {
-          told = told_of C.told K.told X.told S.told B.told clients.new cache.new cancel.new writer.new.sink source.new;
+          told = told_of C.told K.told X.told S.told B.told clients.new cache.new cancel.new writer.new.sink budget.new;
           events = core.new;
         })
         leader.old leader.new writer.old writer.new result }
@@ -73,7 +73,7 @@ pub fn lead<
 {
     'lead: loop {
         match turn(
-            around, leader, core, pass, clients, cache, cancel, writer, source, job,
+            around, pass, job, leader, core, budget, clients, cache, cancel, writer,
         ) {
             Ok(true) => return Ok(()),
             Ok(false) => {}
@@ -87,48 +87,48 @@ pub fn lead<
 /// The error of the part that failed: of `ask`, `admit`, `join` or `settle`.
 pub fn turn<
     R: Threads + Wait + Sync,
+    G: Gate + Sync,
+    L: Ledger + Send + Sync,
     P: FetchPolicy,
     C: Client + Send,
     K: ChunkCache,
     X: CancelSignal,
-    G: Gate + Sync,
-    L: Ledger + Send + Sync,
     S: Sink,
     B: BudgetSource,
     E: EventLog,
 >(
     around: &Around<R, G, L>,
+    pass: &mut RunPass<L>,
+    job: Job,
     leader: &mut Leader<P>,
     core: &mut RunCore<E>,
-    pass: &mut RunPass<L>,
+    budget: &mut B,
     clients: &mut [C],
     cache: &mut K,
     cancel: &mut X,
     writer: &mut SequentialWriter<S>,
-    source: &mut B,
-    job: Job,
 ) -> Result<bool>
     requires parts { 65536 < pass.old.share.parts }
     requires some { 0 < length clients.old }
     requires steady { IsSteadyRun S.told (setup_of_job job)
         (record {
-          told = told_of C.told K.told X.told S.told B.told clients.old cache.old cancel.old writer.old.sink source.old;
+          told = told_of C.told K.told X.told S.told B.told clients.old cache.old cancel.old writer.old.sink budget.old;
           events = core.old;
         })
         leader.old writer.old }
     ensures call { TurnCall S.told (setup_of_job job)
         (record {
-          told = told_of C.told K.told X.told S.told B.told clients.old cache.old cancel.old writer.old.sink source.old;
+          told = told_of C.told K.told X.told S.told B.told clients.old cache.old cancel.old writer.old.sink budget.old;
           events = core.old;
         })
         (record {
-          told = told_of C.told K.told X.told S.told B.told clients.new cache.new cancel.new writer.new.sink source.new;
+          told = told_of C.told K.told X.told S.told B.told clients.new cache.new cancel.new writer.new.sink budget.new;
           events = core.new;
         })
         leader.old leader.new writer.old writer.new result }
     ensures parts { pass.new.share.parts ≡ pass.old.share.parts }
 {
-    match start(around, leader, core, pass, clients, cancel, source, job) {
+    match start(around, leader, core, pass, clients, cancel, budget, job) {
         Ok(true) => return Ok(true),
         Ok(false) => {}
         Err(error) => return Err(error),
@@ -209,7 +209,7 @@ fn join_and_settle<
         Err(error) => return Err(error),
     };
     let multirange = job.config.enable_multirange_fetching;
-    match settle_outcome(
+    settle_outcome(
         around.alloc,
         leader,
         core,
@@ -217,11 +217,7 @@ fn join_and_settle<
         cache,
         &outcome,
         multirange,
-    ) {
-        Ok(()) => {}
-        Err(error) => return Err(error),
-    }
-    Ok(())
+    )
 }
 
 /// Offers to the cache the blocks that a join was served, and then asks the first connection for the URLs of its stale

@@ -1,4 +1,4 @@
-use Rattle.std.proofs.Common.{length, refl}
+use Rattle.std.proofs.Common.{ℕ, ◌<◌, length, refl, subst, sym}
 use Rattle.std.proofs.lemmas.Option.{slice_get_read}
 use Rattle.xet_leader.proofs.refreshing.refresh_at.Goals as goal
 
@@ -11,3 +11,10 @@ returns g c = record {
   call = c.refresh_table.ensures;
   plans = refl;
 }
+
+pub index_mut-requires : goal.index_mut-requires
+index_mut-requires g c =
+    subst (λ (n : ℕ). c.args.place < n) (sym c.args.plans.now.ok.0) c.requires.within
+
+pub refresh_table-requires : goal.refresh_table-requires
+refresh_table-requires g c = c.requires.allowed

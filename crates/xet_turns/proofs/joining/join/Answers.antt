@@ -1,4 +1,4 @@
-use Rattle.std.proofs.Common.{◌≡◌, inl, refl, rules}
+use Rattle.std.proofs.Common.{inl, refl}
 use Rattle.xet_turns.specs.JoinedRuns.{Touching}
 use Rattle.xet_turns.proofs.JoinedRuns.{can_round, join_done, join_refused, led_by}
 use Rattle.xet_turns.proofs.JoinSteps.{join_ran}
@@ -45,8 +45,7 @@ run_round-requires-clause-can g c κs within =
           c.prepare.new.leader;
       writer = c.prepare.new.writer;
     } in
-    let same : c.as_slice.result.now ≡ c.in-Ok.prepared.places = search rules in
-    can_round _ _ a z c.in-Ok.prepared c.as_slice.result.now same c.requires.can c.in-Ok.ensures.leads
+    can_round _ _ a z c.in-Ok.prepared c.as_slice.result.now c.as_slice.ensures c.requires.can c.in-Ok.ensures.leads
 
 pub returns-clause-leads : goal.returns-clause-leads
 returns-clause-leads g c =
@@ -66,8 +65,8 @@ returns-clause-leads g c =
           c.prepare.new.leader;
       writer = c.prepare.new.writer;
     } in
-    let same : c.as_slice.result.now ≡ c.in-Ok.prepared.places = search rules in
-    join_done _ _ _ _ a z _ _ _ c.in-Ok.prepared c.as_slice.result.now c.run_round.result same c.in-Ok.ensures.leads
+    join_done _ _ _ _ a z _ _ _ c.in-Ok.prepared c.as_slice.result.now c.run_round.result c.as_slice.ensures
+    c.in-Ok.ensures.leads
     c.run_round.ensures.leads
 
 pub returns-in-Err-clause-turn : goal.returns-in-Err-clause-turn
@@ -75,11 +74,19 @@ returns-in-Err-clause-turn g c = inl (record { fails = tt; clients = refl })
 
 pub returns-clause-turn : goal.returns-clause-turn
 returns-clause-turn g c =
-    let same : c.as_slice.result.now ≡ c.in-Ok.prepared.places = search rules in
     join_ran _ _ _ _ (record {
       cache = g.K.ChunkCache.told c.prepare.new.cache;
       signal = g.X.CancelSignal.told c.prepare.new.cancel;
       events = c.prepare.new.core;
       led = c.prepare.new.leader;
       writer = c.prepare.new.writer;
-    }) c.in-Ok.prepared c.as_slice.result.now c.run_round.result same c.in-Ok.ensures.turn c.run_round.ensures.turn
+    }) c.in-Ok.prepared c.as_slice.result.now c.run_round.result c.as_slice.ensures c.in-Ok.ensures.turn c.run_round.ensures.turn
+
+pub run_round-requires-clause-parts : goal.run_round-requires-clause-parts
+run_round-requires-clause-parts g c κs within = c.requires.parts
+
+pub returns-in-Err-clause-parts : goal.returns-in-Err-clause-parts
+returns-in-Err-clause-parts g c = refl
+
+pub returns-clause-parts : goal.returns-clause-parts
+returns-clause-parts g c = c.run_round.ensures.parts

@@ -1,4 +1,4 @@
-use Rattle.std.proofs.Common.{Err, Ok, map, refl}
+use Rattle.std.proofs.Common.{map, refl}
 use Rattle.xet_turns.specs.JoinedRuns.{Joining}
 use Rattle.xet_leader.specs.Led.{setup_of_job}
 use Rattle.xet_turns.proofs.JoinSteps.{join_counts}
@@ -94,43 +94,6 @@ settle_outcome-requires-clause-stale g c =
     (can_settle g.S.Sink.told (setup_of_job c.args.job) c.args.job.config.tries a y c.in-Ok.outcome refl
     c.requires.can c.in-Ok.ensures.leads).stale
 
-pub returns-in-Err-settle_outcome-clause-leads : goal.returns-in-Err-settle_outcome-clause-leads
-returns-in-Err-settle_outcome-clause-leads g c =
-    let a : Joining _ = record {
-      clients = map g.C.Client.told c.args.clients.now;
-      cache =
-          g.K.ChunkCache.told c.args.cache.now;
-      signal = g.X.CancelSignal.told c.args.cancel.now;
-      events =
-          c.args.core.now;
-      led = c.args.leader.now;
-      writer = c.args.writer.now;
-    } in
-    let y : Joining _ = record {
-      clients = map g.C.Client.told c.join.new.clients;
-      cache =
-          g.K.ChunkCache.told c.join.new.cache;
-      signal = g.X.CancelSignal.told c.join.new.cancel;
-      events =
-          c.join.new.core;
-      led = c.join.new.leader;
-      writer = c.join.new.writer;
-    } in
-    let z : Joining _ = record {
-      clients = map g.C.Client.told c.settle_outcome.new.clients;
-      cache =
-          g.K.ChunkCache.told c.settle_outcome.new.cache;
-      signal = g.X.CancelSignal.told c.join.new.cancel;
-      events =
-          c.settle_outcome.new.core;
-      led = c.settle_outcome.new.leader;
-      writer = c.join.new.writer;
-    } in
-    work_leads g.S.Sink.told (setup_of_job c.args.job) c.args.job.config.tries
-    c.args.job.config.enable_multirange_fetching c.in-Ok.outcome a y z
-    (Err c.in-Err-settle_outcome.error) refl refl c.in-Ok.ensures.leads c.in-Err-settle_outcome.ensures refl refl
-    (join_counts _ _ a y c.in-Ok.outcome c.in-Ok.ensures.turn)
-
 pub returns-clause-leads : goal.returns-clause-leads
 returns-clause-leads g c =
     let a : Joining _ = record {
@@ -165,5 +128,14 @@ returns-clause-leads g c =
     } in
     work_leads g.S.Sink.told (setup_of_job c.args.job) c.args.job.config.tries
     c.args.job.config.enable_multirange_fetching c.in-Ok.outcome a y z
-    (Ok tt) refl refl c.in-Ok.ensures.leads c.in-Ok-settle_outcome.ensures refl refl
+    c.settle_outcome.result refl refl c.in-Ok.ensures.leads c.settle_outcome.ensures refl refl
     (join_counts _ _ a y c.in-Ok.outcome c.in-Ok.ensures.turn)
+
+pub join-requires-clause-parts : goal.join-requires-clause-parts
+join-requires-clause-parts g c κs within = c.requires.parts
+
+pub returns-in-Err-clause-parts : goal.returns-in-Err-clause-parts
+returns-in-Err-clause-parts g c = c.in-Err.ensures.parts
+
+pub returns-clause-parts : goal.returns-clause-parts
+returns-clause-parts g c = c.in-Ok.ensures.parts

@@ -12,11 +12,11 @@ turn-requires-clause-steady g c κs within =
     let setup = setup_of_job c.args.job in
     let m : Moment = record {
       told = told c.args.clients.now c.args.cache.now c.args.cancel.now c.args.writer.now.sink
-          c.args.source.now;
+          c.args.budget.now;
       events = c.args.core.now;
     } in
     let n : Moment = record {
-      told = told c.lead.clients c.lead.cache c.lead.cancel c.lead.writer.sink c.lead.source;
+      told = told c.lead.clients c.lead.cache c.lead.cancel c.lead.writer.sink c.lead.budget;
       events = c.lead.core;
     } in
     still_steady sink setup m n n c.args.leader.now c.lead.leader c.lead.leader c.args.writer.now c.lead.writer
@@ -29,16 +29,16 @@ returns-in-Ok-true-clause-run g c =
     let setup = setup_of_job c.args.job in
     let m : Moment = record {
       told = told c.args.clients.now c.args.cache.now c.args.cancel.now c.args.writer.now.sink
-          c.args.source.now;
+          c.args.budget.now;
       events = c.args.core.now;
     } in
     let n : Moment = record {
-      told = told c.lead.clients c.lead.cache c.lead.cancel c.lead.writer.sink c.lead.source;
+      told = told c.lead.clients c.lead.cache c.lead.cancel c.lead.writer.sink c.lead.budget;
       events = c.lead.core;
     } in
     let p : Moment = record {
       told = told c.turn.new.clients c.turn.new.cache c.turn.new.cancel c.turn.new.writer.sink
-          c.turn.new.source;
+          c.turn.new.budget;
       events = c.turn.new.core;
     } in
     run_done sink setup m n p c.args.leader.now c.lead.leader c.turn.new.leader c.args.writer.now c.lead.writer
@@ -51,16 +51,16 @@ lead-preserved g c =
     let setup = setup_of_job c.args.job in
     let m : Moment = record {
       told = told c.args.clients.now c.args.cache.now c.args.cancel.now c.args.writer.now.sink
-          c.args.source.now;
+          c.args.budget.now;
       events = c.args.core.now;
     } in
     let n : Moment = record {
-      told = told c.lead.clients c.lead.cache c.lead.cancel c.lead.writer.sink c.lead.source;
+      told = told c.lead.clients c.lead.cache c.lead.cancel c.lead.writer.sink c.lead.budget;
       events = c.lead.core;
     } in
     let p : Moment = record {
       told = told c.turn.new.clients c.turn.new.cache c.turn.new.cancel c.turn.new.writer.sink
-          c.turn.new.source;
+          c.turn.new.budget;
       events = c.turn.new.core;
     } in (
       run_more sink setup m n p c.args.leader.now c.lead.leader c.turn.new.leader c.args.writer.now c.lead.writer
@@ -75,16 +75,16 @@ lead-smaller g c =
     let setup = setup_of_job c.args.job in
     let m : Moment = record {
       told = told c.args.clients.now c.args.cache.now c.args.cancel.now c.args.writer.now.sink
-          c.args.source.now;
+          c.args.budget.now;
       events = c.args.core.now;
     } in
     let n : Moment = record {
-      told = told c.lead.clients c.lead.cache c.lead.cancel c.lead.writer.sink c.lead.source;
+      told = told c.lead.clients c.lead.cache c.lead.cancel c.lead.writer.sink c.lead.budget;
       events = c.lead.core;
     } in
     let p : Moment = record {
       told = told c.turn.new.clients c.turn.new.cache c.turn.new.cancel c.turn.new.writer.sink
-          c.turn.new.source;
+          c.turn.new.budget;
       events = c.turn.new.core;
     } in
     run_falls sink setup m n p c.args.leader.now c.lead.leader c.turn.new.leader c.args.writer.now c.lead.writer
@@ -97,7 +97,7 @@ lead-init g c =
     let told = told_of g.C.Client.told g.K.ChunkCache.told g.X.CancelSignal.told sink g.B.BudgetSource.told in
     let m : Moment = record {
       told = told c.args.clients.now c.args.cache.now c.args.cancel.now c.args.writer.now.sink
-          c.args.source.now;
+          c.args.budget.now;
       events = c.args.core.now;
     } in (run_start sink (setup_of_job c.args.job) m c.args.leader.now c.args.writer.now, refl)
 
@@ -114,16 +114,16 @@ returns-in-Err-clause-run g c =
     let setup = setup_of_job c.args.job in
     let m : Moment = record {
       told = told c.args.clients.now c.args.cache.now c.args.cancel.now c.args.writer.now.sink
-          c.args.source.now;
+          c.args.budget.now;
       events = c.args.core.now;
     } in
     let n : Moment = record {
-      told = told c.lead.clients c.lead.cache c.lead.cancel c.lead.writer.sink c.lead.source;
+      told = told c.lead.clients c.lead.cache c.lead.cancel c.lead.writer.sink c.lead.budget;
       events = c.lead.core;
     } in
     let p : Moment = record {
       told = told c.turn.new.clients c.turn.new.cache c.turn.new.cancel c.turn.new.writer.sink
-          c.turn.new.source;
+          c.turn.new.budget;
       events = c.turn.new.core;
     } in
     run_fails sink setup m n p c.args.leader.now c.lead.leader c.turn.new.leader c.args.writer.now c.lead.writer

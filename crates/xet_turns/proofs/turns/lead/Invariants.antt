@@ -12,11 +12,11 @@ invariant-lead g l =
     let sink = g.S.Sink.told in
     let told = told_of g.C.Client.told g.K.ChunkCache.told g.X.CancelSignal.told sink g.B.BudgetSource.told in
     let m : Moment = record {
-      told = told l.fn.clients l.fn.cache l.fn.cancel l.fn.writer.sink l.fn.source;
+      told = told l.fn.clients l.fn.cache l.fn.cancel l.fn.writer.sink l.fn.budget;
       events =
           l.fn.core;
     } in
-    let n : Moment = record { told = told l.clients l.cache l.cancel l.writer.sink l.source; events = l.core } in
+    let n : Moment = record { told = told l.clients l.cache l.cancel l.writer.sink l.budget; events = l.core } in
     SoFar sink (setup_of_job l.job) m n l.fn.leader l.leader l.fn.writer l.writer
     × (l.pass.share.parts ≡ l.fn.pass.share.parts)
 

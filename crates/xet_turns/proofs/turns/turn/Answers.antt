@@ -1,4 +1,4 @@
-use Rattle.std.proofs.Common.{refl, rules}
+use Rattle.std.proofs.Common.{◌∙◌, refl, rules}
 use Rattle.xet_ties.specs.Setup.{told_of}
 use Rattle.xet_leader.specs.Led.{setup_of_job}
 use Rattle.xet_leader.specs.Steady.{Moment}
@@ -18,7 +18,7 @@ returns-in-Ok-true-clause-call g c =
     let setup = setup_of_job c.args.job in
     let m : Moment = record {
       told = told c.args.clients.now c.args.cache.now c.args.cancel.now c.args.writer.now.sink
-          c.args.source.now;
+          c.args.budget.now;
       events = c.args.core.now;
     } in
     let n : Moment = record {
@@ -36,7 +36,7 @@ returns-in-Err-clause-call g c =
     let setup = setup_of_job c.args.job in
     let m : Moment = record {
       told = told c.args.clients.now c.args.cache.now c.args.cancel.now c.args.writer.now.sink
-          c.args.source.now;
+          c.args.budget.now;
       events = c.args.core.now;
     } in
     let n : Moment = record {
@@ -54,7 +54,7 @@ join_and_settle-requires-clause-can g c κs within =
     let setup = setup_of_job c.args.job in
     let m : Moment = record {
       told = told c.args.clients.now c.args.cache.now c.args.cancel.now c.args.writer.now.sink
-          c.args.source.now;
+          c.args.budget.now;
       events = c.args.core.now;
     } in
     let n : Moment = record {
@@ -73,7 +73,7 @@ returns-in-Ok-clause-call g c =
     let setup = setup_of_job c.args.job in
     let m : Moment = record {
       told = told c.args.clients.now c.args.cache.now c.args.cancel.now c.args.writer.now.sink
-          c.args.source.now;
+          c.args.budget.now;
       events = c.args.core.now;
     } in
     let n : Moment = record {
@@ -99,7 +99,7 @@ returns-in-Err-join_and_settle-clause-call g c =
     let setup = setup_of_job c.args.job in
     let m : Moment = record {
       told = told c.args.clients.now c.args.cache.now c.args.cancel.now c.args.writer.now.sink
-          c.args.source.now;
+          c.args.budget.now;
       events = c.args.core.now;
     } in
     let n : Moment = record {
@@ -117,3 +117,22 @@ returns-in-Err-join_and_settle-clause-call g c =
     c.in-Ok-false.field-0 p c.join_and_settle.new.leader c.join_and_settle.new.writer
     c.in-Err-join_and_settle.error (c.in-Ok-false.ensures.leads m refl refl refl refl)
     (c.in-Err-join_and_settle.ensures.leads n (record { clients = refl; cache = refl; signal = refl; events = refl }))
+
+pub start-requires-clause-some : goal.start-requires-clause-some
+start-requires-clause-some g c = c.requires.some
+
+pub join_and_settle-requires-clause-parts : goal.join_and_settle-requires-clause-parts
+join_and_settle-requires-clause-parts g c κs within = rw c.in-Ok-false.ensures.parts c.requires.parts
+
+pub returns-in-Ok-true-clause-parts : goal.returns-in-Ok-true-clause-parts
+returns-in-Ok-true-clause-parts g c = c.in-Ok-true.ensures.parts
+
+pub returns-in-Err-clause-parts : goal.returns-in-Err-clause-parts
+returns-in-Err-clause-parts g c = c.in-Err.ensures.parts
+
+pub returns-in-Ok-clause-parts : goal.returns-in-Ok-clause-parts
+returns-in-Ok-clause-parts g c = c.in-Ok.ensures.parts ∙ c.in-Ok-false.ensures.parts
+
+pub returns-in-Err-join_and_settle-clause-parts : goal.returns-in-Err-join_and_settle-clause-parts
+returns-in-Err-join_and_settle-clause-parts g c =
+    c.in-Err-join_and_settle.ensures.parts ∙ c.in-Ok-false.ensures.parts
