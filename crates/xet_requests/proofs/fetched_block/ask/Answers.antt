@@ -1,4 +1,4 @@
-use Rattle.std.proofs.Common.{◌≡◌, ◌∙◌, ap, Err, None, Ok, Some, inl, inr, refl}
+use Rattle.std.proofs.Common.{◌≡◌, ◌∙◌, ap, Err, Ok, Some, inl, inr, refl}
 use Rattle.xet_base.proofs.CallerLemmas.{err-of}
 use Rattle.xet_outside.specs.declared.block.BlockAnswer.TheVariants.{Bytes, Expired}
 use Rattle.xet_outside.specs.declared.client.ClientError.{ClientError}
