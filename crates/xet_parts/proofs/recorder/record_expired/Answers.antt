@@ -27,5 +27,5 @@ returns-in-Err g c = short_at (expired_event c.args.lane) c.args.steps.now c.loo
     c.loop-step.invariant
 
 pub returns : goal.returns
-returns g c = so_all (expired_event c.args.lane) c.args.steps.now c.loop-step.step-index c.args.core.now c.loop-step.core
-    c.loop-step-test.false c.loop-step.invariant
+returns g c = so_all (expired_event c.args.lane) c.args.steps.now c.loop-step.step-index
+    c.args.core.now c.loop-step.core c.loop-step-test.false c.loop-step.invariant
