@@ -1,9 +1,11 @@
 -- The steps of asking for the plan that is due.
-use Rattle.std.proofs.Common.{◌≡◌, ℕ, ◌+◌, ◌^◌, ◌<◌, List, [], ◌∷◌, ◌++◌, length, sym, subst, ◌∙◌, ap, Option, Some, Ok}
-use Rattle.std.specs.Prelude.{true, MatchOption}
+use Rattle.std.proofs.Common.{◌≡◌, ℕ, zero, suc, ◌+◌, ◌^◌, ◌<◌, ◌≤◌, List, [], ◌∷◌, ◌++◌, length, take, refl, sym, subst, ◌∙◌, ap, arith, Option, Some, Ok}
+use Rattle.std.specs.Prelude.{true, MatchOption, map}
+use Rattle.std.proofs.lemmas.List.{take_all}
 use Rattle.xet_outside.specs.Told.{ClientTold, SignalTold}
 use Rattle.xet_blocks.specs.declared.reconstruction_terms.file_term.TermBlock.{TermBlock}
 use Rattle.xet_blocks.specs.PlanQuery.{PlanQuery}
+use Rattle.xet_offers.specs.declared.reconstruction_terms.xorb_block.XorbBlock.{XorbBlock}
 use Rattle.xet_events.specs.declared.event.Event.{Event}
 use Rattle.xet_terms.specs.Managers.{Manager}
 use Rattle.xet_terms.specs.declared.manager.PlanDue.{PlanDue}
@@ -124,3 +126,23 @@ one_asked j cs ns x y es fs v l w k middle o d same is call asked rest hands =
 pub allowed_inside : (v l : Led) (es : List Event) (query : PlanQuery) → v ≡ l → PlansAllowed l.manager es query
     → PlansAllowed v.manager es query
 allowed_inside v l es query same a = subst (λ (z : Led). PlansAllowed z.manager es query) (sym same) a
+
+-- one more block without tries
+zeros : (xs : List XorbBlock) (i : ℕ) → i < length xs
+    → map {B = ℕ} (λ (x : XorbBlock). 0) (take (suc i) xs) ≡ map {B = ℕ} (λ (x : XorbBlock). 0) (take i xs) ++ 0 ∷ []
+zeros [] i h = absurd (omega arith)
+zeros (x ∷ xs) zero h = refl
+zeros (x ∷ xs) (suc i) h = ap (λ (l : List ℕ). 0 ∷ l) (zeros xs i (omega arith))
+
+pub tries_more : (xs : List XorbBlock) (i : ℕ) (ts us : List ℕ) → i < length xs
+    → ts ≡ map {B = ℕ} (λ (x : XorbBlock). 0) (take i xs) → us ≡ ts ++ 0 ∷ []
+    → us ≡ map {B = ℕ} (λ (x : XorbBlock). 0) (take (i + 1) xs)
+tries_more xs i ts us h before more =
+    let e : suc i ≡ i + 1 = omega arith in
+    more ∙ ap (λ (l : List ℕ). l ++ 0 ∷ []) before ∙ sym (zeros xs i h)
+    ∙ ap (λ (n : ℕ). map {B = ℕ} (λ (x : XorbBlock). 0) (take n xs)) e
+
+-- all of them
+pub tries_all : (xs : List XorbBlock) (i : ℕ) (ts : List ℕ) → length xs ≤ i
+    → ts ≡ map {B = ℕ} (λ (x : XorbBlock). 0) (take i xs) → ts ≡ map {B = ℕ} (λ (x : XorbBlock). 0) xs
+tries_all xs i ts h are = are ∙ ap (λ (l : List XorbBlock). map {B = ℕ} (λ (x : XorbBlock). 0) l) (take_all i xs h)

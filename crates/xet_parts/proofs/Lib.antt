@@ -6,6 +6,7 @@ mod AskTies
 pub mod CallerLemmas
 mod Dues
 mod OfferTies
+mod Recording
 mod RefreshCauses
 mod RefreshTies
 mod Running

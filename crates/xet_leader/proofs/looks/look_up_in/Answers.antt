@@ -1,6 +1,14 @@
-use Rattle.std.proofs.Common.{◌∙◌}
+use Rattle.std.proofs.Common.{ℕ, ◌<◌, ◌∙◌, List, length, subst, sym}
+use Rattle.xet_offers.specs.declared.reconstruction_terms.xorb_block.XorbBlock.{XorbBlock}
 use Rattle.xet_leader.proofs.LookSteps.{block_again, block_read, looked_in}
 use Rattle.xet_leader.proofs.looks.look_up_in.Goals as goal
+
+pub index_mut-requires : goal.index_mut-requires
+index_mut-requires g c =
+    let xs = c.into_inner-blocks.result in
+    let same = c.into_inner-blocks.ensures ∙ c.replace-blocks.ensures.value in
+    subst (λ (n : ℕ). c.args.place.block < n) (sym xs.ok.0)
+    (subst (λ (ys : List XorbBlock). c.args.place.block < length ys) (sym same) c.requires.within)
 
 pub look_up_one-found-requires : goal.look_up_one-found-requires
 look_up_one-found-requires g c =

@@ -1,5 +1,5 @@
 use Rattle.std.proofs.Common.{◌<◌, arith}
-use Rattle.xet_parts.proofs.Admitting.{admitting_done, admitting_more, admitting_short, admitting_stuck}
+use Rattle.xet_parts.proofs.Admitting.{admitting_done, admitting_more, admitting_short, admitting_start, admitting_stuck}
 use Rattle.xet_parts.proofs.admission.admit_terms.Goals as goal
 
 pub loop-left-preserved : goal.loop-left-preserved
@@ -17,3 +17,6 @@ returns-in-Err-OutOfMemory g c = admitting_short _ _ _ _ _ _ _ _ _ c.loop-left.i
 
 pub returns : goal.returns
 returns g c = admitting_done _ _ _ _ _ _ c.loop-left.invariant (omega arith)
+
+pub loop-left-init : goal.loop-left-init
+loop-left-init g c = admitting_start _ _ _
