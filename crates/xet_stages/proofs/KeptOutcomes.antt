@@ -1,13 +1,15 @@
 -- What a join came to, kept lane by lane.
-use Rattle.std.proofs.Common.{◌≡◌, ℕ, true, List, [], ◌∷◌, ◌++◌, length, refl, sym, ◌∙◌, ap, inl, inr, ⊎_elim}
-use Rattle.std.specs.Prelude.{map}
+use Rattle.std.proofs.Common.{◌≡◌, ℕ, true, List, [], ◌∷◌, ◌++◌, length, refl, sym, subst, ◌∙◌, ap, inl, inr, ⊎_elim, Ok, Err}
+use Rattle.std.specs.Prelude.{IfErr, IfOk, None, Result, Some, map}
 use Rattle.std.specs.List.{flat_map}
 use Rattle.std.proofs.lemmas.Grind.{flat_map-append}
 use Rattle.xet_error.specs.declared.error.FileReconstructionError.{FileReconstructionError}
 use Rattle.xet_error.specs.declared.error.FileReconstructionError.TheVariants as error
+use Rattle.xet_events.specs.declared.event.Event.{Event}
 use Rattle.xet_ties.specs.declared.lane_step.LaneStep.{LaneStep}
-use Rattle.xet_ties.specs.Recordings.{Place, places_in, places_of}
+use Rattle.xet_ties.specs.Recordings.{Place, Recorded, places_in, places_of}
 use Rattle.xet_ties.specs.Rounds.{got_in}
+use Rattle.xet_lane.specs.declared.joined.Joined.{Joined}
 use Rattle.xet_lane.specs.declared.joined.LaneEnd.{LaneEnd}
 use Rattle.xet_stages.specs.Advances.{advanced}
 use Rattle.xet_leader.specs.declared.keeping.RoundPlaces.{RoundPlaces}
@@ -16,7 +18,7 @@ use Rattle.xet_leader.specs.declared.missing_blocks.BlockAt.{BlockAt}
 use Rattle.xet_leader.specs.Expiries.{CountFails, CountedLate, counted, spends, stale_after}
 use Rattle.xet_leader.specs.Keeping.{Given, KeptRound, all_steps, given_in, kept, places_at}
 use Rattle.xet_leader.specs.Led.{Led}
-use Rattle.xet_stages.specs.Outcomes.{KeepFails, KeptOutcome, is_spent, plans_after, plans_kept}
+use Rattle.xet_stages.specs.Outcomes.{KeepFails, KeptOutcome, OutcomeFails, TookOutcome, is_spent, join_error, join_events, plans_after, plans_kept}
 use Rattle.xet_leader.specs.Places.{place_at}
 use Rattle.xet_stages.specs.RoundRecords.{lanes_of}
 
@@ -73,3 +75,42 @@ keep_fails tries es l m t late e h listed c =
       sym (ap (λ (bs : List BlockAt). spends tries (map place_at bs) m.plans) listed
           ∙ spent_is tries es l m t h) ∙ x.1,
     )) c
+
+-- ---- with what is recorded
+
+-- all of it is
+all_recorded : (lengths ns : List ℕ) (j : Joined) (es fs : List Event) → ns ≡ lengths
+    → Recorded {A = Unit {0}} es fs (join_events j ns) (Ok tt) → fs ≡ es ++ join_events j lengths
+all_recorded lengths ns j es fs same r = r.all ∙ ap (λ (ks : List ℕ). es ++ join_events j ks) same
+
+-- memory was wanting for that
+pub outcome_short : (tries : ℕ) (lengths ns : List ℕ) (j : Joined) (es fs : List Event) (l : Led)
+    (e : FileReconstructionError) → ns ≡ lengths → Recorded {A = Unit {0}} es fs (join_events j ns) (Err e)
+    → OutcomeFails tries lengths j es fs l e
+outcome_short tries lengths ns j es fs l e same r =
+    inl (subst (λ (ks : List ℕ). Recorded {A = Unit {0}} es fs (join_events j ks) (Err e)) same r)
+
+-- the join has an error
+pub outcome_stops : (tries : ℕ) (lengths ns : List ℕ) (j : Joined) (es fs : List Event) (l : Led)
+    (e : FileReconstructionError) → ns ≡ lengths → Recorded {A = Unit {0}} es fs (join_events j ns) (Ok tt)
+    → Some e ≡ join_error j → OutcomeFails tries lengths j es fs l e
+outcome_stops tries lengths ns j es fs l e same r is =
+    inr (record { recorded = all_recorded lengths ns j es fs same r; stops = inl (sym is) })
+
+-- it has none, and is kept
+pub outcome_took : (tries : ℕ) (lengths ns : List ℕ) (j : Joined) (es fs : List Event) (l k : Led)
+    (answer : Result Outcome FileReconstructionError) → ns ≡ lengths
+    → Recorded {A = Unit {0}} es fs (join_events j ns) (Ok tt) → None ≡ join_error j
+    → IfOk answer (KeptOutcome tries lengths j.ends.items l k) → IfOk answer (TookOutcome tries lengths j es fs l k)
+outcome_took tries lengths ns j es fs l k (Ok o) same r is kept =
+    record { recorded = all_recorded lengths ns j es fs same r; none = sym is; kept = kept }
+outcome_took tries lengths ns j es fs l k (Err e) same r is kept = tt
+
+-- or can't be
+pub outcome_unkept : (tries : ℕ) (lengths ns : List ℕ) (j : Joined) (es fs : List Event) (l : Led)
+    (answer : Result Outcome FileReconstructionError) → ns ≡ lengths
+    → Recorded {A = Unit {0}} es fs (join_events j ns) (Ok tt) → None ≡ join_error j
+    → IfErr answer (KeepFails tries j.ends.items l) → IfErr answer (OutcomeFails tries lengths j es fs l)
+outcome_unkept tries lengths ns j es fs l (Ok o) same r is fails = tt
+outcome_unkept tries lengths ns j es fs l (Err e) same r is fails =
+    inr (record { recorded = all_recorded lengths ns j es fs same r; stops = inr (sym is, fails) })

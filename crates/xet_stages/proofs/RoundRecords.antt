@@ -9,7 +9,7 @@ use Rattle.xet_ties.specs.declared.lane_step.LaneStep.{LaneStep}
 use Rattle.xet_ties.specs.Recordings.{Recorded, lane_events, wrote_of}
 use Rattle.xet_ties.proofs.CallerLemmas.{allowed_first, allowed_rest}
 use Rattle.xet_lane.specs.declared.joined.LaneEnd.{LaneEnd}
-use Rattle.xet_stages.specs.RoundRecords.{lanes_events, lanes_of, window_events}
+use Rattle.xet_stages.specs.RoundRecords.{RoundMayBe, lanes_events, lanes_of, window_events}
 
 -- ---- one list of events after another
 
@@ -167,3 +167,25 @@ round_then es mid new xs ends wrote n ns answer same whole r w =
     (lanes_events (lanes_of ends) ++ window_events o ns) answer) (sym whole)
     (recorded_then es mid new (lanes_events (lanes_of ends)) (wrote_of ns) answer
     (subst (λ (zs : List LaneEnd). Recorded {A = Unit {0}} es mid (lanes_events (lanes_of zs)) (Ok tt)) same r) w)
+
+-- they are recorded, and the window wasn't written
+pub round_unwritten : (es new : List Event) (xs ends : List LaneEnd) (wrote : Result ℕ FileReconstructionError)
+    (e : FileReconstructionError) (ns : List ℕ) → xs ≡ ends → wrote ≡ Err e
+    → Recorded {A = Unit {0}} es new (lanes_events (lanes_of xs)) (Ok tt)
+    → Recorded {A = Unit {0}} es new (lanes_events (lanes_of ends) ++ window_events wrote ns) (Ok tt)
+round_unwritten es new xs ends wrote e ns same not r =
+    subst (λ (o : Result ℕ FileReconstructionError). Recorded {A = Unit {0}} es new
+    (lanes_events (lanes_of ends) ++ window_events o ns) (Ok tt)) (sym not)
+    (recorded_none es new (lanes_events (lanes_of ends))
+    (subst (λ (zs : List LaneEnd). Recorded {A = Unit {0}} es new (lanes_events (lanes_of zs)) (Ok tt)) same r))
+
+-- the events of a window that was written may be recorded then
+pub window_allowed : (es mid : List Event) (xs ends : List LaneEnd) (wrote : Result ℕ FileReconstructionError) (n : ℕ)
+    (ns : List ℕ) → xs ≡ ends → wrote ≡ Ok n → Recorded {A = Unit {0}} es mid (lanes_events (lanes_of xs)) (Ok tt)
+    → RoundMayBe es (lanes_of ends) (window_events wrote ns) → AllowedAfter mid (wrote_of ns)
+window_allowed es mid xs ends wrote n ns same whole r may =
+    let now : mid ≡ es ++ lanes_events (lanes_of ends) =
+    r.all ∙ ap (λ (zs : List LaneEnd). es ++ lanes_events (lanes_of zs)) same in
+    subst (λ (ys : List Event). AllowedAfter ys (wrote_of ns)) (sym now)
+    (subst (λ (o : Result ℕ FileReconstructionError). AllowedAfter (es ++ lanes_events (lanes_of ends))
+    (window_events o ns)) whole may.window_may)

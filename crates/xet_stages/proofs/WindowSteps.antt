@@ -1,5 +1,5 @@
 -- A window of the next terms, made term by term.
-use Rattle.std.proofs.Common.{◌≡◌, inl, inr, ℕ, zero, suc, ◌+◌, ◌-◌, ◌<◌, ◌≤◌, Bool, true, cond, List, [], ◌∷◌, ◌++◌, length, take, drop, get_or, refl, sym, subst, ◌∙◌, ap, arith, Option, Some, None, length-append}
+use Rattle.std.proofs.Common.{◌≡◌, inl, inr, ℕ, zero, suc, ◌+◌, ◌-◌, ◌<◌, ◌≤◌, Bool, true, cond, List, [], ◌∷◌, ◌++◌, length, take, drop, get_or, refl, sym, subst, ◌∙◌, ap, arith, Ok, Option, Some, None, length-append}
 use Rattle.std.specs.Prelude.{filter, map, slice_get}
 use Rattle.std.specs.List.{AllZip}
 use Rattle.std.proofs.lemmas.Bool.{lt-ltb}
@@ -10,7 +10,7 @@ use Rattle.xet_blocks.specs.declared.reconstruction_terms.file_term.FileTerm.{Fi
 use Rattle.xet_writers.specs.Calls.{closed_by}
 use Rattle.xet_writers.specs.Sequential.{Sequential, told_of}
 use Rattle.xet_leader.specs.declared.leader.LedPlan.{LedPlan}
-use Rattle.xet_stages.specs.Windows.{IsPieceIn, PlanTerm, TermQueued, TermRefused, WindowFails, WindowMade, kept_in, led_terms, of_plan, size_in, some_in, with_piece, with_pieces}
+use Rattle.xet_stages.specs.Windows.{IsPieceIn, PlanTerm, TermQueued, TermRefused, TermTurn, WindowFails, WindowMade, kept_in, led_terms, of_plan, size_in, some_in, with_piece, with_pieces}
 
 -- ---- lists
 
@@ -170,6 +170,11 @@ one_queued t v w p h i q =
       each = subst (λ (l : List PlanTerm). AllZip IsPieceIn l (p ∷ [])) (sym f) (i, tt);
       writer = q;
     }
+
+-- one that has bytes, whose block keeps nothing
+pub none_given : {S : Type 0} (t : PlanTerm) (v : Sequential S) → 0 < size_in t → kept_in t ≡ None
+    → TermTurn t v v (Ok None)
+none_given t v h none = (lt-ltb 0 (size_in t) h, none, refl)
 
 -- ---- writers
 

@@ -49,11 +49,13 @@ pub fn take_outcome<P: FetchPolicy, E: EventLog>(
         Ok(()) => {}
         Err(error) => return Err(error),
     }
-    if let Some(error) = joined.first_error() {
-        return Err(error);
+    match joined.first_error() {
+        Some(error) => Err(error),
+        None => {
+            let Joined { ends, wrote: _ } = joined;
+            keep_outcome(alloc, leader, ends, lengths, tries)
+        }
     }
-    let Joined { ends, wrote: _ } = joined;
-    keep_outcome(alloc, leader, ends, lengths, tries)
 }
 
 /// The served blocks keep their data, the expired ones are counted, and the written terms go.

@@ -1,4 +1,4 @@
-use Rattle.std.proofs.Common.{rules, ◌≡◌, length, refl}
+use Rattle.std.proofs.Common.{inl, refl}
 use Rattle.xet_stages.proofs.KeptOutcomes.{keep_fails, kept_outcome}
 use Rattle.xet_stages.proofs.outcomes.keep_outcome.Goals as goal
 
@@ -9,7 +9,18 @@ returns-in-Err-count_expired-clause-fails g c = keep_fails c.args.tries c.args.e
 
 pub returns-clause-kept : goal.returns-clause-kept
 returns-clause-kept g c =
-    let many : c.len.result ≡ length c.args.lengths = search rules in
     kept_outcome c.args.tries c.len.result c.args.lengths c.args.ends.items c.args.leader.now _ _ c.advance.new.leader
     c.in-Ok.places c.as_slice.result.now _ c.in-Ok.ensures c.as_slice.ensures.value
-    c.in-Ok-count_expired.ensures.ok c.advance.ensures many refl refl
+    c.in-Ok-count_expired.ensures.ok c.advance.ensures c.len.ensures refl refl
+
+pub returns-in-Err-clause-kept : goal.returns-in-Err-clause-kept
+returns-in-Err-clause-kept g c = tt
+
+pub returns-in-Err-clause-fails : goal.returns-in-Err-clause-fails
+returns-in-Err-clause-fails g c = inl c.from.ensures
+
+pub returns-in-Err-count_expired-clause-kept : goal.returns-in-Err-count_expired-clause-kept
+returns-in-Err-count_expired-clause-kept g c = tt
+
+pub returns-clause-fails : goal.returns-clause-fails
+returns-clause-fails g c = tt

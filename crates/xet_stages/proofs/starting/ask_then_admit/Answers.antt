@@ -15,3 +15,12 @@ returns-in-Ok-admit g c =
 pub returns-in-Err-admit : goal.returns-in-Err-admit
 returns-in-Err-admit g c = start_stops c.args.job _ _ _ _ _ _ _ _ _ c.args.leader.now c.ask.new.leader
     c.admit.new.leader c.in-Ok.asked c.in-Err-admit.error c.requires.past c.in-Ok.ensures.leads c.in-Err-admit.ensures.leads
+
+pub ask-requires-clause-some : goal.ask-requires-clause-some
+ask-requires-clause-some g c = c.requires.some
+
+pub ask-requires-clause-runs : goal.ask-requires-clause-runs
+ask-requires-clause-runs g c = c.requires.runs
+
+pub ask-requires-clause-led : goal.ask-requires-clause-led
+ask-requires-clause-led g c = c.requires.led
