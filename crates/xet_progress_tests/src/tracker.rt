@@ -323,13 +323,12 @@ fn ended<L: Ledger, R: Wait>(
     show_end(rt, alloc, group, counts, history.as_slice(), told);
 }
 
-/// Makes the calls on a tracker of a group that has so many bytes to transfer already. The calls are no `&str`, since a
-/// call that picks a ledger has none.
-fn tracked<L: Ledger, R: Abort + Wait>(
+/// Makes the calls on a tracker of a group. The calls are no `&str`, since a call that picks a ledger has none.
+fn tracked<L: Ledger, R: Wait>(
     rt: &R,
     alloc: Global,
     blank: Blank,
-    before: u64,
+    group: &Arc<GroupProgress>,
     calls: &String,
     told: &mut String,
 ) -> Result<(), OutOfMemory>
@@ -337,34 +336,49 @@ fn tracked<L: Ledger, R: Abort + Wait>(
     requires parts { blank.parts ≡ L.parts }
     requires all { L.parts ≡ 2 ^ 32 }
 {
-    let group = GroupProgress::new(alloc)?;
-    assert!(rt; group.add_transfer(rt, before, 0).is_ok(), "{before}");
-    let (tracker, pass) = GroupProgress::new_completion_tracker::<L>(&group, alloc, blank)?;
-    ended(rt, alloc, tracker, pass, &group, calls.as_str(), told);
+    let (tracker, pass) = GroupProgress::new_completion_tracker::<L>(group, alloc, blank)?;
+    ended(rt, alloc, tracker, pass, group, calls.as_str(), told);
     Ok(())
 }
 
 /// The same, of a tracker with a name of its own.
-fn of_own_tracker<R: Abort + Wait>(
+fn of_own_tracker<R: Wait>(
     rt: &R,
     alloc: Global,
-    before: u64,
+    group: &Arc<GroupProgress>,
     calls: &String,
     told: &mut String,
 ) -> Result<(), OutOfMemory> {
-    tracked::<Brand, R>(rt, alloc, Blank::new(1 << 32), before, calls, told)
+    tracked::<Brand, R>(rt, alloc, Blank::new(1 << 32), group, calls, told)
 }
 
-/// Makes the calls, and shows where memory was wanting for the tracker.
+/// Makes the calls on a tracker of a group that has so many bytes to transfer already, and shows where memory was
+/// wanting for the tracker.
 fn show_tracker<R: Abort + Wait>(
+    rt: &R,
+    alloc: Global,
+    group: &Arc<GroupProgress>,
+    before: u64,
+    calls: &String,
+    told: &mut String,
+) {
+    assert!(rt; group.add_transfer(rt, before, 0).is_ok(), "{before}");
+    if of_own_tracker(rt, alloc, group, calls, told).is_err() {
+        show(told, &OutOfMemory);
+    }
+}
+
+/// Makes the calls on a tracker of a new group.
+fn show_group<R: Abort + Wait>(
     rt: &R,
     alloc: Global,
     before: u64,
     calls: &String,
     told: &mut String,
 ) {
-    if of_own_tracker(rt, alloc, before, calls, told).is_err() {
-        show(told, &OutOfMemory);
+    match GroupProgress::new(alloc) {
+        Ok(group) => show_tracker(rt, alloc, &group, before, calls, told),
+        Err(OutOfMemory) => show(told, &OutOfMemory),
     }
 }
 
@@ -373,7 +387,7 @@ fn told_tracker<R: Abort + Wait>(rt: &R, alloc: Global, row: &str) -> String {
     let (before, calls) = cut(row, "|");
     let mut told = String::new(alloc);
     if let Ok(calls) = String::from_str(alloc, calls) {
-        show_tracker(rt, alloc, number(before), &calls, &mut told);
+        show_group(rt, alloc, number(before), &calls, &mut told);
     }
     told
 }
