@@ -110,14 +110,6 @@ drawing_step fs b m n drawn drawn' k xs ys a (Ok u) d e at c h =
       did = subst (λ (l : List LaneStep). LaneDid b n (d.made ++ a ∷ []) l) (sym one.added) did;
     }
 
-pub step_last : (fs : List Ask) (b m n : ClientTold) (drawn : List ℕ) (xs ys : List LaneStep) (a : Ask)
-    (answer : Result (Unit {0}) OutOfMemory) → Drawing fs b m drawn xs → LaneCall m n xs ys a answer
-    → is_err answer ≡ false → NoneFailedBefore ys
-step_last fs b m n drawn xs ys a (Err u) d c h = cc
-step_last fs b m n drawn xs ys a (Ok u) d c h =
-    let one = c.added in
-    subst (λ (l : List LaneStep). NoneFailedBefore l) (sym one.added) (before_snoc xs one.step d.good)
-
 pub drawing_goes_on : (fs : List Ask) (b n : ClientTold) (drawn : List ℕ) (ys : List LaneStep) → Stepped fs b n drawn ys
     → last_error ys ≡ None → Drawing fs b n drawn ys
 drawing_goes_on fs b n drawn ys s fine =
@@ -154,10 +146,37 @@ over_ended fs b n v w ss d calm (inr e) =
     let ended : HasEnded false (saw v) ss = λ _ _. ((calm, λ (unseen : true ≡ false). cc), d.good) in
     rw e ended
 
+-- what its pass knows then
+pub over_drawn : (v w : View) → (w ≡ missed v) ⊎ (w ≡ saw v) → w.drawn ≡ v.drawn
+over_drawn v w (inl e) = ap (λ (x : View). x.drawn) e
+over_drawn v w (inr e) = ap (λ (x : View). x.drawn) e
+
+pub over_weight : (v w : View) → (w ≡ missed v) ⊎ (w ≡ saw v) → w.weight ≡ v.weight
+over_weight v w (inl e) = ap (λ (x : View). x.weight) e
+over_weight v w (inr e) = ap (λ (x : View). x.weight) e
+
 pub over_stops : (fs : List Ask) (b n : ClientTold) (v w : View) (ss : List LaneStep) → Drawing fs b n v.drawn ss
     → HasStopped false w ss
 over_stops fs b n v w ss d =
     (λ (short : false ≡ true). cc, λ some. absurd (no_error (last_error ss) (none_last ss d.good) some))
+
+-- ---- a lane that stopped the others
+
+clash : (b : Bool) → b ≡ true → b ≡ false → ⊥
+clash b h f = cc
+
+pub short_ended : (short : Bool) (w : View) (ss : List LaneStep) → short ≡ true → HasEnded short w ss
+short_ended short w ss h = λ f _. absurd (clash short h f)
+
+some_none : (o : Option FileReconstructionError) (e : FileReconstructionError) → o ≡ Some e → o ≡ None → ⊥
+some_none o e h n = cc
+
+pub failed_ended : (short : Bool) (w : View) (ss : List LaneStep) (e : FileReconstructionError) → last_error ss ≡ Some e
+    → HasEnded short w ss
+failed_ended short w ss e h = λ _ none. absurd (some_none (last_error ss) e h none)
+
+pub halted_stops : (short : Bool) (v w : View) (ss : List LaneStep) → w ≡ halted v → HasStopped short w ss
+halted_stops short v w ss h = (λ _. ap (λ (x : View). x.raised) h, λ _. ap (λ (x : View). x.raised) h)
 
 -- ---- what the run was told
 
@@ -206,3 +225,7 @@ drew_one v w k e = ap (λ (v : View). v.drawn) e
 
 pub drew_and_halted : (v w x : View) (k : ℕ) → w ≡ gained v k → x ≡ halted w → x.drawn ≡ v.drawn ++ k ∷ []
 drew_and_halted v w x k e h = ap (λ (v : View). v.drawn) h ∙ drew_one v w k e
+
+-- a pass that drew a number goes on
+pub still_fresh : (v w : View) (k : ℕ) → w ≡ gained v k → v.misses < v.weight → w.misses < w.weight
+still_fresh v w k e h = subst (λ (x : View). x.misses < x.weight) (sym e) h

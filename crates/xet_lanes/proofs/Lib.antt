@@ -1,3 +1,4 @@
+mod Apart
 mod BothHalves
 mod Draws
 mod NewJobs
