@@ -3,7 +3,7 @@ use Rattle.std.proofs.Common.{◌≡◌, ℕ, ◌+◌, ◌-◌, ◌^◌, ◌<◌
 use Rattle.std.specs.Prelude.{IfErr, OnOk, slice_get}
 use Rattle.std.proofs.lemmas.Bool.{eqb-true}
 use Rattle.xet_base.specs.declared.cas_types.FileRange.{FileRange}
-use Rattle.xet_run.specs.declared.budget.Admission.{Admission}
+use Rattle.xet_run.specs.Budgets.{Admission}
 use Rattle.xet_error.specs.declared.error.FileReconstructionError.{FileReconstructionError}
 use Rattle.xet_error.specs.declared.error.FileReconstructionError.TheVariants as error
 use Rattle.xet_error.specs.declared.error.WriterFault.{WriterFault}

@@ -3,7 +3,7 @@ use Rattle.std.specs.Prelude.{ℕ, ◌-◌, ◌==◌, ◌&&◌, nat_le, length, 
 use Rattle.std.specs.Prelude.{None, is_none, option_to_list}
 use Rattle.std.specs.List.{concat, flat_map}
 use Rattle.xet_base.specs.declared.cas_types.FileRange.{FileRange}
-use Rattle.xet_run.specs.declared.budget.Admission.{Admission}
+use Rattle.xet_run.specs.Budgets.{Admission}
 use Rattle.xet_queue.specs.declared.queued_term.QueuedTerm.{QueuedTerm}
 
 -- ---- bytes

@@ -1,7 +1,7 @@
 -- What a writer in order has: its terms before its sink.
 use Rattle.std.specs.Prelude.{ℕ, ◌≡◌, ◌+◌, ◌≤◌, ◌++◌, cond, length, List, [], ◌∷◌, take, drop, Bool, Option, Some, None}
 use Rattle.std.specs.List.{concat}
-use Rattle.xet_run.specs.declared.budget.Admission.{Admission}
+use Rattle.xet_run.specs.Budgets.{Admission}
 use Rattle.xet_error.specs.declared.error.FileReconstructionError.{FileReconstructionError}
 use Rattle.xet_queue.specs.declared.queued_term.QueuedTerm.{QueuedTerm}
 use Rattle.xet_queue.specs.Calls.{WriterTold}

@@ -2,12 +2,10 @@
 //! unwritten bytes, the numbers that lanes draw, and what the threads of a run know of it together.
 #![tactic(auto)]
 
-pub mod budget;
 pub mod held_run;
 pub mod run_core;
 pub mod run_state;
 
-pub use budget::{Admission, Budget};
 pub use held_run::HeldRun;
 pub use run_core::RunCore;
 pub use run_state::{RunPass, RunState};
@@ -18,3 +16,4 @@ pub use xet_events::{
     PlanSource, PlannedBlock, PlannedTerm, RunBook, RunCall, RunError, ScriptBudget, ToldCalls,
     ToldEvents,
 };
+pub use xet_run_rules::{Admission, Budget};

@@ -1,6 +1,6 @@
 //! The core of a run: a history of events, each of which was allowed after those before it.
 ghost use Rattle.std.specs.Prelude.{◌≡◌, ◌+◌, ◌≤◌, [], true, false, MatchOption, option_map, slice_get, count_by};
-ghost use Rattle.xet_events.specs.Allowed.{IsAllowedHistory, IsRunning, IsMissing, MayAdmit, MayWrite};
+ghost use Rattle.xet_events.specs.Allowed.{IsAllowedHistory, IsRunning, IsMissing, MayAdmit};
 ghost use Rattle.xet_run.specs.CoreCalls.{Adds};
 ghost use Rattle.xet_events.specs.Events.{planned, plan_count, is_admit, is_kept, written, unwritten, first_error};
 ghost use Rattle.xet_events.specs.Indexes.{waiting_of};
@@ -12,6 +12,7 @@ use xet_error::FileReconstructionError;
 use xet_events::{
     BlockId, CoreRefusal, Event, EventLog, Index, KeptEvents, PlanSource, WaitingTerm, adjoin,
 };
+use xet_run_rules::may_write;
 
 /// A run's history: each of its events was allowed after those before it. Contracts see it as the list of its events.
 ///
@@ -214,7 +215,7 @@ impl<E: EventLog> RunCore<E> {
     pub fn wrote(&mut self, taken: u64) -> Result<(), CoreRefusal>
         ensures { Adds self.old self.new (Event.Wrote taken) result }
     {
-        if !self.may_write(taken) {
+        if !may_write(&self.index, taken) {
             return Err(CoreRefusal::NotAllowed);
         }
         self.log.reserve(1)?;
@@ -284,23 +285,6 @@ impl<E: EventLog> RunCore<E> {
             Some(total) if total <= limit => Some(next),
             _ => None,
         }
-    }
-
-    /// Whether so many bytes of the oldest unfinished term may be written.
-    fn may_write(&self, taken: u64) -> bool
-        ensures yes { result ≡ true → IsRunning self.now × (1 ≤ taken) × MayWrite self.now taken }
-        ensures no { result ≡ false → IsRunning self.now → 1 ≤ taken → MayWrite self.now taken → ⊥ }
-    {
-        if self.index.first_error.is_some() || taken == 0 {
-            return false;
-        }
-        let Some(oldest) = self.index.oldest() else {
-            return false;
-        };
-        if !self.index.is_kept(oldest.id) {
-            return false;
-        }
-        taken <= oldest.end.saturating_sub(self.index.written)
     }
 }
 

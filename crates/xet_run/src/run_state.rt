@@ -15,6 +15,7 @@ use std::sync::{Mutex, Wait};
 use xet_base::{List, MerkleHash, OutOfMemory};
 use xet_error::FileReconstructionError;
 use xet_events::{CallLog, KeptCalls, RunBook, RunCall, RunError, ToldCalls};
+use xet_run_rules::check_error;
 
 /// What lies under the lock.
 #[derive(Drop)]
@@ -187,8 +188,8 @@ impl<L: Ledger, C: CallLog> Logged<L, C> {
         ensures parts { mine.new.share.parts ≡ mine.old.share.parts }
     {
         let mut book = self.book;
-        let reply = book.check_error();
-        match self.add(mine, RunCall::CheckError(reply.err()), book) {
+        let (call, reply) = check_error(&mut book);
+        match self.add(mine, call, book) {
             Ok(()) => reply,
             Err(_) => Err(FileReconstructionError::OutOfMemory),
         }

@@ -4,7 +4,7 @@ use Rattle.std.specs.Prelude.{IfErr, IfOk, OnOk}
 use Rattle.std.specs.List.{concat}
 use Rattle.std.proofs.lemmas.List.{take_all, drop_all}
 use Rattle.std.proofs.Math.Seq.{take-length}
-use Rattle.xet_run.specs.declared.budget.Admission.{Admission}
+use Rattle.xet_run.specs.Budgets.{Admission}
 use Rattle.xet_outside.specs.Told.{SinkTold}
 use Rattle.xet_error.specs.declared.error.FileReconstructionError.{FileReconstructionError}
 use Rattle.xet_queue.specs.declared.queued_term.QueuedTerm.{QueuedTerm}

@@ -3,7 +3,7 @@ use Rattle.std.specs.Prelude.{ℕ, ◌≡◌, ◌⊎◌, ◌+◌, ◌≤◌, ◌
 use Rattle.std.specs.Prelude.{Some, None, option_map, Result, Err, IfOk, IfErr, OnErr, OnOk}
 use Rattle.std.specs.List.{concat}
 use Rattle.xet_base.specs.declared.cas_types.FileRange.{FileRange}
-use Rattle.xet_run.specs.declared.budget.Admission.{Admission}
+use Rattle.xet_run.specs.Budgets.{Admission}
 use Rattle.xet_outside.specs.Told.{SinkTold, Took, TookPrefix}
 use Rattle.xet_blocks.specs.declared.reconstruction_terms.file_term.DataSource.{DataSource}
 use Rattle.xet_blocks.specs.declared.reconstruction_terms.file_term.DataSource.TheVariants.{Ready, Wanted}

@@ -1,6 +1,6 @@
 //! A budget of unwritten bytes, whose limit comes with each try.
 ghost use Rattle.std.specs.Prelude.{◌≡◌, ◌-◌, ◌≤◌};
-ghost use Rattle.xet_run.specs.Budgets.{AdmitCall};
+ghost use Rattle.xet_run_rules.specs.Budgets.{AdmitCall};
 
 /// So many bytes of a budget, which it gave.
 #[derive(Drop)]

@@ -1,6 +1,6 @@
 use Rattle.std.proofs.Common.{◌≡◌, ◌+◌, ◌≤◌, ◌^◌, ℕ, ap, arith, refl, rules}
-use Rattle.xet_run.specs.declared.budget.Budget.{Budget}
-use Rattle.xet_run.proofs.budget.Budget.admit.Goals as goal
+use Rattle.xet_run_rules.specs.declared.budget.Budget.{Budget}
+use Rattle.xet_run_rules.proofs.budget.Budget.admit.Goals as goal
 
 -- a budget of which so many bytes are used
 abbrev of_bytes : ℕ → Budget
