@@ -1,4 +1,4 @@
-use Rattle.std.proofs.Common.{◌≡◌, ◌∙◌, ◌++◌, ◌∷◌, [], length, map, refl, sym, ap, arith, length-append}
+use Rattle.std.proofs.Common.{◌≡◌, ◌∙◌, ◌∷◌, [], length, map, refl, sym, ap, arith, length-append}
 use Rattle.std.specs.Vec.Iter.{into_iter_items}
 use Rattle.xet_lane.specs.Ends.{ended}
 use Rattle.xet_lanes.proofs.Apart.{all_taken, claims_all, claims_length, claims_more, ends_all, ends_length, ends_more, one_taken, taken_more}
