@@ -1,15 +1,17 @@
 -- What a session's tracker is told of a cut.
 use Rattle.std.proofs.Common.{◌≡◌, ℕ, ◌+◌, ◌<◌, ◌≤◌, ◌⊎◌, inl, inr, Bool, true, false, List, [], ◌∷◌, ◌++◌, length, map, refl, sym, ◌∙◌, ap, subst, arith}
-use Rattle.std.specs.Prelude.{Option, None, is_some, ltb, Result, Ok, Err, OnOk}
+use Rattle.std.specs.Prelude.{Option, None, is_some, ltb, Result, Ok, Err, IfOk, IfErr, OnOk, OnErr}
 use Rattle.std.specs.List.{AllZip, concat, filter}
 use Rattle.std.proofs.lemmas.Bool.{false≢true}
+use Rattle.xet_base.specs.declared.error.OutOfMemory.{OutOfMemory}
 use Rattle.xet_base.specs.declared.merklehash.MerkleHash.{MerkleHash}
 use Rattle.xet_base.specs.declared.mdb_shard.Xorb.{Xorb}
+use Rattle.xet_base.specs.Records.{Describes}
 use Rattle.xet_outside.specs.declared.client.ClientError.{ClientError}
 use Rattle.xet_progress_state.specs.declared.step.FileXorbDependency.{FileXorbDependency}
 use Rattle.xet_progress_state.specs.declared.step.TrackerStep.{TrackerStep}
 use Rattle.xet_progress_state.specs.declared.step.TrackerStep.TheVariants.{RegisterDependencies, RegisterNewXorb}
-use Rattle.xet_upload.specs.Waitings.{IsPending, Waiting, xorb_of_chunks}
+use Rattle.xet_upload.specs.Waitings.{IsPending, Waiting, no_waiting, xorb_of_chunks}
 use Rattle.xet_upload.specs.declared.data_error.DataError.{DataError}
 use Rattle.xet_upload.specs.declared.data_error.DataError.TheVariants as data_error
 use Rattle.xet_waiting.specs.declared.raw_xorb.PendingFile.{PendingFile}
@@ -24,6 +26,7 @@ use Rattle.xet_session.specs.Trackings.{CountsPut, TracksCut, TracksFile, cut_ca
 use Rattle.xet_session_parts.specs.CutNotes.{NotesCut, note_calls, part_of, parts_of}
 use Rattle.xet_session.specs.steps.SessionSteps.{PutCounted, TookWaiting}
 use Rattle.xet_session_parts.proofs.CallerLemmas.{called-none}
+use Rattle.xet_session.proofs.Cuts.{count-infos, map-infos}
 use Rattle.xet_session.proofs.Tracking.{counts-err, counts-ok, not-longer}
 
 -- ---- what a tracker is told of a xorb that is cut
@@ -41,6 +44,29 @@ map-parts h (f ∷ fs) (p ∷ ps) z =
     let head : part_of h p ≡ own_part h f = ap (λ (k : ℕ). record { file_id = k; xorb_hash = h; n_bytes = p.bytes_in_xorb; is_external = false }) id ∙ ap (λ (k : ℕ). record { file_id = f.file_id; xorb_hash = h; n_bytes = k; is_external = false }) bytes in
     ap (λ (d : FileXorbDependency). d ∷ map (part_of h) ps) head ∙ ap (λ (ds : List FileXorbDependency). own_part h f ∷ ds) tail
 
+-- what waits is taken where there was memory
+pub took-so : (b m : SessionTold) → m ≡ b → (w : Waiting) (answer : Result (RawXorbData × List PendingFile) OutOfMemory) → IfOk answer (λ r. r.0.xorb ≡ xorb_of_chunks m.waiting.chunks) → IfOk answer (λ r. Describes r.0.xorb_info r.0.xorb)
+    → IfOk answer (λ r. AllZip (IsPending (waiting_hash m)) m.waiting.files r.1) → OnOk answer (w ≡ no_waiting) → OnErr answer (w ≡ m.waiting) → TookWaiting b (record m { waiting = w }) answer
+took-so b m e w answer xorb describes files emptied kept =
+    subst (λ (z : SessionTold). TookWaiting z (record m { waiting = w }) answer) e (go answer xorb describes files emptied kept)
+  where
+    go : (a : Result (RawXorbData × List PendingFile) OutOfMemory) → IfOk a (λ r. r.0.xorb ≡ xorb_of_chunks m.waiting.chunks) → IfOk a (λ r. Describes r.0.xorb_info r.0.xorb) → IfOk a (λ r. AllZip (IsPending (waiting_hash m)) m.waiting.files r.1) → OnOk a (w ≡ no_waiting)
+        → OnErr a (w ≡ m.waiting) → TookWaiting m (record m { waiting = w }) a
+    go (Ok r) x d f q k = record {
+      ok = ap (λ (v : Waiting). record m { waiting = v }) q;
+      err = tt;
+      xorb = x;
+      describes = d;
+      files = map-infos (waiting_hash m) m.waiting.files r.1 f;
+      parts = map-parts (waiting_hash m) m.waiting.files r.1 f;
+    }
+    go (Err y) x d f q k = record { ok = tt; err = ap (λ (v : Waiting). record m { waiting = v }) k; xorb = tt; describes = tt; files = tt; parts = tt }
+
+-- there is room for its files
+pub took-space : (h : MerkleHash) (fs : List WaitingFile) (have room count : ℕ) (answer : Result (RawXorbData × List PendingFile) OutOfMemory) → IfOk answer (λ r. AllZip (IsPending h) fs r.1) → count ≡ length fs → have + count ≤ room → IfOk answer (λ r. have + length r.1 ≤ room)
+took-space h fs have room count (Ok r) z is low = omega (arith, low, is, count-infos h fs r.1 z)
+took-space h fs have room count (Err e) z is low = tt
+
 -- what was taken is told as what waited
 took-calls : (b t : SessionTold) (r : RawXorbData × List PendingFile) → TookWaiting b t (Ok r) → note_calls r.0 r.1 ≡ cut_calls b
 took-calls b t r took =
@@ -54,7 +80,7 @@ took-calls b t r took =
 
 -- ---- the exits of a cut
 
-on_ok : {A E P : Type 0} (z : Result A E) → P → OnOk z P
+pub on_ok : {A E P : Type 0} (z : Result A E) → P → OnOk z P
 on_ok (Ok t) p = p
 on_ok (Err e) p = tt
 
@@ -113,7 +139,7 @@ module _ {E : Type 0} (b t n : SessionTold) (r : RawXorbData × List PendingFile
     counts-so answer q = subst (λ (h : MerkleHash). CountsPut told after h answer) same_hash q
 
     -- the xorb was put, and was noted or there was no memory for it
-    pub cut-counted : (u v : Unit {0}) → PutCounted t n told after r.0.xorb.hash (Ok u) → noted ≡ Ok v → TracksCut {A = Unit {0}} b n before after (Ok u)
+    cut-counted : (u v : Unit {0}) → PutCounted t n told after r.0.xorb.hash (Ok u) → noted ≡ Ok v → TracksCut {A = Unit {0}} b n before after (Ok u)
     cut-counted u v p ok = record {
       told = told;
       some = some;
@@ -127,7 +153,7 @@ module _ {E : Type 0} (b t n : SessionTold) (r : RawXorbData × List PendingFile
         chunks : 0 < length r.0.xorb.chunks
         chunks = omega (arith, is, low, ap (λ (x : Xorb). length x.chunks) same_xorb)
 
-    pub cut-unnoted : (u : Unit {0}) → PutCounted t n told after r.0.xorb.hash (Ok u) → TracksCut {A = Unit {0}} b n before after (Err data_error.OutOfMemory)
+    cut-unnoted : (u : Unit {0}) → PutCounted t n told after r.0.xorb.hash (Ok u) → TracksCut {A = Unit {0}} b n before after (Err data_error.OutOfMemory)
     cut-unnoted u p = record {
       told = told;
       some = some;
@@ -161,6 +187,13 @@ module _ {E : Type 0} (b t n : SessionTold) (r : RawXorbData × List PendingFile
           kept = λ z. not-kept z;
           empty = λ z. has-chunks z;
         }
+
+-- the xorb was put, and was noted before or there was no memory for that
+pub cut-told : (b t n : SessionTold) (r : RawXorbData × List PendingFile) (took : TookWaiting b t (Ok r)) (sound : b.failed ≡ None) (before told : List TrackerStep) (noted : Result (Unit {0}) DataError) (notes : NotesCut before told r.0 r.1 noted) (after : List TrackerStep) (count : ℕ) (is : count ≡ length b.waiting.chunks) (low : 0 < count)
+    → IfErr noted (λ e. e ≡ data_error.OutOfMemory) → (u : Unit {0}) → PutCounted t n told after r.0.xorb.hash (Ok u) → TracksCut b n before after noted
+cut-told b t n r took sound before told (Ok v) notes after count is low memory u p = cut-counted b t n r took sound before told (Ok v) notes after count is low u v p refl
+cut-told b t n r took sound before told (Err e) notes after count is low memory u p =
+    subst (λ (z : DataError). TracksCut {A = Unit {0}} b n before after (Err z)) (sym memory) (cut-unnoted b t n r took sound before told (Err e) notes after count is low u p)
 
 -- ---- the end of a session
 

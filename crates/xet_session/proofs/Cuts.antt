@@ -5,6 +5,7 @@ use Rattle.std.specs.List.{AllZip}
 use Rattle.std.proofs.lemmas.Bool.{false≢true}
 use Rattle.std.proofs.lemmas.List.{append-nil, nil_from_length}
 use Rattle.std.proofs.lemmas.List.Elements.{All-nil, All-cons, All-contains, All-weaker, Contains-append_left, Contains-push}
+use Rattle.xet_base.specs.declared.error.OutOfMemory.{OutOfMemory}
 use Rattle.xet_base.specs.declared.invalid.Invalid.{Invalid}
 use Rattle.xet_base.specs.declared.merklehash.MerkleHash.{MerkleHash}
 use Rattle.xet_base.specs.declared.mdb_shard.Xorb.{Xorb}
@@ -178,7 +179,7 @@ registered-unput b n x e r =
     (ap (λ (z : SessionTold). z.registered) is, kept-some n.failed p.error p.kept)
 
 -- a xorb was put, and then the tracker had no memory for it
-pub put-unnoted : (b n : SessionTold) (x : Xorb) (fs : List MDBFileInfo) (now : ℕ) (u : Unit {0}) → PutFinished b n x fs now (Ok u) → PutFinished b n x fs now (Err data_error.OutOfMemory)
+put-unnoted : (b n : SessionTold) (x : Xorb) (fs : List MDBFileInfo) (now : ℕ) (u : Unit {0}) → PutFinished b n x fs now (Ok u) → PutFinished b n x fs now (Err data_error.OutOfMemory)
 put-unnoted b n x fs now u k =
     let put : WasPut b n x fs now (Ok u) = k.ok in
     record {
@@ -189,6 +190,11 @@ put-unnoted b n x fs now u k =
       counts = k.counts;
       why = inl (inl (inl refl));
     }
+
+-- a xorb was put, and the tracker was told of it before, or there was no memory for that
+pub put-noted : (b n : SessionTold) (x : Xorb) (fs : List MDBFileInfo) (now : ℕ) (u : Unit {0}) (noted : Result (Unit {0}) DataError) → IfErr noted (λ e. e ≡ data_error.OutOfMemory) → PutFinished b n x fs now (Ok u) → PutFinished b n x fs now noted
+put-noted b n x fs now u (Ok v) memory k = k
+put-noted b n x fs now u (Err e) memory k = subst (λ (z : DataError). PutFinished b n x fs now (Err z)) (sym memory) (put-unnoted b n x fs now u k)
 
 -- ---- what a put leaves of lists and files
 
@@ -237,7 +243,8 @@ cut-failed b now e f = record {
   why = inr (e, f, refl);
 }
 
-pub cut-same : (b n : SessionTold) (now : ℕ) (e : DataError) → b.failed ≡ None → TookWaiting b n (Err e) → Cut b n now (Err e)
+-- there was no memory to take what waits
+pub cut-same : (b n : SessionTold) (now : ℕ) (e : OutOfMemory) → b.failed ≡ None → TookWaiting b n (Err e) → Cut b n now (Err data_error.OutOfMemory)
 cut-same b n now e sound took = record {
   keeps = keeps-refl b n took.err;
   listed = λ l q. subst (λ (z : SessionTold). IsListed z) (sym took.err) l;
@@ -248,9 +255,9 @@ cut-same b n now e sound took = record {
   counts = counts-same b n (ap (λ (z : SessionTold). z.metrics) took.err);
   unfailed = tt;
   idle = λ q. took.err;
-  said = says-none n (Err e) (ap (λ (z : SessionTold). z.failed) took.err ∙ sound);
+  said = says-none n (Err data_error.OutOfMemory) (ap (λ (z : SessionTold). z.failed) took.err ∙ sound);
   refused = λ g q. not-both b.failed g sound q;
-  why = inl took.why;
+  why = inl (inl (inl refl));
 }
 
 module _ (b t n : SessionTold) (now : ℕ) (r : RawXorbData × List PendingFile) (took : TookWaiting b t (Ok r)) (sound : b.failed ≡ None) where

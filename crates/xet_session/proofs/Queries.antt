@@ -17,7 +17,7 @@ use Rattle.xet_shard_interface.specs.Puts.{puts_of}
 use Rattle.xet_upload.specs.Orders.{IsThere}
 use Rattle.xet_upload.specs.declared.data_error.DataError.{DataError}
 use Rattle.xet_upload.specs.declared.data_error.DataError.TheVariants as data_error
-use Rattle.xet_session.specs.Calls.{Keeps, Queries}
+use Rattle.xet_session.specs.Calls.{Keeps, Queries, SearchesInOrder}
 use Rattle.xet_session.specs.Sessions.{IsListed, SessionTold, Stands, Tells, known_of, log_of}
 use Rattle.xet_session.specs.steps.SessionSteps.{OnList}
 use Rattle.xet_session.proofs.Keeping.{failed-same, keeps-refl, later-same, none-put, queries-same, stands-at, steady-same}
@@ -157,8 +157,14 @@ module _ (b : SessionTold) (hs : List MerkleHash) where
   }
 
   -- room for the list was refused
-  pub queries-refused : Queries b b hs (Err data_error.OutOfMemory)
+  queries-refused : Queries b b hs (Err data_error.OutOfMemory)
   queries-refused = record { keeps = keeps-refl b b refl; same = refl; found = λ t. tt; run = tt; on_list = tt; none = tt; err = refl; searches = searches-refused; listed = λ l q. l; why = inr (inl (inl refl)) }
+
+  pub queries-unasked : (n : SessionTold) → n ≡ b → Queries b n hs (Err data_error.OutOfMemory)
+  queries-unasked n e = subst (λ (z : SessionTold). Queries b z hs (Err data_error.OutOfMemory)) (sym e) queries-refused
+
+  pub order-unasked : (n : SessionTold) → n ≡ b → SearchesInOrder b n hs (Err data_error.OutOfMemory)
+  order-unasked n e = subst (λ (z : SessionTold). SearchesInOrder b z hs (Err data_error.OutOfMemory)) (sym e) (λ t. inl refl)
 
   module _ (m : SessionTold) (same : m ≡ record b { shards = m.shards }) where
     whole : m ≡ record b { shards = m.shards; listed = b.listed ++ [] }

@@ -113,3 +113,11 @@ are-appended l r w fs gs hs ts e f a named =
     let P : List MDBFileInfo → Type 0 = λ z. AreListed l r z w in
     let whole : map (λ p. p.info) ts ≡ map (λ p. p.info) fs ++ map (λ p. p.info) hs = ap (map (λ p. p.info)) (e ∙ ap (λ (z : List PendingFile). fs ++ z) f) ∙ map-append (λ (p : PendingFile). p.info) fs hs in
     subst P (sym whole) (are-finished l r (map (λ p. p.info) fs) w a (map (λ p. p.info) hs) named)
+
+-- what waited was taken, or it waits on
+pub are-taken : {A E : Type 0} (l r : List MerkleHash) (w : Waiting) (fs gs : List PendingFile) → AreListed l r (map (λ p. p.info) fs) w → gs ≡ fs → (v : Waiting) (answer : Result A E) → OnOk answer (v ≡ no_waiting) → OnErr answer (v ≡ w) → AreListed l r (map (λ p. p.info) gs) v
+are-taken {A = A} {E = E} l r w fs gs a e v answer ok err = subst (λ (z : List PendingFile). AreListed l r (map (λ p. p.info) z) v) (sym e) (go answer ok err)
+  where
+    go : (z : Result A E) → OnOk z (v ≡ no_waiting) → OnErr z (v ≡ w) → AreListed l r (map (λ p. p.info) fs) v
+    go (Ok x) q k = subst (λ (u : Waiting). AreListed l r (map (λ p. p.info) fs) u) (sym q) (are-emptied l r (map (λ p. p.info) fs) w a)
+    go (Err x) q k = subst (λ (u : Waiting). AreListed l r (map (λ p. p.info) fs) u) (sym k) a

@@ -1,111 +1,35 @@
 -- What a session's tracker accepts and refuses.
-use Rattle.std.proofs.Common.{◌≡◌, ℕ, ◌<◌, ◌⊎◌, inl, inr, Bool, true, false, zero, suc, List, [], ◌∷◌, ◌++◌, length, take, refl, sym, ◌∙◌, ap, subst, arith}
-use Rattle.std.specs.Prelude.{Contains, Option, Some, None, cond, find, is_some, option_map, Result, Ok, Err, IfErr}
+use Rattle.std.proofs.Common.{◌≡◌, ℕ, ◌+◌, ◌-◌, ◌^◌, ◌<◌, ◌⊎◌, inl, inr, Bool, true, false, zero, suc, List, [], ◌∷◌, ◌++◌, length, take, refl, sym, ◌∙◌, ap, arith}
+use Rattle.std.specs.Prelude.{Contains, Option, Some, None, cond, find, is_some, option_map, Result, Ok, Err, IfOk, IfErr}
 use Rattle.std.proofs.lemmas.Bool.{false≢true}
 use Rattle.std.proofs.lemmas.List.{append-nil, append_assoc, length-append}
 use Rattle.xet_base.specs.declared.invalid.Invalid.{Invalid}
+use Rattle.xet_base.specs.declared.invalid.Invalid.TheVariants as invalid
+use Rattle.xet_base.specs.declared.item_id.UniqueID.{UniqueID}
 use Rattle.xet_base.specs.declared.merklehash.MerkleHash.{MerkleHash}
 use Rattle.xet_base.specs.declared.mdb_shard.Xorb.{Xorb}
 use Rattle.xet_outside.specs.declared.client.ClientError.{ClientError}
 use Rattle.xet_outside.specs.declared.client.ClientError.TheVariants as client_error
 use Rattle.xet_base.specs.Hashes.{hash_eq}
 use Rattle.xet_base.proofs.CallerLemmas.{eq-hash_eq}
-use Rattle.xet_progress_state.specs.Accepted.{CallOf, Refused, completion_test, or_else, refusal_of}
-use Rattle.xet_progress_state.specs.Counts.{new_xorb, registrations}
-use Rattle.xet_progress_state.specs.declared.error.ProgressError.{ProgressError}
-use Rattle.xet_progress_state.specs.declared.error.ProgressError.TheVariants as progress_error
+use Rattle.xet_progress_state.specs.Accepted.{completion_test, refusal_of}
+use Rattle.xet_progress_state.specs.Counts.{new_xorb, registrations, sizes}
 use Rattle.xet_progress_state.specs.declared.step.FileXorbDependency.{FileXorbDependency}
 use Rattle.xet_progress_state.specs.declared.step.TrackerStep.{TrackerStep}
-use Rattle.xet_progress_state.specs.declared.step.TrackerStep.TheVariants.{RegisterDependencies, RegisterNewXorb, RegisterXorbUploadCompletion}
+use Rattle.xet_progress_state.specs.declared.step.TrackerStep.TheVariants.{RegisterDependencies, RegisterNewFile, RegisterNewXorb, RegisterXorbUploadCompletion}
 use Rattle.xet_shard_interface.specs.Interfaces.{StoreFails, resumed_faults}
-use Rattle.xet_upload.specs.DataErrors.{of_client_error, of_progress_error}
+use Rattle.xet_upload.specs.DataErrors.{of_client_error}
 use Rattle.xet_upload.specs.declared.data_error.DataError.{DataError}
 use Rattle.xet_upload.specs.declared.data_error.DataError.TheVariants as data_error
 use Rattle.xet_session.specs.Calls.{PutsFail, finalized_error, xorb_bytes}
 use Rattle.xet_session.specs.Sessions.{SessionTold}
 use Rattle.xet_session_parts.specs.TrackerCalls.{with_call}
-use Rattle.xet_session.specs.Trackings.{CountsPut, IsRefusal, Tracks, TracksXorb, all_xorb_calls, first_refusal, xorb_calls}
+use Rattle.xet_session.specs.Trackings.{CountsPut, IsRefusal, StartsFile, Tracks, TracksXorb, all_xorb_calls, first_refusal, xorb_calls}
 use Rattle.xet_session.specs.steps.SessionSteps.{GivenCounted, PutCounted}
 use Rattle.xet_session_parts.specs.HashLists.{has}
-use Rattle.xet_session_parts.proofs.CallerLemmas.{contains-has, has-contains}
-
--- the tracker's error, as the session answers it
-pub is-refusal : (cs : List TrackerStep) (c : TrackerStep) (e : ProgressError) → Refused cs c e → IsRefusal (refusal_of cs c) (of_progress_error e)
-is-refusal cs c progress_error.OutOfMemory r = inl refl
-is-refusal cs c (progress_error.InvalidOperation why) r = inr (why, r, refl)
-
-or-none : {A : Type 0} (o : Option A) → or_else o None ≡ o
-or-none None = refl
-or-none (Some x) = refl
-
--- one call that was accepted
-pub tracks-one : {A B : Type 0} (before after : List TrackerStep) (c : TrackerStep) (reply x : A) (y : B) → CallOf before after c reply (Ok x) → Tracks before after (c ∷ []) (Ok y)
-tracks-one before after c reply x y k =
-    let a = k.accepted in
-    record { count = 1; accepted = a.2; ok = (or-none (refusal_of before c) ∙ a.0, a.2); fewer = tt; err = tt }
-
--- one call that was refused
-pub tracks-none : {A B : Type 0} (before after : List TrackerStep) (c : TrackerStep) (reply : A) (e : ProgressError) → CallOf before after c reply (Err e) → Tracks {A = B} before after (c ∷ []) (Err (of_progress_error e))
-tracks-none before after c reply e k =
-    let r = k.refused in
-    let P : Option Invalid → Type 0 = λ o. IsRefusal o (of_progress_error e) in
-    record { count = 0; accepted = r.1 ∙ sym (append-nil before); ok = tt; fewer = omega arith; err = subst P (sym (or-none (refusal_of before c))) (is-refusal before c e r.0) }
-
--- there was no memory before any call
-pub tracks-nothing : {A : Type 0} (before calls : List TrackerStep) → 0 < length calls → Tracks {A = A} before before calls (Err data_error.OutOfMemory)
-tracks-nothing before calls some = record { count = 0; accepted = sym (append-nil before); ok = tt; fewer = some; err = inl refl }
-
--- the first of some calls was refused
-pub tracks-refused : {A B : Type 0} (before after : List TrackerStep) (c : TrackerStep) (cs : List TrackerStep) (reply : A) (e : ProgressError) → CallOf before after c reply (Err e) → Tracks {A = B} before after (c ∷ cs) (Err (of_progress_error e))
-tracks-refused {A = A} {B = B} before after c cs reply e k = go e k.refused
-  where
-    go : (e : ProgressError) → Refused before c e × (after ≡ before) → Tracks {A = B} before after (c ∷ cs) (Err (of_progress_error e))
-    go progress_error.OutOfMemory r = record { count = 0; accepted = r.1 ∙ sym (append-nil before); ok = tt; fewer = omega arith; err = inl refl }
-    go (progress_error.InvalidOperation why) r = record {
-      count = 0;
-      accepted = r.1 ∙ sym (append-nil before);
-      ok = tt;
-      fewer = omega arith;
-      err = inr (why, ap (λ (o : Option Invalid). or_else o (first_refusal (before ++ c ∷ []) cs)) r.0, refl);
-    }
-
--- the first was accepted, and then came the others
-pub tracks-more : {A B : Type 0} (before between after : List TrackerStep) (c : TrackerStep) (cs : List TrackerStep) (reply x : A) → CallOf before between c reply (Ok x) → (answer : Result B DataError) → Tracks between after cs answer → Tracks before after (c ∷ cs) answer
-tracks-more {A = A} {B = B} before between after c cs reply x k answer t = go answer t
-  where
-    same : between ≡ before ++ c ∷ []
-    same = k.accepted.2
-
-    first : first_refusal before (c ∷ cs) ≡ first_refusal between cs
-    first = ap (λ (o : Option Invalid). or_else o (first_refusal (before ++ c ∷ []) cs)) k.accepted.0 ∙ ap (λ (l : List TrackerStep). first_refusal l cs) (sym same)
-
-    behind : (ds : List TrackerStep) → between ++ ds ≡ before ++ c ∷ ds
-    behind ds = ap (λ (l : List TrackerStep). l ++ ds) same ∙ append_assoc before (c ∷ []) ds
-
-    go : (r : Result B DataError) → Tracks between after cs r → Tracks before after (c ∷ cs) r
-    go (Ok y) h = record { count = suc h.count; accepted = h.accepted ∙ behind (take h.count cs); ok = (first ∙ h.ok.0, h.ok.1 ∙ behind cs); fewer = tt; err = tt }
-    go (Err e) h = record {
-      count = suc h.count;
-      accepted = h.accepted ∙ behind (take h.count cs);
-      ok = tt;
-      fewer = omega (arith, h.fewer);
-      err = subst (λ (o : Option Invalid). IsRefusal o e) (sym first) h.err;
-    }
+use Rattle.xet_session_parts.proofs.CallerLemmas.{contains-has, has-not}
 
 -- ---- a given xorb
-
-has-not : (h : MerkleHash) (xs : List MerkleHash) → (Contains xs h → ⊥) → has h xs ≡ false
-has-not h xs never = go (has h xs) refl
-  where
-    go : (y : Bool) → has h xs ≡ y → has h xs ≡ false
-    go true e = absurd (never (has-contains h xs e))
-    go false e = e
-
-pub calls-known : (registered : List MerkleHash) (x : Xorb) (ds : List FileXorbDependency) → Contains registered x.hash → xorb_calls registered x ds ≡ RegisterDependencies ds ∷ []
-calls-known registered x ds c = ap (λ (y : Bool). cond y (RegisterDependencies ds ∷ []) (RegisterNewXorb x.hash (xorb_bytes x) ∷ RegisterDependencies ds ∷ [])) (contains-has x.hash registered c)
-
-pub calls-new : (registered : List MerkleHash) (x : Xorb) (ds : List FileXorbDependency) → (Contains registered x.hash → ⊥) → xorb_calls registered x ds ≡ RegisterNewXorb x.hash (xorb_bytes x) ∷ RegisterDependencies ds ∷ []
-calls-new registered x ds c = ap (λ (y : Bool). cond y (RegisterDependencies ds ∷ []) (RegisterNewXorb x.hash (xorb_bytes x) ∷ RegisterDependencies ds ∷ [])) (has-not x.hash registered c)
 
 -- an error of a put is no refusal
 pub puts-invalid : {P : Type 0} (b n : SessionTold) (e : DataError) → PutsFail b n e → (why : Invalid) → e ≡ data_error.InvalidOperation why → P
@@ -310,14 +234,14 @@ module _ (b n : SessionTold) (before after : List TrackerStep) (x : Xorb) (ds : 
 -- ---- a put and its count
 
 module _ (b n : SessionTold) (told after : List TrackerStep) (h : MerkleHash) where
-  -- it was put and counted
-  pub counted : (answer : Result (Unit {0}) DataError) → n.registered ≡ b.registered ++ h ∷ [] → after ≡ with_call told (RegisterXorbUploadCompletion h) → PutCounted b n told after h answer
-  counted (Ok u) put same = record { ok = (put, same); err = tt }
-  counted (Err e) put same = record { ok = tt; err = inl (put, inl same) }
-
-  -- there was no memory to count it
-  pub uncounted : n.registered ≡ b.registered ++ h ∷ [] → after ≡ told → PutCounted b n told after h (Err data_error.OutOfMemory)
-  uncounted put same = record { ok = tt; err = inl (put, inr (refl, same)) }
+  -- it was put, and counted or there was no memory for that
+  pub counted : (answer : Result (Unit {0}) DataError) → n.registered ≡ b.registered ++ h ∷ [] → CountsPut told after h answer → PutCounted b n told after h answer
+  counted (Ok u) put c = record { ok = (put, go c); err = tt }
+    where
+      go : CountsPut {A = Unit {0}} told after h (Ok u) → after ≡ with_call told (RegisterXorbUploadCompletion h)
+      go (inl q) = q
+      go (inr q) = absurd (let was = q.0 in cc)
+  counted (Err e) put c = record { ok = tt; err = inl (put, c) }
 
   -- its put failed
   pub unput : (e : DataError) → n.registered ≡ b.registered → is_some n.failed ≡ true → after ≡ told → PutCounted b n told after h (Err e)
@@ -354,3 +278,47 @@ module _ (b n : SessionTold) (told after : List TrackerStep) (x : Xorb) where
         go : ((n.registered ≡ b.registered ++ x.hash ∷ []) × CountsPut {A = Unit {0}} told after x.hash (Err e)) ⊎ ((n.registered ≡ b.registered) × (is_some n.failed ≡ true) × (after ≡ told)) → GivenCounted b n told after x (Err e)
         go (inl q) = record { ok = tt; unput = λ r. not-longer b.registered x.hash (sym r ∙ q.0); put = λ r. counts-err told after x.hash e q.1; failed = λ low r. not-longer b.registered x.hash (sym r ∙ q.0) }
         go (inr q) = record { ok = tt; unput = λ r. q.2; put = λ r. not-longer b.registered x.hash (sym q.0 ∙ r); failed = λ low r. q.1 }
+
+-- ---- how a file begins
+
+module _ (before : List TrackerStep) (id : ℕ) (size : Option ℕ) (ended : Bool) where
+  -- the session is finalized
+  pub starts-ended : ended ≡ true → StartsFile before before id id ended size (Err finalized_error)
+  starts-ended e = record {
+    finalized = λ q. (refl, refl, refl);
+    used_up = λ q. absurd (false≢true (sym q ∙ e));
+    tracks = λ q. absurd (false≢true (sym q ∙ e));
+    id = tt;
+    drawn = λ q. absurd (false≢true (sym q ∙ e));
+    undrawn = λ q. refl;
+    number = tt;
+  }
+
+  module _ (first : ended ≡ false) where
+    -- no id is left
+    pub starts-none : (later : ℕ) (why : Invalid) → (why ≡ invalid.IdsUsedUp) × (later ≡ id) → id ≡ 2 ^ 64 - 1 → StartsFile before before id later ended size (Err (data_error.InvalidOperation why))
+    starts-none later why w last = record {
+      finalized = λ q. absurd (false≢true (sym first ∙ q));
+      used_up = λ q l. (ap (λ (x : Invalid). Err (data_error.InvalidOperation x)) w.0, refl);
+      tracks = λ q l. absurd (l last);
+      id = tt;
+      drawn = λ q l. absurd (l last);
+      undrawn = λ q. w.1;
+      number = tt;
+    }
+
+    -- an id was drawn, and the tracker was told of the file
+    pub starts-drawn : (after : List TrackerStep) (later : ℕ) (drawn : UniqueID) → (drawn ≡ record { 0 = id }) × (later ≡ id + 1) → (id ≡ 2 ^ 64 - 1 → ⊥) → (answer : Result (UniqueID × ℕ) DataError) → Tracks before after (RegisterNewFile size ∷ []) answer → IfOk answer (λ r. r.0 ≡ drawn) → IfOk answer (λ r. r.1 ≡ length (sizes before)) → StartsFile before after id later ended size answer
+    starts-drawn after later drawn d left answer t same number = record {
+      finalized = λ q. absurd (false≢true (sym first ∙ q));
+      used_up = λ q l. absurd (left l);
+      tracks = λ q l. t;
+      id = go answer same;
+      drawn = λ q l. d.1;
+      undrawn = λ q. absurd (left q);
+      number = number;
+    }
+      where
+        go : (a : Result (UniqueID × ℕ) DataError) → IfOk a (λ r. r.0 ≡ drawn) → IfOk a (λ r. (r.0 ≡ record { 0 = id }) × (later ≡ id + 1))
+        go (Ok r) s = (s ∙ d.0, d.1)
+        go (Err e) s = tt

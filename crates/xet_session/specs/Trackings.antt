@@ -8,7 +8,6 @@ use Rattle.xet_base.specs.declared.invalid.Invalid.TheVariants as invalid
 use Rattle.xet_base.specs.declared.item_id.UniqueID.{UniqueID}
 use Rattle.xet_base.specs.declared.merklehash.MerkleHash.{MerkleHash}
 use Rattle.xet_base.specs.declared.mdb_shard.Xorb.{Xorb}
-use Rattle.xet_progress_state.specs.Accepted.{or_else, refusal_of}
 use Rattle.xet_progress_state.specs.Counts.{sizes}
 use Rattle.xet_progress_state.specs.declared.step.FileXorbDependency.{FileXorbDependency}
 use Rattle.xet_progress_state.specs.declared.step.TrackerStep.{TrackerStep}
@@ -25,34 +24,12 @@ use Rattle.xet_session_parts.specs.Thresholds.{FitTogether, waiting_bytes}
 use Rattle.xet_session.specs.Completions.{with_waiting}
 use Rattle.xet_session.specs.Sessions.{SessionTold}
 use Rattle.xet_session_parts.specs.HashLists.{has}
-
--- the refusal of the first call that is refused, where the calls are made one after another
-abbrev pub first_refusal : List TrackerStep → List TrackerStep → Option Invalid
-first_refusal before [] = None
-first_refusal before (c ∷ cs) = or_else (refusal_of before c) (first_refusal (before ++ c ∷ []) cs)
-
--- an error is the refusal, or want of memory
-abbrev pub IsRefusal : Option Invalid → DataError → Type 0
-IsRefusal refusal e = (e ≡ data_error.OutOfMemory)
-    ⊎ ((why : Invalid) × (refusal ≡ Some why) × (e ≡ data_error.InvalidOperation why))
-
--- the tracker accepted the first few of these calls: all of them on Ok, else not all, and the call says which refusal
--- came
-pub record Tracks {A : Type 0} (before after calls : List TrackerStep) (answer : Result A DataError) : Type 0 where
-  pub count : ℕ
-  pub accepted : after ≡ before ++ take count calls
-  pub ok : OnOk answer ((first_refusal before calls ≡ None) × (after ≡ before ++ calls))
-  pub fewer : OnErr answer (count < length calls)
-  pub err : IfErr answer (IsRefusal (first_refusal before calls))
+pub use Rattle.xet_session_parts.specs.Tracked.{IsRefusal, Tracks, first_refusal, xorb_calls}
 
 -- ---- a given xorb
 
--- the tracker is told of a xorb where none of its hash was put before, and then of what files have in xorbs
-abbrev pub xorb_calls : List MerkleHash → Xorb → List FileXorbDependency → List TrackerStep
-xorb_calls registered x ds = cond (has x.hash registered) (RegisterDependencies ds ∷ [])
-    (RegisterNewXorb x.hash (xorb_bytes x) ∷ RegisterDependencies ds ∷ [])
-
--- and that it is complete, where none of its hash was put before
+-- what the tracker is told of a given xorb by a call that answers Ok: the same, and then that the xorb is complete, where
+-- none of its hash was put before
 abbrev pub all_xorb_calls : List MerkleHash → Xorb → List FileXorbDependency → List TrackerStep
 all_xorb_calls registered x ds = xorb_calls registered x ds
     ++ cond (has x.hash registered) [] (RegisterXorbUploadCompletion x.hash ∷ [])

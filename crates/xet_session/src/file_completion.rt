@@ -1,7 +1,7 @@
 //! The end of a file in a session.
 ghost use Rattle.std.specs.Prelude.{◌≡◌, ◌<◌, ◌≤◌, ℕ, All, Contains, None, false};
 ghost use Rattle.xet_session.specs.Calls.{Backs};
-ghost use Rattle.xet_session.specs.Completions.{CutsFile, CutsWaiting, Joins, TakesFile};
+ghost use Rattle.xet_session.specs.Completions.{TakesFile};
 ghost use Rattle.xet_session_parts.specs.Thresholds.{FitTogether, waiting_bytes};
 ghost use Rattle.xet_session.specs.Sessions.{waiting_names};
 ghost use Rattle.xet_session.specs.Trackings.{TracksFile};
@@ -58,9 +58,13 @@ impl<U: Uploader, R: ShardStore> FileUploadSession<U, R> {
             self.old.files.tracker self.new.files.tracker result }
         ensures group { KeepsGroup self.old self.new }
     {
-        self.checkpoint(rt, alloc, now)?;
-        let _ = self.replace_waiting(file_data);
-        Ok(())
+        match self.checkpoint(rt, alloc, now) {
+            Ok(()) => {
+                let _ = self.replace_waiting(file_data);
+                Ok(())
+            }
+            Err(error) => Err(error),
+        }
     }
 
     // The data of a file joins what waits.
@@ -74,7 +78,10 @@ impl<U: Uploader, R: ShardStore> FileUploadSession<U, R> {
             self.old.files.tracker self.new.files.tracker result }
         ensures group { KeepsGroup self.old self.new }
     {
-        Ok(self.merge_waiting(alloc, file_data)?)
+        match self.merge_waiting(alloc, file_data) {
+            Ok(()) => Ok(()),
+            Err(error) => Err(DataError::from(error)),
+        }
     }
 
     /// The data of a file joins what waits, where both together pass no threshold of the settings and no limit of a

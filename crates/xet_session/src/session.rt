@@ -7,10 +7,7 @@ ghost use Rattle.xet_progress.specs.Held.{Held};
 ghost use Rattle.xet_progress_state.specs.Items.{report_of};
 ghost use Rattle.xet_progress_state.specs.declared.step.TrackerStep.TheVariants.{IncrementFileSize};
 ghost use Rattle.xet_progress_state.specs.declared.step.TrackerStep.TheVariants.{RegisterDependencies};
-ghost use Rattle.xet_progress_state.specs.declared.step.TrackerStep.TheVariants.{RegisterNewFile};
-ghost use Rattle.xet_progress_state.specs.Counts.{sizes};
-ghost use Rattle.xet_shard_interface.specs.Interfaces.{ListsFiles, Searches, new_interface, records_of, rules_of};
-ghost use Rattle.xet_shard_interface.specs.Interfaces.{shards_told};
+ghost use Rattle.xet_shard_interface.specs.Interfaces.{new_interface, records_of, rules_of, shards_told};
 ghost use Rattle.xet_upload.specs.Orders.{names_of};
 ghost use Rattle.xet_upload.specs.Waitings.{IsWithin, merged};
 ghost use Rattle.xet_shards.specs.Shards.{no_records};
@@ -19,7 +16,7 @@ ghost use Rattle.xet_session.specs.Calls.{Registers, SearchesInOrder, end_counts
 ghost use Rattle.xet_session_parts.specs.Thresholds.{thresholds_of};
 ghost use Rattle.xet_session.specs.Completions.{with_file_counts};
 ghost use Rattle.xet_session.specs.Sessions.{HasListed, IsBackedSession, waiting_names};
-ghost use Rattle.xet_session.specs.Trackings.{StartsFile, Tracks, TracksCut, TracksXorb, xorb_calls};
+ghost use Rattle.xet_session.specs.Trackings.{CountsPut, StartsFile, Tracks, TracksCut, TracksXorb};
 ghost use Rattle.xet_session.specs.steps.Listings.{AreListed};
 ghost use Rattle.xet_session.specs.steps.SessionSteps.{AddedFinished, AddedRecord, GivenCounted, OnList};
 ghost use Rattle.xet_session.specs.Calls.{AsksFor};
@@ -31,15 +28,12 @@ use std::collections::BTreeMap;
 use std::mem;
 use std::sync::{Arc, Wait};
 use xet_base::{
-    FileDataSequenceEntry, IdSource, Invalid, List, MDBFileInfo, MDBXorbInfo, MerkleHash,
-    OutOfMemory, UniqueID, Xorb,
+    FileDataSequenceEntry, IdSource, Invalid, List, MDBFileInfo, MerkleHash, OutOfMemory, UniqueID,
+    Xorb,
 };
 use xet_outside::ClientError;
 use xet_pointer::TranslatorConfig;
-use xet_progress::{
-    FileXorbDependency, GroupProgress, GroupProgressReport, ItemProgressReport,
-    ItemProgressUpdater, ProgressError,
-};
+use xet_progress::{FileXorbDependency, GroupProgress, GroupProgressReport, ItemProgressReport};
 use xet_session_parts::{CutThresholds, FileTracker, HashList};
 use xet_shard_interface::{SessionShardInterface, SessionStores};
 use xet_shards::ShardStore;
@@ -229,8 +223,23 @@ impl<U: Uploader, R: ShardStore> FileUploadSession<U, R> {
         }
     }
 
+    // Makes room for a xorb on the lists.
+    fn make_room(&mut self) -> Result<(), OutOfMemory>
+        ensures same { told_by U.told R.told self.new ≡ told_by U.told R.told self.old }
+        ensures room { OnOk result (vec_len self.new.listed.hashes < vec_capacity self.new.listed.hashes) }
+        ensures noted { OnOk result (vec_len self.new.registered.hashes < vec_capacity self.new.registered.hashes) }
+        ensures untold { self.new.files.tracker ≡ self.old.files.tracker }
+        ensures group { KeepsGroup self.old self.new }
+    {
+        self.listed.reserve(1)?;
+        self.registered.reserve(1)
+    }
+
     // Takes what waits, with room for its xorb on the lists and for its files.
-    fn take_waiting(&mut self, alloc: Global) -> Result<(RawXorbData, List<PendingFile>), DataError>
+    fn take_waiting(
+        &mut self,
+        alloc: Global,
+    ) -> Result<(RawXorbData, List<PendingFile>), OutOfMemory>
         ensures taken { TookWaiting (told_by U.told R.told self.old) (told_by U.told R.told self.new) result }
         ensures room { OnOk result (vec_len self.new.listed.hashes < vec_capacity self.new.listed.hashes) }
         ensures noted { OnOk result (vec_len self.new.registered.hashes < vec_capacity self.new.registered.hashes) }
@@ -239,10 +248,9 @@ impl<U: Uploader, R: ShardStore> FileUploadSession<U, R> {
         ensures untold { self.new.files.tracker ≡ self.old.files.tracker }
         ensures group { KeepsGroup self.old self.new }
     {
-        self.listed.reserve(1)?;
-        self.registered.reserve(1)?;
+        self.make_room()?;
         reserve(&mut self.finished, self.waiting.num_files())?;
-        Ok(self.waiting.finalize(alloc)?)
+        self.waiting.finalize(alloc)
     }
 
     // The files are finished.
@@ -260,15 +268,23 @@ impl<U: Uploader, R: ShardStore> FileUploadSession<U, R> {
         append_reserved(&mut self.finished, &mut files);
     }
 
-    // Adds the record of a xorb that was put to those of the session, and keeps it for staging.
-    fn add_record(&mut self, alloc: Global, info: &MDBXorbInfo, now: u64) -> Result<(), DataError>
-        ensures call { AddedRecord (told_by U.told R.told self.old) (told_by U.told R.told self.new) info.now now
-            result }
-        ensures untold { self.new.files.tracker ≡ self.old.files.tracker }
+    // Counts a xorb that was put as complete, adds its record to those of the session, and keeps it for staging.
+    fn add_record<W: Wait>(
+        &mut self,
+        rt: &W,
+        alloc: Global,
+        raw: &RawXorbData,
+        now: u64,
+    ) -> Result<(), DataError>
+        ensures call { AddedRecord (told_by U.told R.told self.old) (told_by U.told R.told self.new)
+            raw.now.xorb_info now result }
+        ensures tracked { CountsPut self.old.files.tracker self.new.files.tracker raw.now.xorb.hash result }
         ensures group { KeepsGroup self.old self.new }
     {
-        self.shards.add_xorb_block(alloc, info)?;
-        self.shards.add_uploaded_xorb_block(alloc, info, now)
+        self.files.complete(rt, &raw.xorb.hash)?;
+        self.shards.add_xorb_block(alloc, &raw.xorb_info)?;
+        self.shards
+            .add_uploaded_xorb_block(alloc, &raw.xorb_info, now)
     }
 
     // Puts a xorb, after which its files are finished and the tracker counts it as complete, and adds its record to
@@ -295,10 +311,13 @@ impl<U: Uploader, R: ShardStore> FileUploadSession<U, R> {
             self.old.files.tracker self.new.files.tracker raw.now.xorb.hash result }
         ensures group { KeepsGroup self.old self.new }
     {
-        self.put_raw(rt, alloc, raw)?;
-        self.finish_files(files);
-        self.files.complete(rt, &raw.xorb.hash)?;
-        self.add_record(alloc, &raw.xorb_info, now)
+        match self.put_raw(rt, alloc, raw) {
+            Ok(()) => {
+                self.finish_files(files);
+                self.add_record(rt, alloc, raw, now)
+            }
+            Err(error) => Err(error),
+        }
     }
 
     // Whether a xorb of so many chunks is to be put: it has some, and none of its hash was put before.
@@ -395,8 +414,8 @@ impl<U: Uploader, R: ShardStore> FileUploadSession<U, R> {
         self.listed.contains(xorb)
     }
 
-    /// Cuts what waits as a xorb and puts it, and its files are finished. Data without chunks puts nothing, nor does data
-    /// whose xorb was put before. It does not ask whether the session is finalized. `now` is a moment in seconds.
+    /// Cuts what waits as a xorb and puts it, and its files are finished. Data without chunks puts nothing, nor does
+    /// data whose xorb was put before. It does not ask whether the session is finalized. `now` is a moment in seconds.
     ///
     /// The tracker is told of it; a refusal changes nothing. Want of memory for that is answered where a xorb was put,
     /// after it, since what waits is taken by then.
@@ -420,24 +439,14 @@ impl<U: Uploader, R: ShardStore> FileUploadSession<U, R> {
         let noted = self
             .files
             .register_cut(rt, alloc, &raw, files.as_slice(), &self.registered);
-        if self.is_new(chunks, &raw.xorb.hash) {
-            self.put_finished(rt, alloc, &raw, files, now)?;
-            return Ok(noted?);
+        if !self.is_new(chunks, &raw.xorb.hash) {
+            self.finish_files(files);
+            return Ok(());
         }
-        self.finish_files(files);
-        Ok(())
-    }
-
-    // Makes room for a xorb on the lists.
-    fn make_room(&mut self) -> Result<(), OutOfMemory>
-        ensures same { told_by U.told R.told self.new ≡ told_by U.told R.told self.old }
-        ensures room { OnOk result (vec_len self.new.listed.hashes < vec_capacity self.new.listed.hashes) }
-        ensures noted { OnOk result (vec_len self.new.registered.hashes < vec_capacity self.new.registered.hashes) }
-        ensures untold { self.new.files.tracker ≡ self.old.files.tracker }
-        ensures group { KeepsGroup self.old self.new }
-    {
-        self.listed.reserve(1)?;
-        self.registered.reserve(1)
+        match self.put_finished(rt, alloc, &raw, files, now) {
+            Ok(()) => noted,
+            Err(error) => Err(error),
+        }
     }
 
     // The failure that is kept, where the xorb would be put.
@@ -454,35 +463,6 @@ impl<U: Uploader, R: ShardStore> FileUploadSession<U, R> {
             return None;
         }
         self.failed
-    }
-
-    // Tells the tracker of a xorb where none of its hash was put before, and then of what files have in xorbs. The
-    // lists keep their room.
-    fn track_xorb<W: Wait>(
-        &mut self,
-        rt: &W,
-        alloc: Global,
-        raw: &RawXorbData,
-        dependencies: &[FileXorbDependency],
-    ) -> Result<(), DataError>
-        requires { Describes raw.now.xorb_info raw.now.xorb }
-        ensures same { told_by U.told R.told self.new ≡ told_by U.told R.told self.old }
-        ensures tracks { Tracks self.old.files.tracker self.new.files.tracker
-            (xorb_calls self.old.registered.hashes.items raw.now.xorb dependencies.now) result }
-        ensures listed { self.new.listed ≡ self.old.listed }
-        ensures registered { self.new.registered ≡ self.old.registered }
-        ensures group { KeepsGroup self.old self.new }
-    {
-        if self.registered.contains(&raw.xorb.hash) {
-            return self.register_xorb_dependencies(rt, alloc, dependencies);
-        }
-        match self
-            .files
-            .register_xorb(alloc, raw.xorb.hash, raw.num_bytes())
-        {
-            Ok(_new) => self.register_xorb_dependencies(rt, alloc, dependencies),
-            Err(error) => Err(DataError::from(error)),
-        }
     }
 
     // Puts a xorb with its record, unless it has no chunks or one with the hash was put before. The tracker counts it
@@ -514,8 +494,10 @@ impl<U: Uploader, R: ShardStore> FileUploadSession<U, R> {
             self.files.complete(rt, &raw.xorb.hash)?;
             return Ok(true);
         }
-        self.put_finished(rt, alloc, raw, List::new(alloc), now)?;
-        Ok(true)
+        match self.put_finished(rt, alloc, raw, List::new(alloc), now) {
+            Ok(()) => Ok(true),
+            Err(error) => Err(error),
+        }
     }
 
     /// Puts a xorb with its record, unless one with the hash was put before: then it answers false and puts nothing.
@@ -552,8 +534,13 @@ impl<U: Uploader, R: ShardStore> FileUploadSession<U, R> {
             return Err(DataError::from(error));
         }
         self.make_room()?;
-        self.track_xorb(rt, alloc, &raw, file_dependencies)?;
-        self.put_new(rt, alloc, &raw, now)
+        match self
+            .files
+            .register_given(rt, alloc, &raw, file_dependencies, &self.registered)
+        {
+            Ok(()) => self.put_new(rt, alloc, &raw, now),
+            Err(error) => Err(error),
+        }
     }
 
     /// Tells the tracker what files have in xorbs: all of it or nothing. The lists keep their room.
@@ -575,49 +562,8 @@ impl<U: Uploader, R: ShardStore> FileUploadSession<U, R> {
         ensures registered { self.new.registered ≡ self.old.registered }
         ensures group { KeepsGroup self.old self.new }
     {
-        match self.files.depend(rt, alloc, dependencies, &self.registered) {
-            Ok(()) => Ok(()),
-            Err(error) => Err(DataError::from(error)),
-        }
-    }
-
-    // An item of the session's group with this id and name; a group that has one with the id goes on with it.
-    fn make_item<W: Wait>(
-        &self,
-        rt: &W,
-        alloc: Global,
-        id: UniqueID,
-        name: &str,
-    ) -> Result<ItemProgressUpdater, OutOfMemory> {
-        match GroupProgress::new_item(&self.progress, rt, alloc, id, name) {
-            Ok(item) => Ok(item),
-            Err(ProgressError::OutOfMemory) => Err(OutOfMemory),
-            Err(ProgressError::InvalidOperation(_)) => GroupProgress::updater(&self.progress, id),
-        }
-    }
-
-    // Begins a file with this id.
-    fn add_file<W: Wait>(
-        &mut self,
-        rt: &W,
-        alloc: Global,
-        id: UniqueID,
-        name: &str,
-        size: Option<u64>,
-    ) -> Result<(UniqueID, u64), DataError>
-        ensures same { told_by U.told R.told self.new ≡ told_by U.told R.told self.old }
-        ensures group { KeepsGroup self.old self.new }
-        ensures tracks { Tracks self.old.files.tracker self.new.files.tracker (RegisterNewFile size ∷ []) result }
-        ensures id { IfOk result (λ r. r.0 ≡ id) }
-        ensures number { IfOk result (λ r. r.1 ≡ length (sizes self.old.files.tracker)) }
-    {
-        let Ok(item) = self.make_item(rt, alloc, id, name) else {
-            return Err(DataError::OutOfMemory);
-        };
-        match self.files.add_file(rt, item, size) {
-            Ok(file_id) => Ok((id, file_id)),
-            Err(error) => Err(DataError::from(error)),
-        }
+        self.files
+            .register_dependencies(rt, alloc, dependencies, &self.registered)
     }
 
     /// Begins a file: an item of the session's group with the next id and this name, and a file of the tracker, whose
@@ -644,7 +590,9 @@ impl<U: Uploader, R: ShardStore> FileUploadSession<U, R> {
             return Err(DataError::InvalidOperation(Invalid::Finalized));
         }
         match self.ids.next() {
-            Ok(id) => self.add_file(rt, alloc, id, name, size),
+            Ok(id) => self
+                .files
+                .add_file(rt, alloc, &self.progress, id, name, size),
             Err(used_up) => Err(DataError::InvalidOperation(used_up)),
         }
     }
@@ -662,10 +610,7 @@ impl<U: Uploader, R: ShardStore> FileUploadSession<U, R> {
             (IncrementFileSize file_id bytes ∷ []) result }
         ensures group { KeepsGroup self.old self.new }
     {
-        match self.files.grow_file(rt, file_id, bytes) {
-            Ok(()) => Ok(()),
-            Err(error) => Err(DataError::from(error)),
-        }
+        self.files.grow_file(rt, file_id, bytes)
     }
 
     // The xorb is on the list, for which there is room.
@@ -679,23 +624,6 @@ impl<U: Uploader, R: ShardStore> FileUploadSession<U, R> {
             return;
         }
         self.listed.push_reserved(xorb);
-    }
-
-    // A run of chunks with these hashes, from the stores of records. What else the session has stays.
-    fn search(
-        &mut self,
-        alloc: Global,
-        hashes: &[MerkleHash],
-    ) -> Result<Option<(usize, FileDataSequenceEntry, bool)>, DataError>
-        ensures same { told_by U.told R.told self.new
-            ≡ record (told_by U.told R.told self.old) { shards = shards_told R.told self.new.shards } }
-        ensures searches { Searches (shards_told R.told self.old.shards) (shards_told R.told self.new.shards)
-            hashes.now result }
-        ensures listed { self.new.listed ≡ self.old.listed }
-        ensures untold { self.new.files.tracker ≡ self.old.files.tracker }
-        ensures group { KeepsGroup self.old self.new }
-    {
-        self.shards.chunk_hash_dedup_query(alloc, hashes)
     }
 
     /// A run of chunks with these hashes: from the resumed records, from those of the session, or from those of the
@@ -717,7 +645,7 @@ impl<U: Uploader, R: ShardStore> FileUploadSession<U, R> {
         ensures group { KeepsGroup self.old self.new }
     {
         self.listed.reserve(1)?;
-        match self.search(alloc, hashes)? {
+        match self.shards.chunk_hash_dedup_query(alloc, hashes)? {
             None => Ok(None),
             Some(found) => {
                 self.put_on_list(found.1.xorb);
@@ -813,18 +741,7 @@ impl<U: Uploader, R: ShardStore> FileUploadSession<U, R> {
         Ok(self.count_shards(bytes))
     }
 
-    // The file records of the session.
-    fn list_files(&mut self, alloc: Global) -> Result<List<MDBFileInfo>, DataError>
-        ensures same { told_by U.told R.told self.new
-            ≡ record (told_by U.told R.told self.old) { shards = shards_told R.told self.new.shards } }
-        ensures files { ListsFiles (shards_told R.told self.old.shards) (shards_told R.told self.new.shards) result }
-        ensures untold { self.new.files.tracker ≡ self.old.files.tracker }
-        ensures group { KeepsGroup self.old self.new }
-    {
-        self.shards.session_file_info_list(alloc)
-    }
-
-    /// The same, with the file records of the session, in the order in which they were added.
+    /// The same as `finalize`, with the file records of the session, in the order in which they were added.
     ///
     /// In the Rust crate xet-data: `FileUploadSession::finalize_with_file_info`.
     pub fn finalize_with_file_info<W: Wait>(
@@ -845,8 +762,10 @@ impl<U: Uploader, R: ShardStore> FileUploadSession<U, R> {
         ensures backs { Backs (told_by U.told R.told self.old) (told_by U.told R.told self.new) }
     {
         let metrics = self.finalize(rt, alloc, now)?;
-        let files = self.list_files(alloc)?;
-        Ok((metrics, files))
+        match self.shards.session_file_info_list(alloc) {
+            Ok(files) => Ok((metrics, files)),
+            Err(error) => Err(error),
+        }
     }
 
     /// The same as `finalize`, with the sums of the session's group at the end.
@@ -870,9 +789,10 @@ impl<U: Uploader, R: ShardStore> FileUploadSession<U, R> {
         ensures transfer { IfOk result (λ r. r.1.total_transfer_bytes_completed ≤ r.1.total_transfer_bytes) }
         ensures backs { Backs (told_by U.told R.told self.old) (told_by U.told R.told self.new) }
     {
-        let metrics = self.finalize(rt, alloc, now)?;
-        let report = self.progress.report(rt);
-        Ok((metrics, report))
+        match self.finalize(rt, alloc, now) {
+            Ok(metrics) => Ok((metrics, self.progress.report(rt))),
+            Err(error) => Err(error),
+        }
     }
 
     /// The session's group: the sizes of its xorbs, and how many of their bytes were put.

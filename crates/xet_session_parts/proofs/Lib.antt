@@ -1,4 +1,5 @@
 pub mod CallerLemmas
 mod CutNotes
 mod Hashes
+mod Tracked
 mod TrackerCalls

@@ -1,4 +1,5 @@
 pub mod CutNotes
 pub mod HashLists
 pub mod Thresholds
+pub mod Tracked
 pub mod TrackerCalls

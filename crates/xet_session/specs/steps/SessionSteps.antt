@@ -1,6 +1,7 @@
 -- What the steps of a session change.
 use Rattle.std.specs.Prelude.{ℕ, ◌≡◌, ◌+◌, ◌-◌, ◌^◌, ◌⊎◌, ◌<◌, ◌≤◌, min, Bool, true, cond, List, [], ◌∷◌, ◌++◌, length}
 use Rattle.std.specs.Prelude.{map, Contains, None, is_some, option_map, Result, Ok, OnOk, OnErr, IfOk, IfErr}
+use Rattle.xet_base.specs.declared.error.OutOfMemory.{OutOfMemory}
 use Rattle.xet_base.specs.declared.merklehash.MerkleHash.{MerkleHash}
 use Rattle.xet_base.specs.declared.mdb_shard.Xorb.{Xorb}
 use Rattle.xet_base.specs.declared.mdb_shard.MDBXorbInfo.{MDBXorbInfo}
@@ -52,14 +53,13 @@ pub record PutRaw (b n : SessionTold) (x : Xorb) (answer : Result (Unit {0}) Dat
   pub failed : IfErr answer (PutFailed b.uploader n.uploader n.failed)
 
 -- the waiting data was taken as a xorb with its record, and files with theirs
-pub record TookWaiting (b n : SessionTold) (answer : Result (RawXorbData × List PendingFile) DataError) : Type 0 where
+pub record TookWaiting (b n : SessionTold) (answer : Result (RawXorbData × List PendingFile) OutOfMemory) : Type 0 where
   pub ok : OnOk answer (n ≡ record b { waiting = no_waiting })
   pub err : OnErr answer (n ≡ b)
   pub xorb : IfOk answer (λ r. r.0.xorb ≡ xorb_of_chunks b.waiting.chunks)
   pub describes : IfOk answer (λ r. Describes r.0.xorb_info r.0.xorb)
   pub files : IfOk answer (λ r. map (λ p. p.info) r.1 ≡ map (record_of_file (waiting_hash b)) b.waiting.files)
   pub parts : IfOk answer (λ r. map (part_of (waiting_hash b)) r.1 ≡ map (own_part (waiting_hash b)) b.waiting.files)
-  pub why : IfErr answer (StoresFail b.shards n.shards)
 
 -- the records of the session are as they were, or one of a xorb came behind them
 abbrev pub MaybeAdded : SessionTold → SessionTold → MDBXorbInfo → Type 0

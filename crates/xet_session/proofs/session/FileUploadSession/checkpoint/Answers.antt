@@ -3,8 +3,8 @@ use Rattle.std.specs.Prelude.{Err}
 use Rattle.xet_upload.specs.declared.data_error.DataError.TheVariants as data_error
 use Rattle.xet_session.specs.Sessions.{SessionTold}
 use Rattle.xet_base.proofs.CallerLemmas.{err-of}
-use Rattle.xet_session.proofs.CutTracking.{cut-counted, cut-noted, cut-stopped, cut-unnoted, cut-untold}
-use Rattle.xet_session.proofs.Cuts.{cut-failed, cut-put, cut-same, cut-still, names-cut, names-still, put-unnoted}
+use Rattle.xet_session.proofs.CutTracking.{cut-noted, cut-stopped, cut-told, cut-untold}
+use Rattle.xet_session.proofs.Cuts.{cut-failed, cut-put, cut-same, cut-still, names-cut, names-still, put-noted}
 use Rattle.xet_session.proofs.Ends.{backs-kept}
 use Rattle.xet_session.proofs.Tests.{has-listed}
 use Rattle.xet_session.proofs.session.FileUploadSession.checkpoint.Goals as goal
@@ -16,7 +16,7 @@ returns-in-Some g c =
 
 pub returns-in_err-raw : goal.returns-in_err-raw
 returns-in_err-raw g c =
-    let e : c.from_residual.result ≡ Err c.in_err-raw.field-0.0 = err-of _ _ c.from_residual.ensures in
+    let e : c.from_residual.result ≡ Err data_error.OutOfMemory = err-of _ _ c.from_residual.ensures in
     let took = rw c.in_err-raw.was at c.take_waiting.ensures.taken in
     let call = cut-same _ _ _ _ c.in_default.is took in
     rw e (record {
@@ -26,54 +26,38 @@ returns-in_err-raw g c =
       backs = backs-kept _ _ (has-listed _ c.args.self.now.lists) call.keeps call.listed;
     })
 
-pub returns-in_err-put_finished : goal.returns-in_err-put_finished
-returns-in_err-put_finished g c =
-    let e : c.from_residual-in_err-put_finished.result ≡ Err c.in_err-put_finished.field-0.0 =
-    err-of _ _ c.from_residual-in_err-put_finished.ensures in
+pub returns : goal.returns
+returns g c =
     let took = rw c.in_ok-raw.was at c.take_waiting.ensures.taken in
-    let put = rw c.in_err-put_finished.was at c.put_finished.ensures.call in
-    let call = cut-put _ _ _ _ _ took c.in_default.is _ c.num_chunks-chunks.ensures.chunks (c.is_new.ensures.some c.if-is_new.true) (c.is_new.ensures.new c.if-is_new.true) _ put in
-    rw e (record {
-      call = call;
-      tracks = cut-stopped _ _ _ _ took c.in_default.is _ _ _ (rw (c.as_slice.ensures, c.take_waiting.ensures.untold) at c.register_cut-noted.ensures) _ _ c.num_chunks-chunks.ensures.chunks (c.is_new.ensures.some c.if-is_new.true) _ (rw c.in_err-put_finished.was at c.put_finished.ensures.tracked);
-      group = (c.put_finished.ensures.group.0 ∙ c.take_waiting.ensures.group.0, c.put_finished.ensures.group.1 ∙ c.take_waiting.ensures.group.1);
-      backs = backs-kept _ _ (has-listed _ c.args.self.now.lists) call.keeps call.listed;
-    })
-
-pub returns-in_err-noted : goal.returns-in_err-noted
-returns-in_err-noted g c =
-    let e : c.from_residual-in_err-noted.result ≡ Err data_error.OutOfMemory =
-    err-of _ _ c.from_residual-in_err-noted.ensures in
-    let took = rw c.in_ok-raw.was at c.take_waiting.ensures.taken in
-    let put = put-unnoted _ _ _ _ _ _ (rw c.in_ok-put_finished.was at c.put_finished.ensures.call) in
-    let call = cut-put _ _ _ _ _ took c.in_default.is _ c.num_chunks-chunks.ensures.chunks (c.is_new.ensures.some c.if-is_new.true) (c.is_new.ensures.new c.if-is_new.true) _ put in
-    rw e (record {
-      call = call;
-      tracks = cut-unnoted _ _ _ _ took c.in_default.is _ _ _ (rw (c.as_slice.ensures, c.take_waiting.ensures.untold) at c.register_cut-noted.ensures) _ _ c.num_chunks-chunks.ensures.chunks (c.is_new.ensures.some c.if-is_new.true) _ (rw c.in_ok-put_finished.was at c.put_finished.ensures.tracked);
-      group = (c.put_finished.ensures.group.0 ∙ c.take_waiting.ensures.group.0, c.put_finished.ensures.group.1 ∙ c.take_waiting.ensures.group.1);
-      backs = backs-kept _ _ (has-listed _ c.args.self.now.lists) call.keeps call.listed;
-    })
-
-pub returns-then-is_new : goal.returns-then-is_new
-returns-then-is_new g c =
-    let took = rw c.in_ok-raw.was at c.take_waiting.ensures.taken in
-    let put = rw c.in_ok-put_finished.was at c.put_finished.ensures.call in
-    let call = cut-put _ _ _ _ _ took c.in_default.is _ c.num_chunks-chunks.ensures.chunks (c.is_new.ensures.some c.if-is_new.true) (c.is_new.ensures.new c.if-is_new.true) _ put in
+    let put = rw c.in-Err.is at c.put_finished.ensures.call in
+    let call = cut-put _ _ _ _ _ took c.in_default.is _ c.num_chunks-chunks.ensures.chunks (c.is_new.ensures.some c.if-not-is_new.false) (c.is_new.ensures.new c.if-not-is_new.false) _ put in
     record {
       call = call;
-      tracks = cut-counted _ _ _ _ took c.in_default.is _ _ _ (rw (c.as_slice.ensures, c.take_waiting.ensures.untold) at c.register_cut-noted.ensures) _ _ c.num_chunks-chunks.ensures.chunks (c.is_new.ensures.some c.if-is_new.true) _ _ (rw c.in_ok-put_finished.was at c.put_finished.ensures.tracked) c.in_ok-noted.was;
+      tracks = cut-stopped _ _ _ _ took c.in_default.is _ _ _ (rw (c.as_slice.ensures, c.take_waiting.ensures.untold) at c.register_cut-noted.ensures.notes) _ _ c.num_chunks-chunks.ensures.chunks (c.is_new.ensures.some c.if-not-is_new.false) _ (rw c.in-Err.is at c.put_finished.ensures.tracked);
       group = (c.put_finished.ensures.group.0 ∙ c.take_waiting.ensures.group.0, c.put_finished.ensures.group.1 ∙ c.take_waiting.ensures.group.1);
       backs = backs-kept _ _ (has-listed _ c.args.self.now.lists) call.keeps call.listed;
     }
 
-pub returns : goal.returns
-returns g c =
+pub returns-in-Ok : goal.returns-in-Ok
+returns-in-Ok g c =
     let took = rw c.in_ok-raw.was at c.take_waiting.ensures.taken in
-    let call = cut-still _ _ _ _ _ took c.in_default.is _ c.num_chunks-chunks.ensures.chunks c.num_chunks-chunks.ensures.counted c.finish_files.ensures.call (c.is_new.ensures.old c.if-is_new.false) in
+    let put = put-noted _ _ _ _ _ _ c.register_cut-noted.result c.register_cut-noted.ensures.memory (rw c.in-Ok.is at c.put_finished.ensures.call) in
+    let call = cut-put _ _ _ _ _ took c.in_default.is _ c.num_chunks-chunks.ensures.chunks (c.is_new.ensures.some c.if-not-is_new.false) (c.is_new.ensures.new c.if-not-is_new.false) _ put in
+    record {
+      call = call;
+      tracks = cut-told _ _ _ _ took c.in_default.is _ _ c.register_cut-noted.result (rw (c.as_slice.ensures, c.take_waiting.ensures.untold) at c.register_cut-noted.ensures.notes) _ _ c.num_chunks-chunks.ensures.chunks (c.is_new.ensures.some c.if-not-is_new.false) c.register_cut-noted.ensures.memory _ (rw c.in-Ok.is at c.put_finished.ensures.tracked);
+      group = (c.put_finished.ensures.group.0 ∙ c.take_waiting.ensures.group.0, c.put_finished.ensures.group.1 ∙ c.take_waiting.ensures.group.1);
+      backs = backs-kept _ _ (has-listed _ c.args.self.now.lists) call.keeps call.listed;
+    }
+
+pub returns-then-not-is_new : goal.returns-then-not-is_new
+returns-then-not-is_new g c =
+    let took = rw c.in_ok-raw.was at c.take_waiting.ensures.taken in
+    let call = cut-still _ _ _ _ _ took c.in_default.is _ c.num_chunks-chunks.ensures.chunks c.num_chunks-chunks.ensures.counted c.finish_files.ensures.call (c.is_new.ensures.old c.if-not-is_new.true) in
     let put = ap (λ (t : SessionTold). t.registered) c.finish_files.ensures.call ∙ ap (λ (t : SessionTold). t.registered) took.ok in
     record {
       call = call;
-      tracks = rw c.finish_files.ensures.untold (cut-noted _ _ _ _ took c.in_default.is _ _ _ (rw (c.as_slice.ensures, c.take_waiting.ensures.untold) at c.register_cut-noted.ensures) _ put);
+      tracks = rw c.finish_files.ensures.untold (cut-noted _ _ _ _ took c.in_default.is _ _ _ (rw (c.as_slice.ensures, c.take_waiting.ensures.untold) at c.register_cut-noted.ensures.notes) _ put);
       group = (c.finish_files.ensures.group.0 ∙ c.take_waiting.ensures.group.0, c.finish_files.ensures.group.1 ∙ c.take_waiting.ensures.group.1);
       backs = backs-kept _ _ (has-listed _ c.args.self.now.lists) call.keeps call.listed;
     }
@@ -84,4 +68,4 @@ put_finished-requires-clause-named g c =
 
 pub finish_files-requires-clause-named : goal.finish_files-requires-clause-named
 finish_files-requires-clause-named g c =
-    names-still _ _ _ (rw c.in_ok-raw.was at c.take_waiting.ensures.taken) c.in_default.is (has-listed _ c.args.self.now.lists) _ c.num_chunks-chunks.ensures.chunks c.num_chunks-chunks.ensures.counted (c.is_new.ensures.old c.if-is_new.false)
+    names-still _ _ _ (rw c.in_ok-raw.was at c.take_waiting.ensures.taken) c.in_default.is (has-listed _ c.args.self.now.lists) _ c.num_chunks-chunks.ensures.chunks c.num_chunks-chunks.ensures.counted (c.is_new.ensures.old c.if-not-is_new.true)

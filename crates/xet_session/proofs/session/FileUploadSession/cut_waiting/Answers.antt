@@ -1,26 +1,22 @@
-use Rattle.std.proofs.Common.{ap, refl, ◌∙◌, ◌≡◌}
-use Rattle.std.specs.Prelude.{Err}
+use Rattle.std.proofs.Common.{ap, refl, ◌∙◌}
 use Rattle.xet_session.specs.Sessions.{SessionTold}
-use Rattle.xet_base.proofs.CallerLemmas.{err-of}
 use Rattle.xet_session.proofs.CutTracking.{file-waits, file-waits-ok}
 use Rattle.xet_session.proofs.Completions.{names-after, took-after, took-uncut}
 use Rattle.xet_session.proofs.session.FileUploadSession.cut_waiting.Goals as goal
 
-pub returns-in_err-checkpoint : goal.returns-in_err-checkpoint
-returns-in_err-checkpoint g c =
-    let e : c.from_residual.result ≡ Err c.in_err-checkpoint.field-0.0 = err-of _ _ c.from_residual.ensures in
-    rw e (record {
-      call = took-uncut _ _ _ _ _ c.requires.passes c.requires.larger (rw c.in_err-checkpoint.was at c.checkpoint.ensures.call);
-      tracks = file-waits _ _ _ _ _ _ c.requires.passes _ c.requires.larger refl (rw c.in_err-checkpoint.was at c.checkpoint.ensures.tracks);
-      group = c.checkpoint.ensures.group;
-    })
+pub returns-in-Err : goal.returns-in-Err
+returns-in-Err g c = record {
+  call = took-uncut _ _ _ _ _ c.requires.passes c.requires.larger (rw c.in-Err.is at c.checkpoint.ensures.call);
+  tracks = file-waits _ _ _ _ _ _ c.requires.passes _ c.requires.larger refl (rw c.in-Err.is at c.checkpoint.ensures.tracks);
+  group = c.checkpoint.ensures.group;
+}
 
-pub returns : goal.returns
-returns g c =
+pub returns-in-Ok : goal.returns-in-Ok
+returns-in-Ok g c =
     let put = ap (λ (t : SessionTold). t.registered) c.replace_waiting.ensures.same in
     record {
-      call = took-after _ _ _ _ _ _ c.requires.passes c.requires.larger (rw c.in_ok-checkpoint.was at c.checkpoint.ensures.call) c.replace_waiting.ensures.same;
-      tracks = rw c.replace_waiting.ensures.untold (file-waits-ok _ _ _ _ _ _ _ c.requires.passes c.requires.larger put (rw c.in_ok-checkpoint.was at c.checkpoint.ensures.tracks));
+      call = took-after _ _ _ _ _ _ c.requires.passes c.requires.larger (rw c.in-Ok.is at c.checkpoint.ensures.call) c.replace_waiting.ensures.same;
+      tracks = rw c.replace_waiting.ensures.untold (file-waits-ok _ _ _ _ _ _ _ c.requires.passes c.requires.larger put (rw c.in-Ok.is at c.checkpoint.ensures.tracks));
       group = (c.replace_waiting.ensures.group.0 ∙ c.checkpoint.ensures.group.0, c.replace_waiting.ensures.group.1 ∙ c.checkpoint.ensures.group.1);
     }
 

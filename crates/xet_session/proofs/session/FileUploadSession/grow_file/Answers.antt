@@ -1,8 +1,5 @@
-use Rattle.xet_session.proofs.Tracking.{tracks-none, tracks-one}
+use Rattle.std.proofs.Common.{refl}
 use Rattle.xet_session.proofs.session.FileUploadSession.grow_file.Goals as goal
 
-pub returns-in-Ok-clause-tracks : goal.returns-in-Ok-clause-tracks
-returns-in-Ok-clause-tracks g c = tracks-one _ _ _ _ _ _ (rw c.in-Ok.is at c.grow_file.ensures)
-
-pub returns-in-Err-clause-tracks : goal.returns-in-Err-clause-tracks
-returns-in-Err-clause-tracks g c = rw c.from.ensures (tracks-none _ _ _ _ _ (rw c.in-Err.is at c.grow_file.ensures))
+pub returns : goal.returns
+returns g c = record { same = refl; tracks = c.grow_file.ensures; group = (refl, refl) }

@@ -32,26 +32,24 @@ returns-then-len-eq0 g c =
       group = (refl, refl);
     }
 
-pub returns-in_err-put_finished : goal.returns-in_err-put_finished
-returns-in_err-put_finished g c =
-    let e : c.from_residual-in_err-put_finished.result ≡ Err c.in_err-put_finished.field-0.0 =
-    err-of _ _ c.from_residual-in_err-put_finished.ensures in
+pub returns-in-Err : goal.returns-in-Err
+returns-in-Err g c =
     let fresh = c.contains.ensures.no c.if-contains.false in
-    let put = given-put _ _ _ _ _ (rw (c.in_err-put_finished.was, c.new.ensures) at c.put_finished.ensures.call) in
-    rw e (record {
+    let put = given-put _ _ _ _ _ (rw (c.in-Err.is, c.new.ensures) at c.put_finished.ensures.call) in
+    record {
       call = registers-err _ _ _ c.requires.first fresh (c.requires.unfailed fresh (omega arith)) _ _ (omega arith) put;
       why = put.why;
-      tracked = given-failed _ _ _ _ _ fresh _ (rw c.in_err-put_finished.was at c.put_finished.ensures.tracked);
+      tracked = given-failed _ _ _ _ _ fresh _ (rw c.in-Err.is at c.put_finished.ensures.tracked);
       group = c.put_finished.ensures.group;
-    })
+    }
 
-pub returns : goal.returns
-returns g c =
+pub returns-in-Ok : goal.returns-in-Ok
+returns-in-Ok g c =
     let fresh = c.contains.ensures.no c.if-contains.false in
     record {
-      call = registers-put _ _ _ c.requires.first fresh (c.requires.unfailed fresh (omega arith)) _ _ (omega arith) (given-put _ _ _ _ _ (rw (c.in_ok-put_finished.was, c.new.ensures) at c.put_finished.ensures.call));
+      call = registers-put _ _ _ c.requires.first fresh (c.requires.unfailed fresh (omega arith)) _ _ (omega arith) (given-put _ _ _ _ _ (rw (c.in-Ok.is, c.new.ensures) at c.put_finished.ensures.call));
       why = tt;
-      tracked = given-counted _ _ _ _ _ fresh _ (rw c.in_ok-put_finished.was at c.put_finished.ensures.tracked);
+      tracked = given-counted _ _ _ _ _ fresh _ (rw c.in-Ok.is at c.put_finished.ensures.tracked);
       group = c.put_finished.ensures.group;
     }
 

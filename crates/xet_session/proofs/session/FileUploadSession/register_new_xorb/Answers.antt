@@ -27,29 +27,27 @@ returns-in_err-make_room g c =
     let call = registers-refused _ _ _ c.if-self.false data_error.OutOfMemory None (inl refl) (c.kept_failure.ensures.none c.in_default.is) in
     rw (e, c.make_room.ensures.same, c.make_room.ensures.untold) (record { call = call; tracks = told-unmade _ _ _ _; group = c.make_room.ensures.group; backs = backs-kept _ _ (has-listed _ c.args.self.now.lists) call.keeps call.listed })
 
-pub returns-in_err-track_xorb : goal.returns-in_err-track_xorb
-returns-in_err-track_xorb g c =
-    let e : c.from_residual-in_err-track_xorb.result ≡ Err c.in_err-track_xorb.field-0.0 =
-    err-of _ _ c.from_residual-in_err-track_xorb.ensures in
-    let sound = c.kept_failure.ensures.none c.in_default.is in
-    let tracks = rw (c.in_err-track_xorb.was, ap (λ (t : SessionTold). t.registered) c.make_room.ensures.same, c.make_room.ensures.untold) at c.track_xorb.ensures.tracks in
-    let call = registers-refused _ _ _ c.if-self.false _ _ tracks.err sound in
-    rw (e, c.track_xorb.ensures.same, c.make_room.ensures.same) (record { call = call; tracks = told-refused _ _ _ _ c.if-self.false sound _ _ tracks; group = (c.track_xorb.ensures.group.0 ∙ c.make_room.ensures.group.0, c.track_xorb.ensures.group.1 ∙ c.make_room.ensures.group.1); backs = backs-kept _ _ (has-listed _ c.args.self.now.lists) call.keeps call.listed })
-
 pub returns : goal.returns
 returns g c =
     let sound = c.kept_failure.ensures.none c.in_default.is in
-    let tracks = rw (c.in_ok-track_xorb.was, ap (λ (t : SessionTold). t.registered) c.make_room.ensures.same, c.make_room.ensures.untold) at c.track_xorb.ensures.tracks in
-    let call = rw (c.track_xorb.ensures.same, c.make_room.ensures.same) at c.put_new.ensures.call in
+    let tracks = rw (c.in-Err.is, ap (λ (t : SessionTold). t.registered) c.make_room.ensures.same, c.make_room.ensures.untold) at c.register_given.ensures in
+    let call = registers-refused _ _ _ c.if-self.false _ _ tracks.err sound in
+    rw c.make_room.ensures.same (record { call = call; tracks = told-refused _ _ _ _ c.if-self.false sound _ _ tracks; group = c.make_room.ensures.group; backs = backs-kept _ _ (has-listed _ c.args.self.now.lists) call.keeps call.listed })
+
+pub returns-in-Ok : goal.returns-in-Ok
+returns-in-Ok g c =
+    let sound = c.kept_failure.ensures.none c.in_default.is in
+    let tracks = rw (c.in-Ok.is, ap (λ (t : SessionTold). t.registered) c.make_room.ensures.same, c.make_room.ensures.untold) at c.register_given.ensures in
+    let call = rw c.make_room.ensures.same at c.put_new.ensures.call in
     record {
       call = call;
-      tracks = told-put _ _ _ _ c.if-self.false sound _ _ _ _ tracks c.put_new.result (rw (c.track_xorb.ensures.same, c.make_room.ensures.same) at c.put_new.ensures.tracked) (rw (c.track_xorb.ensures.same, c.make_room.ensures.same) at c.put_new.ensures.why);
-      group = (c.put_new.ensures.group.0 ∙ c.track_xorb.ensures.group.0 ∙ c.make_room.ensures.group.0, c.put_new.ensures.group.1 ∙ c.track_xorb.ensures.group.1 ∙ c.make_room.ensures.group.1);
+      tracks = told-put _ _ _ _ c.if-self.false sound _ _ _ _ tracks c.put_new.result (rw c.make_room.ensures.same at c.put_new.ensures.tracked) (rw c.make_room.ensures.same at c.put_new.ensures.why);
+      group = (c.put_new.ensures.group.0 ∙ c.make_room.ensures.group.0, c.put_new.ensures.group.1 ∙ c.make_room.ensures.group.1);
       backs = backs-kept _ _ (has-listed _ c.args.self.now.lists) call.keeps call.listed;
     }
 
 pub put_new-requires-clause-unfailed : goal.put_new-requires-clause-unfailed
 put_new-requires-clause-unfailed g c fresh low =
-    let same = c.track_xorb.ensures.same ∙ c.make_room.ensures.same in
+    let same = c.make_room.ensures.same in
     let P : List MerkleHash → Type 0 = λ hs. Contains hs c.args.raw.xorb.hash in
     ap (λ (t : SessionTold). t.failed) same ∙ c.kept_failure.ensures.none c.in_default.is (λ old. fresh (subst P (sym (ap (λ (t : SessionTold). t.registered) same)) old)) low

@@ -1,18 +1,53 @@
-use Rattle.std.proofs.Common.{arith, refl}
-use Rattle.xet_session.proofs.CutTracking.{map-parts}
-use Rattle.xet_session.proofs.Cuts.{map-infos, count-infos}
+use Rattle.std.proofs.Common.{List, ap, map, ◌≡◌, ◌∙◌}
+use Rattle.std.specs.Prelude.{Err}
+use Rattle.xet_base.proofs.CallerLemmas.{err-of}
+use Rattle.xet_waiting.specs.declared.raw_xorb.PendingFile.{PendingFile}
+use Rattle.xet_session.specs.Telling.{told_by}
+use Rattle.xet_session.proofs.CutTracking.{on_ok, took-so, took-space}
+use Rattle.xet_session.proofs.Tests.{are-taken}
 use Rattle.xet_session.proofs.session.FileUploadSession.take_waiting.Goals as goal
 
-pub returns-clause-taken : goal.returns-clause-taken
-returns-clause-taken g c = record {
-  ok = rw (c.in_ok-finalize.ensures.emptied, c.in_ok-reserve-3.ensures.same, c.in_ok-reserve-2.ensures.same, c.in_ok-reserve.ensures.same) refl;
-  err = tt;
-  xorb = c.in_ok-finalize.ensures.xorb;
-  describes = c.in_ok-finalize.ensures.info;
-  files = map-infos _ _ _ c.in_ok-finalize.ensures.files;
-  parts = map-parts _ _ _ c.in_ok-finalize.ensures.files;
-  why = tt;
-}
+pub returns-in_err-make_room : goal.returns-in_err-make_room
+returns-in_err-make_room g c =
+    let e : c.from_residual.result ≡ Err c.in_err-make_room.field-0.0 = err-of _ _ c.from_residual.ensures in
+    rw e (record {
+      taken = record { ok = tt; err = c.make_room.ensures.same; xorb = tt; describes = tt; files = tt; parts = tt };
+      room = tt;
+      noted = tt;
+      space = tt;
+      untold = c.make_room.ensures.untold;
+      group = c.make_room.ensures.group;
+    })
 
-pub returns-clause-space : goal.returns-clause-space
-returns-clause-space g c = omega (arith, c.in_ok-reserve-3.ensures.room, c.num_files.ensures, count-infos _ _ _ c.in_ok-finalize.ensures.files)
+pub returns-in_err-reserve : goal.returns-in_err-reserve
+returns-in_err-reserve g c =
+    let e : c.from_residual-in_err-reserve.result ≡ Err c.in_err-reserve.field-0.0 =
+    err-of _ _ c.from_residual-in_err-reserve.ensures in
+    let t = told_by g.U.Uploader.told g.R.ShardStore.told c.make_room.new.self in
+    let same = ap (λ (fs : List PendingFile). record t { finished = map (λ p. p.info) fs }) c.in_err-reserve.ensures.same ∙ c.make_room.ensures.same in
+    rw e (record {
+      taken = record { ok = tt; err = same; xorb = tt; describes = tt; files = tt; parts = tt };
+      room = tt;
+      noted = tt;
+      space = tt;
+      untold = c.make_room.ensures.untold;
+      group = c.make_room.ensures.group;
+    })
+
+pub returns : goal.returns
+returns g c =
+    let t = told_by g.U.Uploader.told g.R.ShardStore.told c.make_room.new.self in
+    let same = ap (λ (fs : List PendingFile). record t { finished = map (λ p. p.info) fs }) c.in_ok-reserve.ensures.same ∙ c.make_room.ensures.same in
+    record {
+      taken = took-so _ _ same _ c.finalize.result c.finalize.ensures.xorb c.finalize.ensures.info c.finalize.ensures.files c.finalize.ensures.emptied c.finalize.ensures.kept;
+      room = on_ok c.finalize.result c.in_ok-make_room.ensures.room;
+      noted = on_ok c.finalize.result c.in_ok-make_room.ensures.noted;
+      space = took-space _ _ _ _ _ c.finalize.result c.finalize.ensures.files c.num_files.ensures c.in_ok-reserve.ensures.room;
+      untold = c.make_room.ensures.untold;
+      group = c.make_room.ensures.group;
+    }
+
+pub invariant_of-self-2 : goal.invariant_of-self-2
+invariant_of-self-2 g c = record {
+  lists = λ f z. are-taken _ _ _ _ _ (c.make_room.new.self.lists f z) c.in_ok-reserve.ensures.same _ c.finalize.result c.finalize.ensures.emptied c.finalize.ensures.kept;
+}
