@@ -2,7 +2,7 @@
 use crate::script::hash;
 use std::fmt::{Debug, Display};
 use std::process::Abort;
-use xet_base::{ChunkRange, HttpRange, UniqueId};
+use xet_base::{ChunkRange, HttpRange, MerkleHash, UniqueId};
 use xet_blocks::{Corruption, FileReconstructionError, Result, TermBlockRetrievalURLs};
 use xet_outside::BlockRequest;
 
@@ -35,10 +35,13 @@ pub(crate) fn put_id(text: &mut String, id: UniqueId) {
     put(text, id.refresh);
 }
 
-/// `Ranges 1 0`: a xorb's bad entry, with the number of the xorb's hash.
-fn tell_entry(text: &mut String, xorb: u8, entry: usize) {
+/// `Ranges 1 0`: a xorb's bad entry, with the number of the xorb's hash, and a mark where that is no number's hash.
+fn tell_entry(text: &mut String, xorb: MerkleHash, entry: usize) {
     put(text, "Ranges ");
-    put(text, xorb);
+    put(text, xorb.0[0]);
+    if xorb != hash(xorb.0[0]) {
+        put(text, '?');
+    }
     put(text, ' ');
     put(text, entry);
 }
@@ -46,8 +49,9 @@ fn tell_entry(text: &mut String, xorb: u8, entry: usize) {
 /// An error, a failed test with its numbers, or a xorb's bad entry.
 pub(crate) fn tell_error(text: &mut String, error: FileReconstructionError) {
     match error {
-        FileReconstructionError::CorruptedReconstruction(Corruption::Ranges { xorb, entry })
-            if xorb == hash(xorb.0[0]) => { tell_entry(text, xorb.0[0], entry) }
+        FileReconstructionError::CorruptedReconstruction(Corruption::Ranges { xorb, entry }) => {
+            tell_entry(text, xorb, entry)
+        }
         FileReconstructionError::CorruptedReconstruction(fault) => put_debug(text, fault),
         error => put_debug(text, error),
     }
