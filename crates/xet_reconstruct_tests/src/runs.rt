@@ -59,10 +59,11 @@ lanes p; plan 0;17 5 0 1 17 2 1 2 17 5 2 3;17:0 1 1 2 2 3; lengths 5 2 5; most 5
 lanes p; plan 0;17 5 0 1 17 2 1 2 17 5 2 3;17:0 1 1 2 2 3; budget 5; lengths 5 2 5; most 5: 12 'Hello, world' 1 within 0
 lanes p; plan 0;17 5 0 1 17 2 1 2 17 5 2 3;17:0 1 1 2 2 3; book 5; lengths 5 2 5; most 5: 12 'Hello, world' 1 within 0";
 
-/// The second fetch and the first write wait for each other, and three fetches for one another, of which each
-/// connection serves one. The gate is that of the caller.
+/// The second fetch and the first write wait for each other, whether the connection answers at once or not, and three
+/// fetches for one another, of which each connection serves one. The gate is that of the caller.
 const BESIDE: &str = "\
 size 4; budget 13; meet 2; first 1; beside: 13 'Hello, world!' 4 met 4 0 0
+size 4; budget 13; ready; meet 2; first 1; beside: 13 'Hello, world!' 4 met 4 0 0
 lanes p,.,.; plan 0;17 5 0 1 17 2 1 2 17 5 2 3;17:0 1 1 2 2 3; budget 12; meet 3: 12 'Hello, world' 1 met 1 1 1";
 
 #[test]
