@@ -21,7 +21,6 @@ lanes_honest : (wanted : Wanted) (text : List ℕ) (b n : Told) → NothingFails
 lanes_honest wanted text b n f = All-take (λ (t : TapTold). t.honest ≡ true) (lanes_of wanted.options) b.taps f.taps
 
 module _ (limit : ℕ) (text : List ℕ) (b n : Told) (f : NothingFails text b n) where
-
   document : (wanted : Wanted) (store : _) → OverStore limit store wanted b n → IsDocument limit text store
   document wanted store o = record { short = (o.read text f.input).0; is = o.document text f.input }
 

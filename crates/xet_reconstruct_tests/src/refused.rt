@@ -14,7 +14,8 @@ const WHOLE: &str = "13 'Hello, world!' 6/6";
 fn is_beginning(told: &str) -> bool {
     let (error, rest) = cut(told, " '");
     let (bytes, _) = cut(rest, "'");
-    WHOLE.starts_with(told) || "OutOfMemory".starts_with(error) && "Hello, world!".starts_with(bytes)
+    WHOLE.starts_with(told)
+        || "OutOfMemory".starts_with(error) && "Hello, world!".starts_with(bytes)
 }
 
 #[test]
