@@ -54,10 +54,6 @@ impl Meeting {
 
 /// The fetches 0 and 1 wait for each other.
 impl Gate for Meeting {
-    ghost use Rattle.std.specs.Prelude.{false};
-
-    ghost lets_all = { λ _. false };
-
     fn before(&self, number: u64) {
         if number < 2 {
             self.meet(number);
@@ -65,10 +61,6 @@ impl Gate for Meeting {
     }
 
     fn after(&self, _number: u64) {}
-
-    fn is_open(&self) -> bool {
-        false
-    }
 }
 
 /// The fetches 0 and 1 wait for each other, and each later one lets others run for a while.
@@ -78,10 +70,6 @@ pub(crate) struct Slow<'a> {
 }
 
 impl<'a> Gate for Slow<'a> {
-    ghost use Rattle.std.specs.Prelude.{false};
-
-    ghost lets_all = { λ _. false };
-
     fn before(&self, number: u64) {
         if number < 2 {
             self.meeting.meet(number);
@@ -93,10 +81,6 @@ impl<'a> Gate for Slow<'a> {
     }
 
     fn after(&self, _number: u64) {}
-
-    fn is_open(&self) -> bool {
-        false
-    }
 }
 
 /// The fetch 1 waits for the first write.
@@ -106,10 +90,6 @@ pub(crate) struct Beside<'a> {
 }
 
 impl<'a> Gate for Beside<'a> {
-    ghost use Rattle.std.specs.Prelude.{false};
-
-    ghost lets_all = { λ _. false };
-
     fn before(&self, number: u64) {
         if number == 1 {
             self.meeting.meet(1);
@@ -117,10 +97,6 @@ impl<'a> Gate for Beside<'a> {
     }
 
     fn after(&self, _number: u64) {}
-
-    fn is_open(&self) -> bool {
-        false
-    }
 }
 
 /// Takes all bytes. The first write waits for the fetch 1, where there is a meeting.

@@ -29,19 +29,11 @@ impl Trace {
 }
 
 impl Gate for Trace {
-    ghost use Rattle.std.specs.Prelude.{false};
-
-    ghost lets_all = { λ _. false };
-
     fn before(&self, number: u64) {
         self.add(number.saturating_mul(2).saturating_add(1));
     }
 
     fn after(&self, number: u64) {
         self.add(number.saturating_mul(2).saturating_add(2));
-    }
-
-    fn is_open(&self) -> bool {
-        false
     }
 }

@@ -58,10 +58,6 @@ impl Crowd {
 }
 
 impl Gate for Crowd {
-    ghost use Rattle.std.specs.Prelude.{false};
-
-    ghost lets_all = { λ _. false };
-
     fn before(&self, number: u64) {
         if self.first <= number {
             self.arrive();
@@ -69,8 +65,4 @@ impl Gate for Crowd {
     }
 
     fn after(&self, _number: u64) {}
-
-    fn is_open(&self) -> bool {
-        false
-    }
 }

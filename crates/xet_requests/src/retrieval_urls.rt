@@ -3,8 +3,8 @@ ghost use Rattle.std.specs.Prelude.{◌≡◌, ◌∷◌, [], map};
 ghost use lib.Pointwise.{pointwise};
 ghost use Rattle.xet_base.specs.Lists.{first_some};
 ghost use Rattle.xet_offers.specs.Blocks.{range_eq};
-ghost use Rattle.xet_requests.specs.Refreshes.{FreshCall, RefreshCall, blocks_test, extent_of, first_difference, next_id};
-ghost use Rattle.xet_requests.specs.Refreshes.{range_test, same_extent};
+ghost use Rattle.xet_requests.specs.Refreshes.{FreshCall, RefreshCall, blocks_test, extent_of, first_difference};
+ghost use Rattle.xet_requests.specs.Refreshes.{next_id, range_test, same_extent};
 
 use std::alloc::Global;
 use xet_base::{ChunkRange, FileRange, List, MerkleHash, UniqueId};

@@ -1,5 +1,5 @@
-//! What a run may do next, over plain data: the budget of unwritten bytes, whether bytes may be written, and the check of
-//! its first error.
+//! What a run may do next, over plain data: the budget of unwritten bytes, whether bytes may be written, and the check
+//! of its first error.
 #![tactic(auto)]
 
 pub mod budget;

@@ -28,8 +28,8 @@ pub use Rattle.xet_session_parts.specs.Tracked.{IsRefusal, Tracks, first_refusal
 
 -- ---- a given xorb
 
--- what the tracker is told of a given xorb by a call that answers Ok: the same, and then that the xorb is complete, where
--- none of its hash was put before
+-- what the tracker is told of a given xorb by a call that answers Ok: the same, and then that the xorb is complete,
+-- where none of its hash was put before
 abbrev pub all_xorb_calls : List MerkleHash → Xorb → List FileXorbDependency → List TrackerStep
 all_xorb_calls registered x ds = xorb_calls registered x ds
     ++ cond (has x.hash registered) [] (RegisterXorbUploadCompletion x.hash ∷ [])

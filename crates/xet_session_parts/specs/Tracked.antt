@@ -1,6 +1,6 @@
 -- What a tracker is told by the calls of a session, and when it refuses it.
-use Rattle.std.specs.Prelude.{ℕ, ◌≡◌, ◌⊎◌, ◌<◌, cond, List, [], ◌∷◌, ◌++◌, length, take, Option, Some, None, Result, IfErr}
-use Rattle.std.specs.Prelude.{OnErr, OnOk}
+use Rattle.std.specs.Prelude.{ℕ, ◌≡◌, ◌⊎◌, ◌<◌, cond, List, [], ◌∷◌, ◌++◌, length, take, Option, Some, None}
+use Rattle.std.specs.Prelude.{Result, IfErr, OnErr, OnOk}
 use Rattle.std.specs.List.{concat}
 use Rattle.xet_base.specs.declared.invalid.Invalid.{Invalid}
 use Rattle.xet_base.specs.declared.merklehash.MerkleHash.{MerkleHash}

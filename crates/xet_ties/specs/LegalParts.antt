@@ -56,10 +56,11 @@ pub record Written (g : Setup) (xs : List Exchange) (looks : List Look) (before 
 pub record Faults (before after : RunTold) (answer : Result ℕ FileReconstructionError) : Type 0 where
   pub cancelled : before.signal.yes < after.signal.yes → IsCancelled answer
   pub unfailed : Unfailed before.sink.faults after.sink.faults answer
-  -- on Ok, and with FileNotFound, UrlExpired and Cancelled, no call of a connection failed
+  -- unless the answer is want of memory, a failed call or a failed test, no call of a connection failed
   pub clients_unfailed : IsFaultless (stop_of answer) → EachUnfailed before.clients after.clients
 
--- the first connection alone is asked for plans, by short queries that, but for refreshes, cut the range in order
+-- the first connection alone is asked for plans, by short queries that cut the range in order; each other one lies in
+-- one of those before it
 pub record Queries (g : Setup) (xs : List Exchange) (before after : List ClientTold)
     (answer : Result ℕ FileReconstructionError) : Type 0 where
   pub asked : FirstAsks g before after
@@ -68,12 +69,12 @@ pub record Queries (g : Setup) (xs : List Exchange) (before after : List ClientT
   -- refreshes are no more than expired answers came
   pub few : FirstAsksFew g xs
 
--- no block of a plan is served twice, and each that is asked for is one of a plan that was said
+-- no block of a plan is served twice, and each answered request is for one of a plan that was said
 pub record Blocks (g : Setup) (xs : List Exchange) (clients : List ClientTold) (cache : CacheTold)
     (answer : Result ℕ FileReconstructionError) : Type 0 where
   pub served : ServedOnce (served_of_all xs)
   pub planned : AllPlanned g xs
-  -- on Ok, and with FileNotFound, UrlExpired and Cancelled, an answer to its request passes the block's tests
+  -- unless the answer is want of memory, a failed call or a failed test, each answer passes its block's tests
   pub passed : IsFaultless (stop_of answer) → AllPassed g xs
   -- on Ok over one valid store and a cache without entries, each chunk with a byte in the window lies in a served block
   pub chunks : (s : Store) → IsOver s clients → cache.entries ≡ Some []

@@ -45,7 +45,7 @@ pub record TookWhole (g : Setup) (xs : List Exchange) (looks : List Look) (befor
 abbrev pub IsShort : Setup → Query → Type 0
 IsShort g q = (q.0 ≡ g.file) × (q.1.end - q.1.start < g.greatest + g.least)
 
--- the queries are for the file, each is short, and but for refreshes they cut the range
+-- the queries are for the file and short. Some cut the range in order, and each other one lies in one before it
 pub record AsksCut (g : Setup) (qs : List Query) : Type 0 where
   pub short : All (IsShort g) qs
   pub cut : List FileRange

@@ -22,8 +22,8 @@ use xet_writers::SequentialWriter;
 
 /// Fetches these blocks by the connections, each with a lane of its own, while the writer writes what it holds: the
 /// next terms, of these lengths in bytes. Where the gate is open and there is one connection alone, which answers at
-/// once, they are written before. Then all that came of it is recorded, the served blocks keep their data, the expired ones are counted, and
-/// the written terms go.
+/// once, they are written before. Then all that came of it is recorded, the served blocks keep their data, the expired
+/// ones are counted, and the written terms go.
 ///
 /// The error of the join, where it has one: want of memory first, then the writer's, then that of the lowest lane. Else
 /// `UrlExpired` where the tries of a block are used up. `OutOfMemory` where memory was refused. A run that goes on goes
@@ -71,8 +71,8 @@ pub fn run_round<
     take_outcome(around.alloc, leader, core, joined, lengths, tries)
 }
 
-/// Whether the writing of terms of these lengths is put beside fetches through this gate by these connections: not where
-/// there is nothing to write, nor where the gate is open and there is one connection alone, which answers at once.
+/// Whether terms of these lengths are written beside fetches through this gate by these connections: not where there is
+/// nothing to write, nor where the gate is open and there is one connection alone, which answers at once.
 fn writes_beside<G: Gate, C: Client>(gate: &G, lengths: &[u64], clients: &[C]) -> bool {
     total(lengths) != 0 && (!gate.is_open() || clients.len() != 1 || clients[0].waits())
 }

@@ -10,4 +10,6 @@ fixed_cut size pending = if nat_le size pending then Some size else None
 -- chunk may have. Where the cutter waits, all that, if a whole chunk is pending or no more bytes come
 abbrev pub clamped : Option ℕ → ℕ → Bool → Option ℕ
 clamped (Some n) pending last = Some (min (max n 1) (min pending most_chunk_bytes))
-clamped None pending last = if last || nat_le most_chunk_bytes pending then Some (min pending most_chunk_bytes) else None
+clamped None pending last = if last || nat_le most_chunk_bytes pending
+    then Some (min pending most_chunk_bytes)
+    else None

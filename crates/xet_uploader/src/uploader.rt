@@ -18,8 +18,8 @@ pub enum Put {
 ///
 /// In the Rust crates: the upload calls of `cas_client::Client`.
 pub trait Uploader {
-    /// The store that it began with, the accepted puts, the chunks that queries asked for and the answers to these, each
-    /// where it is told, and the count of faults.
+    /// The store that it began with, the accepted puts, the chunks that queries asked for and the answers to these,
+    /// each where it is told, and the count of faults.
     ghost told: { Self → UploaderTold };
 
     /// Stores a xorb, and answers how many bytes were sent. `Failed` comes only where the count of faults rose,
