@@ -25,7 +25,7 @@ use Rattle.xet_get_command.specs.steps.PrintedDigits.{DigitsBehind, DigitsOf}
 use Rattle.xet_get_command.specs.steps.Printing.{GetFrom, GotFrom, PrintedWithin, SettingsFrom}
 use Rattle.xet_get_command.specs.Taps.{FromTaps, LanesHonest}
 use Rattle.xet_room.specs.Texts.{block_line, get_text, line, ok_line}
-use Rattle.xet_get_command.specs.Wanted.{failing_setting, wanted_bytes}
+use Rattle.xet_get_command.specs.Wanted.{unmet_setting, wanted_bytes}
 use Rattle.xet_get_command.proofs.PrintedDigits.{encode-nil, from_memory}
 
 -- the digits of some bytes, and then a line, which is a text of the store
@@ -39,7 +39,7 @@ lined s q b m n xs last whole status t f h done cut =
     by_case (inr (inr h)) = rw h.0 (cut h.1)
 
 -- all digits, and the last line
-pub got_all : (s : Store) (q : Wanted) (b m n : SinkTold) (k : ℕ) (status : Status) → failing_setting q ≡ None → DigitsOf s q b m (All k) → Finished (10 ∷ ok_line k) Done m n status → GetFrom s q b n status
+pub got_all : (s : Store) (q : Wanted) (b m n : SinkTold) (k : ℕ) (status : Status) → unmet_setting q ≡ None → DigitsOf s q b m (All k) → Finished (10 ∷ ok_line k) Done m n status → GetFrom s q b n status
 got_all s q b m n k status fit d h =
     let w = wanted_bytes s q in
     let e : k ≡ length w = d.digits.2 in
@@ -65,7 +65,7 @@ pub got_part : (s : Store) (q : Wanted) (b m n : SinkTold) (status : Status) →
 got_part s q b m n status d h = memory_after s q b m n d.digits.count status d.digits.took d.faults h
 
 -- no file
-pub got_no_file : (s : Store) (q : Wanted) (b m n : SinkTold) (status : Status) → failing_setting q ≡ None → DigitsOf s q b m NoFile → Finished (10 ∷ line NotFound) NotFound m n status → GetFrom s q b n status
+pub got_no_file : (s : Store) (q : Wanted) (b m n : SinkTold) (status : Status) → unmet_setting q ≡ None → DigitsOf s q b m NoFile → Finished (10 ∷ line NotFound) NotFound m n status → GetFrom s q b n status
 got_no_file s q b m n status fit d h =
     lined s q b m n [] (line NotFound) NotFound status (rw encode-nil d.digits.1) d.faults h
     (λ t. record { missing = d.digits.0; took = t })

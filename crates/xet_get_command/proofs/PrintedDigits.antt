@@ -28,7 +28,7 @@ use Rattle.xet_room.specs.declared.status.Status.{Status}
 use Rattle.xet_room.specs.declared.status.Status.TheVariants.{Done, NotFound, NoMemory, BadBlock, BadSettings}
 use Rattle.xet_get_command.specs.steps.PrintedDigits.{AnyDigits, CountedAs, DigitsAs, DigitsBehind, Driven, IsRefusal, NothingAs, Ran, RanAs, StopsAs, Tapped, UnfailedAs, WholeText, Wrote, count_of, status_of_printed}
 use Rattle.xet_get_command.specs.Taps.{FirstBytes, FromTaps, IsMade, MadeOf, Passage, all_passages, lane_taps}
-use Rattle.xet_get_command.specs.Wanted.{failing_setting, setup_of, wanted_bytes}
+use Rattle.xet_get_command.specs.Wanted.{unmet_setting, wanted_bytes, wanted_setup}
 use Rattle.xet_get_command.proofs.TapRuns.{took_same}
 
 -- the part of no list
@@ -57,10 +57,10 @@ PrintedBy (Err error.Cancelled) p = ⊥
 PrintedBy (Err (error.InternalWriterError w)) p = ⊥
 
 -- where the answer is no refusal, no setting fails
-met : (q : Wanted) (A : Type 0) (answer : Result ℕ FileReconstructionError) → ((e : Setting) → failing_setting q ≡ Some e → IsRefusal e answer × A) → ((e : Setting) → IsRefusal e answer → ⊥) → failing_setting q ≡ None
-met q A answer refused other = by (failing_setting q) refl
+met : (q : Wanted) (A : Type 0) (answer : Result ℕ FileReconstructionError) → ((e : Setting) → unmet_setting q ≡ Some e → IsRefusal e answer × A) → ((e : Setting) → IsRefusal e answer → ⊥) → unmet_setting q ≡ None
+met q A answer refused other = by (unmet_setting q) refl
   where
-    by : (o : Option Setting) → failing_setting q ≡ o → o ≡ None
+    by : (o : Option Setting) → unmet_setting q ≡ o → o ≡ None
     by None e = refl
     by (Some x) e = absurd (other x (refused x e).0)
 
@@ -182,11 +182,11 @@ zip_taken P [] (y ∷ ys) h = absurd h
 zip_taken P (x ∷ xs) [] h = absurd h
 zip_taken P (x ∷ xs) (y ∷ ys) h = (h.0, zip_taken P xs ys h.1)
 
-made_first : (s : Store) (q : Wanted) (xs : List Exchange) (looks : List Look) (status : Status) (bytes : List ℕ) → IsMade s q xs looks status bytes → FirstBytes (setup_of q) xs looks bytes
+made_first : (s : Store) (q : Wanted) (xs : List Exchange) (looks : List Look) (status : Status) (bytes : List ℕ) → IsMade s q xs looks status bytes → FirstBytes (wanted_setup q) xs looks bytes
 made_first s q xs looks Done bytes m = inr (record {
   planning = m.all.planning;
   pieces = m.pieces;
-  each = zip_taken _ (some_said (setup_of q) m.all.planning.parts) m.pieces m.each;
+  each = zip_taken _ (some_said (wanted_setup q) m.all.planning.parts) m.pieces m.each;
   count = length (concat m.pieces);
   is = m.is ∙ sym (take-length (concat m.pieces));
 })

@@ -1,5 +1,5 @@
 -- Runs behind the taps of the lanes.
-use Rattle.std.proofs.Common.{◌≡◌, ℕ, zero, suc, Bool, true, false, cond, List, [], ◌∷◌, ◌++◌, length, map, min, drop, take, Option, Some, None, Ok, Err, refl, sym, ap, ◌∙◌, arith, inl, inr, subst}
+use Rattle.std.proofs.Common.{◌≡◌, ℕ, suc, Bool, true, false, cond, List, [], ◌∷◌, ◌++◌, length, map, min, drop, take, Option, Some, None, Ok, Err, refl, sym, ap, ◌∙◌, arith, inl, inr, subst}
 use Rattle.std.specs.Prelude.{All, Contains, IfSome, OnOk, Result, count_by, option_map}
 use Rattle.std.specs.List.{AllZip, drop-map, take-map}
 use Rattle.std.specs.Result.{result_ok}
@@ -23,8 +23,7 @@ use Rattle.xet_error.specs.declared.error.FileReconstructionError.TheVariants as
 use Rattle.xet_error.specs.declared.error.Setting.{Setting}
 use Rattle.xet_blocks.specs.ServedChunks.{AllServed}
 use Rattle.xet_reconstruct.specs.Laws.{HonestAnswersPass}
-use Rattle.xet_ties.specs.Causes.{expired_answers}
-use Rattle.xet_ties.specs.Causes as causes
+use Rattle.xet_ties.specs.Causes.{expired_answers, refused_setting}
 use Rattle.xet_ties.specs.InCall.{Exchange, Look, EachExchange, all_exchanges, exchange_of, expired_said, joined, new_in, served_of_all}
 use Rattle.xet_ties.proofs.CallerLemmas.{all_told, if_some, looks_gained, told_new}
 use Rattle.xet_ties.specs.Gains.{GaveServed}
@@ -39,7 +38,7 @@ use Rattle.xet_get_command.specs.steps.OwnTaps.{behind_own}
 use Rattle.xet_get_command.specs.steps.PrintedDigits.{AllPassed, Tapped, Wrote, status_of_answer, told_of}
 use Rattle.xet_get_command.specs.steps.TapRuns.{BehindAll, BehindTaps, IsNew}
 use Rattle.xet_get_command.specs.Taps.{FromTaps, GaveNothing, gave, gave_some, IsPassed, LanesHonest, MadeOf, Passage, all_passages, all_passed, lane_taps, passage}
-use Rattle.xet_get_command.specs.Wanted.{failing_setting, setup_of}
+use Rattle.xet_get_command.specs.Wanted.{unmet_setting, wanted_setup}
 use Rattle.xet_get_command.proofs.TapMoves.{first_same}
 use Rattle.xet_get_command.proofs.TapRuns.{AreCalm, FirstHonest, behind_all, behind_none, made, no_some, same_setting, took_same}
 
@@ -218,7 +217,7 @@ pub record BehindLanes (s : Store) (q : Wanted) (ts us : List TapTold) (k l : Ca
   pub any : k.entries ≡ Some [] → (q.options.cache ≡ false → l.entries ≡ Some [])
       → Wrote (λ status bytes. IfSome (all_passages ts us) (λ ps. MadeOf s q ps status bytes)) b n (status_of_answer answer) (result_ok answer)
   pub honest : map (λ t. t.honest) us ≡ map (λ t. t.honest) ts
-  pub unasked : (e : Setting) → failing_setting q ≡ Some e → us ≡ ts
+  pub unasked : (e : Setting) → unmet_setting q ≡ Some e → us ≡ ts
 
 -- no look gave an entry of a cache that has none
 none_given : (looks : List Look) (entries : Option (List CacheEntry)) → entries ≡ Some [] → All (IsEntryOf entries) looks → count_by gave looks ≡ 0
@@ -235,7 +234,7 @@ none_given (l ∷ looks) entries e h =
     one (Some b) w = absurd (let c = w.1 in omega (arith, c))
 
 behind_lanes : (pass : HonestAnswersPass) (s : Store) (valid : IsValid s) (q : Wanted) (lanes : List (Lane s)) (k l : CacheTold) (b n : SinkTold) (answer : Result ℕ FileReconstructionError)
-    → causes.failing_setting (setup_of q) (befores s lanes) ≡ failing_setting q → Legal (setup_of q) (told_of (befores s lanes) k b) (told_of (afters s lanes) l n) answer
+    → refused_setting (wanted_setup q) (befores s lanes) ≡ unmet_setting q → Legal (wanted_setup q) (told_of (befores s lanes) k b) (told_of (afters s lanes) l n) answer
     → BehindLanes s q (taps_before s lanes) (taps_after s lanes) k l b n answer
 behind_lanes pass s valid q lanes k l b n answer same h = record {
   all = behind_all s valid q (All (λ (t : TapTold). t.honest ≡ true) (taps_before s lanes)) (befores s lanes) (afters s lanes) k l b n (tell s lanes) (calm s lanes) same answer h;
@@ -256,10 +255,10 @@ behind_lanes pass s valid q lanes k l b n answer same h = record {
     by empty nothing (Some ps) e =
         let sides = have_sides s lanes ps e in
         let heard : sides.xs ≡ h.told.heard = subst (λ (o : Option (List Exchange)). IfSome o (λ ys. ys ≡ h.told.heard)) sides.is (all_told (befores s lanes) (afters s lanes) h.told.heard h.told.exchanges) in
-        let given : GaveServed (setup_of q) sides.xs h.told.looks = rw heard (looks_gained (setup_of q) h.told.heard k l h.told.looks empty h.cached.gained h.told.given) in
+        let given : GaveServed (wanted_setup q) sides.xs h.told.looks = rw heard (looks_gained (wanted_setup q) h.told.heard k l h.told.looks empty h.cached.gained h.told.given) in
         let once : ServedOnce (served_of_all sides.xs) = subst (λ (ys : List Exchange). ServedOnce (served_of_all ys)) (sym heard) h.blocks.served in
-        let planned : AllPlanned (setup_of q) sides.xs = subst (AllPlanned (setup_of q)) (sym heard) h.blocks.planned in
-        let asked : FirstAsksFew (setup_of q) sides.xs = subst (FirstAsksFew (setup_of q)) (sym heard) h.queries.few in
+        let planned : AllPlanned (wanted_setup q) sides.xs = subst (AllPlanned (wanted_setup q)) (sym heard) h.blocks.planned in
+        let asked : FirstAsksFew (wanted_setup q) sides.xs = subst (FirstAsksFew (wanted_setup q)) (sym heard) h.queries.few in
         let m = made pass s valid q (befores s lanes) (afters s lanes) k l b n same sides.xs sides.is sides.first sides.unexpired answer h in
         inl (record {
           bytes = m.0;
@@ -314,10 +313,10 @@ once_of_none : (xs : List Exchange) → served_of_all xs ≡ [] → ServedOnce (
 once_of_none xs e = subst ServedOnce (sym e) (λ p k. omega arith)
 
 -- and each is a block of a plan
-planned_of_none : (q : Wanted) (xs : List Exchange) → All (λ x. requests_of x ≡ []) xs → AllPlanned (setup_of q) xs
+planned_of_none : (q : Wanted) (xs : List Exchange) → All (λ x. requests_of x ≡ []) xs → AllPlanned (wanted_setup q) xs
 planned_of_none q xs each =
-    All-weaker (λ (x : Exchange). requests_of x ≡ []) (λ (x : Exchange). All (IsPlannedServed (setup_of q) xs) (requests_of x))
-    (λ x e. subst (All (IsPlannedServed (setup_of q) xs)) (sym e) (All-nil (IsPlannedServed (setup_of q) xs))) xs each
+    All-weaker (λ (x : Exchange). requests_of x ≡ []) (λ (x : Exchange). All (IsPlannedServed (wanted_setup q) xs) (requests_of x))
+    (λ x e. subst (All (IsPlannedServed (wanted_setup q) xs)) (sym e) (All-nil (IsPlannedServed (wanted_setup q) xs))) xs each
 
 pub unbehind : (s : Store) (q : Wanted) (ts : List TapTold) (k : CacheTold) (b : SinkTold) → BehindTaps s q ts ts k k b b (Err error.OutOfMemory)
 unbehind s q ts k b = record {
@@ -331,7 +330,7 @@ unbehind s q ts k b = record {
     by None e = inr (λ status bytes. rw e tt)
     by (Some ps) e =
         let sides = none_passed (lane_taps q ts) ps e s in
-        inl (record { bytes = []; took = took_same b.took; total = tt; from = rw e (record { xs = sides.xs; passed = sides.passed; asked = sides.few (setup_of q); once = once_of_none sides.xs sides.none; planned = planned_of_none q sides.xs sides.each; looks = []; looked = λ plain. refl; given = All-nil _; made = inl refl }) })
+        inl (record { bytes = []; took = took_same b.took; total = tt; from = rw e (record { xs = sides.xs; passed = sides.passed; asked = sides.few (wanted_setup q); once = once_of_none sides.xs sides.none; planned = planned_of_none q sides.xs sides.each; looks = []; looked = λ plain. refl; given = All-nil _; made = inl refl }) })
 
 -- ---- connections that own their taps
 
@@ -340,11 +339,6 @@ same_honest true true r s e = refl
 same_honest false false r s e = refl
 same_honest true false r s e = absurd (no_some r (sym e))
 same_honest false true r s e = absurd (no_some s e)
-
-all_taken : {X : Type 0} (P : X → Type 0) (n : ℕ) (xs : List X) → All P xs → All P (take n xs)
-all_taken P zero xs h = All-nil P
-all_taken P (suc n) [] h = All-nil P
-all_taken P (suc n) (x ∷ xs) h = All-cons P x (take n xs) (All-head P x xs h) (all_taken P n xs (All-tail P x xs h))
 
 honest_both : (n : ℕ) (ts us : List TapTold) → map (λ (t : TapTold). t.honest) (take n us) ≡ map (λ (t : TapTold). t.honest) (take n ts) → drop n us ≡ drop n ts → map (λ (t : TapTold). t.honest) us ≡ map (λ (t : TapTold). t.honest) ts
 honest_both n ts us e f =
@@ -403,7 +397,7 @@ module _ {X T : Type 0} (told : T → TapTold) (tap : X → T) (store : X → St
 
   pub behind_taps : (pass : HonestAnswersPass) (s : Store) (valid : IsValid s) (q : Wanted) (olds rest : List T) (xs ys : List X) (k l : CacheTold) (b n : SinkTold) (answer : Result ℕ FileReconstructionError)
       → map tap xs ++ rest ≡ olds → length olds ≡ 64 → length xs ≡ min (lanes_of q.options) 64 → length ys ≡ length xs → All (λ x. IsNew s (told (tap x)) (client x)) xs
-      → Legal (setup_of q) (told_of (map client xs) k b) (told_of (map client ys) l n) answer
+      → Legal (wanted_setup q) (told_of (map client xs) k b) (told_of (map client ys) l n) answer
       → BehindTaps s q (map told olds) (map told (map tap ys ++ rest)) k l b n answer
   behind_taps pass s valid q olds rest xs ys k l b n answer is count few same new h =
       let c : ℕ = lanes_of q.options in
@@ -411,9 +405,9 @@ module _ {X T : Type 0} (told : T → TapTold) (tap : X → T) (store : X → St
       let some = are_lanes s xs ys new h.later.goes_on in
       let run : BehindLanes s q (taps_before s some.lanes) (taps_after s some.lanes) k l b n answer =
       behind_lanes pass s valid q some.lanes k l b n answer
-      (subst (λ (cs : List ClientTold). causes.failing_setting (setup_of q) cs ≡ failing_setting q) some.before_is settings)
-      (subst (λ (ds : List ClientTold). Legal (setup_of q) (told_of (befores s some.lanes) k b) (told_of ds l n) answer) some.after_is
-      (subst (λ (cs : List ClientTold). Legal (setup_of q) (told_of cs k b) (told_of (map client ys) l n) answer) some.before_is h)) in
+      (subst (λ (cs : List ClientTold). refused_setting (wanted_setup q) cs ≡ unmet_setting q) some.before_is settings)
+      (subst (λ (ds : List ClientTold). Legal (wanted_setup q) (told_of (befores s some.lanes) k b) (told_of ds l n) answer) some.after_is
+      (subst (λ (cs : List ClientTold). Legal (wanted_setup q) (told_of cs k b) (told_of (map client ys) l n) answer) some.before_is h)) in
       let a = length-map xs tap in
       let d = length-map ys tap in
       let parts = first_same c olds nows (map tap xs) (map tap ys) rest (sym is) refl count (omega (arith, a, few)) (omega (arith, a, d, same)) in
@@ -435,7 +429,7 @@ module _ {X T : Type 0} (told : T → TapTold) (tap : X → T) (store : X → St
       size : length (map client xs) ≡ min (lanes_of q.options) 64
       size = let a = length-map xs client in omega (arith, a, few)
 
-      settings : causes.failing_setting (setup_of q) (map client xs) ≡ failing_setting q
+      settings : refused_setting (wanted_setup q) (map client xs) ≡ unmet_setting q
       settings = same_setting q (map client xs) (λ e. let z = size in omega (arith, z, e)) (λ e. let z = size in omega (arith, z, e))
 
 -- ---- with a cache of the run's own

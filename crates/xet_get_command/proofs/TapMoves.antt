@@ -2,7 +2,7 @@
 use Rattle.std.proofs.Common.{◌≡◌, ℕ, ◌+◌, ◌≤◌, zero, suc, Bool, true, false, List, [], ◌∷◌, ◌++◌, length, map, min, take, drop, refl, ap, sym, ◌∙◌, append_assoc, arith, length-append}
 use Rattle.std.specs.Prelude.{All, nat_lt, reverse}
 use Rattle.std.proofs.lemmas.Bool.{ltb-true, ltb-false}
-use Rattle.std.proofs.lemmas.List.{append-nil, drop_at, map-append, reverse-append, reverse-reverse}
+use Rattle.std.proofs.lemmas.List.{append-nil, drop_at, map-append, reverse-append}
 use Rattle.std.proofs.lemmas.List.Elements.{All-append, All-cons, All-nil}
 use Rattle.xet_base.specs.Store.{Store}
 use Rattle.xet_outside.specs.Told.{ClientTold}
@@ -22,21 +22,6 @@ module _ {X T : Type 0} (tap : X → T) where
       ∙ append_assoc (map tap cs) (tap x ∷ []) (reverse rest)
       ∙ ap (λ (u : T). map tap cs ++ (u ∷ reverse rest)) g
       ∙ sym (ap (λ (l : List T). map tap cs ++ l) (ap reverse e ∙ reverse-last rest t)) ∙ h
-
-  -- none left yet
-  pub none_left : (ts us : List T) (cs : List X) → length cs ≡ 0 → us ≡ reverse ts → map tap cs ++ reverse us ≡ ts
-  none_left ts us [] e f = ap reverse f ∙ reverse-reverse ts
-  none_left ts us (x ∷ cs) e f = absurd (omega (arith, e))
-
-  -- one more tap came back
-  pub one_back : (ts us : List T) (cs ds : List X) (x : X) (t : T) (all : List T) → cs ≡ ds ++ x ∷ [] → us ≡ ts ++ t ∷ [] → t ≡ tap x
-      → map tap cs ++ reverse ts ≡ all → map tap ds ++ reverse us ≡ all
-  one_back ts us cs ds x t all e f g h = sym (one_left us ts ds cs x t (map tap ds ++ reverse us) f e (sym g) refl) ∙ h
-
-  -- all came back
-  pub all_back : (ts : List T) (cs : List X) (all : List T) → length cs ≡ 0 → map tap cs ++ reverse ts ≡ all → reverse ts ≡ all
-  all_back ts [] all e h = h
-  all_back ts (x ∷ cs) all e h = absurd (omega (arith, e))
 
 -- so of each connection
 pub each_left : {X : Type 0} (P : X → Type 0) (cs ds : List X) (x : X) → ds ≡ cs ++ x ∷ [] → P x → All P cs → All P ds

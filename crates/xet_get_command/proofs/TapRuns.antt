@@ -3,7 +3,7 @@ use Rattle.std.proofs.Common.{◌≡◌, ℕ, ◌+◌, ◌<◌, ◌≤◌, zero,
 use Rattle.std.specs.Prelude.{All, IfErr, IfOk, IfSome, Result, count_by, nat_eq, slice_get}
 use Rattle.std.specs.List.{AllZip, concat}
 use Rattle.std.specs.Result.{result_ok}
-use Rattle.std.proofs.lemmas.Bool.{eqb-true}
+use Rattle.std.proofs.lemmas.Bool.{eqb-true, ne_eqb}
 use Rattle.std.proofs.lemmas.List.{append-nil}
 use Rattle.std.proofs.lemmas.List.Sums.{sum_by-append, sum_by-cons}
 use Rattle.std.proofs.lemmas.List.Elements.{All-cons, All-head, All-nil, All-tail}
@@ -29,8 +29,7 @@ use Rattle.xet_error.specs.declared.error.Setting.TheVariants.{NoConnection}
 use Rattle.xet_error.specs.Errors.{corruption_number}
 use Rattle.xet_offers.specs.declared.reconstruction_terms.xorb_block.XorbBlock.{XorbBlock}
 use Rattle.xet_reconstruct.specs.Laws.{AreHonest, HonestAnswersPass}
-use Rattle.xet_ties.specs.Causes.{Cause, LaneFails, NoneAtEnd, NothingElse, PlanFails, RefreshFails, LowestRose, SomeFailed, expired_answers, failing_size, total_expiries}
-use Rattle.xet_ties.specs.Causes as causes
+use Rattle.xet_ties.specs.Causes.{Cause, LaneFails, NoneAtEnd, NothingElse, PlanFails, RefreshFails, LowestRose, SomeFailed, expired_answers, refused_setting, total_expiries}
 use Rattle.xet_ties.specs.Cuts.{AskedCut, IsSaidPiece, SaidTerm, some_said}
 use Rattle.xet_ties.specs.InCall.{Exchange, Look, SomeOne, all_exchanges, expired_said}
 use Rattle.xet_ties.specs.Legal.{Legal}
@@ -40,12 +39,13 @@ use Rattle.xet_ties.proofs.CallerLemmas.{all_told, lane_block}
 use Rattle.xet_ties.specs.Setup.{AllTell, RunTold}
 use Rattle.xet_ties.specs.Ties.{CutsRange}
 use Rattle.xet_terms.specs.Queries.{CutFrom}
+use Rattle.xet_terms.specs.Settings.{failing_size}
 use Rattle.xet_get_command.specs.declared.wanted.Wanted.{Wanted}
 use Rattle.xet_get_command.specs.GetOptions.{greatest_of, lanes_of, least_of}
 use Rattle.xet_get_command.specs.steps.PrintedDigits.{CountsOk, TapCause, status_of_answer, told_of}
 use Rattle.xet_get_command.specs.steps.TapRuns.{BehindAll}
 use Rattle.xet_get_command.specs.Taps.{BlockFailed, FirstBytes, IsMade}
-use Rattle.xet_get_command.specs.Wanted.{failing_setting, setup_of}
+use Rattle.xet_get_command.specs.Wanted.{unmet_setting, wanted_setup}
 
 -- ---- small facts
 
@@ -56,14 +56,13 @@ pub took_same : (o : Option (List ℕ)) → Took o o []
 took_same None = refl
 took_same (Some xs) = ap (λ (l : List ℕ). Some l) (sym (append-nil xs))
 
--- the setting that fails first, over as many connections as are wanted
-pub same_setting : (q : Wanted) (cs : List ClientTold) → (lanes_of q.options ≡ 0 → length cs ≡ 0) → (length cs ≡ 0 → lanes_of q.options ≡ 0) → causes.failing_setting (setup_of q) cs ≡ failing_setting q
-same_setting q [] to from = ap (λ (v : ℕ). cond (nat_eq v 0) (Some NoConnection) (failing_size (setup_of q))) (sym (from refl))
-same_setting q (c ∷ cs) to from = by (nat_eq (lanes_of q.options) 0) refl
+-- of the number of connections it matters alone whether there are any
+pub same_setting : (q : Wanted) (cs : List ClientTold) → (lanes_of q.options ≡ 0 → length cs ≡ 0) → (length cs ≡ 0 → lanes_of q.options ≡ 0) → refused_setting (wanted_setup q) cs ≡ unmet_setting q
+same_setting q cs to from = ap (λ (v : Bool). cond v (Some NoConnection) (failing_size (least_of q.options) (greatest_of q.options))) (by (nat_eq (lanes_of q.options) 0) refl)
   where
-    by : (v : Bool) → nat_eq (lanes_of q.options) 0 ≡ v → failing_size (setup_of q) ≡ cond v (Some NoConnection) (failing_size (setup_of q))
-    by true e = absurd (let z = to (eqb-true (lanes_of q.options) 0 e) in omega (arith, z))
-    by false e = refl
+    by : (v : Bool) → nat_eq (lanes_of q.options) 0 ≡ v → nat_eq (length cs) 0 ≡ v
+    by true e = ap (λ (n : ℕ). nat_eq n 0) (to (eqb-true (lanes_of q.options) 0 e))
+    by false e = ne_eqb (length cs) 0 (λ z. let t : nat_eq (lanes_of q.options) 0 ≡ true = ap (λ (n : ℕ). nat_eq n 0) (from z) in cc)
 
 -- ---- connections that neither fail nor tell an expired answer
 
@@ -103,10 +102,10 @@ behind_none s q H k b = record {
 }
 
 module _ (s : Store) (valid : IsValid s) (q : Wanted) (H : Type 0) (cs ds : List ClientTold) (k l : CacheTold) (b n : SinkTold)
-    (tells : H → AllTell s cs) (calm : AreCalm ds) (same : causes.failing_setting (setup_of q) cs ≡ failing_setting q) where
-  by_cause : (xs : List Exchange) (e : FileReconstructionError) → Cause (setup_of q) xs (told_of cs k b) (told_of ds l n) e → TapCause s q H b n e
+    (tells : H → AllTell s cs) (calm : AreCalm ds) (same : refused_setting (wanted_setup q) cs ≡ unmet_setting q) where
+  by_cause : (xs : List Exchange) (e : FileReconstructionError) → Cause (wanted_setup q) xs (told_of cs k b) (told_of ds l n) e → TapCause s q H b n e
   by_cause xs error.OutOfMemory h = tt
-  by_cause xs error.ClientError h = none_rose (ServedPassed (setup_of q) xs) cs ds xs calm h
+  by_cause xs error.ClientError h = none_rose (ServedPassed (wanted_setup q) xs) cs ds xs calm h
   by_cause xs error.FileNotFound h = λ honest. (h.some, h.unstored s (tells honest))
   by_cause xs error.UrlExpired h =
       let grew = h.counted (none_at_end ds calm) in
@@ -118,15 +117,15 @@ module _ (s : Store) (valid : IsValid s) (q : Wanted) (H : Type 0) (cs ds : List
   by_cause xs error.Cancelled h = omega (arith, h)
   by_cause xs (error.InternalWriterError w) h = h
 
-  counts_ok : (xs : List Exchange) (looks : List Look) (answer : Result ℕ FileReconstructionError) → IfOk answer (TookWhole (setup_of q) xs looks b n) → CountsOk b n answer
+  counts_ok : (xs : List Exchange) (looks : List Look) (answer : Result ℕ FileReconstructionError) → IfOk answer (TookWhole (wanted_setup q) xs looks b n) → CountsOk b n answer
   counts_ok xs looks (Ok m) h = (concat h.pieces, h.took, h.total)
   counts_ok xs looks (Err e) h = tt
 
-  causes_of : (xs : List Exchange) (answer : Result ℕ FileReconstructionError) → IfErr answer (Cause (setup_of q) xs (told_of cs k b) (told_of ds l n)) → IfErr answer (TapCause s q H b n)
+  causes_of : (xs : List Exchange) (answer : Result ℕ FileReconstructionError) → IfErr answer (Cause (wanted_setup q) xs (told_of cs k b) (told_of ds l n)) → IfErr answer (TapCause s q H b n)
   causes_of xs (Ok m) h = tt
   causes_of xs (Err e) h = by_cause xs e h
 
-  pub behind_all : (answer : Result ℕ FileReconstructionError) → Legal (setup_of q) (told_of cs k b) (told_of ds l n) answer → BehindAll s q H k b n answer
+  pub behind_all : (answer : Result ℕ FileReconstructionError) → Legal (wanted_setup q) (told_of cs k b) (told_of ds l n) answer → BehindAll s q H k b n answer
   behind_all answer h = record {
     exact = λ honest cache. h.exact.exact s (record { tell = tells honest; valid = valid }) cache;
     prefix = λ honest cache. h.exact.prefix s (record { tell = tells honest; valid = valid }) cache;
@@ -166,12 +165,12 @@ answer_honest s q [] plans r a h = absurd h
 answer_honest s q (x ∷ xs) plans r a h = honest_answer s x.asked x.said (q.file, r) a plans h
 
 -- a plan that was said is of a stored file
-plan_stored : (s : Store) (q : Wanted) (xs : List Exchange) → FirstHonest s xs → (p : Plan) (r : FileRange) → IsPlanSaid (setup_of q) xs p r → IsSome (file_of s q.file)
+plan_stored : (s : Store) (q : Wanted) (xs : List Exchange) → FirstHonest s xs → (p : Plan) (r : FileRange) → IsPlanSaid (wanted_setup q) xs p r → IsSome (file_of s q.file)
 plan_stored s q [] plans p r h = absurd h.answer
 plan_stored s q (x ∷ xs) plans p r h = (honest_answer s x.asked x.said (q.file, r) (Found p) plans (record { place = h.answer.place; query = h.answer.query; answer = h.answer.answer })).0
 
 -- a file that isn't stored has no pieces
-no_pieces : (s : Store) (q : Wanted) (xs : List Exchange) → FirstHonest s xs → (looks : List Look) (ts : List SaidTerm) (pieces : List (List ℕ)) → IsNone (file_of s q.file) → AllZip (IsSaidPiece (setup_of q) xs looks) ts pieces → pieces ≡ []
+no_pieces : (s : Store) (q : Wanted) (xs : List Exchange) → FirstHonest s xs → (looks : List Look) (ts : List SaidTerm) (pieces : List (List ℕ)) → IsNone (file_of s q.file) → AllZip (IsSaidPiece (wanted_setup q) xs looks) ts pieces → pieces ≡ []
 no_pieces s q xs plans looks ts [] none h = refl
 no_pieces s q xs plans looks [] (p ∷ pieces) none h = absurd h
 no_pieces s q xs plans looks (t ∷ ts) (p ∷ pieces) none h =
@@ -219,7 +218,7 @@ module _ (pass : HonestAnswersPass) (s : Store) (valid : IsValid s) (q : Wanted)
   no_blocks p k b given (inl h) = no_some _ h.entry
   no_blocks p k b given (inr h) = h
 
-  honest : AreHonest s (setup_of q) (bare ∷ [])
+  honest : AreHonest s (wanted_setup q) (bare ∷ [])
   honest = record {
     plans = λ r a h. record {
       forward = at_place (λ (p : Query). p.1.start < p.1.end) x.asked h.place (q.file, r) has_bytes h.query;
@@ -228,7 +227,7 @@ module _ (pass : HonestAnswersPass) (s : Store) (valid : IsValid s) (q : Wanted)
     blocks = λ p k b given h. absurd (no_blocks p k b given h);
   }
 
-  said_by : (p : Plan) (r : FileRange) → IsPlanSaid (setup_of q) (x ∷ xs) p r → IsPlanSaid (setup_of q) (bare ∷ []) p r
+  said_by : (p : Plan) (r : FileRange) → IsPlanSaid (wanted_setup q) (x ∷ xs) p r → IsPlanSaid (wanted_setup q) (bare ∷ []) p r
   said_by p r h = record {
     number = h.number;
     answer = record { place = h.answer.place; some = h.answer.some; at = h.answer.at; query = h.answer.query; answer = h.answer.answer };
@@ -237,15 +236,15 @@ module _ (pass : HonestAnswersPass) (s : Store) (valid : IsValid s) (q : Wanted)
     to = h.to;
   }
 
-  accepted_by : (p : Plan) (r : FileRange) → IsPlanAccepted (setup_of q) (x ∷ xs) p r → IsPlanAccepted (setup_of q) (bare ∷ []) p r
+  accepted_by : (p : Plan) (r : FileRange) → IsPlanAccepted (wanted_setup q) (x ∷ xs) p r → IsPlanAccepted (wanted_setup q) (bare ∷ []) p r
   accepted_by p r h = record { said = said_by p r h.said; passes = h.passes }
 
   answered_by : (r : FileRange) (a : PlanAnswer) → IsQueryAnswer q.file (x ∷ xs) r a → IsQueryAnswer q.file (bare ∷ []) r a
   answered_by r a h = record { place = h.place; query = h.query; answer = h.answer }
 
-  block_failed : (k : Corruption) → SomeFailed (setup_of q) (x ∷ xs) k → BlockFailed (setup_of q) (x ∷ xs) (corruption_number k)
-  block_failed k (inl f) = absurd (pass s valid (setup_of q) (bare ∷ []) honest k (inl (record { plan = f.plan; query = f.query; said = said_by f.plan f.query f.said; fails = f.fails })))
-  block_failed k (inr (inl f)) = absurd (pass s valid (setup_of q) (bare ∷ []) honest k (inr (inl (record {
+  block_failed : (k : Corruption) → SomeFailed (wanted_setup q) (x ∷ xs) k → BlockFailed (wanted_setup q) (x ∷ xs) (corruption_number k)
+  block_failed k (inl f) = absurd (pass s valid (wanted_setup q) (bare ∷ []) honest k (inl (record { plan = f.plan; query = f.query; said = said_by f.plan f.query f.said; fails = f.fails })))
+  block_failed k (inr (inl f)) = absurd (pass s valid (wanted_setup q) (bare ∷ []) honest k (inr (inl (record {
     plan = f.plan;
     query = f.query;
     accepted = accepted_by f.plan f.query f.accepted;
@@ -259,64 +258,64 @@ module _ (pass : HonestAnswersPass) (s : Store) (valid : IsValid s) (q : Wanted)
 -- ---- what was written
 
 module _ (pass : HonestAnswersPass) (s : Store) (valid : IsValid s) (q : Wanted) (cs ds : List ClientTold) (k l : CacheTold) (b n : SinkTold)
-    (same : causes.failing_setting (setup_of q) cs ≡ failing_setting q)
+    (same : refused_setting (wanted_setup q) cs ≡ unmet_setting q)
     (xs : List Exchange) (is : all_exchanges cs ds ≡ Some xs) (plans : FirstHonest s xs) (unexpired : expired_answers xs ≡ 0) where
   -- what was written, over these blocks
   abbrev Made : Result ℕ FileReconstructionError → List Look → Type 0
   Made answer looks = (bytes : List ℕ) × Took b.took n.took bytes × IfSome (result_ok answer) (λ m. m ≡ length bytes) × IsMade s q xs looks (status_of_answer answer) bytes
 
   -- what holds of what was heard holds of what is told
-  here : (P : List Exchange → Type 0) (answer : Result ℕ FileReconstructionError) (h : Legal (setup_of q) (told_of cs k b) (told_of ds l n) answer) → P h.told.heard → P xs
+  here : (P : List Exchange → Type 0) (answer : Result ℕ FileReconstructionError) (h : Legal (wanted_setup q) (told_of cs k b) (told_of ds l n) answer) → P h.told.heard → P xs
   here P answer h p =
       let heard : xs ≡ h.told.heard = subst (λ (o : Option (List Exchange)). IfSome o (λ ys. ys ≡ h.told.heard)) is (all_told cs ds h.told.heard h.told.exchanges) in
       subst P (sym heard) p
 
   -- the test that failed is a block's or a term's
-  block_is : (test : Corruption) → FirstAsksFew (setup_of q) xs → SomeFailed (setup_of q) xs test → BlockFailed (setup_of q) xs (corruption_number test)
+  block_is : (test : Corruption) → FirstAsksFew (wanted_setup q) xs → SomeFailed (wanted_setup q) xs test → BlockFailed (wanted_setup q) xs (corruption_number test)
   block_is test few failed = by xs plans unexpired few failed
     where
-      by : (xs : List Exchange) → FirstHonest s xs → expired_answers xs ≡ 0 → FirstAsksFew (setup_of q) xs → SomeFailed (setup_of q) xs test → BlockFailed (setup_of q) xs (corruption_number test)
+      by : (xs : List Exchange) → FirstHonest s xs → expired_answers xs ≡ 0 → FirstAsksFew (wanted_setup q) xs → SomeFailed (wanted_setup q) xs test → BlockFailed (wanted_setup q) xs (corruption_number test)
       by [] plans none few (inl f) = absurd f.said.answer
       by [] plans none few (inr (inl f)) = absurd f.answered
       by [] plans none few (inr (inr (inl f))) = absurd f.bytes
       by [] plans none few (inr (inr (inr f))) = absurd f.bytes
       by (x ∷ xs) plans none few failed =
           let count = few.few in
-          let cuts : CutsRange (setup_of q) few.cut = few.cuts in
+          let cuts : CutsRange (wanted_setup q) few.cut = few.cuts in
           block_failed pass s valid q x xs plans (forward [] x.asked few.cut q.range.start q.range.end (greatest_of q.options + least_of q.options) few.asked (omega (arith, count, none)) cuts.from) test failed
 
   -- so it is in the cause
-  failed_is : (test : Corruption) → FirstAsksFew (setup_of q) xs → (SomeFailed (setup_of q) xs test × NothingElse (setup_of q) xs cs ds) ⊎ LaneFails (setup_of q) xs cs ds test → BlockFailed (setup_of q) xs (corruption_number test)
+  failed_is : (test : Corruption) → FirstAsksFew (wanted_setup q) xs → (SomeFailed (wanted_setup q) xs test × NothingElse (wanted_setup q) xs cs ds) ⊎ LaneFails (wanted_setup q) xs cs ds test → BlockFailed (wanted_setup q) xs (corruption_number test)
   failed_is test few (inl f) = block_is test few f.0
-  failed_is test few (inr f) = record { test = test; number_is = refl; fails = inl (lane_block (setup_of q) xs cs ds test f) }
+  failed_is test few (inr f) = record { test = test; number_is = refl; fails = inl (lane_block (wanted_setup q) xs cs ds test f) }
 
-  pub made : (answer : Result ℕ FileReconstructionError) → (h : Legal (setup_of q) (told_of cs k b) (told_of ds l n) answer) → Made answer h.told.looks
+  pub made : (answer : Result ℕ FileReconstructionError) → (h : Legal (wanted_setup q) (told_of cs k b) (told_of ds l n) answer) → Made answer h.told.looks
   made (Ok m) h =
-      let all : TookWhole (setup_of q) xs h.told.looks b n m = here (λ xs. TookWhole (setup_of q) xs h.told.looks b n m) (Ok m) h h.written.whole in
+      let all : TookWhole (wanted_setup q) xs h.told.looks b n m = here (λ xs. TookWhole (wanted_setup q) xs h.told.looks b n m) (Ok m) h h.written.whole in
       (concat all.pieces, all.took, all.total, record { all = all.all; pieces = all.pieces; each = all.each; is = refl })
-  made (Err e) h = by_error e (here (λ xs. Cause (setup_of q) xs (told_of cs k b) (told_of ds l n) e) (Err e) h h.cause)
+  made (Err e) h = by_error e (here (λ xs. Cause (wanted_setup q) xs (told_of cs k b) (told_of ds l n) e) (Err e) h h.cause)
     where
-      some : TookTested (setup_of q) xs h.told.looks b n
-      some = here (λ xs. TookTested (setup_of q) xs h.told.looks b n) (Err e) h h.written.tested
+      some : TookTested (wanted_setup q) xs h.told.looks b n
+      some = here (λ xs. TookTested (wanted_setup q) xs h.told.looks b n) (Err e) h h.written.tested
 
       bytes : List ℕ
       bytes = take some.took.count (concat some.pieces)
 
-      first : FirstBytes (setup_of q) xs h.told.looks bytes
+      first : FirstBytes (wanted_setup q) xs h.told.looks bytes
       first = inr (record { planning = some.planning; pieces = some.pieces; each = some.each; count = some.took.count; is = refl })
 
-      by_error : (e : FileReconstructionError) → Cause (setup_of q) xs (told_of cs k b) (told_of ds l n) e → Made (Err e) h.told.looks
+      by_error : (e : FileReconstructionError) → Cause (wanted_setup q) xs (told_of cs k b) (told_of ds l n) e → Made (Err e) h.told.looks
       by_error error.OutOfMemory h = (bytes, some.took.took, tt, first)
       by_error error.ClientError h = (bytes, some.took.took, tt, first)
       by_error error.FileNotFound cause =
           let said = cause.said in
           let none = answer_honest s q xs plans said.0 NoFile said.1 in
-          let nothing = no_pieces s q xs plans h.told.looks (take (length some.pieces) (some_said (setup_of q) some.planning.parts)) some.pieces none some.each in
+          let nothing = no_pieces s q xs plans h.told.looks (take (length some.pieces) (some_said (wanted_setup q) some.planning.parts)) some.pieces none some.each in
           (bytes, some.took.took, tt, ((cause.some, none), rw nothing (take-nil some.took.count)))
       by_error error.UrlExpired h = (bytes, some.took.took, tt, first)
       by_error error.IoError h = (bytes, some.took.took, tt, first)
       by_error (error.CorruptedReconstruction test) cause =
-          (bytes, some.took.took, tt, (first, failed_is test (here (FirstAsksFew (setup_of q)) (Err e) h h.queries.few) cause.failed))
+          (bytes, some.took.took, tt, (first, failed_is test (here (FirstAsksFew (wanted_setup q)) (Err e) h h.queries.few) cause.failed))
       by_error (error.ConfigurationError e) f =
           let took : n.took ≡ b.took = ap (λ (t : RunTold). t.sink.took) (h.first.settings e f).1 in
           ([], took ∙ took_same b.took, tt, (sym same ∙ f, refl))

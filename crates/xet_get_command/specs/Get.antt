@@ -13,7 +13,7 @@ use Rattle.xet_get_command.specs.Document.{IsOfStore, OfNoDocument}
 use Rattle.xet_room.specs.Ends.{IsTooLong, Told, WasReadToEnd}
 use Rattle.xet_get_command.specs.Taps.{FromTaps, LanesHonest, TapsGoOn, all_passed, lane_taps}
 use Rattle.xet_room.specs.Texts.{get_text, line, ok_line}
-use Rattle.xet_get_command.specs.Wanted.{IsFound, IsMissing, failing_setting, wanted_bytes}
+use Rattle.xet_get_command.specs.Wanted.{IsFound, IsMissing, unmet_setting, wanted_bytes}
 
 -- the text of status 0
 abbrev pub done_text : Store → Wanted → List ℕ
@@ -51,11 +51,11 @@ pub record IsRefused (store : Store) (wanted : Wanted) (before after : SinkTold)
 -- what was printed of a store where a write failed or memory ended: a prefix of one of the four texts
 abbrev pub IsCutGet : Store → Wanted → SinkTold → SinkTold → Type 0
 IsCutGet store wanted before after =
-    ((failing_setting wanted ≡ None) × IsFound store wanted
+    ((unmet_setting wanted ≡ None) × IsFound store wanted
     × TookPrefix before.took after.took (done_text store wanted))
     ⊎ ((count : ℕ) × TookPrefix before.took after.took (memory_text store wanted count))
-    ⊎ ((failing_setting wanted ≡ None) × IsMissing store wanted × TookPrefix before.took after.took missing_text)
-    ⊎ ((e : Setting) × (failing_setting wanted ≡ Some e) × TookPrefix before.took after.took (settings_text e))
+    ⊎ ((unmet_setting wanted ≡ None) × IsMissing store wanted × TookPrefix before.took after.took missing_text)
+    ⊎ ((e : Setting) × (unmet_setting wanted ≡ Some e) × TookPrefix before.took after.took (settings_text e))
 
 -- ---- what holds of each run
 
@@ -77,7 +77,7 @@ GetAny store wanted before after status =
 pub record GetDone (limit : ℕ) (wanted : Wanted) (before after : Told) : Type 0 where
   pub store : Store
   pub over : OverStore limit store wanted before after
-  pub settings : failing_setting wanted ≡ None
+  pub settings : unmet_setting wanted ≡ None
   pub honest : LanesHonest wanted before.taps → IsGot store wanted before after
   pub any : GetAny store wanted before after Done
 
@@ -92,7 +92,7 @@ pub record GetBadStore (limit : ℕ) (before after : Told) : Type 0 where
 pub record GetNotFound (limit : ℕ) (wanted : Wanted) (before after : Told) : Type 0 where
   pub store : Store
   pub over : OverStore limit store wanted before after
-  pub settings : failing_setting wanted ≡ None
+  pub settings : unmet_setting wanted ≡ None
   pub honest : LanesHonest wanted before.taps → IsRefused store wanted before.sink after.sink
   pub any : GetAny store wanted before after NotFound
 
@@ -106,7 +106,7 @@ pub record GetReadFault (before after : Told) : Type 0 where
 pub record GetBadSettings (limit : ℕ) (wanted : Wanted) (before after : Told) (e : Setting) : Type 0 where
   pub store : Store
   pub over : OverStore limit store wanted before after
-  pub failing : failing_setting wanted ≡ Some e
+  pub failing : unmet_setting wanted ≡ Some e
   pub unasked : after.taps ≡ before.taps
   pub took : Took before.sink.took after.sink.took (settings_text e)
   pub any : GetAny store wanted before after (BadSettings e)
@@ -121,7 +121,7 @@ pub record GetTooLong (limit : ℕ) (before after : Told) : Type 0 where
 pub record GetBadBlock (limit : ℕ) (wanted : Wanted) (before after : Told) (number : ℕ) : Type 0 where
   pub store : Store
   pub over : OverStore limit store wanted before after
-  pub settings : failing_setting wanted ≡ None
+  pub settings : unmet_setting wanted ≡ None
   pub dishonest : LanesHonest wanted before.taps → ⊥
   pub any : GetAny store wanted before after (BadBlock number)
 

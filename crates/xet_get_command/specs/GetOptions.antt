@@ -5,6 +5,7 @@ use Rattle.std.specs.List.{after_first, before_first, position_or_len}
 use Rattle.std.specs.Str.{bytes_eq}
 use Rattle.xet_events.specs.declared.budget_book.BudgetSettings.{BudgetSettings}
 use Rattle.xet_terms.specs.declared.reconstruction_config.ReconstructionConfig.{ReconstructionConfig}
+use Rattle.xet_terms.specs.Settings.{first_config}
 use Rattle.xet_get_command.specs.declared.options.GetOption.{GetOption}
 use Rattle.xet_get_command.specs.declared.options.GetOption.TheVariants as word
 use Rattle.xet_get_command.specs.declared.options.Options.{Options}
@@ -89,27 +90,31 @@ lanes_of o = unwrap_or o.lanes 1
 
 -- the least and the greatest size of a query, in bytes
 abbrev pub least_of : Options → ℕ
-least_of o = unwrap_or o.least 1048576
+least_of o = unwrap_or o.least first_config.min_reconstruction_fetch_size
 
 abbrev pub greatest_of : Options → ℕ
-greatest_of o = unwrap_or o.greatest 67108864
+greatest_of o = unwrap_or o.greatest first_config.max_reconstruction_fetch_size
+
+-- how many bytes may be admitted and not yet written
+abbrev pub budget_bytes : Options → ℕ
+budget_bytes o = unwrap_or o.budget first_config.download_buffer_size
 
 -- the settings of a run
 abbrev pub config_of : Options → ReconstructionConfig
 config_of o = record {
   min_reconstruction_fetch_size = least_of o;
   max_reconstruction_fetch_size = greatest_of o;
-  min_prefetch_buffer = 2097152;
-  download_buffer_size = unwrap_or o.budget 67108864;
+  min_prefetch_buffer = first_config.min_prefetch_buffer;
+  download_buffer_size = budget_bytes o;
   use_vectored_write = o.vectored;
   enable_multirange_fetching = o.multirange;
-  tries = 3;
+  tries = first_config.tries;
 }
 
 -- the settings of the book that it asks for its limit
 abbrev pub budget_of : Options → BudgetSettings
 budget_of o = record {
-  base = unwrap_or o.budget 67108864;
+  base = budget_bytes o;
   per_file = unwrap_or o.per_file 0;
   limit = unwrap_or o.limit (2 ^ 64 - 1);
 }

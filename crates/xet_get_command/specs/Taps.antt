@@ -21,7 +21,7 @@ use Rattle.xet_get_command.specs.declared.wanted.Wanted.{Wanted}
 use Rattle.xet_room.specs.declared.status.Status.{Status}
 use Rattle.xet_room.specs.declared.status.Status.TheVariants.{Done, NotFound, NoMemory, BadBlock, BadSettings}
 use Rattle.xet_get_command.specs.GetOptions.{lanes_of}
-use Rattle.xet_get_command.specs.Wanted.{IsMissing, failing_setting, setup_of}
+use Rattle.xet_get_command.specs.Wanted.{IsMissing, unmet_setting, wanted_setup}
 
 -- ---- the taps of the lanes
 
@@ -37,7 +37,7 @@ LanesHonest wanted taps = All (λ t. t.honest ≡ true) (lane_taps wanted taps)
 pub record TapsGoOn (wanted : Wanted) (before after : List TapTold) : Type 0 where
   pub honest : map (λ t. t.honest) after ≡ map (λ t. t.honest) before
   pub past : drop (lanes_of wanted.options) after ≡ drop (lanes_of wanted.options) before
-  pub unasked : (e : Setting) → failing_setting wanted ≡ Some e → after ≡ before
+  pub unasked : (e : Setting) → unmet_setting wanted ≡ Some e → after ≡ before
 
 -- ---- what passed
 
@@ -120,12 +120,12 @@ pub record BlockFailed (setup : Setup) (xs : List Exchange) (number : ℕ) : Typ
 
 -- the bytes of a run with this status, over this store and these blocks
 abbrev pub IsMade : Store → Wanted → List Exchange → List Look → Status → List ℕ → Type 0
-IsMade store wanted xs looks Done bytes = AllBytes (setup_of wanted) xs looks bytes
+IsMade store wanted xs looks Done bytes = AllBytes (wanted_setup wanted) xs looks bytes
 IsMade store wanted xs looks NotFound bytes = IsMissing store wanted × (bytes ≡ [])
-IsMade store wanted xs looks NoMemory bytes = FirstBytes (setup_of wanted) xs looks bytes
+IsMade store wanted xs looks NoMemory bytes = FirstBytes (wanted_setup wanted) xs looks bytes
 IsMade store wanted xs looks (BadBlock number) bytes =
-    FirstBytes (setup_of wanted) xs looks bytes × BlockFailed (setup_of wanted) xs number
-IsMade store wanted xs looks (BadSettings e) bytes = (failing_setting wanted ≡ Some e) × (bytes ≡ [])
+    FirstBytes (wanted_setup wanted) xs looks bytes × BlockFailed (wanted_setup wanted) xs number
+IsMade store wanted xs looks (BadSettings e) bytes = (unmet_setting wanted ≡ Some e) × (bytes ≡ [])
 IsMade store wanted xs looks _ bytes = ⊥
 
 -- a run over connections, each behind one of the taps, made these bytes of the blocks that were handed on
@@ -134,14 +134,14 @@ pub record MadeOf (store : Store) (wanted : Wanted) (passages : List Passage) (s
   pub xs : List Exchange
   pub passed : AllZip (IsPassed store) passages xs
   -- the first connection's queries cut the range, and no more others were asked than expired answers came
-  pub asked : FirstAsksFew (setup_of wanted) xs
+  pub asked : FirstAsksFew (wanted_setup wanted) xs
   -- no block of a plan passed twice, and each that passed is a block of a plan that was said
   pub once : ServedOnce (served_of_all xs)
-  pub planned : AllPlanned (setup_of wanted) xs
+  pub planned : AllPlanned (wanted_setup wanted) xs
   pub looks : List Look
   pub looked : GaveNothing wanted looks
   -- the data of each entry that a look gave was handed on in this run, in answer to the request of a block of the plans
-  pub given : GaveServed (setup_of wanted) xs looks
+  pub given : GaveServed (wanted_setup wanted) xs looks
   pub made : IsMade store wanted xs looks status bytes
 
 -- the same, of the blocks that passed the taps of the lanes in a call, where each of these tells it

@@ -4,7 +4,7 @@ ghost use Rattle.std.specs.Prelude.{vec_capacity};
 ghost use Rattle.xet_base.specs.Store.{IsValid};
 ghost use Rattle.xet_reconstruct.specs.Ran.{RanUnder};
 ghost use Rattle.xet_ties.specs.Legal.{Legal};
-ghost use Rattle.xet_get_command.specs.Wanted.{setup_of};
+ghost use Rattle.xet_get_command.specs.Wanted.{wanted_setup};
 ghost use Rattle.xet_get_command.specs.steps.PrintedDigits.{Tapped, told_of};
 ghost use Rattle.xet_get_command.specs.steps.TapRuns.{BehindTaps, IsBookOf, IsCacheOf, IsNew, limits_told};
 
@@ -33,9 +33,9 @@ fn run_over<R: Threads + Wait + Sync, C: Client + Send, K: ChunkCache, O: Sink>(
     out: &mut O,
 ) -> Result<u64>
     requires book { IsBookOf wanted view }
-    ensures legal { Legal (setup_of wanted) (told_of (map C.told clients.old) (K.told cache.old) (O.told out.old))
+    ensures legal { Legal (wanted_setup wanted) (told_of (map C.told clients.old) (K.told cache.old) (O.told out.old))
         (told_of (map C.told clients.new) (K.told cache.new) (O.told out.new)) result }
-    ensures ran { RanUnder (limits_told wanted) (setup_of wanted)
+    ensures ran { RanUnder (limits_told wanted) (wanted_setup wanted)
         (told_of (map C.told clients.old) (K.told cache.old) (O.told out.old))
         (told_of (map C.told clients.new) (K.told cache.new) (O.told out.new)) result }
 {

@@ -7,4 +7,4 @@ pub use Rattle.xet_lane.proofs.LaneSteps.{before_none, before_snoc, last_snoc, n
 -- the request of a block that has a URL, that each request is its block's own, and one more fetch
 pub use Rattle.xet_lane.proofs.Requests.{asks_more, made_by, own_request}
 -- where the error of a join comes from, and what holds where it has none
-pub use Rattle.xet_lane.proofs.ErrorCauses.{ErrorCause, FailedLane, NoErrorBelow, error_cause, no_error}
+pub use Rattle.xet_lane.proofs.ErrorCauses.{FailedLane, NoErrorBelow, error_cause, no_error}

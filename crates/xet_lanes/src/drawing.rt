@@ -37,11 +37,14 @@ pub enum Next {
     Number(u64),
     /// Nothing: all numbers were drawn, or a lane stopped the others.
     Over,
+    /// Nothing: the run is to stop, for this, and no lane stopped the others: it was cancelled, or has an error.
+    Stopped(RunError),
     /// Nothing: memory ran out.
     Short,
 }
 
-/// Draws the next number, unless the run or a lane was stopped.
+/// Draws the next number, unless the run or a lane was stopped: `Stopped` with what the run's state replied, `Short`
+/// only where memory ran out for its check.
 pub fn next_number<R: Wait, L: Ledger>(
     rt: &R,
     claims: &Claims,
@@ -54,6 +57,7 @@ pub fn next_number<R: Wait, L: Ledger>(
     ensures of { IsPassOf claims.now claim.new }
     ensures next { IsNext claims.now.count (pass_view claim.old) (pass_view claim.new) result }
     ensures seen { HasSeen result run.new.last }
+    ensures short { result ≡ Next.Short → run.new.share.amount ≡ run.old.share.amount }
     ensures parts { run.new.share.parts ≡ run.old.share.parts }
 {
     let seen = state.check_run_state(rt, run);
@@ -63,9 +67,9 @@ pub fn next_number<R: Wait, L: Ledger>(
     if claims.stopped(claim) {
         return Next::Over;
     }
-    // A lane stops the others before it sets its error. So where the run has an error, the mark was seen just now.
-    if seen.is_err() {
-        return Next::Short;
+    // A lane stops the others before it sets its error. So where a lane did, the mark was seen just now.
+    if let Err(reply) = seen {
+        return Next::Stopped(reply);
     }
     match claims.draw(claim) {
         Some(number) => Next::Number(number),
@@ -117,7 +121,7 @@ fn stop_short<R: Wait, L: Ledger>(
 }
 
 /// Draws and fetches until there is no number left, a step fails, or a lane stops the others. True where memory ran
-/// out besides.
+/// out besides, and where the run is to stop though no lane stopped the others.
 fn draw_all<R: Wait, C: Client, G: Gate, L: Ledger>(
     shared: &Shared<R, G, L>,
     lane: &mut Lane<C>,
@@ -146,6 +150,7 @@ fn draw_all<R: Wait, C: Client, G: Gate, L: Ledger>(
         let number = match next_number(rt, claims, state, claim, run) {
             Next::Number(number) => number,
             Next::Over => return false,
+            Next::Stopped(_) => return stop_short(rt, claims, state, claim, run),
             Next::Short => return stop_short(rt, claims, state, claim, run),
         };
         let fetch = &shared.fetches[number as usize];

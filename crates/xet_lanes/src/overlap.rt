@@ -2,6 +2,7 @@
 ghost use Rattle.std.specs.Prelude.{◌≡◌, ◌<◌, ◌≤◌, All, IfOk, None, length, map, min, vec_len};
 ghost use Rattle.std.specs.Thread.{IsSend, IsSync};
 ghost use Rattle.xet_ties.specs.Lanes.{IsFor};
+ghost use Rattle.xet_ties.specs.Setup.{most_lanes};
 ghost use Rattle.xet_writers.specs.Calls.{closed_by};
 ghost use Rattle.xet_writers.specs.Queues.{ready_bytes};
 ghost use Rattle.xet_writers.specs.Sequential.{ReadyCall, WindowCall, told_of};
@@ -124,8 +125,8 @@ fn join_lanes<
     beside: bool,
     writer: &mut SequentialWriter<S>,
 ) -> std::result::Result<Joined, OutOfMemory>
-    requires clients { (0 < length clients.old) × (length clients.old ≤ 65536) }
-    requires parts { 65536 < pass.old.share.parts }
+    requires clients { (0 < length clients.old) × (length clients.old ≤ most_lanes) }
+    requires parts { most_lanes < pass.old.share.parts }
     requires asks { All IsFor (map ask_of fetches.now) }
     ensures call { RoundCall S.told (map ask_of fetches.now)
         (record { clients = map C.told clients.old; writer = writer.old })
@@ -183,7 +184,7 @@ pub fn fetch_and_write<
     beside: bool,
     writer: &mut SequentialWriter<S>,
 ) -> std::result::Result<Joined, OutOfMemory>
-    requires parts { 65536 < pass.old.share.parts }
+    requires parts { most_lanes < pass.old.share.parts }
     requires clients { 0 < length clients.old }
     requires asks { All IsFor (map ask_of fetches.now) }
     ensures call { RoundCall S.told (map ask_of fetches.now)
@@ -192,7 +193,7 @@ pub fn fetch_and_write<
     ensures window { closed_by (told_of writer.old) ≡ None → IfOk result (λ j.
         WindowCall (S.told writer.old.sink) (S.told writer.new.sink) (ready_bytes writer.old.queue) j.wrote) }
     ensures lanes { IfOk result (λ j.
-        length j.ends.items ≡ min (min (length clients.old) (length fetches.now)) 65536) }
+        length j.ends.items ≡ min (min (length clients.old) (length fetches.now)) most_lanes) }
     ensures parts { pass.new.share.parts ≡ pass.old.share.parts }
 {
     let lanes = clients.len().min(fetches.len()).min(MOST_LANES);

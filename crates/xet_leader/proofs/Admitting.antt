@@ -19,7 +19,7 @@ use Rattle.xet_ties.specs.Ties.{MayLeave, Slack}
 use Rattle.xet_ties.proofs.CallerLemmas.{short_leaves}
 use Rattle.xet_parts.specs.Admissions.{admits}
 use Rattle.xet_parts.proofs.CallerLemmas.{admits_counted, admits_planned, admitted_ties}
-use Rattle.xet_leader.specs.Admission.{AdmitFails, AdmitLeads, AdmitTurn, AdmittedTerms, at_once}
+use Rattle.xet_leader.specs.Admission.{AdmitFails, AdmitLeads, AdmitTurn, AdmittedTerms, at_once, most_at_once}
 use Rattle.xet_leader.specs.Led.{AreLedPlans, AreStale, IsLed, IsLedManager, Led}
 use Rattle.xet_leader.specs.Steady.{IsFailing, IsGoing, Loose, Moment}
 use Rattle.xet_leader.proofs.PlainEvents.{IsPlain, plain_manager, plain_plans, plain_running, plain_stale}
@@ -87,7 +87,7 @@ led_after : (g : Setup) (b : RunTold) (es : List Event) (ls : List ℕ) (sl : Sl
     → IsLed g b (es ++ admits ls) sl stale
     (record l { admitted = l.admitted + (at_once (l.planned - l.admitted) - left) })
 led_after g b es ls sl stale l left n a =
-    let most = min-le_left (l.planned - l.admitted) 8192 in
+    let most = min-le_left (l.planned - l.admitted) most_at_once in
     let counted = admits_counted es ls in
     let same = ap length (admits_planned es ls) in
     let c = a.counted in

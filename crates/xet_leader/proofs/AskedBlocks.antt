@@ -13,7 +13,7 @@ use Rattle.xet_error.specs.declared.error.FileReconstructionError.TheVariants as
 use Rattle.xet_offers.specs.declared.reconstruction_terms.retrieval_urls.RetrievalUrl.{RetrievalUrl}
 use Rattle.xet_offers.specs.declared.reconstruction_terms.retrieval_urls.TermBlockRetrievalURLs.{TermBlockRetrievalURLs}
 use Rattle.xet_offers.specs.declared.reconstruction_terms.xorb_block.XorbBlock.{XorbBlock}
-use Rattle.xet_offers.specs.BlockCalls.{IsBeyond, IsRequestOf}
+use Rattle.xet_offers.specs.BlockCalls.{IsRequestOf}
 use Rattle.xet_events.specs.declared.event.Event.{Event}
 use Rattle.xet_events.specs.declared.event.PlannedBlock.{PlannedBlock}
 use Rattle.xet_events.specs.Allowed.{IsMissing}
@@ -53,16 +53,6 @@ pub can_request : (g : Setup) (b : RunTold) (es : List Event) (sl : Slack) (stal
     → Each (CanRequest l.plans) cs
 can_request g b es sl stale l a cs h = each_weaker (λ c. IsMissing es c.plan c.block) (CanRequest l.plans) cs
     (λ c m. awaited_request g b es sl stale l c (awaited g b es sl stale l a c m)) h
-
--- the table has the URL
-pub never_beyond : (x : XorbBlock) (t : TermBlockRetrievalURLs) → x.xorb_block_index < length t.retrieval_urls
-    → IsBeyond x t → ⊥
-never_beyond x t h e = go t.retrieval_urls x.xorb_block_index h e
-  where
-    go : (us : List RetrievalUrl) (k : ℕ) → k < length us → slice_get us k ≡ None → ⊥
-    go [] k w e = omega arith
-    go (u ∷ us) zero w e = cc
-    go (u ∷ us) (suc k) w e = go us k (omega arith) e
 
 -- the plan and the block that were read are those of the place
 pub read_block : (ls : List LedPlan) (c : BlockAt) (i : ℕ) (p : LedPlan) (x : XorbBlock) → CanRequest ls c

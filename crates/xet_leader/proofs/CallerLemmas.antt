@@ -1,7 +1,7 @@
 -- What proofs of the crates above may cite of this crate's words.
 
 pub use Rattle.xet_leader.proofs.AlikePlans.{IsAlike, alike_begins, alike_follow, alike_number, alike_terms}
-pub use Rattle.xet_leader.proofs.AskedBlocks.{asked, can_request, fetch_leads, memory_fails, request_parts}
+pub use Rattle.xet_leader.proofs.AskedBlocks.{asked, can_request, fetch_leads, memory_fails}
 pub use Rattle.xet_leader.proofs.AwaitedBlocks.{TermOf, all_terms, awaited, some_plan}
 pub use Rattle.xet_leader.proofs.ChangedPlans.{alike_changed, change_all, change_is_set, only_is, placed}
 pub use Rattle.xet_leader.proofs.FetchFacts.{is_at, kept_is, none_within}

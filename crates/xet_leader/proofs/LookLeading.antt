@@ -16,18 +16,12 @@ use Rattle.xet_leader.specs.declared.missing_blocks.BlockAt.{BlockAt}
 use Rattle.xet_leader.specs.FetchLists.{IsFetchList}
 use Rattle.xet_leader.specs.Lacking.{missing_of}
 use Rattle.xet_leader.specs.Led.{Led}
-use Rattle.xet_leader.specs.Looks.{EndsShort, IsLedBy, LookLeads, LookTurn, LooksShort, ShortLook, to_fetch}
+use Rattle.xet_leader.specs.Looks.{EndsShort, LookLeads, LookTurn, LooksShort, ShortLook, to_fetch}
 use Rattle.xet_leader.specs.Steady.{IsFailing, IsGoing, Loose, Moment, no_loose}
 use Rattle.xet_leader.proofs.FetchFacts.{missing_lists}
 use Rattle.xet_leader.proofs.LookTies.{Looking, look_each}
 use Rattle.xet_leader.proofs.WriterFaults.{any_unfailed}
 use Rattle.xet_leader.proofs.Halts.{memory_halted, memory_spent}
-
--- the leader of a run that goes on
-pub led_by : (g : Setup) (b : RunTold) (m : Moment) (o : Loose) (l : Led) (es : List Event) → m.events ≡ es
-    → IsGoing g b m o l → IsLedBy es l
-led_by g b m o l es is s = subst (λ (e : List Event). IsLedBy e l) is
-    (record { setup = g; start = b; slack = s.slack; stale = o.stale; led = s.led })
 
 -- before the looks
 start : (g : Setup) (b : RunTold) (m : Moment) (l : Led) (t : CacheTold) (es : List Event) → m.told.cache ≡ t

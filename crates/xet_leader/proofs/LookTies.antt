@@ -226,9 +226,6 @@ module _ (g : Setup) (b : RunTold) (m : Moment) (l : Led) where
       } in
       (going, list_found es l.finished acc cs c w.1)
 
-  none_some : (o : Option XorbBlockData) → o ≡ None → is_some o ≡ false
-  none_some o h = ap is_some h
-
   -- either of them
   pub look_one : (t u : CacheTold) (es fs : List Event) (ls ms : List LedPlan) (acc cs : List BlockAt) (c : BlockAt)
       (found : Bool) → LookedPlace t u es fs ls ms c found → Looking g b m l t es ls acc (c ∷ cs)

@@ -31,9 +31,6 @@ pub record NoneOf (es : List Event) (p : ℕ) : Type 0 where
   pub expiries : (k : ℕ) → count_by (expires p k) es ≡ 0
   pub expired : (k : ℕ) → is_expired es p k ≡ false
 
-or_left : (v w : Bool) → v ≡ true → (v || w) ≡ true
-or_left v w e = ap (λ (x : Bool). x || w) e
-
 or_right : (v w : Bool) → w ≡ true → (v || w) ≡ true
 or_right true w e = refl
 or_right false w e = e

@@ -1,7 +1,7 @@
 -- The place of a plan by its number, where numbers follow one another.
-use Rattle.std.proofs.Common.{◌≡◌, ℕ, zero, suc, ◌+◌, ◌-◌, ◌<◌, ◌≤◌, Bool, true, false, cond, List, [], ◌∷◌, length, Option, Some, None, get_or, refl, subst, ap, arith}
+use Rattle.std.proofs.Common.{◌≡◌, ℕ, zero, suc, ◌+◌, ◌-◌, ◌<◌, Bool, true, false, cond, List, [], ◌∷◌, length, Some, None, get_or, refl, ap, arith}
 use Rattle.std.specs.Prelude.{All, ◌&&◌, nat_le, nat_lt, slice_get}
-use Rattle.std.proofs.lemmas.Bool.{le-leb, le-ltb, leb-false, leb-true, lt-leb, lt-ltb, ltb-false}
+use Rattle.std.proofs.lemmas.Bool.{leb-false, leb-true, ltb-false}
 use Rattle.std.proofs.lemmas.Option.{slice_get-get_or}
 use Rattle.xet_leader.specs.declared.leader.LedPlan.{LedPlan}
 use Rattle.xet_leader.specs.Led.{FollowOn}
@@ -56,32 +56,3 @@ place_absent (l ∷ ls) p f h = λ k d w n.
     let m = numbered_at l ls k (get_or (l ∷ ls) k d) f (slice_get-get_or (l ∷ ls) k d w) in
     absent_here l ls p k (nat_le l.number p) (nat_lt (p - l.number) (length (l ∷ ls))) refl refl h w
     (omega (arith, m, n))
-
--- the number's place in code's words
-pub place_found : (ls : List LedPlan) (l : LedPlan) (p : ℕ) → 0 < length ls → l ≡ get_or ls 0 l → l.number ≤ p
-    → p - l.number < length ls → find_plan ls p ≡ Some (p - l.number)
-place_found [] l p s e a b = absurd (omega arith)
-place_found (k ∷ ls) l p s e a b =
-    let low : nat_le l.number p ≡ true = le-leb l.number p a in
-    let high : nat_lt (p - l.number) (length (k ∷ ls)) ≡ true = lt-ltb (p - l.number) (length (k ∷ ls)) b in
-    subst (λ (x : LedPlan). find_plan (x ∷ ls) p ≡ Some (p - l.number)) e (rw (low, high) refl)
-
-pub place_past : (ls : List LedPlan) (l : LedPlan) (p : ℕ) → 0 < length ls → l ≡ get_or ls 0 l
-    → length ls ≤ p - l.number → find_plan ls p ≡ None
-place_past [] l p s e b = absurd (omega arith)
-place_past (k ∷ ls) l p s e b =
-    let high : nat_lt (p - l.number) (length (k ∷ ls)) ≡ false = le-ltb (p - l.number) (length (k ∷ ls)) b in
-    subst (λ (x : LedPlan). find_plan (x ∷ ls) p ≡ None) e
-    (none (nat_le l.number p) (nat_lt (p - l.number) (length (l ∷ ls))) high)
-  where
-    none : (u v : Bool) → v ≡ false → cond {A = Option ℕ} (u && v) (Some (p - l.number)) None ≡ None
-    none true true f = absurd (cc)
-    none true false f = refl
-    none false v f = refl
-
-pub place_below : (ls : List LedPlan) (l : LedPlan) (p : ℕ) → 0 < length ls → l ≡ get_or ls 0 l → p < l.number
-    → find_plan ls p ≡ None
-place_below [] l p s e b = absurd (omega arith)
-place_below (k ∷ ls) l p s e b =
-    let low : nat_le l.number p ≡ false = lt-leb l.number p b in
-    subst (λ (x : LedPlan). find_plan (x ∷ ls) p ≡ None) e (rw low refl)

@@ -1,15 +1,16 @@
 -- A leader at the start of its run is as its run wants it.
 use Rattle.std.proofs.Common.{◌≡◌, ℕ, zero, suc, ◌<◌, Bool, true, false, cond, List, [], ◌∷◌, take, refl, sym, subst, ap, arith, None, Some}
-use Rattle.std.specs.Prelude.{nat_eq, nat_lt, Option}
+use Rattle.std.specs.Prelude.{length, nat_eq, Option}
 use Rattle.std.proofs.lemmas.List.Elements.{All-nil}
 use Rattle.xet_base.specs.declared.cas_types.FileRange.{FileRange}
 use Rattle.xet_base.specs.declared.item_id.UniqueID.{UniqueID}
 use Rattle.xet_error.specs.declared.error.Setting.{Setting}
-use Rattle.xet_error.specs.declared.error.Setting.TheVariants.{GreatestBelowLeast, LeastZero, NoTries}
+use Rattle.xet_error.specs.declared.error.Setting.TheVariants.{NoConnection, NoTries}
 use Rattle.xet_outside.specs.Told.{ClientTold}
 use Rattle.xet_terms.specs.Managers.{IsManager, Manager, begun}
 use Rattle.xet_terms.specs.Queries.{end_from}
-use Rattle.xet_ties.specs.Causes.{failing_setting}
+use Rattle.xet_terms.specs.Settings.{failing_size}
+use Rattle.xet_ties.specs.Causes.{refused_setting}
 use Rattle.xet_ties.specs.Saids.{InStep}
 use Rattle.xet_ties.specs.Setup.{RunTold, Setup}
 use Rattle.xet_ties.specs.Moves.{no_exchange, no_slack}
@@ -29,18 +30,20 @@ not_none zero e = absurd (cc)
 not_none (suc n) e = omega arith
 
 -- where the settings can be met, a block may be asked for once at least
-pub tries_some : (g : Setup) (cs : List ClientTold) → failing_setting g cs ≡ None → 0 < g.tries
-tries_some g [] h = absurd (cc)
-tries_some g (c ∷ cs) h = by (nat_eq g.tries 0) refl h
+pub tries_some : (g : Setup) (cs : List ClientTold) → refused_setting g cs ≡ None → 0 < g.tries
+tries_some g cs h = lent (nat_eq (length cs) 0) h
   where
-    rest : Option Setting
-    rest = cond (nat_eq g.least 0) (Some LeastZero) (cond (nat_lt g.greatest g.least) (Some GreatestBelowLeast) None)
+    tried : (b : Bool) → nat_eq g.tries 0 ≡ b → cond b (Some NoTries) (failing_size g.least g.greatest) ≡ None
+        → 0 < g.tries
+    tried true e k = absurd (cc)
+    tried false e k = not_none g.tries e
 
-    by : (b : Bool) → nat_eq g.tries 0 ≡ b → cond b (Some NoTries) rest ≡ None → 0 < g.tries
-    by true e k = absurd (cc)
-    by false e k = not_none g.tries e
+    lent : (b : Bool) → cond b (Some NoConnection)
+        (cond (nat_eq g.tries 0) (Some NoTries) (failing_size g.least g.greatest)) ≡ None → 0 < g.tries
+    lent true k = absurd (cc)
+    lent false k = tried (nat_eq g.tries 0) refl k
 
-in_step : (g : Setup) (cs : List ClientTold) → failing_setting g cs ≡ None → InStep (no_exchange cs)
+in_step : (g : Setup) (cs : List ClientTold) → refused_setting g cs ≡ None → InStep (no_exchange cs)
 in_step g [] h = absurd (cc)
 in_step g (c ∷ cs) h = step_start c cs
 
@@ -65,7 +68,7 @@ manager_start j p k =
 
 -- it is led
 pub led_start : (j : Job) (p : Option UniqueID) (b : RunTold) → IsManager (begun j.file_hash j.byte_range j.config p)
-    → failing_setting (setup_of_job j) b.clients ≡ None → j.byte_range.start < j.byte_range.end
+    → refused_setting (setup_of_job j) b.clients ≡ None → j.byte_range.start < j.byte_range.end
     → IsLed (setup_of_job j) b [] (no_slack b.clients) [] (first_led j p)
 led_start j p b k h some = record {
   running = refl;

@@ -8,9 +8,13 @@ use Rattle.xet_ties.specs.Setup.{Setup}
 use Rattle.xet_leader.specs.Led.{Led}
 use Rattle.xet_leader.specs.Steady.{LeadPart, Loose, Moment}
 
+-- how many terms are admitted at once at most
+abbrev pub most_at_once : ℕ
+most_at_once = 8192
+
 -- of so many terms that wait these may be admitted at once
 abbrev pub at_once : ℕ → ℕ
-at_once waiting = min waiting 8192
+at_once waiting = min waiting most_at_once
 
 -- as many terms are planned and admitted
 pub record SameCounts (l k : Led) : Type 0 where

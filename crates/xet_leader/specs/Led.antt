@@ -25,7 +25,7 @@ use Rattle.xet_terms.specs.Queries.{end_from}
 use Rattle.xet_ties.specs.History.{blocks_in, fetches, is_expired, range_at}
 use Rattle.xet_ties.specs.InCall.{SomeOne}
 use Rattle.xet_ties.specs.Saids.{IsLookedData, IsPlanAccepted, IsServedData, IsTestedData, planned_of}
-use Rattle.xet_ties.specs.Setup.{CacheTells, IsOver, RunTold, Setup}
+use Rattle.xet_ties.specs.Setup.{CacheTells, IsOver, RunTold, Setup, setup_of}
 use Rattle.xet_ties.specs.Ties.{Slack, IsLong}
 use Rattle.xet_leader.specs.declared.leader.Job.{Job}
 use Rattle.xet_leader.specs.declared.leader.LedPlan.{LedPlan}
@@ -42,14 +42,7 @@ pub record Led : Type 0 where
 
 -- what a job's run is for
 abbrev pub setup_of_job : Job → Setup
-setup_of_job j = record {
-  file = j.file_hash;
-  range = j.byte_range;
-  least = j.config.min_reconstruction_fetch_size;
-  greatest = j.config.max_reconstruction_fetch_size;
-  multirange = j.config.enable_multirange_fetching;
-  tries = j.config.tries;
-}
+setup_of_job j = setup_of j.file_hash j.byte_range j.config
 
 -- ---- the manager
 

@@ -2,7 +2,7 @@
 use Rattle.std.specs.Prelude.{◌≡◌, ◌<◌, [], None, Option}
 use Rattle.xet_base.specs.declared.item_id.UniqueID.{UniqueID}
 use Rattle.xet_terms.specs.Managers.{begun}
-use Rattle.xet_ties.specs.Causes.{failing_setting}
+use Rattle.xet_ties.specs.Causes.{refused_setting}
 use Rattle.xet_ties.specs.Setup.{RunTold}
 use Rattle.xet_leader.specs.declared.leader.Job.{Job}
 use Rattle.xet_leader.specs.Led.{Led, setup_of_job}
@@ -21,5 +21,5 @@ first_led j progress = record {
 
 -- over any arguments with which the settings can be met, a run of a range that has bytes goes on from no events
 abbrev pub LeadStarts : Job → Led → Type 0
-LeadStarts j l = (b : RunTold) → failing_setting (setup_of_job j) b.clients ≡ None
+LeadStarts j l = (b : RunTold) → refused_setting (setup_of_job j) b.clients ≡ None
     → j.byte_range.start < j.byte_range.end → IsGoing (setup_of_job j) b (record { told = b; events = [] }) no_loose l

@@ -70,7 +70,7 @@ impl<P: FetchPolicy> Model for Leader<P> {
 
 impl<P: FetchPolicy + Drop> Leader<P> {
     ghost use Rattle.std.specs.Prelude.{◌≡◌, Err, IfErr, IfOk, MatchOption};
-    ghost use Rattle.xet_terms.specs.Settings.{failing_size};
+    ghost use Rattle.xet_terms.specs.Settings.{failing_size_of};
     ghost use Rattle.xet_leader.specs.Starts.{LeadStarts, first_led};
 
     /// A leader at the start of a run: nothing is planned, and the first two queries are scheduled. With progress it
@@ -84,7 +84,7 @@ impl<P: FetchPolicy + Drop> Leader<P> {
         policy: P,
         progress: Option<ItemProgressUpdater>,
     ) -> Result<Leader<P>>
-        ensures fails { MatchOption (failing_size job.now.config)
+        ensures fails { MatchOption (failing_size_of job.now.config)
             (IfErr result (λ e. e ≡ FileReconstructionError.OutOfMemory))
             (λ s. result ≡ Err (FileReconstructionError.ConfigurationError s)) }
         ensures begun { IfOk result (λ l. l ≡ first_led job.now progress) }

@@ -1,18 +1,15 @@
 -- The ties after planned terms were admitted.
-use Rattle.std.proofs.Common.{◌≡◌, ℕ, ◌+◌, ◌<◌, List, [], ◌∷◌, ◌++◌, length, Option, Some, None, refl, sym, subst, ◌∙◌, ap, arith, append_assoc}
+use Rattle.std.proofs.Common.{◌≡◌, ℕ, ◌+◌, List, [], ◌∷◌, ◌++◌, length, refl, sym, subst, ◌∙◌, ap, arith, append_assoc}
 use Rattle.std.specs.Prelude.{count_by}
-use Rattle.std.specs.Option.{option_or}
 use Rattle.std.proofs.lemmas.List.{append-nil}
-use Rattle.xet_error.specs.declared.error.FileReconstructionError.{FileReconstructionError}
 use Rattle.xet_events.specs.declared.event.Event.{Event}
 use Rattle.xet_events.specs.declared.event.Event.TheVariants.{Admit}
-use Rattle.xet_events.specs.Allowed.{IsRunning, MayAdmit}
 use Rattle.xet_events.specs.Limits.{LimitTold}
-use Rattle.xet_events.specs.Events.{first_error, is_admit, planned}
-use Rattle.xet_events.proofs.CallerLemmas.{count_by-push, error-push, planned-push}
+use Rattle.xet_events.specs.Events.{is_admit, planned}
+use Rattle.xet_events.proofs.CallerLemmas.{count_by-push, planned-push}
 use Rattle.xet_ties.specs.PartCalls.{AdmitsCall}
 use Rattle.xet_ties.proofs.CallerLemmas.{admits_asked, admits_none, admits_one}
-use Rattle.xet_parts.specs.Admissions.{Admitted, AdmitsOk, GaveLimits, IsWaiting, admits}
+use Rattle.xet_parts.specs.Admissions.{Admitted, GaveLimits, admits}
 
 -- ---- what was told and recorded is tied
 
@@ -45,29 +42,3 @@ admits_counted es (l ∷ ls) =
     let h = admits_counted (es ++ Admit l ∷ []) ls in
     let p = count_by-push is_admit es (Admit l) in
     omega (arith, e, h, p)
-
-pub admits_running : (es : List Event) (ls : List ℕ) → IsRunning es → IsRunning (es ++ admits ls)
-admits_running es [] r = subst IsRunning (sym (append-nil es)) r
-admits_running es (l ∷ ls) r =
-    subst IsRunning (append_assoc es (Admit l ∷ []) (admits ls))
-    (admits_running (es ++ Admit l ∷ []) ls (error-push es (Admit l) ∙ still (first_error es) r))
-  where
-    still : (o : Option FileReconstructionError) → o ≡ None → option_or o None ≡ None
-    still None h = refl
-    still (Some e) h = absurd (cc)
-
--- those that are left are those that wait
-pub admits_left : (b n : LimitTold) (es fs : List Event) (waiting left : ℕ) → AdmitsOk b n es fs waiting left → waiting + count_by is_admit es ≡ length (planned es) → left + count_by is_admit fs ≡ length (planned fs)
-admits_left b n es fs waiting left a h =
-    let ls = a.admitted.limits in
-    let e = a.admitted.events in
-    let c = ap (count_by is_admit) e ∙ admits_counted es ls in
-    let p = ap (λ (x : List Event). length (planned x)) e ∙ ap length (admits_planned es ls) in
-    let k = a.counted in
-    omega (arith, c, p, k, h)
-
--- where some wait, the next one may not be admitted under a limit that was given
-pub admits_stuck : (left : ℕ) (fs : List Event) (us : List ℕ) → IsWaiting left fs us → 0 < left → IsRunning fs → (limit : ℕ) × (MayAdmit limit fs → ⊥)
-admits_stuck left fs [] w some r = absurd (omega arith)
-admits_stuck left fs (l ∷ []) w some r = (l, λ m. w.1 (r, m))
-admits_stuck left fs (l ∷ k ∷ us) w some r = absurd w

@@ -1,5 +1,5 @@
 -- The answer to a query that is taken and recorded.
-use Rattle.std.proofs.Common.{◌≡◌, Bool, true, false, List, [], ◌∷◌, Option, Some, None, Ok, Err, refl, arith, inl, inr}
+use Rattle.std.proofs.Common.{◌≡◌, Bool, true, false, List, [], Option, Some, None, Ok, Err, refl, arith, inl, inr}
 use Rattle.std.specs.Prelude.{Result, nat_le}
 use Rattle.std.proofs.lemmas.Bool.{leb-true, leb-false}
 use Rattle.xet_base.specs.declared.cas_types.FileRange.{FileRange}
@@ -11,9 +11,7 @@ use Rattle.xet_blocks.specs.declared.reconstruction_terms.file_term.TermBlock.{T
 use Rattle.xet_blocks.specs.PlanQuery.{PlanQuery}
 use Rattle.xet_blocks.specs.TermBlockCalls.{TermBlockCall}
 use Rattle.xet_events.specs.declared.event.Event.{Event}
-use Rattle.xet_terms.specs.Managers.{Manager, PassesKnownEnd, accepted}
-use Rattle.xet_ties.specs.PartCalls.{plan_event}
-use Rattle.xet_ties.specs.Recordings.{Recorded}
+use Rattle.xet_terms.specs.Managers.{Manager, PassesKnownEnd}
 use Rattle.xet_parts.specs.PlanAsks.{AnswerFails, AskPlanCall, TakenCall}
 
 -- why a manager didn't take an answer
@@ -36,17 +34,6 @@ pub taken_refused : (m now : Manager) (es : List Event) (q : FileRange) (t : Opt
     → (PassesKnownEnd m q t → ◌≡◌ {A = Result (Unit {0}) FileReconstructionError} (Err e) (Err (error.CorruptedReconstruction (PastKnownEnd m.known_end q.start))))
     → ((PassesKnownEnd m q t → ⊥) → e ≡ error.OutOfMemory) → now ≡ m → TakenCall m now es es q t (Err e)
 taken_refused m now es q t e past other same = record { ok = tt; err = record { fails = answer_fails m q t e past other; unrecorded = refl; left = inl same } }
-
--- an answer that it took is within the known end
-pub taken_within : (m : Manager) (q : FileRange) (t : Option TermBlock)
-    → (PassesKnownEnd m q t → ◌≡◌ {A = Result (Unit {0}) FileReconstructionError} (Ok tt) (Err (error.CorruptedReconstruction (PastKnownEnd m.known_end q.start)))) → PassesKnownEnd m q t → ⊥
-taken_within m q t past h = let same = past h in cc
-
--- it was taken, and recorded where there was memory
-pub taken_recorded : (m now : Manager) (es fs : List Event) (q : FileRange) (t : Option TermBlock) (answer : Result (Unit {0}) FileReconstructionError) → (PassesKnownEnd m q t → ⊥) → now ≡ accepted m q t
-    → Recorded es fs (plan_event es q t ∷ []) answer → ((e : FileReconstructionError) → answer ≡ Err e → fs ≡ es) → TakenCall m now es fs q t answer
-taken_recorded m now es fs q t (Ok a) within taken r kept = record { ok = record { within = within; taken = taken; recorded = r.all }; err = tt }
-taken_recorded m now es fs q t (Err e) within taken r kept = record { ok = tt; err = record { fails = inl r.memory; unrecorded = kept e refl; left = inr (r.memory, taken) } }
 
 -- the query failed
 pub asked_none : (m : Manager) (b n : ClientTold) (es : List Event) (query : PlanQuery) (e : FileReconstructionError) → TermBlockCall b n query (Err e) → AskPlanCall m m b n es es query (Err e)

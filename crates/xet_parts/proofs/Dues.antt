@@ -1,7 +1,6 @@
 -- The query that is due.
-use Rattle.std.proofs.Common.{◌≡◌, ℕ, ◌+◌, ◌<◌, min, [], List, length, Some, None, Ok, Err, refl, sym, subst, ◌∙◌, ap, arith, inl, inr}
+use Rattle.std.proofs.Common.{◌≡◌, ℕ, ◌+◌, ◌<◌, min, [], List, length, Some, None, Ok, Err, refl, sym, subst, ◌∙◌, ap, inl, inr}
 use Rattle.std.specs.Prelude.{slice_get}
-use Rattle.xet_base.specs.declared.cas_types.FileRange.{FileRange}
 use Rattle.xet_outside.specs.Told.{Rose, SignalTold}
 use Rattle.xet_error.specs.declared.error.FileReconstructionError.{FileReconstructionError}
 use Rattle.xet_error.specs.declared.error.FileReconstructionError.TheVariants as error
@@ -13,7 +12,7 @@ use Rattle.xet_ties.specs.Setup.{RunTold, Setup}
 use Rattle.xet_ties.specs.PartCalls.{PollCall}
 use Rattle.xet_ties.specs.Ties.{Slack, Ties}
 use Rattle.xet_ties.proofs.CallerLemmas.{poll_ties, stop_ties}
-use Rattle.xet_parts.specs.DueQueries.{CancelledDue, NextDueCall, NoneDue, OneDue, TakesDue}
+use Rattle.xet_parts.specs.DueQueries.{CancelledDue, NextDueCall, NoneDue, OneDue}
 
 -- ---- the function
 
@@ -70,19 +69,3 @@ one_due_ties g b at es sl m now x y d is o t = poll_ties g b at es sl x y is (re
 pub cancelled_due_ties : (g : Setup) (b at : RunTold) (es : List Event) (sl : Slack) (m now : Manager) (x y : SignalTold) → at.signal ≡ x → CancelledDue m now x y → Ties g b at es None sl
     → Ties g b (record at { signal = y }) es None sl × Rose b.signal.yes y.yes
 cancelled_due_ties g b at es sl m now x y is c t = stop_ties g b at es sl x y is c.signal t
-
--- ---- the query that is taken
-
--- where each query that was asked has its answer, it is the oldest without one
-pub due_oldest : (m now : Manager) (d : PlanDue) → TakesDue m now d → m.asked ≡ m.answered → (now.answered < now.asked) × (slice_get now.queries now.answered ≡ Some d.query)
-due_oldest m now d t idle =
-    let stay = looked_same m t.looked t.policy t.is in
-    let asked : t.looked.asked ≡ m.asked = ap (λ (x : Manager). x.asked) stay in
-    let answered : t.looked.answered ≡ m.answered = ap (λ (x : Manager). x.answered) stay in
-    let more : now.asked ≡ t.looked.asked + 1 = ap (λ (x : Manager). x.asked) t.asked in
-    let had : now.answered ≡ t.looked.answered = ap (λ (x : Manager). x.answered) t.asked in
-    let queries : now.queries ≡ t.looked.queries = ap (λ (x : Manager). x.queries) t.asked in
-    let same : now.answered ≡ t.looked.asked = had ∙ answered ∙ sym idle ∙ sym asked in (
-      omega (arith, more, same),
-      ap (λ (qs : List FileRange). slice_get qs now.answered) queries ∙ ap (slice_get t.looked.queries) same ∙ t.due,
-    )

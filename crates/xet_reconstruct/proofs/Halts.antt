@@ -7,7 +7,7 @@ use Rattle.xet_error.specs.declared.error.Setting.{Setting}
 use Rattle.xet_events.specs.declared.event.Event.TheVariants.{Fail}
 use Rattle.xet_events.specs.Allowed.{IsAllowedHistory}
 use Rattle.xet_writers.specs.Calls.{SinkCause}
-use Rattle.xet_ties.specs.Causes.{failing_setting}
+use Rattle.xet_ties.specs.Causes.{refused_setting}
 use Rattle.xet_ties.specs.Legal.{Legal}
 use Rattle.xet_ties.specs.RunCalls.{DidNothing, IsLocal, RunCall, RunTies}
 use Rattle.xet_ties.specs.Setup.{RunTold, Setup}
@@ -18,7 +18,7 @@ use Rattle.xet_ties.proofs.CallerLemmas.{tie_short, tie_start, tie_stop}
 
 -- ---- a setting fails
 
-pub refused_call : (g : Setup) (b : RunTold) (e : Setting) → failing_setting g b.clients ≡ Some e
+pub refused_call : (g : Setup) (b : RunTold) (e : Setting) → refused_setting g b.clients ≡ Some e
     → RunCall g b b [] (Err (error.ConfigurationError e))
 refused_call g b e h = record {
   settings = λ x h2. record {
@@ -41,13 +41,13 @@ refused_call g b e h = record {
   cache_later = λ s o c. c;
 }
 
-pub refused_legal : (g : Setup) (b : RunTold) (e : Setting) → failing_setting g b.clients ≡ Some e
+pub refused_legal : (g : Setup) (b : RunTold) (e : Setting) → refused_setting g b.clients ≡ Some e
     → Legal g b b (Err (error.ConfigurationError e))
 refused_legal g b e h = legal_of g b b [] (Err (error.ConfigurationError e)) tt (refused_call g b e h)
 
 -- ---- want of memory
 
-pub short_ties : (g : Setup) (b : RunTold) (to : SinkTold) → failing_setting g b.clients ≡ None
+pub short_ties : (g : Setup) (b : RunTold) (to : SinkTold) → refused_setting g b.clients ≡ None
     → to.took ≡ b.sink.took → b.sink.faults ≤ to.faults → to.link ≡ b.sink.link
     → RunTies g b (record b { sink = to }) [] (Some error.OutOfMemory)
 short_ties g b to h took faults link =
@@ -60,7 +60,7 @@ short_ties g b to h took faults link =
       under = λ u. absurd u;
     }
 
-failed_ties : (g : Setup) (b : RunTold) (to : SinkTold) → failing_setting g b.clients ≡ None
+failed_ties : (g : Setup) (b : RunTold) (to : SinkTold) → refused_setting g b.clients ≡ None
     → to.took ≡ b.sink.took → b.sink.faults ≤ to.faults → to.link ≡ b.sink.link → Rose b.sink.faults to.faults
     → RunTies g b (record b { sink = to }) (Fail error.IoError ∷ []) (Some error.IoError)
 failed_ties g b to h took faults link rose =
@@ -90,7 +90,7 @@ nothing_done b to e took (inr is) = record {
   error = subst IsLocal (sym is) tt;
 }
 
-pub short_call : (g : Setup) (b : RunTold) (to : SinkTold) → failing_setting g b.clients ≡ None
+pub short_call : (g : Setup) (b : RunTold) (to : SinkTold) → refused_setting g b.clients ≡ None
     → to.took ≡ b.sink.took → b.sink.faults ≤ to.faults → to.link ≡ b.sink.link
     → RunCall g b (record b { sink = to }) [] (Err error.OutOfMemory)
 short_call g b to h took faults link = record {
@@ -104,7 +104,7 @@ short_call g b to h took faults link = record {
   cache_later = λ s o c. c;
 }
 
-failed_call : (g : Setup) (b : RunTold) (to : SinkTold) → failing_setting g b.clients ≡ None
+failed_call : (g : Setup) (b : RunTold) (to : SinkTold) → refused_setting g b.clients ≡ None
     → to.took ≡ b.sink.took → b.sink.faults ≤ to.faults → to.link ≡ b.sink.link
     → Rose b.sink.faults to.faults
     → RunCall g b (record b { sink = to }) (Fail error.IoError ∷ []) (Err error.IoError)
@@ -126,7 +126,7 @@ fail_allowed = (refl, tt)
 
 -- it found no memory, or it failed, before anything else was asked
 pub halted_legal : (g : Setup) (b : RunTold) (to : SinkTold) (e : FileReconstructionError)
-    → failing_setting g b.clients ≡ None → to.took ≡ b.sink.took → b.sink.faults ≤ to.faults
+    → refused_setting g b.clients ≡ None → to.took ≡ b.sink.took → b.sink.faults ≤ to.faults
     → to.link ≡ b.sink.link → SinkCause b.sink.faults to.faults e → Legal g b (record b { sink = to }) (Err e)
 halted_legal g b to e h took faults link (inl is) =
     subst (λ (x : FileReconstructionError). Legal g b (record b { sink = to }) (Err x)) (sym is.0)

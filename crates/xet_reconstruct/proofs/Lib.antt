@@ -5,5 +5,4 @@ mod HonestPlans
 mod Limits
 mod Mapping
 mod Placings
-mod Settings
 mod ToFiles

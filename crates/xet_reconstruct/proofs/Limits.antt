@@ -8,7 +8,7 @@ use Rattle.xet_ties.specs.InCall.{Exchange}
 use Rattle.xet_ties.specs.Legal.{Legal}
 use Rattle.xet_ties.specs.RunCalls.{DidNothing}
 use Rattle.xet_ties.specs.Setup.{RunTold, Setup}
-use Rattle.xet_reconstruct.specs.Setup.{no_limits}
+use Rattle.xet_reconstruct.specs.Lent.{no_limits}
 use Rattle.xet_reconstruct.proofs.Mapping.{if_err}
 
 -- the same told without its limits

@@ -9,7 +9,7 @@ use Rattle.xet_error.specs.declared.error.FileReconstructionError.{FileReconstru
 use Rattle.xet_error.specs.declared.error.FileReconstructionError.TheVariants as error
 use Rattle.xet_error.specs.declared.error.Setting.{Setting}
 use Rattle.xet_events.specs.Limits.{LimitTold}
-use Rattle.xet_ties.specs.Causes.{Cause, failing_setting}
+use Rattle.xet_ties.specs.Causes.{Cause, refused_setting}
 use Rattle.xet_ties.specs.InCall.{Exchange, Look}
 use Rattle.xet_ties.specs.Legal.{Legal}
 use Rattle.xet_ties.specs.LegalWords.{IsExact, TookTested, TookWhole}
@@ -74,7 +74,7 @@ module _ (g : Setup) (b n : RunTold) (at : SinkTold) (flushed : Option ℕ) (fau
     error = d.error;
   }
 
-  pub other_legal : (answer : Result ℕ FileReconstructionError) → failing_setting g b.clients ≡ None
+  pub other_legal : (answer : Result ℕ FileReconstructionError) → refused_setting g b.clients ≡ None
       → n.sink.link ≡ link → Legal g at_start n answer → Legal g other_start n answer
   other_legal answer h at_link l = record {
     told = l.told;
@@ -118,7 +118,7 @@ module _ (g : Setup) (b n : RunTold) (at : SinkTold) (flushed : Option ℕ) (fau
 
 -- a run into a file that was made ready
 ready_legal : (g : Setup) (b n : RunTold) (at : SinkTold) (answer : Result ℕ FileReconstructionError)
-    → failing_setting g b.clients ≡ None → at.took ≡ b.sink.took → at.faults ≡ b.sink.faults
+    → refused_setting g b.clients ≡ None → at.took ≡ b.sink.took → at.faults ≡ b.sink.faults
     → Legal g (record b { sink = at }) n answer → Legal g (placed_as n.sink.link b) n answer
 ready_legal g b n at answer h took same l =
     subst (λ (t : Option (List ℕ)). Legal g (record b {
@@ -130,7 +130,7 @@ ready_legal g b n at answer h took same l =
 
 -- a setting failed
 pub refused_file : (limits : LimitTold) (g : Setup) (truncate : Bool) (place : ℕ) (b : RunTold) (e : Setting)
-    → failing_setting g b.clients ≡ Some e → ToFileCall limits g truncate place b b (Err (error.ConfigurationError e))
+    → refused_setting g b.clients ≡ Some e → ToFileCall limits g truncate place b b (Err (error.ConfigurationError e))
 refused_file limits g truncate place b e h =
     let unready : IsUnready truncate b b (Err (error.ConfigurationError e)) = record {
       nothing = record {
@@ -157,7 +157,7 @@ refused_file limits g truncate place b e h =
 
 -- the file could not be made ready
 pub unready_file : (limits : LimitTold) (g : Setup) (truncate : Bool) (place at : ℕ) (b : RunTold) (to : SinkTold)
-    (e : FileReconstructionError) → failing_setting g b.clients ≡ None
+    (e : FileReconstructionError) → refused_setting g b.clients ≡ None
     → ReadyCall truncate at b.sink to (Err e) → ToFileCall limits g truncate place b (record b { sink = to }) (Err e)
 unready_file limits g truncate place at b to e h r =
     let unready : IsUnready truncate b (record b { sink = to }) (Err e) = record {
@@ -182,7 +182,7 @@ exact_there g truncate place b n s k stands e = stands (window s g.file g.range)
 
 -- the run went into it
 pub ready_file : (limits : LimitTold) (g : Setup) (truncate : Bool) (place p : ℕ) (b n : RunTold) (at : SinkTold)
-    (answer : Result ℕ FileReconstructionError) → p ≡ place → failing_setting g b.clients ≡ None
+    (answer : Result ℕ FileReconstructionError) → p ≡ place → refused_setting g b.clients ≡ None
     → ReadyCall truncate p b.sink at (Ok tt) → Legal g (record b { sink = at }) n answer
     → RanUnder limits g (record b { sink = at }) n answer
     → ToFileCall limits g truncate place b n answer

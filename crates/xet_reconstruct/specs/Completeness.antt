@@ -4,7 +4,7 @@ use Rattle.xet_base.specs.Store.{Store, file_of}
 use Rattle.xet_outside.specs.Told.{ClientTold, Rose}
 use Rattle.xet_error.specs.declared.error.FileReconstructionError.{FileReconstructionError}
 use Rattle.xet_error.specs.declared.error.FileReconstructionError.TheVariants as error
-use Rattle.xet_ties.specs.Causes.{NoneAtEnd, SomeRose, failing_setting, total_expiries}
+use Rattle.xet_ties.specs.Causes.{NoneAtEnd, SomeRose, refused_setting, total_expiries}
 use Rattle.xet_ties.specs.Legal.{Legal}
 use Rattle.xet_ties.specs.Setup.{IsEmptyRange, IsOver, RunTold, Setup}
 
@@ -18,7 +18,7 @@ pub record HaveFile (g : Setup) (clients : List ClientTold) : Type 0 where
 -- or the range is empty; no count of faults and none of a yes rose; and there came fewer expired answers than a block
 -- has tries
 pub record NothingFails (g : Setup) (before after : RunTold) : Type 0 where
-  pub settings : failing_setting g before.clients ≡ None
+  pub settings : refused_setting g before.clients ≡ None
   pub stored : HaveFile g before.clients ⊎ IsEmptyRange g.range
   pub clients : SomeRose before.clients after.clients → ⊥
   pub sink : Rose before.sink.faults after.sink.faults → ⊥

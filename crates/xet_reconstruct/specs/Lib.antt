@@ -1,6 +1,6 @@
+pub mod Lent
 pub mod Completeness
 pub mod Laws
 pub mod Ran
-pub mod Setup
 pub mod steps
 pub mod ToFile

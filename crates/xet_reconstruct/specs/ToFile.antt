@@ -10,7 +10,7 @@ use Rattle.xet_error.specs.declared.error.FileReconstructionError.{FileReconstru
 use Rattle.xet_error.specs.declared.error.FileReconstructionError.TheVariants as error
 use Rattle.xet_error.specs.declared.error.Setting.{Setting}
 use Rattle.xet_events.specs.Limits.{LimitTold}
-use Rattle.xet_ties.specs.Causes.{failing_setting}
+use Rattle.xet_ties.specs.Causes.{refused_setting}
 use Rattle.xet_ties.specs.Legal.{Legal}
 use Rattle.xet_ties.specs.RunCalls.{DidNothing}
 use Rattle.xet_ties.specs.Setup.{CacheTells, IsOver, RunTold, Setup}
@@ -78,7 +78,7 @@ placed_as link told = record told { sink = record told.sink { link = link } }
 pub record ToFileCall (limits : LimitTold) (g : Setup) (truncate : Bool) (place : ℕ) (before after : RunTold)
     (answer : Result ℕ FileReconstructionError) : Type 0 where
   -- a failing setting is told before all else, the file included
-  pub settings : (e : Setting) → failing_setting g before.clients ≡ Some e
+  pub settings : (e : Setting) → refused_setting g before.clients ≡ Some e
       → (answer ≡ Err (error.ConfigurationError e)) × (after ≡ before)
   -- but for how the file's place was set, the answer is legal
   pub legal : Legal g (placed_as after.sink.link before) after answer

@@ -1,8 +1,9 @@
 //! Runs with a source of limits and a core of their own.
 ghost use Rattle.std.specs.Prelude.{◌≡◌};
 ghost use Rattle.xet_ties.specs.Legal.{Legal};
+ghost use Rattle.xet_ties.specs.Setup.{setup_of};
+ghost use Rattle.xet_reconstruct.specs.Lent.{lent_of};
 ghost use Rattle.xet_reconstruct.specs.Ran.{RanUnder};
-ghost use Rattle.xet_reconstruct.specs.Setup.{lent_of, setup_of};
 
 use crate::file_reconstructor::FileReconstructor;
 use std::alloc::Global;

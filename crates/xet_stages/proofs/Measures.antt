@@ -8,7 +8,7 @@ use Rattle.std.proofs.lemmas.Bool.{and_parts, eqb-true, false≢true}
 use Rattle.std.proofs.lemmas.List.{append-nil, append_assoc, length-map, map-append}
 use Rattle.xet_base.specs.declared.cas_types.FileRange.{FileRange}
 use Rattle.xet_events.specs.declared.event.Event.{Event}
-use Rattle.xet_events.specs.declared.event.Event.TheVariants.{Admit, Cached, Expired, Fetched, Planned}
+use Rattle.xet_events.specs.declared.event.Event.TheVariants.{Admit, Expired, Fetched, Planned}
 use Rattle.xet_events.specs.declared.event.PlannedBlock.{PlannedBlock}
 use Rattle.xet_events.specs.declared.event.PlannedTerm.{PlannedTerm}
 use Rattle.xet_events.specs.Allowed.{IsMissing}
@@ -20,7 +20,7 @@ use Rattle.xet_ties.specs.Setup.{Setup}
 use Rattle.xet_ties.specs.Measures.{left, left_of}
 use Rattle.xet_ties.specs.Recordings.{Place}
 use Rattle.xet_ties.specs.Ties.{CutsRange}
-use Rattle.xet_ties.proofs.CallerLemmas.{count-same, left-push, left_cached, left_expired, left_fetched}
+use Rattle.xet_ties.proofs.CallerLemmas.{count-same, left-push, left_expired, left_fetched}
 use Rattle.xet_parts.specs.Admissions.{admits}
 use Rattle.xet_parts.proofs.CallerLemmas.{admits_counted, admits_planned}
 use Rattle.xet_leader.specs.Led.{IsCounted, Led}
@@ -255,14 +255,6 @@ measure_fetched g es lane p k l m missing small =
     let at = missing_place es p k missing in
     tries_fall g es (Fetched lane p k) l m (record { query = refl; tasks = refl; admit = refl })
     (left_fetched g.tries es lane (places es) at.0 (p, k) at.1 missing.absent) small
-
--- or the cache gave it
-pub measure_cached : (g : Setup) (es : List Event) (p k : ℕ) (l m : Led) → IsMissing es p k
-    → unfinished_terms m < 2 ^ 64 → measure g (es ++ Cached p k ∷ []) m < measure g es l
-measure_cached g es p k l m missing small =
-    let at = missing_place es p k missing in
-    tries_fall g es (Cached p k) l m (record { query = refl; tasks = refl; admit = refl })
-    (left_cached g.tries es (places es) at.0 (p, k) at.1 missing.absent) small
 
 -- or its URL had expired, which it might once more
 pub measure_expired : (g : Setup) (es : List Event) (lane p k : ℕ) (l m : Led) → IsMissing es p k

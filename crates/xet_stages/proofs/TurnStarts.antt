@@ -21,7 +21,7 @@ use Rattle.xet_ties.specs.Setup.{RunTold, Setup}
 use Rattle.xet_ties.specs.PartCalls.{plan_event}
 use Rattle.xet_parts.specs.Admissions.{IsWaiting, admits}
 use Rattle.xet_leader.specs.declared.leader.Job.{Job}
-use Rattle.xet_leader.specs.Admission.{AdmitLeads, AdmitTurn, AdmittedTerms, at_once}
+use Rattle.xet_leader.specs.Admission.{AdmitLeads, AdmitTurn, AdmittedTerms, at_once, most_at_once}
 use Rattle.xet_leader.specs.Asking.{AskLeads, AskOk, AskTurn, HandsOn}
 use Rattle.xet_leader.specs.Led.{IsCounted, IsLedManager, Led, setup_of_job}
 use Rattle.xet_stages.specs.Measures.{measure}
@@ -127,7 +127,7 @@ ask_admits_none j cs ns x y es fs l k true o =
     hands_admit_none o.asked.due.id.plan (record l { manager = o.asked.now }) k o.asked.now.waiting o.hands
 
 admits_few : (before after : LimitTold) (es fs : List Event) (l k : Led) → AdmittedTerms before after es fs l k
-    → k.admitted ≤ l.admitted + 8192
+    → k.admitted ≤ l.admitted + most_at_once
 admits_few before after es fs l k a =
     let now : k.admitted ≡ l.admitted + (at_once (l.planned - l.admitted) - a.left) =
     ap (λ (z : Led). z.admitted) a.led in
@@ -222,7 +222,7 @@ module _ (j : Job) (cs ns : List ClientTold) (x y : SignalTold) (before after : 
         waits = λ w. absurd (omega (arith, w, past));
         few =
             let same : h.admitted ≡ l.admitted = ask_admits_none j cs ns x y es gs l h asked t.ok in
-            let most : k.admitted ≤ h.admitted + 8192 = admits_few before after gs fs h k u.ok in
+            let most : k.admitted ≤ h.admitted + most_at_once = admits_few before after gs fs h k u.ok in
             omega (arith, same, most);
       }
 

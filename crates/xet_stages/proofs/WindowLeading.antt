@@ -60,9 +60,6 @@ first_after (suc k) (suc m) (u ∷ ts) t h e = first_after k m ts t (omega (arit
 -- ---- it goes on
 
 module _ (g : Setup) (b : RunTold) (m : Moment) (o : Loose) (l : Led) (s : IsGoing g b m o l) where
-  Term : PlanTerm → Type 0
-  Term = IsLedTerm g b m.events s.slack o.stale
-
   next_are : drop l.finished (planned m.events) ≡ map task_of (next_terms l)
   next_are = next_tasks g b m.events s.slack o.stale l s.led.counted.planned_are s.led.plans
 

@@ -202,17 +202,6 @@ pub record WindowSo {S : Type 0} (all : List PlanTerm) (most : ℕ) (v w : Seque
   pub each : AllZip IsPieceIn (filter some_in (take (length lengths) all)) pieces
   pub writer : closed_by (told_of v) ≡ None → w ≡ with_pieces v pieces
 
-pub so_none : {S : Type 0} (all : List PlanTerm) (most : ℕ) (v : Sequential S) → WindowSo all most v v [] all
-so_none all most v = record {
-  rest_is = refl;
-  within = omega arith;
-  below = omega arith;
-  lengths_are = refl;
-  pieces = [];
-  each = tt;
-  writer = λ o. refl;
-}
-
 now_closed : {S : Type 0} (v w : Sequential S) (ps : List (List ℕ)) → w ≡ with_pieces v ps
     → closed_by (told_of v) ≡ None → closed_by (told_of w) ≡ None
 now_closed v w ps e o = ap (λ x. closed_by (told_of x)) e ∙ closed_same v ps ∙ o

@@ -8,6 +8,7 @@ use Rattle.xet_events.specs.Events.{written}
 use Rattle.xet_ties.specs.RunCalls.{IsFinished}
 use Rattle.xet_ties.specs.Setup.{RunTold, Setup}
 use Rattle.xet_leader.specs.declared.leader.Job.{Job}
+use Rattle.xet_leader.specs.Admission.{most_at_once}
 use Rattle.xet_leader.specs.Led.{Led, setup_of_job}
 use Rattle.xet_stages.specs.Measures.{measure}
 use Rattle.xet_leader.specs.Steady.{IsGoing, LeadPart, Moment, no_loose}
@@ -39,7 +40,7 @@ pub record StartCall (g : Setup) (m n : Moment) (l k : Led)
       → IfOk answer (λ all. all ≡ false → LeavesWork g m.events n.events l k)
   -- where planned terms wait nothing is asked, and few are admitted
   pub waits : l.admitted < l.planned → NothingAsked m n l k
-  pub few : OnOk answer (k.admitted ≤ l.admitted + 8192)
+  pub few : OnOk answer (k.admitted ≤ l.admitted + most_at_once)
 
 -- so over the moment of a run of which these are the connections, signal, limits and events
 abbrev pub StartLeads : Job → List ClientTold → List ClientTold → SignalTold → SignalTold → LimitTold → LimitTold

@@ -1,5 +1,6 @@
 //! Takes in what a join came to.
 ghost use Rattle.std.specs.Prelude.{◌≤◌, IfErr, IfOk, length};
+ghost use Rattle.xet_ties.specs.Setup.{most_lanes};
 ghost use Rattle.xet_stages.specs.Outcomes.{KeepFails, KeptOutcome, OutcomeFails, TookOutcome};
 ghost use Rattle.xet_stages.specs.RoundRecords.{RoundMayBe, lanes_of, window_events};
 
@@ -40,7 +41,7 @@ pub fn take_outcome<P: FetchPolicy, E: EventLog>(
     lengths: List<u64>,
     tries: u32,
 ) -> Result<Outcome>
-    requires lanes { length joined.ends.items ≤ 65536 }
+    requires lanes { length joined.ends.items ≤ most_lanes }
     requires allowed { RoundMayBe core.old (lanes_of joined.ends.items) (window_events joined.wrote lengths) }
     ensures took { IfOk result (TookOutcome tries lengths joined core.old core.new leader.old leader.new) }
     ensures fails { IfErr result (OutcomeFails tries lengths joined core.old core.new leader.old) }

@@ -2,6 +2,7 @@
 ghost use Rattle.std.specs.Prelude.{◌≤◌, ◌++◌, length};
 ghost use Rattle.xet_events.specs.Allowed.{AllowedAfter};
 ghost use Rattle.xet_ties.specs.Recordings.{Recorded};
+ghost use Rattle.xet_ties.specs.Setup.{most_lanes};
 ghost use Rattle.xet_stages.specs.RoundRecords.{RoundMayBe, expired_events, fetched_events, lanes_events, lanes_of};
 ghost use Rattle.xet_stages.specs.RoundRecords.{window_events};
 
@@ -18,7 +19,7 @@ pub fn record_round<E: EventLog>(
     joined: &Joined,
     lengths: &[u64],
 ) -> Result<()>
-    requires lanes { length joined.now.ends.items ≤ 65536 }
+    requires lanes { length joined.now.ends.items ≤ most_lanes }
     requires allowed { RoundMayBe core.old (lanes_of joined.now.ends.items)
         (window_events joined.now.wrote lengths.now) }
     ensures { Recorded core.old core.new (lanes_events (lanes_of joined.now.ends.items)
@@ -36,7 +37,7 @@ pub fn record_round<E: EventLog>(
 
 /// Records what the lanes did.
 fn record_lanes<E: EventLog>(core: &mut RunCore<E>, ends: &[LaneEnd]) -> Result<()>
-    requires lanes { length ends.now ≤ 65536 }
+    requires lanes { length ends.now ≤ most_lanes }
     requires fetched { AllowedAfter core.old (fetched_events (lanes_of ends.now)) }
     requires expired { AllowedAfter (core.old ++ fetched_events (lanes_of ends.now))
         (expired_events (lanes_of ends.now)) }
@@ -50,7 +51,7 @@ fn record_lanes<E: EventLog>(core: &mut RunCore<E>, ends: &[LaneEnd]) -> Result<
 
 /// Records what the lanes were served.
 fn record_all_fetched<E: EventLog>(core: &mut RunCore<E>, ends: &[LaneEnd]) -> Result<()>
-    requires lanes { length ends.now ≤ 65536 }
+    requires lanes { length ends.now ≤ most_lanes }
     requires allowed { AllowedAfter core.old (fetched_events (lanes_of ends.now)) }
     ensures { Recorded core.old core.new (fetched_events (lanes_of ends.now)) result }
 {
@@ -66,7 +67,7 @@ fn record_all_fetched<E: EventLog>(core: &mut RunCore<E>, ends: &[LaneEnd]) -> R
 
 /// Records which answers of the lanes were that a URL had expired.
 fn record_all_expired<E: EventLog>(core: &mut RunCore<E>, ends: &[LaneEnd]) -> Result<()>
-    requires lanes { length ends.now ≤ 65536 }
+    requires lanes { length ends.now ≤ most_lanes }
     requires allowed { AllowedAfter core.old (expired_events (lanes_of ends.now)) }
     ensures { Recorded core.old core.new (expired_events (lanes_of ends.now)) result }
 {

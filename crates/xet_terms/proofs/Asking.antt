@@ -192,14 +192,6 @@ accepted_shorter m now b n q id c =
 
 -- ---- the next terms
 
-pub next_again : (m : Manager) (b : ClientTold) (e : FileReconstructionError) → m.failed ≡ Some e → NextCall m m b b (Err e)
-next_again m b e h = record {
-  keeps = keeps_self b;
-  again = λ d k. let same : d ≡ e = cc in (ap (λ (e : FileReconstructionError). Err e) (sym same), refl, refl);
-  ok = tt;
-  err = λ none. absurd (cc);
-}
-
 pub next_ok : (m middle now : Manager) (b n : ClientTold) (o : Option TermBlock) → m.failed ≡ None → DueCall m middle b n (Ok tt) → HandedOut middle now o → NextCall m now b n (Ok o)
 next_ok m middle now b n o none due handed = record {
   keeps = due.keeps;

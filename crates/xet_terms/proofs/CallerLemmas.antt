@@ -2,9 +2,7 @@
 
 -- where all queries are answered up to the known end, they reach the range's end, or an answer was past it
 pub use Rattle.xet_terms.proofs.Managing.{reaches_end}
--- a query that was asked keeps its place where an answer is taken
-pub use Rattle.xet_terms.proofs.Managing.{asked_stays}
--- the first queries of some that cut a range cut it, and a manager stays one where an answer drops the last queries
-pub use Rattle.xet_terms.proofs.Managing.{accept_keeps, cuts-take}
+-- the first queries of some that cut a range cut it
+pub use Rattle.xet_terms.proofs.Managing.{cuts-take}
 -- a manager that looked ahead, and where it has asked the whole range
 pub use Rattle.xet_terms.proofs.Managing.{covered, looked_goes_on, looked_same}

@@ -39,22 +39,6 @@ pub scheduled_is : (m : Manager) (size : ℕ) → scheduled_end m < cut_end m si
 scheduled_is m size h = cond-true (nat_lt (scheduled_end m) (cut_end m size)) _ _ (lt-ltb (scheduled_end m) (cut_end m size) h)
 
 -- a manager stays one where a query is scheduled
-pub schedule_keeps : (m : Manager) (size : ℕ) → IsManager m → scheduled_end m < cut_end m size
-    → IsManager (record m { queries = m.queries ++ record { start = scheduled_end m; end = cut_end m size } ∷ [] })
-schedule_keeps m size k h =
-    let r = cut_cases m.least m.greatest m.range m.known_end (scheduled_end m) size in
-    let n = length-append m.queries (record { start = scheduled_end m; end = cut_end m size } ∷ []) in
-    let a = k.asked_within in
-    record {
-      least_some = k.least_some;
-      least_below = k.least_below;
-      cuts = cuts-push m.range.start m.range.end (m.greatest + m.least) m.queries (record { start = scheduled_end m; end = cut_end m size }) k.cuts refl h r.0 (r.1 k.least_below k.least_some);
-      asked_within = omega arith;
-      answered_within = k.answered_within;
-      still_open = k.still_open;
-      range_fits = k.range_fits;
-    }
-
 pub schedule_when : (b : Bool) (m : Manager) (size start end : ℕ) → start ≡ scheduled_end m → end ≡ cut_end m size → start < end → IsManager m
     → IsManager (record m { queries = cond b (m.queries ++ record { start = start; end = end } ∷ []) m.queries })
 schedule_when false m size start end s e h k = k
@@ -153,16 +137,6 @@ below_is (q ∷ qs) known (suc k) within h =
     let next = below_is qs known k (omega arith) (λ i d lo hi. h.0 (suc i) d (omega arith) (omega arith), λ i d lo hi. h.1 (suc i) d (omega arith) (omega arith)) in
     let more : suc k ≡ 1 + prefix_len (λ q. nat_lt q.start known) qs = omega (arith, next) in
     more ∙ ap (λ b. cond b (1 + prefix_len (λ q. nat_lt q.start known) qs) 0) (sym on)
-
--- a query that was asked keeps its place where an answer is taken
-front_stays : (n : ℕ) (qs more : List FileRange) (k : ℕ) (q : FileRange) → k < n → slice_get qs k ≡ Some q → slice_get (take n qs ++ more) k ≡ Some q
-front_stays zero qs more k q h e = absurd (omega arith)
-front_stays (suc n) [] more k q h e = absurd (cc)
-front_stays (suc n) (r ∷ rs) more zero q h e = e
-front_stays (suc n) (r ∷ rs) more (suc k) q h e = front_stays n rs more k q (omega arith) e
-
-pub asked_stays : (asked known : ℕ) (qs : List FileRange) (k : ℕ) (q : FileRange) → k < asked → slice_get qs k ≡ Some q → slice_get (without_past asked known qs) k ≡ Some q
-asked_stays asked known qs k q h e = front_stays asked qs (filter (λ q. nat_lt q.start known) (drop asked qs)) k q h e
 
 -- a manager stays one where an answer came
 pub accept_keeps : (m : Manager) (k known : ℕ) (early : Bool) (ws : List TermBlock) → IsManager m → m.answered < m.asked → (early ≡ false → known ≡ m.known_end)

@@ -10,7 +10,7 @@ ghost use Rattle.xet_terms.specs.Managers.{cut_at, ends_early, looked_ahead, sch
 ghost use Rattle.xet_terms.specs.Managers.{with_answer};
 ghost use Rattle.xet_terms.specs.NextTerms.{AskCall, DueCall, NextCall, reopened};
 ghost use Rattle.xet_terms.specs.Queries.{CutFrom, end_from};
-ghost use Rattle.xet_terms.specs.Settings.{failing_size};
+ghost use Rattle.xet_terms.specs.Settings.{failing_size_of};
 
 use crate::planned_bytes::PlannedBytes;
 use crate::reconstruction_config::ReconstructionConfig;
@@ -119,7 +119,7 @@ impl<P: FetchPolicy + Drop> ReconstructionTermManager<P> {
         policy: P,
         progress: Option<ItemProgressUpdater>,
     ) -> Result<ReconstructionTermManager<P>>
-        ensures fails { MatchOption (failing_size config.now)
+        ensures fails { MatchOption (failing_size_of config.now)
             (IfErr result (λ e. e ≡ FileReconstructionError.OutOfMemory))
             (λ s. result ≡ Err (FileReconstructionError.ConfigurationError s)) }
         ensures begun { IfOk result (λ m. m ≡ begun file_hash file_byte_range config.now progress) }

@@ -1,6 +1,6 @@
 //! The settings of a reconstruction.
-ghost use Rattle.std.specs.Prelude.{◌≡◌, false};
-ghost use Rattle.xet_terms.specs.Settings.{failing_setting, failing_size};
+ghost use Rattle.std.specs.Prelude.{◌≡◌};
+ghost use Rattle.xet_terms.specs.Settings.{failing_setting_of, failing_size_of, first_config};
 
 use xet_error::Setting;
 use xet_fetch::FetchSettings;
@@ -29,15 +29,7 @@ pub struct ReconstructionConfig {
 impl ReconstructionConfig {
     /// The settings of a run that is given none.
     pub fn new() -> ReconstructionConfig
-        ensures { result ≡ record {
-          min_reconstruction_fetch_size = 1048576;
-          max_reconstruction_fetch_size = 67108864;
-          min_prefetch_buffer = 2097152;
-          download_buffer_size = 67108864;
-          use_vectored_write = false;
-          enable_multirange_fetching = false;
-          tries = 3;
-        } }
+        ensures { result ≡ first_config }
     {
         ReconstructionConfig {
             min_reconstruction_fetch_size: 1_048_576,
@@ -52,7 +44,7 @@ impl ReconstructionConfig {
 
     /// The setting that fails first in a run that is lent so many connections; none where all can be met.
     pub fn failing_setting(&self, connections: usize) -> Option<Setting>
-        ensures { result ≡ failing_setting connections self.now }
+        ensures { result ≡ failing_setting_of connections self.now }
     {
         if connections == 0 {
             return Some(Setting::NoConnection);
@@ -75,7 +67,7 @@ impl ReconstructionConfig {
 
     /// The fetch size that fails first; none where both can be met.
     pub fn failing_size(&self) -> Option<Setting>
-        ensures { result ≡ failing_size self.now }
+        ensures { result ≡ failing_size_of self.now }
     {
         if self.min_reconstruction_fetch_size == 0 {
             return Some(Setting::LeastZero);

@@ -1,5 +1,5 @@
 -- The ties after a step of the connections.
-use Rattle.std.proofs.Common.{◌≡◌, ℕ, zero, suc, ◌+◌, ◌≤◌, min, List, [], ◌∷◌, ◌++◌, refl, sym, subst, ◌∙◌, ap, arith, append_assoc, Some, None, Option}
+use Rattle.std.proofs.Common.{◌≡◌, ℕ, zero, suc, ◌+◌, ◌≤◌, List, [], ◌∷◌, ◌++◌, refl, sym, subst, ◌∙◌, ap, arith, append_assoc, Some, None, Option}
 use Rattle.std.specs.Prelude.{IsSome, count_by, drop, option_map, All}
 use Rattle.std.proofs.lemmas.List.{append-nil}
 use Rattle.xet_base.specs.Store.{Store, file_of}
@@ -37,9 +37,6 @@ use Rattle.xet_ties.proofs.Requests.{all_lates, lates_join, lates_query}
 use Rattle.xet_ties.proofs.HeardServed.{heard_served_same, heard_served_join, heard_served_query}
 
 -- ---- queries of the first connection
-
-then_min : (k : ℕ) (b m n l : ℕ) → min (b + l) k ≤ m → m ≤ n → min (b + l) k ≤ n
-then_min k b m n l h i = omega arith
 
 pub goes_then : (b m n : ClientTold) → ClientGoesOn b m → ClientGoesOn m n → ClientGoesOn b n
 goes_then b m n p q = record {

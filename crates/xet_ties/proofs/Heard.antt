@@ -5,15 +5,14 @@ use Rattle.std.specs.List.{AllZip}
 use Rattle.std.proofs.lemmas.List.{append-nil}
 use Rattle.std.proofs.lemmas.List.Elements.{All-cons, All-head, All-nil, All-push, All-tail, All-weaker, Contains-append_left}
 use Rattle.xet_base.specs.declared.cas_types.FileRange.{FileRange}
-use Rattle.xet_base.specs.declared.merklehash.MerkleHash.{MerkleHash}
-use Rattle.xet_outside.specs.Answers.{AnswerTo, AnswerToQuery, bytes_in, plans_in}
+use Rattle.xet_outside.specs.Answers.{AnswerTo, bytes_in, plans_in}
 use Rattle.xet_outside.specs.Told.{ClientTold, Query}
 use Rattle.xet_outside.specs.declared.block.BlockBytes.{BlockBytes}
 use Rattle.xet_outside.specs.declared.plan.Plan.{Plan}
 use Rattle.xet_outside.specs.declared.plan.PlanAnswer.{PlanAnswer}
 use Rattle.xet_outside.specs.declared.said.Said.{Said}
 use Rattle.xet_outside.specs.declared.served.Served.{Served}
-use Rattle.xet_outside.proofs.CallerLemmas.{added_both, added_none, answer_before, bytes_both, plans_both, query_before}
+use Rattle.xet_outside.proofs.CallerLemmas.{added_both, added_none, answer_before, bytes_both, plans_both}
 use Rattle.xet_offers.specs.declared.reconstruction_terms.xorb_block.XorbBlock.{XorbBlock}
 use Rattle.xet_offers.specs.declared.reconstruction_terms.xorb_block.XorbBlockData.{XorbBlockData}
 use Rattle.xet_events.specs.declared.event.Event.{Event}
@@ -21,7 +20,7 @@ use Rattle.xet_events.specs.declared.event.Event.TheVariants.{Planned, Admit, Fe
 use Rattle.xet_events.specs.Events.{Task}
 use Rattle.xet_ties.specs.History.{entry_of}
 use Rattle.xet_ties.specs.InCall.{EachExchange, EachGrew, Exchange, ExchangeGrew, IsExchange, Look, SomeOne, Place}
-use Rattle.xet_ties.specs.Saids.{BlockOfPlan, EventPassed, FirstSaid, HasPassed, InStep, IsEventSaid, IsLookedData, IsPlanAccepted, IsQueryAnswer, IsServedData, IsTaskPiece, IsTested, IsTestedData, IsUnasked, PassedIn, TermOfPlan, planned_of, some_of}
+use Rattle.xet_ties.specs.Saids.{BlockOfPlan, EventPassed, FirstSaid, HasPassed, InStep, IsEventSaid, IsLookedData, IsPlanAccepted, IsServedData, IsTaskPiece, IsTested, IsTestedData, IsUnasked, PassedIn, TermOfPlan, planned_of, some_of}
 use Rattle.xet_ties.specs.Setup.{Setup}
 use Rattle.xet_ties.proofs.CutPlaces.{answer_of_more, cut_answer_more}
 use Rattle.xet_ties.specs.Moves.{EachJoined, FirstQuery, JoinStep, QueryStep, heard_first, heard_join, no_exchange}
@@ -135,11 +134,6 @@ grew_join (h ∷ hs) (a ∷ alls) (x ∷ xs) m = (record { asked = []; served = 
 
 -- ---- what was said stays said
 
-query_more : (x y : Exchange) (q : Query) (a : PlanAnswer) → ExchangeGrew x y → AnswerToQuery x.asked x.said q a → AnswerToQuery y.asked y.said q a
-query_more x y q a w t =
-    subst (λ (l : List Said). AnswerToQuery y.asked l q a) (sym w.is_said)
-    (subst (λ (l : List Query). AnswerToQuery l (x.said ++ w.said) q a) (sym w.is_asked) (query_before x.asked w.asked x.said w.said q a t))
-
 block_answer_more : (x y : Exchange) (e : Served) (b : BlockBytes) → ExchangeGrew x y → AnswerTo x.served x.said e b → AnswerTo y.served y.said e b
 block_answer_more x y e b w t =
     subst (λ (l : List Said). AnswerTo y.served l e b) (sym w.is_said)
@@ -219,11 +213,6 @@ step_join (h ∷ hs) [] (x ∷ xs) m t = absurd m
 step_join (h ∷ hs) (a ∷ alls) (x ∷ xs) m t = t ∙ sym (ap (λ (l : List PlanAnswer). length l) (plans_both x.said a ∙ ap (λ (l : List PlanAnswer). plans_in x.said ++ l) m.0 ∙ append-nil (plans_in x.said)))
 
 -- ---- tested bytes stay so
-
-pub query_answer_more : (f : MerkleHash) (xs ys : List Exchange) (q : FileRange) (a : PlanAnswer) → EachGrew xs ys → IsQueryAnswer f xs q a → IsQueryAnswer f ys q a
-query_answer_more f [] ys q a w t = absurd t
-query_answer_more f (x ∷ xs) [] q a w t = absurd w
-query_answer_more f (x ∷ xs) (y ∷ ys) q a w t = query_more x y (f, q) a w.0 t
 
 abbrev pub accepted_more : (g : Setup) (xs ys : List Exchange) (p : Plan) (q : FileRange) → EachGrew xs ys → IsPlanAccepted g xs p q → IsPlanAccepted g ys p q
 accepted_more g xs ys p q w t = record {

@@ -11,7 +11,7 @@ use Rattle.xet_events.specs.declared.event.Event.{Event}
 use Rattle.xet_events.specs.declared.event.Event.TheVariants.{Fetched}
 use Rattle.xet_events.specs.declared.event.PlannedBlock.{PlannedBlock}
 use Rattle.xet_ties.specs.History.{block_at, entry_of, served_by, served_in}
-use Rattle.xet_ties.specs.InCall.{Exchange, served_of_all}
+use Rattle.xet_ties.specs.InCall.{Exchange}
 use Rattle.xet_ties.specs.Ties.{EachServed, all_of}
 use Rattle.xet_ties.specs.Moves.{heard_first, heard_join, no_exchange, no_hidden}
 use Rattle.xet_ties.proofs.Heard.{Match}
@@ -82,10 +82,3 @@ each_heard Q es lane (x ∷ xs) [] f a t = absurd t
 each_heard Q es lane (x ∷ xs) (h ∷ hs) f a t =
     let here : All Q (served_by lane es ++ h) = All-append Q (served_by lane es) h (f lane) (all_left Q h (all_of hs) a) in
     All-cons (λ x. All Q x.served) x xs (subst (λ (s : List Served). All Q s) (sym t.0) here) (each_heard Q es (lane + 1) xs hs f (all_right Q h (all_of hs) a) t.1)
-
-pub all_heard : (Q : Served → Type 0) (es : List Event) (lane : ℕ) (xs : List Exchange) (hs : List (List Served)) → ((l : ℕ) → All Q (served_by l es)) → All Q (all_of hs) → EachServed es lane xs hs → All Q (served_of_all xs)
-all_heard Q es lane [] hs f a t = All-nil Q
-all_heard Q es lane (x ∷ xs) [] f a t = absurd t
-all_heard Q es lane (x ∷ xs) (h ∷ hs) f a t =
-    let here : All Q (served_by lane es ++ h) = All-append Q (served_by lane es) h (f lane) (all_left Q h (all_of hs) a) in
-    All-append Q x.served (served_of_all xs) (subst (λ (s : List Served). All Q s) (sym t.0) here) (all_heard Q es (lane + 1) xs hs f (all_right Q h (all_of hs) a) t.1)

@@ -1,5 +1,5 @@
 -- Each term of a valid store's plan has bytes.
-use Rattle.std.proofs.Common.{◌≡◌, ◌⊎◌, inl, inr, ⊎_elim, ℕ, zero, suc, ◌+◌, ◌-◌, ◌<◌, ◌≤◌, min, max, Bool, true, false, cond, List, [], ◌∷◌, ◌++◌, length, take, drop, map, refl, sym, ◌∙◌, ap, subst, arith, length-append, Some, Option}
+use Rattle.std.proofs.Common.{◌≡◌, ◌⊎◌, inl, inr, ⊎_elim, ℕ, suc, ◌+◌, ◌-◌, ◌<◌, ◌≤◌, min, max, Bool, true, false, cond, List, [], ◌∷◌, ◌++◌, length, take, drop, map, refl, sym, ◌∙◌, ap, subst, arith, length-append, Some, Option}
 use Rattle.std.specs.Prelude.{All, filter, find, option_map, slice_range, sum, unwrap_or}
 use Rattle.std.specs.List.{concat, flat_map}
 use Rattle.std.proofs.lemmas.Bool.{cases_lt, leb-true, leb-false, ltb-true, ltb-false, lt-ltb, le-ltb}
@@ -28,11 +28,6 @@ left q p cs = length (concat (take (skips q p cs) cs))
 
 abbrev kept : FileRange → ℕ → List (List ℕ) → ℕ
 kept q p cs = length (concat (take (keeps q p cs) (drop (skips q p cs) cs)))
-
-take_size : (n : ℕ) (cs : List (List ℕ)) → length (concat (take n cs)) ≤ length (concat cs)
-take_size zero cs = omega arith
-take_size (suc n) [] = omega arith
-take_size (suc n) (c ∷ cs) = let r = take_size n cs in omega (arith, r, length-append c (concat (take n cs)), length-append c (concat cs))
 
 -- past the range's start all chunks are touched that end within it
 all_kept : (q : FileRange) (p : ℕ) (cs : List (List ℕ)) → Full cs → q.start ≤ p → p + length (concat cs) ≤ q.end → keeps q p cs ≡ length cs

@@ -15,7 +15,7 @@ use Rattle.xet_events.specs.declared.event.Event.{Event}
 use Rattle.xet_events.specs.Allowed.{IsAllowedHistory}
 use Rattle.xet_events.specs.Events.{expires}
 use Rattle.xet_blocks.specs.ServedChunks.{AllServed}
-use Rattle.xet_ties.specs.Causes.{Cause, failing_setting, late_answers}
+use Rattle.xet_ties.specs.Causes.{Cause, late_answers, refused_setting}
 use Rattle.xet_ties.specs.History.{entry_of, fetched_in, telling, IsWithin}
 use Rattle.xet_ties.specs.InCall.{Exchange, Look, served_of_all, Place}
 use Rattle.xet_ties.specs.Cuts.{FirstCut, Planning}
@@ -198,7 +198,7 @@ none_heard g [] p k = omega arith
 none_heard g (b ∷ bs) p k = let r = none_heard g bs p k in omega (arith, r)
 
 -- a run that its settings refuse
-legal_refused : (g : Setup) (b : RunTold) (x : Setting) → failing_setting g b.clients ≡ Some x → Legal g b b (Err (error.ConfigurationError x))
+legal_refused : (g : Setup) (b : RunTold) (x : Setting) → refused_setting g b.clients ≡ Some x → Legal g b b (Err (error.ConfigurationError x))
 legal_refused g b x h = record {
   told = record {
     heard = no_exchange b.clients;
@@ -321,7 +321,7 @@ later_of g b n es stop sl t tells = record {
   link = t.taken.link;
 }
 
-legal_ran : (g : Setup) (b n : RunTold) (es : List Event) (answer : Result ℕ FileReconstructionError) → failing_setting g b.clients ≡ None → IsAllowedHistory es → RunCall g b n es answer → Legal g b n answer
+legal_ran : (g : Setup) (b n : RunTold) (es : List Event) (answer : Result ℕ FileReconstructionError) → refused_setting g b.clients ≡ None → IsAllowedHistory es → RunCall g b n es answer → Legal g b n answer
 legal_ran g b n es answer h a r =
     let t = r.tied h in
     record {
@@ -339,9 +339,9 @@ legal_ran g b n es answer h a r =
     }
 
 pub legal_of : (g : Setup) (b n : RunTold) (es : List Event) (answer : Result ℕ FileReconstructionError) → IsAllowedHistory es → RunCall g b n es answer → Legal g b n answer
-legal_of g b n es answer a r = go (failing_setting g b.clients) refl
+legal_of g b n es answer a r = go (refused_setting g b.clients) refl
   where
-    go : (o : Option Setting) → failing_setting g b.clients ≡ o → Legal g b n answer
+    go : (o : Option Setting) → refused_setting g b.clients ≡ o → Legal g b n answer
     go None h = legal_ran g b n es answer h a r
     go (Some x) h =
         let s = r.settings x h in

@@ -1,6 +1,6 @@
 -- A missing block stays missing while others are recorded, so all that the lanes of a round did may be recorded.
 use Rattle.std.proofs.Common.{◌≡◌, ℕ, ◌+◌, ◌≤◌, ◌==◌, ◌&&◌, ◌||◌, Bool, true, false, cond, List, [], ◌∷◌, ◌++◌, take, refl, sym, subst, ◌∙◌, ap, arith, append_assoc, None}
-use Rattle.std.specs.Prelude.{count_by, map, filter}
+use Rattle.std.specs.Prelude.{count_by, filter}
 use Rattle.std.specs.List.{list_any}
 use Rattle.std.specs.Option.{option_or}
 use Rattle.std.proofs.lemmas.List.{append-nil}
@@ -11,7 +11,7 @@ use Rattle.xet_events.specs.declared.event.Event.TheVariants.{Fetched, Expired}
 use Rattle.xet_events.specs.Allowed.{AllowedAfter, IsMissing, IsRunning}
 use Rattle.xet_events.specs.Events.{Task, ended, error_in, expires, first_error, has_more, is_admit, keeps, needs, planned, taken_in, tasks_in, unfinished, written}
 use Rattle.xet_events.proofs.CallerLemmas.{error-push, planned-push, written-push}
-use Rattle.xet_ties.specs.Recordings.{EachMayExpire, Key, MayExpire, Place, expired_all, fetched_all, lanes_expired, lanes_fetched, Apart, AreMissing, HaveTries, Spot, at_spot, expired_at, fetched_at, lane_spots, places, spots}
+use Rattle.xet_ties.specs.Recordings.{EachMayExpire, MayExpire, Place, expired_all, Apart, AreMissing, HaveTries, Spot, at_spot, expired_at, fetched_at, lane_spots, spots}
 use Rattle.xet_ties.proofs.Telling.{count-append, count-same, expired-push}
 
 -- ---- one event
@@ -143,29 +143,9 @@ tries_after tries es (f ∷ fs) ts m a =
 
 -- ---- all lanes
 
-map_append : {A B : Type 0} (f : A → B) (xs ys : List A) → map f (xs ++ ys) ≡ map f xs ++ map f ys
-map_append f [] ys = refl
-map_append f (x ∷ xs) ys = ap (λ l. f x ∷ l) (map_append f xs ys)
-
-fetched_spots : (lane : ℕ) (cs : List Key) → fetched_all lane cs ≡ fetched_at (spots lane (places cs))
-fetched_spots lane [] = refl
-fetched_spots lane (c ∷ cs) = ap (λ (l : List Event). Fetched lane c.0 c.1 ∷ l) (fetched_spots lane cs)
-
 expired_spots : (lane : ℕ) (cs : List Place) → expired_all lane cs ≡ expired_at (spots lane cs)
 expired_spots lane [] = refl
 expired_spots lane (c ∷ cs) = ap (λ (l : List Event). Expired lane c.0 c.1 ∷ l) (expired_spots lane cs)
-
-pub lanes_fetched_spots : (lane : ℕ) (css : List (List Key)) → lanes_fetched lane css ≡ fetched_at (lane_spots lane (map places css))
-lanes_fetched_spots lane [] = refl
-lanes_fetched_spots lane (cs ∷ css) =
-    ap (λ (l : List Event). l ++ lanes_fetched (lane + 1) css) (fetched_spots lane cs) ∙ ap (λ (l : List Event). fetched_at (spots lane (places cs)) ++ l) (lanes_fetched_spots (lane + 1) css)
-    ∙ sym (map_append (λ (t : Spot). Fetched t.0 t.1 t.2) (spots lane (places cs)) (lane_spots (lane + 1) (map places css)))
-
-pub lanes_expired_spots : (lane : ℕ) (css : List (List Place)) → lanes_expired lane css ≡ expired_at (lane_spots lane css)
-lanes_expired_spots lane [] = refl
-lanes_expired_spots lane (cs ∷ css) =
-    ap (λ (l : List Event). l ++ lanes_expired (lane + 1) css) (expired_spots lane cs) ∙ ap (λ (l : List Event). expired_at (spots lane cs) ++ l) (lanes_expired_spots (lane + 1) css)
-    ∙ sym (map_append (λ (t : Spot). Expired t.0 t.1 t.2) (spots lane cs) (lane_spots (lane + 1) css))
 
 count_both : (p k : ℕ) (xs ys : List Spot) → count_by (at_spot p k) (xs ++ ys) ≡ count_by (at_spot p k) xs + count_by (at_spot p k) ys
 count_both p k xs ys = count-append (at_spot p k) xs ys

@@ -21,7 +21,7 @@ use Rattle.xet_fetch.specs.Refreshes.{plan_extents, refusal_of}
 use Rattle.xet_events.specs.declared.event.Event.{Event}
 use Rattle.xet_events.specs.Events.{plan_count}
 use Rattle.xet_history.specs.TrueHistory.{queries}
-use Rattle.xet_ties.specs.Causes.{failing_setting}
+use Rattle.xet_ties.specs.Causes.{refused_setting}
 use Rattle.xet_ties.specs.History.{IsWithin}
 use Rattle.xet_ties.specs.InCall.{Exchange, ExchangeGrew}
 use Rattle.xet_ties.specs.Saids.{AllRenewed, FirstRenewed, InStep, IsPlanAccepted, IsRenewal, cut_places}
@@ -67,7 +67,7 @@ all_more g x y count w a i h =
 
 -- ---- what was heard
 
-pub renewed_start : (g : Setup) (bs : List ClientTold) → failing_setting g bs ≡ None
+pub renewed_start : (g : Setup) (bs : List ClientTold) → refused_setting g bs ≡ None
     → FirstRenewed g [] (no_exchange bs)
 renewed_start g [] h = absurd (cc)
 renewed_start g (b ∷ bs) h = λ i k. absurd (omega (arith, k))

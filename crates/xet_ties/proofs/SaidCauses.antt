@@ -1,5 +1,5 @@
 -- The causes that the answers which were said give.
-use Rattle.std.proofs.Common.{◌≡◌, ℕ, zero, suc, ◌<◌, ◌≤◌, List, [], ◌∷◌, ◌++◌, length, refl, sym, subst, ◌∙◌, ap, arith, inl, inr, ⊎_elim, Some, None, Option}
+use Rattle.std.proofs.Common.{◌≡◌, ℕ, zero, suc, ◌<◌, ◌≤◌, List, [], ◌∷◌, ◌++◌, length, refl, sym, subst, ◌∙◌, ap, arith, inl, inr, Some, None, Option}
 use Rattle.std.specs.Prelude.{Result, Err, slice_get}
 use Rattle.xet_base.specs.declared.cas_types.FileRange.{FileRange}
 use Rattle.xet_base.specs.declared.unique_id.UniqueId.{UniqueId}
@@ -22,28 +22,14 @@ use Rattle.xet_offers.specs.BlockCalls.{failed_check}
 use Rattle.xet_offers.specs.PlanChecks.{covered, failed_test}
 use Rattle.xet_blocks.specs.TermBlockCalls.{FromAnswer, FromSaid, FromTerms, FromTested}
 use Rattle.xet_fetch.specs.Refreshes.{plan_extents, refusal_of}
-use Rattle.xet_events.specs.declared.event.PlannedBlock.{PlannedBlock}
-use Rattle.xet_events.specs.declared.event.PlannedTerm.{PlannedTerm}
 use Rattle.xet_ties.specs.Causes.{BlockFails, BlockFailsIn, LaneFails, SomeFailed, TermFailsIn}
 use Rattle.xet_ties.specs.History.{entry_of}
 use Rattle.xet_ties.specs.InCall.{Exchange, SomeOne}
 use Rattle.xet_ties.specs.Lanes.{Ask, BytesFail, IsFor}
-use Rattle.xet_ties.specs.Saids.{BlockOfPlan, IsMadeOf, IsMadeOfPlan, IsCutAnswer, IsPlanAccepted, IsPlannedBy, IsQueryAnswer, TermOfPlan, planned_of}
+use Rattle.xet_ties.specs.Saids.{BlockOfPlan, IsCutAnswer, IsPlanAccepted, IsQueryAnswer, TermOfPlan, planned_of}
 use Rattle.xet_ties.specs.Setup.{Setup}
 use Rattle.xet_ties.specs.PartCalls.{plan_query}
 use Rattle.xet_ties.proofs.SaidTies.{fetch_entry}
-
--- ---- a plan of the history
-
--- it was accepted, where it has terms
-pub accepted_said : (g : Setup) (x : Exchange) (xs : List Exchange) (n : ℕ) (q : FileRange) (t : PlannedTerm) (ts : List PlannedTerm) (bs : List PlannedBlock) → g.range.start ≤ q.start → q.end ≤ g.range.end → IsPlannedBy g x n q (t ∷ ts) bs
-    → (p : Plan) × IsPlanAccepted g (x ∷ xs) p q
-accepted_said g x xs n q t ts bs from to s = by s.answer s.said s.made
-  where
-    by : (a : PlanAnswer) → IsCutAnswer g.file (x ∷ xs) n q a → IsMadeOf g q (t ∷ ts) bs a → (p : Plan) × IsPlanAccepted g (x ∷ xs) p q
-    by NoFile c m = absurd m
-    by PastEnd c m = let e = m.0 in absurd (cc)
-    by (Found p) c m = ⊎_elim (λ (h : (p.terms ≡ []) × ((t ∷ ts) ≡ []) × (bs ≡ [])). let e = h.1 in absurd (cc)) (λ (h : IsMadeOfPlan g q (t ∷ ts) bs p). (p, record { said = record { number = n; answer = c; some = h.some; from = from; to = to }; passes = h.passes })) m
 
 -- ---- failed tests
 

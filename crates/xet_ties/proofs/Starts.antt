@@ -1,18 +1,15 @@
 -- The ties at the start and at the end of a run.
-use Rattle.std.proofs.Common.{◌≡◌, ℕ, ◌+◌, Bool, cond, List, [], ◌∷◌, ◌++◌, length, Option, Some, None, refl, sym, subst, ◌∙◌, ap, inr, arith, ◌≤◌}
-use Rattle.std.specs.Prelude.{IfSome, count_by, map, option_map, nat_eq, All}
+use Rattle.std.proofs.Common.{◌≡◌, ℕ, ◌+◌, Bool, List, [], ◌∷◌, ◌++◌, length, Option, Some, None, refl, sym, subst, ◌∙◌, ap, inr, arith, ◌≤◌}
+use Rattle.std.specs.Prelude.{IfSome, count_by, map, option_map, All}
 use Rattle.std.specs.Option.{option_or}
-use Rattle.std.proofs.lemmas.List.{append-nil}
+use Rattle.std.proofs.lemmas.List.{append-nil, length-map}
 use Rattle.std.proofs.lemmas.List.Elements.{All-nil, All-cons, All-push}
-use Rattle.xet_base.specs.declared.cas_types.FileRange.{FileRange}
 use Rattle.xet_base.specs.declared.merklehash.MerkleHash.{MerkleHash}
 use Rattle.xet_outside.specs.declared.served.Served.{Served}
 use Rattle.xet_outside.specs.Told.{ClientTold, SinkTold}
 use Rattle.xet_events.specs.Limits.{LimitTold, LimitCall}
 use Rattle.xet_error.specs.declared.error.FileReconstructionError.{FileReconstructionError}
-use Rattle.xet_error.specs.declared.error.Setting.TheVariants.{NoConnection, NoTries}
-use Rattle.std.proofs.lemmas.Bool.{ne_eqb}
-use Rattle.xet_terms.specs.declared.reconstruction_config.ReconstructionConfig.{ReconstructionConfig}
+use Rattle.xet_error.specs.declared.error.Setting.{Setting}
 use Rattle.xet_events.specs.declared.event.Event.{Event}
 use Rattle.xet_events.specs.declared.event.Event.TheVariants.{Cancel, Admit}
 use Rattle.xet_events.specs.Events.{expires, first_error}
@@ -20,7 +17,7 @@ use Rattle.xet_history.specs.TrueHistory.{IsTrueEvent}
 use Rattle.xet_events.proofs.CallerLemmas.{error-push}
 use Rattle.xet_ties.specs.History.{IsNumberedNext, IsOneCached, IsRenewed, IsOnLane, IsWithin}
 use Rattle.xet_ties.specs.Moves.{no_slack, no_hidden, no_late, no_exchange}
-use Rattle.xet_ties.specs.Causes.{failing_setting}
+use Rattle.xet_ties.specs.Causes.{refused_setting}
 use Rattle.xet_ties.specs.Setup.{RunTold, Setup, download_of}
 use Rattle.xet_ties.specs.Ties.{all_late, all_of, at_place, is_pair, is_served, EachLane, EachUnasked, EachUnfailed, FirstAsked, IsFaultless, HeardAsked, IsEntryOf, IsLane, MayLeave, NoneLate, Slack, Ties, IsPlannedEntry, LeavesNothing, IsServed, lates_of}
 use Rattle.xet_ties.proofs.Lanes.{served_same}
@@ -30,7 +27,7 @@ use Rattle.xet_ties.proofs.Pushes.{first_push, limited_same, looked_push, offere
 use Rattle.xet_ties.proofs.Numbers.{heard_push}
 use Rattle.xet_ties.proofs.Telling.{count-append, count-same, each-push}
 use Rattle.xet_error.specs.declared.error.FileReconstructionError.TheVariants as error
-use Rattle.xet_terms.specs.Settings as settings
+use Rattle.xet_terms.specs.Settings.{failing_setting}
 use Rattle.xet_ties.specs.Saids.{EventPassed, FirstSaid, IsEventSaid, IsUnasked}
 use Rattle.xet_ties.specs.PartCalls.{AdmitsCall, stop_event}
 use Rattle.xet_ties.proofs.Heard.{exchange_start, said_push}
@@ -56,7 +53,7 @@ unasked_start : (bs : List ClientTold) → EachUnasked bs bs
 unasked_start [] = tt
 unasked_start (b ∷ bs) = (refl, unasked_start bs)
 
-asked_start : (g : Setup) (bs : List ClientTold) → failing_setting g bs ≡ None → FirstAsked g.file [] [] bs bs
+asked_start : (g : Setup) (bs : List ClientTold) → refused_setting g bs ≡ None → FirstAsked g.file [] [] bs bs
 asked_start g [] h = absurd (cc)
 asked_start g (b ∷ bs) h = (record { asked = same_list b.asked }, unasked_start bs)
 
@@ -79,7 +76,7 @@ pub none_late_count : (p k : ℕ) (bs : List ClientTold) → count_by (at_place 
 none_late_count p k [] = refl
 none_late_count p k (b ∷ bs) = none_late_count p k bs
 
-heard_start : (g : Setup) (bs : List ClientTold) → failing_setting g bs ≡ None → HeardAsked g.file [] [] (no_exchange bs)
+heard_start : (g : Setup) (bs : List ClientTold) → refused_setting g bs ≡ None → HeardAsked g.file [] [] (no_exchange bs)
 heard_start g [] h = absurd (cc)
 heard_start g (b ∷ bs) h = refl
 
@@ -87,7 +84,7 @@ unasked_none : (bs : List ClientTold) → All IsUnasked (no_exchange bs)
 unasked_none [] = All-nil IsUnasked
 unasked_none (b ∷ bs) = All-cons IsUnasked _ (no_exchange bs) (record { asked = refl; plans = refl }) (unasked_none bs)
 
-said_start : (g : Setup) (bs : List ClientTold) → failing_setting g bs ≡ None → FirstSaid g [] (no_exchange bs)
+said_start : (g : Setup) (bs : List ClientTold) → refused_setting g bs ≡ None → FirstSaid g [] (no_exchange bs)
 said_start g [] h = absurd (cc)
 said_start g (b ∷ bs) h = (All-nil (IsEventSaid g _), unasked_none bs)
 
@@ -106,7 +103,7 @@ unfailed_start [] = tt
 unfailed_start (b ∷ bs) = (refl, unfailed_start bs)
 
 -- at the start all is tied
-pub tie_start : (g : Setup) (b : RunTold) → failing_setting g b.clients ≡ None → Ties g b b [] None (no_slack b.clients)
+pub tie_start : (g : Setup) (b : RunTold) → refused_setting g b.clients ≡ None → Ties g b b [] None (no_slack b.clients)
 tie_start g b h = record {
   heard = exchange_start b.clients;
   true_of = λ s o. record { cuts = tt; plans = All-nil (IsTrueEvent s g.file g.multirange) };
@@ -285,19 +282,6 @@ admits_asked m n k es fs hs l a c e = record {
 
 -- ---- settings
 
--- those of a run, by its configuration
-abbrev pub setup_of : MerkleHash → FileRange → ReconstructionConfig → Setup
-setup_of f r c = record {
-  file = f;
-  range = r;
-  least = c.min_reconstruction_fetch_size;
-  greatest = c.max_reconstruction_fetch_size;
-  multirange = c.enable_multirange_fetching;
-  tries = c.tries;
-}
-
--- the settings by the numbers of a reconstruction
-pub settings_are : {C : Type 0} (told : C → ClientTold) (f : MerkleHash) (r : FileRange) (c : ReconstructionConfig) (cs : List C) → settings.failing_setting (length cs) c ≡ failing_setting (setup_of f r c) (map told cs)
-settings_are told f r c [] = refl
-settings_are told f r c (x ∷ xs) =
-    ap (λ (v : Bool). cond v (Some NoConnection) (cond (nat_eq c.tries 0) (Some NoTries) (settings.failing_size c))) (ne_eqb (length (x ∷ xs)) 0 (λ e. absurd (omega arith)))
+-- a run that is lent connections refuses what fails of their number
+pub refused_is : {C : Type 0} (told : C → ClientTold) (g : Setup) (cs : List C) (o : Option Setting) → o ≡ failing_setting (length cs) g.tries g.least g.greatest → refused_setting g (map told cs) ≡ o
+refused_is told g cs o h = ap (λ (n : ℕ). failing_setting n g.tries g.least g.greatest) (length-map cs told) ∙ sym h

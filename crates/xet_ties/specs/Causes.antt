@@ -16,12 +16,12 @@ use Rattle.xet_error.specs.declared.error.Corruption.TheVariants.{BlockLength, O
 use Rattle.xet_error.specs.declared.error.FileReconstructionError.{FileReconstructionError}
 use Rattle.xet_error.specs.declared.error.FileReconstructionError.TheVariants as error
 use Rattle.xet_error.specs.declared.error.Setting.{Setting}
-use Rattle.xet_error.specs.declared.error.Setting.TheVariants.{GreatestBelowLeast, LeastZero, NoConnection, NoTries}
 use Rattle.xet_offers.specs.BlockCalls.{failed_check}
 use Rattle.xet_offers.specs.BlockChecks.{block_data}
 use Rattle.xet_blocks.specs.Extracts.{failed_term_test}
 use Rattle.xet_offers.specs.PlanChecks.{failed_test, covered}
 use Rattle.xet_fetch.specs.Refreshes.{plan_extents, refusal_of}
+use Rattle.xet_terms.specs.Settings.{failing_setting}
 use Rattle.xet_ties.specs.InCall.{AllBelow, Exchange, SomeOne, answers_of, expired_said, new_in}
 use Rattle.xet_ties.specs.Saids.{AllPassed, BlockOfPlan, EntryPassed, IsBlockAnswer, IsPlanAccepted, IsPlanSaid}
 use Rattle.xet_ties.specs.Saids.{IsQueryAnswer, ServedPassed, TermOfPlan}
@@ -30,17 +30,9 @@ use Rattle.xet_ties.specs.Ties.{EachUnfailed, FirstUnfailed, is_pair}
 
 -- ---- settings
 
--- of tries and fetch sizes, the setting that fails first
-abbrev pub failing_size : Setup → Option Setting
-failing_size g =
-    cond (nat_eq g.tries 0) (Some NoTries)
-    (cond (nat_eq g.least 0) (Some LeastZero)
-    (cond (nat_lt g.greatest g.least) (Some GreatestBelowLeast) None))
-
--- of a run that is lent these connections
-abbrev pub failing_setting : Setup → List ClientTold → Option Setting
-failing_setting g [] = Some NoConnection
-failing_setting g (c ∷ cs) = failing_size g
+-- the setting that fails first, of a run that is lent these connections
+abbrev pub refused_setting : Setup → List ClientTold → Option Setting
+refused_setting g cs = failing_setting (length cs) g.tries g.least g.greatest
 
 -- ---- counts
 
@@ -217,6 +209,6 @@ Cause g xs before after error.FileNotFound = IsMissingFile g xs before.clients a
 Cause g xs before after error.UrlExpired = HaveExpired g.tries xs before.clients after.clients
 Cause g xs before after error.IoError = Rose before.sink.faults after.sink.faults
 Cause g xs before after (error.CorruptedReconstruction k) = IsCorrupted g xs before.clients after.clients k
-Cause g xs before after (error.ConfigurationError e) = failing_setting g before.clients ≡ Some e
+Cause g xs before after (error.ConfigurationError e) = refused_setting g before.clients ≡ Some e
 Cause g xs before after error.Cancelled = Rose before.signal.yes after.signal.yes
 Cause g xs before after (error.InternalWriterError w) = ⊥

@@ -35,7 +35,7 @@ use Rattle.xet_events.specs.Limits.{LimitCall, LimitTold}
 use Rattle.xet_events.specs.Events.{Task, expires, is_admit, is_kept, is_stale, needs, planned, size, unfinished}
 use Rattle.xet_history.specs.Laws.{IsPrefix}
 use Rattle.xet_history.specs.TrueHistory.{pieces}
-use Rattle.xet_ties.specs.Causes.{BlockFailsIn, HaveExpired, IsCorrupted, IsMissingFile, SomeFailed, failing_setting}
+use Rattle.xet_ties.specs.Causes.{BlockFailsIn, HaveExpired, IsCorrupted, IsMissingFile, SomeFailed, refused_setting}
 use Rattle.xet_ties.specs.History.{block_at, fetches, is_expiry, is_refresh, range_at}
 use Rattle.xet_ties.specs.InCall.{EachGrew, Exchange, Look, served_of_all}
 use Rattle.xet_ties.specs.Lanes.{AnswerStep, Ask, BytesFail, DrewApart, IsFor, IsOf, LaneDid, StepDid}
@@ -62,7 +62,7 @@ use Rattle.xet_ties.specs.Ties.{IsNextQuery, IsQuiet, Slack, Stop, Ties, is_one,
 
 -- before a run all is tied
 abbrev pub StartsTied : Type 0
-StartsTied = (g : Setup) (before : RunTold) → failing_setting g before.clients ≡ None
+StartsTied = (g : Setup) (before : RunTold) → refused_setting g before.clients ≡ None
     → Ties g before before [] None (no_slack before.clients)
 
 -- a run whose history is allowed and that is tied, or refused by its settings, gives a legal answer

@@ -7,7 +7,7 @@ use Rattle.xet_error.specs.declared.error.FileReconstructionError.{FileReconstru
 use Rattle.xet_error.specs.declared.error.FileReconstructionError.TheVariants as error
 use Rattle.xet_error.specs.declared.error.Setting.{Setting}
 use Rattle.xet_blocks.specs.ServedChunks.{AllServed}
-use Rattle.xet_ties.specs.Causes.{failing_setting}
+use Rattle.xet_ties.specs.Causes.{refused_setting}
 use Rattle.xet_ties.specs.Gains.{GainedServed, OffersFew, one_range}
 use Rattle.xet_ties.specs.InCall.{EachExchange, Exchange, Look, served_of_all}
 use Rattle.xet_ties.specs.LegalWords.{AllPlanned, CacheGoesOn, EachCounted, FirstAsks, FirstAsksFew, FirstPlansAll}
@@ -39,7 +39,7 @@ pub record Exact (g : Setup) (clients : List ClientTold) (cache : CacheTold) (be
 
 -- a failing setting is told before all else, and then nothing is touched
 pub record First (g : Setup) (before after : RunTold) (answer : Result ℕ FileReconstructionError) : Type 0 where
-  pub settings : (e : Setting) → failing_setting g before.clients ≡ Some e
+  pub settings : (e : Setting) → refused_setting g before.clients ≡ Some e
       → (answer ≡ Err (error.ConfigurationError e)) × (after ≡ before)
   -- over an empty range nothing is asked, taken and counted, and an error needs no connection
   pub empty : IsEmptyRange g.range → DidNothing before after answer

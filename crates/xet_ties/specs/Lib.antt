@@ -1,3 +1,4 @@
+pub mod Setup
 pub mod Causes
 pub mod Cuts
 pub mod Gains
@@ -15,6 +16,5 @@ pub mod Recordings
 pub mod Rounds
 pub mod RunCalls
 pub mod Saids
-pub mod Setup
 pub mod Ties
 pub mod Windows

@@ -10,7 +10,7 @@ use Rattle.xet_error.specs.declared.error.Setting.{Setting}
 use Rattle.xet_events.specs.declared.event.Event.{Event}
 use Rattle.xet_events.specs.Events.{expires, is_admit, planned, unwritten, written}
 use Rattle.xet_history.specs.TrueHistory.{ReachesEnd}
-use Rattle.xet_ties.specs.Causes.{Cause, failing_setting}
+use Rattle.xet_ties.specs.Causes.{Cause, refused_setting}
 use Rattle.xet_ties.specs.Saids.{IsTaskPiece, some_of}
 use Rattle.xet_ties.specs.Setup.{CacheTells, IsEmptyRange, IsOver, RunTold, Setup}
 use Rattle.xet_ties.specs.Ties.{MayLeave, Slack, Stop, Ties}
@@ -95,8 +95,8 @@ pub record IsRefused (before after : RunTold) (es : List Event) (answer : Result
 -- one call of a run over a core that had no events
 pub record RunCall (g : Setup) (before after : RunTold) (es : List Event)
     (answer : Result ℕ FileReconstructionError) : Type 0 where
-  pub settings : (e : Setting) → failing_setting g before.clients ≡ Some e → IsRefused before after es answer e
-  pub tied : failing_setting g before.clients ≡ None → RunTies g before after es (stop_of answer)
+  pub settings : (e : Setting) → refused_setting g before.clients ≡ Some e → IsRefused before after es answer e
+  pub tied : refused_setting g before.clients ≡ None → RunTies g before after es (stop_of answer)
   pub finished : IfOk answer (IsFinished g es)
   pub flushed : OnOk answer (after.sink.flushed ≡ option_map length after.sink.took)
   pub cancelled : before.signal.yes < after.signal.yes → IsCancelled answer

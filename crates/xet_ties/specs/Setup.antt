@@ -6,6 +6,7 @@ use Rattle.xet_base.specs.Store.{Store, IsValid}
 use Rattle.xet_outside.specs.Plan.{block_of}
 use Rattle.xet_outside.specs.Told.{CacheEntry, CacheTold, ClientTold, Holds, SignalTold, SinkTold}
 use Rattle.xet_events.specs.Limits.{LimitTold}
+use Rattle.xet_terms.specs.declared.reconstruction_config.ReconstructionConfig.{ReconstructionConfig}
 use Rattle.xet_history.specs.TrueHistory.{Download}
 
 -- ---- what a run is for
@@ -19,6 +20,17 @@ pub record Setup : Type 0 where
   pub greatest : ℕ
   pub multirange : Bool
   pub tries : ℕ
+
+-- what a run of this file, these bytes of it and these settings is for
+abbrev pub setup_of : MerkleHash → FileRange → ReconstructionConfig → Setup
+setup_of file range config = record {
+  file = file;
+  range = range;
+  least = config.min_reconstruction_fetch_size;
+  greatest = config.max_reconstruction_fetch_size;
+  multirange = config.enable_multirange_fetching;
+  tries = config.tries;
+}
 
 -- the range has no bytes
 abbrev pub IsEmptyRange : FileRange → Type 0

@@ -13,7 +13,7 @@ use Rattle.xet_writers.specs.Calls.{SinkCause, finish_fault}
 use Rattle.xet_writers.specs.Queues.{QueuedTerm, ready_bytes, wanted}
 use Rattle.xet_writers.specs.Sequential.{Ended, FinishSequential, NotEnded, Sequential}
 use Rattle.xet_writers.proofs.CallerLemmas.{open_writer}
-use Rattle.xet_ties.specs.Causes.{Cause, failing_setting}
+use Rattle.xet_ties.specs.Causes.{Cause, refused_setting}
 use Rattle.xet_ties.specs.InCall.{Exchange}
 use Rattle.xet_ties.specs.RunCalls.{IsFinished}
 use Rattle.xet_ties.specs.Setup.{CacheTells, IsOver, RunTold, Setup}
@@ -120,7 +120,7 @@ going_whole g b m l s =
     }
 
 -- and at its start
-pub start_whole : (g : Setup) (b : RunTold) → failing_setting g b.clients ≡ None
+pub start_whole : (g : Setup) (b : RunTold) → refused_setting g b.clients ≡ None
     → IsWhole g b (record { told = b; events = [] })
 start_whole g b h = record {
   slack = no_slack b.clients;

@@ -1,28 +1,11 @@
 -- The plans of a leader whose next terms are written.
-use Rattle.std.proofs.Common.{◌≡◌, ℕ, ◌+◌, ◌<◌, ◌≤◌, Bool, true, false, cond, List, [], ◌∷◌, length, refl, ap, arith}
+use Rattle.std.proofs.Common.{◌≡◌, ℕ, ◌+◌, ◌<◌, ◌≤◌, Bool, true, false, cond, List, [], ◌∷◌, length, refl, arith}
 use Rattle.std.specs.Prelude.{All, nat_le}
 use Rattle.std.proofs.lemmas.Bool.Decides.{nat_tests}
 use Rattle.std.proofs.lemmas.List.Elements.{All-tail}
 use Rattle.xet_leader.specs.declared.leader.LedPlan.{LedPlan}
 use Rattle.xet_stages.specs.Advances.{first_ends, unfinished_plans}
 use Rattle.xet_leader.specs.Led.{BeginsWith, FollowOn, LastNumberIs, LastTermsAre}
-
--- ---- the loop that lets them go
-
-first_goes_at : (n : ℕ) (l : LedPlan) (ls : List LedPlan) (b : Bool) → first_ends n (l ∷ ls) ≡ b → b ≡ true
-    → unfinished_plans n (l ∷ ls) ≡ unfinished_plans n ls
-first_goes_at n l ls true e h = ap (λ (v : Bool). cond v (unfinished_plans n ls) (l ∷ ls)) e
-first_goes_at n l ls false e h = absurd (cc)
-
--- a first plan that has ended goes
-pub first_goes : (n : ℕ) (l : LedPlan) (ls : List LedPlan) → first_ends n (l ∷ ls) ≡ true
-    → unfinished_plans n (l ∷ ls) ≡ unfinished_plans n ls
-first_goes n l ls h = first_goes_at n l ls (first_ends n (l ∷ ls)) refl h
-
--- one that hasn't stays
-pub first_stays_there : (n : ℕ) (ls : List LedPlan) → first_ends n ls ≡ false → unfinished_plans n ls ≡ ls
-first_stays_there n [] h = refl
-first_stays_there n (l ∷ ls) h = ap (λ (v : Bool). cond v (unfinished_plans n ls) (l ∷ ls)) h
 
 -- ---- what is left
 

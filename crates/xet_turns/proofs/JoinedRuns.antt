@@ -97,15 +97,6 @@ pub polled_as : (n count : ℕ) (x y : SignalTold) (answer : Answer) → n ≡ c
     → PolledFor count x y answer
 polled_as n count x y answer e p = subst (λ (i : ℕ). PolledFor i x y answer) e p
 
-pub polled_none : (count : ℕ) (x : SignalTold) → count ≡ 0 → PolledFor count x x (Ok tt)
-polled_none zero x e = (refl, refl)
-polled_none (suc count) x e = absurd (omega (arith, e))
-
-pub polled_some : (count : ℕ) (x y : SignalTold) (answer : Answer) → (count ≡ 0 → ⊥) → PollCall x y answer
-    → PolledFor count x y answer
-polled_some zero x y answer some p = absurd (some refl)
-polled_some (suc count) x y answer some p = p
-
 -- the signal was not asked
 abbrev Unasked : SignalTold → SignalTold → Answer → Type 0
 Unasked x y answer = (y ≡ x) × (answer ≡ Ok tt)

@@ -5,7 +5,6 @@ use Rattle.std.proofs.lemmas.List.Elements.{All-cons, All-nil}
 use Rattle.xet_events.specs.declared.event.Event.{Event}
 use Rattle.xet_events.specs.declared.event.PlannedBlock.{PlannedBlock}
 use Rattle.xet_events.specs.Allowed.{IsMissing}
-use Rattle.xet_ties.specs.Lanes.{IsFor}
 use Rattle.xet_ties.specs.Setup.{RunTold, Setup}
 use Rattle.xet_ties.specs.Recordings.{blocks_all, key_of}
 use Rattle.xet_ties.specs.Ties.{Slack, is_one}
@@ -20,19 +19,7 @@ use Rattle.xet_leader.specs.Led.{IsLed, Led}
 use Rattle.xet_leader.specs.Looks.{to_round}
 use Rattle.xet_turns.specs.Rounds.{AreLedAsks, IsLedAsk}
 use Rattle.xet_leader.specs.Steady.{IsGoing, Moment}
-use Rattle.xet_leader.proofs.CallerLemmas.{asked, fetch_leads, request_parts, awaited}
-
--- each fetch is by its own block's request
-pub fetches_for : (ls : List LedPlan) (n : ℕ) (cs : List BlockAt) (fs : List Fetch) → AreFetches ls n cs fs
-    → All IsFor (map ask_of fs)
-fetches_for ls n [] [] h = All-nil IsFor
-fetches_for ls n [] (f ∷ fs) h = absurd h
-fetches_for ls n (c ∷ cs) [] h = absurd h
-fetches_for ls n (c ∷ cs) (f ∷ fs) h =
-    let is = h.0 in
-    let r = request_parts f.block.now is.plan.block.urls (ask_of f).request is.request_is in
-    All-cons IsFor (ask_of f) (map ask_of fs) (record { xorb = r.2; chunks = r.3; index = r.1 })
-    (fetches_for ls (n + 1) cs fs h.1)
+use Rattle.xet_leader.proofs.CallerLemmas.{asked, fetch_leads, awaited}
 
 -- and of a block of the plans
 led_ask : (g : Setup) (b : RunTold) (es : List Event) (sl : Slack) (l : Led) (c : BlockAt) (n : ℕ) (f : Fetch)

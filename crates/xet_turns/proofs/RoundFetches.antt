@@ -5,6 +5,7 @@ use Rattle.xet_outside.specs.Told.{ClientTold, SinkTold}
 use Rattle.xet_writers.specs.Calls.{closed_by}
 use Rattle.xet_writers.specs.Queues.{ready_bytes}
 use Rattle.xet_writers.specs.Sequential.{WindowCall, told_of}
+use Rattle.xet_ties.specs.Setup.{most_lanes}
 use Rattle.xet_lane.specs.declared.joined.Joined.{Joined}
 use Rattle.xet_lane.specs.declared.lane.Fetch.{Fetch}
 use Rattle.xet_lane.specs.Fetches.{ask_of}
@@ -25,7 +26,7 @@ pub fetched_beside : {S : Type 0} (told : S → SinkTold) (l : Led) (cs : List B
     → RoundCall told (map ask_of asked) a z (Ok j)
     → (closed_by (told_of a.writer) ≡ None
     → WindowCall (told a.writer.sink) (told z.writer.sink) (ready_bytes a.writer.queue) j.wrote)
-    → length j.ends.items ≡ min lanes 65536 → FetchTurn told l cs a z (Ok j)
+    → length j.ends.items ≡ min lanes most_lanes → FetchTurn told l cs a z (Ok j)
 fetched_beside told l cs made asked a z j lanes same are call window few = record {
   ok = record {
     asked = asked;

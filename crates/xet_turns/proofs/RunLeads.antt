@@ -1,18 +1,19 @@
 -- A run from its start to its end.
 use Rattle.std.proofs.Common.{◌≡◌, ◌<◌, Bool, true, false, cond, Option, Some, None, Ok, Err, List, [], ◌∷◌, length, refl, sym, subst, ◌∙◌, arith}
-use Rattle.std.specs.Prelude.{map, MatchOption}
+use Rattle.std.specs.Prelude.{map, nat_eq, MatchOption}
 use Rattle.xet_outside.specs.Told.{ClientTold, SinkTold}
 use Rattle.xet_error.specs.declared.error.FileReconstructionError.{FileReconstructionError}
 use Rattle.xet_error.specs.declared.error.FileReconstructionError.TheVariants as error
 use Rattle.xet_error.specs.declared.error.Setting.{Setting}
+use Rattle.xet_error.specs.declared.error.Setting.TheVariants.{NoConnection, NoTries}
 use Rattle.xet_events.specs.declared.event.Event.{Event}
 use Rattle.xet_events.specs.Allowed.{IsRunning}
 use Rattle.xet_writers.specs.Sequential.{Sequential}
-use Rattle.xet_terms.specs.Settings as settings
-use Rattle.xet_ties.specs.Causes.{failing_setting}
+use Rattle.xet_terms.specs.Settings.{failing_size}
+use Rattle.xet_ties.specs.Causes.{refused_setting}
 use Rattle.xet_ties.specs.RunCalls.{RunCall}
 use Rattle.xet_ties.specs.Setup.{RunTold, Setup}
-use Rattle.xet_ties.proofs.CallerLemmas.{runs, settings_are, short_leaves}
+use Rattle.xet_ties.proofs.CallerLemmas.{runs, short_leaves}
 use Rattle.xet_leader.specs.declared.leader.Job.{Job}
 use Rattle.xet_turns.specs.Ending.{EndCall, RunAnswer, RunEnds}
 use Rattle.xet_leader.specs.Led.{Led, setup_of_job}
@@ -40,7 +41,7 @@ short_fails g b m s = record {
 
 -- a run that did nothing and wants memory
 pub unbegun : {S : Type 0} (told : S → SinkTold) (g : Setup) (b : RunTold) (es : List Event) (w : Sequential S)
-    (e : FileReconstructionError) → es ≡ [] → failing_setting g b.clients ≡ None → e ≡ error.OutOfMemory
+    (e : FileReconstructionError) → es ≡ [] → refused_setting g b.clients ≡ None → e ≡ error.OutOfMemory
     → RunLed told g b (record { told = b; events = es }) w (Err e)
 unbegun told g b es w e is h memory = record {
   ok = tt;
@@ -54,7 +55,7 @@ unbegun told g b es w e is h memory = record {
 
 -- a run whose settings can be met is lent a connection
 pub some_client : {C : Type 0} (told : C → ClientTold) (g : Setup) (cs : List C)
-    → failing_setting g (map told cs) ≡ None → 0 < length cs
+    → refused_setting g (map told cs) ≡ None → 0 < length cs
 some_client told g [] h = absurd (cc)
 some_client told g (c ∷ cs) h = omega arith
 
@@ -62,16 +63,13 @@ cond_none : (b : Bool) (x : Setting) (o : Option Setting) → cond b (Some x) o 
 cond_none true x o h = absurd (let z : Some x ≡ None = h in cc)
 cond_none false x o h = h
 
--- as the settings of a reconstruction say it
-pub settings_met : {C : Type 0} (told : C → ClientTold) (j : Job) (cs : List C)
-    → None ≡ settings.failing_setting (length cs) j.config → failing_setting (setup_of_job j) (map told cs) ≡ None
-settings_met told j cs h = sym (settings_are told j.file_hash j.byte_range j.config cs) ∙ sym h
-
 -- its fetch sizes can be met
-pub sizes_met : {C : Type 0} (told : C → ClientTold) (j : Job) (cs : List C)
-    → failing_setting (setup_of_job j) (map told cs) ≡ None → settings.failing_size j.config ≡ None
-sizes_met told j [] h = absurd (cc)
-sizes_met told j (c ∷ cs) h = cond_none _ _ (settings.failing_size j.config) h
+pub sizes_met : (g : Setup) (cs : List ClientTold) → refused_setting g cs ≡ None
+    → failing_size g.least g.greatest ≡ None
+sizes_met g cs h =
+    cond_none (nat_eq g.tries 0) NoTries (failing_size g.least g.greatest)
+    (cond_none (nat_eq (length cs) 0) NoConnection
+    (cond (nat_eq g.tries 0) (Some NoTries) (failing_size g.least g.greatest)) h)
 
 pub memory_alone : (o : Option Setting) (P : Type 0) (Q : Setting → Type 0) → o ≡ None → MatchOption o P Q → P
 memory_alone None P Q h m = m
@@ -81,7 +79,7 @@ memory_alone (Some x) P Q h m = absurd (let z : Some x ≡ None = h in cc)
 
 -- a run from its start is steady
 start_steady : {S : Type 0} (told : S → SinkTold) (j : Job) (b : RunTold) (l : Led) (v : Sequential S)
-    → b.sink ≡ told v.sink → IsFresh v → LeadStarts j l → failing_setting (setup_of_job j) b.clients ≡ None
+    → b.sink ≡ told v.sink → IsFresh v → LeadStarts j l → refused_setting (setup_of_job j) b.clients ≡ None
     → j.byte_range.start < j.byte_range.end
     → IsSteady told (setup_of_job j) b (record { told = b; events = [] }) no_loose l v
 start_steady told j b l v sink f starts h some = record {
@@ -100,7 +98,7 @@ start_steady told j b l v sink f starts h some = record {
 -- from that start
 pub begins_steady : {S : Type 0} (told : S → SinkTold) (j : Job) (b : RunTold) (es : List Event) (l : Led)
     (v : Sequential S) → b.sink ≡ told v.sink → es ≡ [] → IsFresh v → LeadStarts j l
-    → failing_setting (setup_of_job j) b.clients ≡ None
+    → refused_setting (setup_of_job j) b.clients ≡ None
     → j.byte_range.start < j.byte_range.end → IsSteadyRun told (setup_of_job j) (record { told = b; events = es }) l v
 begins_steady told j b es l v sink is f starts h some = record {
   start = b;
@@ -121,7 +119,7 @@ loop_led told g b m n l k v w (Err e) s c = record { ok = tt; err = c.call.err b
 -- after the loop
 pub start_led : {S : Type 0} (told : S → SinkTold) (j : Job) (b : RunTold) (es : List Event) (n : Moment) (l k : Led)
     (v w : Sequential S) (answer : Answer) → b.sink ≡ told v.sink → es ≡ [] → IsFresh v → LeadStarts j l
-    → failing_setting (setup_of_job j) b.clients ≡ None → j.byte_range.start < j.byte_range.end
+    → refused_setting (setup_of_job j) b.clients ≡ None → j.byte_range.start < j.byte_range.end
     → LeadRun told (setup_of_job j) (record { told = b; events = es }) n l k v w answer
     → RunLed told (setup_of_job j) b n w answer
 start_led told j b es n l k v w answer sink is f starts h some c =
@@ -146,14 +144,9 @@ led_ends told g b m n v (Err e) answer r c = c.err b r.err
 
 -- ---- the call
 
--- the setting that fails first
-pub setting_fails : {C : Type 0} (told : C → ClientTold) (j : Job) (cs : List C) (x : Setting)
-    → Some x ≡ settings.failing_setting (length cs) j.config → failing_setting (setup_of_job j) (map told cs) ≡ Some x
-setting_fails told j cs x h = sym (settings_are told j.file_hash j.byte_range j.config cs) ∙ sym h
-
--- a run that is refused for it
+-- a run that is refused for a setting
 pub refused_call : (g : Setup) (b : RunTold) (es : List Event) (x : Setting) → es ≡ []
-    → failing_setting g b.clients ≡ Some x → RunCall g b b es (Err (error.ConfigurationError x))
+    → refused_setting g b.clients ≡ Some x → RunCall g b b es (Err (error.ConfigurationError x))
 refused_call g b es x is h = record {
   settings = λ e f. let z : Some x ≡ Some e = sym h ∙ f in record { answered = cc; events = is; same = refl };
   tied = λ f. absurd (let z : Some x ≡ None = sym h ∙ f in cc);
@@ -171,7 +164,7 @@ refused_call g b es x is h = record {
 }
 
 -- a run over a range that has bytes, whose settings can be met
-pub ended_call : (g : Setup) (b : RunTold) (n : Moment) (answer : RunAnswer) → failing_setting g b.clients ≡ None
+pub ended_call : (g : Setup) (b : RunTold) (n : Moment) (answer : RunAnswer) → refused_setting g b.clients ≡ None
     → g.range.start < g.range.end → RunEnds g b n answer → RunCall g b n.told n.events answer
 ended_call g b n answer h some r = record {
   settings = λ e f. absurd (let z : None ≡ Some e = sym h ∙ f in cc);

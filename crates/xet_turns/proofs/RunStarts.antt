@@ -1,58 +1,17 @@
 -- Runs by how they start: a setting fails, the range is empty, or it has bytes.
-use Rattle.std.proofs.Common.{◌≡◌, ◌<◌, Some, None, Ok, Err, List, [], refl, sym, subst, ◌∙◌, ap, arith, inl, inr, ℕ}
+use Rattle.std.proofs.Common.{◌≡◌, Some, None, Ok, Err, List, [], refl, sym, subst, ◌∙◌, arith, inl, inr, ℕ}
 use Rattle.std.specs.Prelude.{IfOk, IfErr}
 use Rattle.xet_outside.specs.Told.{SinkTold}
 use Rattle.xet_error.specs.declared.error.FileReconstructionError.{FileReconstructionError}
-use Rattle.xet_error.specs.declared.error.FileReconstructionError.TheVariants as error
-use Rattle.xet_error.specs.declared.error.Setting.{Setting}
 use Rattle.xet_events.specs.declared.event.Event.{Event}
 use Rattle.xet_writers.specs.Calls.{SinkCause}
 use Rattle.xet_parts.specs.Stops.{IsStopped}
-use Rattle.xet_ties.specs.Causes.{failing_setting}
+use Rattle.xet_ties.specs.Causes.{refused_setting}
 use Rattle.xet_ties.specs.RunCalls.{IsFinished, IsLocal, RunCall}
 use Rattle.xet_ties.specs.Setup.{IsEmptyRange, RunTold, Setup}
 use Rattle.xet_turns.specs.EmptyRuns.{EmptyRuns, EmptyTurn}
-use Rattle.xet_turns.specs.Ending.{LastCall, RecordedEnd, RunAnswer, RunEnds}
-use Rattle.xet_leader.specs.Steady.{Moment}
+use Rattle.xet_turns.specs.Ending.{LastCall, RecordedEnd, RunAnswer}
 use Rattle.xet_turns.proofs.EndTies.{recorded_ends, start_whole}
-
--- a failing setting is told before all else
-pub refused_call : (g : Setup) (b : RunTold) (e : Setting) → failing_setting g b.clients ≡ Some e
-    → RunCall g b b [] (Err (error.ConfigurationError e))
-refused_call g b e h = record {
-  settings = λ x h2. record {
-    answered = ap (λ (y : Setting). Err (error.ConfigurationError y)) (let z : Some e ≡ Some x = sym h ∙ h2 in
-        let w : e ≡ x = cc in w);
-    events = refl;
-    same = refl;
-  };
-  tied = λ h2. absurd (let z : Some e ≡ None = sym h ∙ h2 in cc);
-  finished = tt;
-  flushed = tt;
-  cancelled = λ yes. absurd (omega (arith, yes));
-  unfailed = refl;
-  empty = λ r. record {
-    untouched = record { clients = refl; cache = refl; signal = refl; limits = refl };
-    took = refl;
-    none = tt;
-    error = tt;
-  };
-  cache_later = λ s o c. c;
-}
-
--- over a range with bytes all is said by how the run ends
-pub ends_call : (g : Setup) (b : RunTold) (n : Moment) (answer : RunAnswer) → failing_setting g b.clients ≡ None
-    → g.range.start < g.range.end → RunEnds g b n answer → RunCall g b n.told n.events answer
-ends_call g b n answer h some r = record {
-  settings = λ e h2. absurd (let z : None ≡ Some e = sym h ∙ h2 in cc);
-  tied = λ h2. r.tied;
-  finished = r.finished;
-  flushed = r.flushed;
-  cancelled = r.cancelled;
-  unfailed = r.unfailed;
-  empty = λ none. absurd (omega (arith, some, none));
-  cache_later = r.cache_later;
-}
 
 -- ---- an empty range
 
@@ -90,7 +49,7 @@ none_asked before after fs (Err e) answer c r =
     (local_stop [] fs e r.err.error r.err.stopped (local_cause before.faults after.faults e c.cause))
 
 empty_call : (g : Setup) (b : RunTold) (to : SinkTold) (fs : List Event) (answer : RunAnswer)
-    → failing_setting g b.clients ≡ None → IsEmptyRange g.range → EmptyTurn b.sink to [] fs answer
+    → refused_setting g b.clients ≡ None → IsEmptyRange g.range → EmptyTurn b.sink to [] fs answer
     → RunCall g b (record b { sink = to }) fs answer
 empty_call g b to fs answer h none t =
     let r = recorded_ends g b (record { told = b; events = [] }) to 0 fs t.ended answer (start_whole g b h)

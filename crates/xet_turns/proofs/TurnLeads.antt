@@ -5,6 +5,7 @@ use Rattle.xet_outside.specs.Told.{SinkTold}
 use Rattle.xet_error.specs.declared.error.FileReconstructionError.{FileReconstructionError}
 use Rattle.xet_writers.specs.Sequential.{Sequential}
 use Rattle.xet_ties.specs.Setup.{Setup}
+use Rattle.xet_leader.specs.Admission.{most_at_once}
 use Rattle.xet_leader.specs.Led.{Led}
 use Rattle.xet_stages.specs.Measures.{measure}
 use Rattle.xet_leader.specs.Steady.{LeadCall, Moment, no_loose}
@@ -70,7 +71,7 @@ module _ {S : Type 0} (told : S → SinkTold) (g : Setup) (m n : Moment) (l h : 
         waits = λ w. r.counts.planned_is ∙ (s.waits w).planned_is;
         few =
             let same : k.admitted ≡ h.admitted = r.counts.admitted_is in
-            let few : h.admitted ≤ l.admitted + 8192 = s.few in
+            let few : h.admitted ≤ l.admitted + most_at_once = s.few in
             omega (arith, same, few);
       }
 

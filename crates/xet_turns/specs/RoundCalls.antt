@@ -8,7 +8,7 @@ use Rattle.xet_events.specs.declared.event.Event.{Event}
 use Rattle.xet_writers.specs.Calls.{closed_by}
 use Rattle.xet_writers.specs.Queues.{ready_bytes}
 use Rattle.xet_writers.specs.Sequential.{ReadyCall, Sequential, WindowCall, told_of}
-use Rattle.xet_ties.specs.Setup.{RunTold, Setup}
+use Rattle.xet_ties.specs.Setup.{RunTold, Setup, most_lanes}
 use Rattle.xet_lane.specs.declared.joined.Joined.{Joined}
 use Rattle.xet_lane.specs.declared.lane.Fetch.{Fetch}
 use Rattle.xet_lane.specs.Fetches.{ask_of}
@@ -38,7 +38,7 @@ pub record FetchedBeside {S : Type 0} (told : S → SinkTold) (l : Led) (cs : Li
   pub window : closed_by (told_of a.writer) ≡ None
       → WindowCall (told a.writer.sink) (told z.writer.sink) (ready_bytes a.writer.queue) j.wrote
   pub drew : LanesDrew (map ask_of asked) a.clients z.clients (map ended j.ends.items)
-  pub lanes : length j.ends.items ≤ 65536
+  pub lanes : length j.ends.items ≤ most_lanes
 
 -- memory was wanting for it: nothing was asked, and nothing written
 pub record FetchRefused {S : Type 0} (a z : RoundTold S) (e : FileReconstructionError) : Type 0 where

@@ -6,6 +6,7 @@ use Rattle.xet_events.specs.Events.{written}
 use Rattle.xet_writers.specs.Sequential.{Sequential}
 use Rattle.xet_ties.specs.RunCalls.{IsFinished}
 use Rattle.xet_ties.specs.Setup.{RunTold, Setup}
+use Rattle.xet_leader.specs.Admission.{most_at_once}
 use Rattle.xet_leader.specs.Led.{Led}
 use Rattle.xet_stages.specs.Measures.{measure}
 use Rattle.xet_leader.specs.Plans.{Answer}
@@ -28,7 +29,7 @@ pub record TurnCall {S : Type 0} (told : S → SinkTold) (g : Setup) (m n : Mome
       → IfOk answer (λ all. all ≡ false → measure g n.events k < measure g m.events l)
   -- where planned terms wait no plan is taken, and few are admitted
   pub waits : l.admitted < l.planned → OnOk answer (k.planned ≡ l.planned)
-  pub few : OnOk answer (k.admitted ≤ l.admitted + 8192)
+  pub few : OnOk answer (k.admitted ≤ l.admitted + most_at_once)
 
 -- over any start, a steady run is steady after some turns
 abbrev pub SoFar : {S : Type 0} → (S → SinkTold) → Setup → Moment → Moment → Led → Led → Sequential S → Sequential S

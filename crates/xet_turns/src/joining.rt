@@ -2,6 +2,7 @@
 ghost use Rattle.std.specs.Prelude.{◌≡◌, ◌<◌, None, OnErr, length, map};
 ghost use Rattle.xet_writers.specs.Calls.{closed_by};
 ghost use Rattle.xet_writers.specs.Sequential.{told_of};
+ghost use Rattle.xet_ties.specs.Setup.{most_lanes};
 ghost use Rattle.xet_turns.specs.JoinedRuns.{CanJoin, JoinLeads, PolledFor, PrepareLeads};
 ghost use Rattle.xet_turns.specs.JoinSteps.{JoinTurn, PrepareTurn};
 ghost use Rattle.xet_leader.specs.Looks.{IsLedBy};
@@ -62,7 +63,7 @@ pub fn join<
     writer: &mut SequentialWriter<S>,
     tries: u32,
 ) -> Result<Outcome>
-    requires parts { 65536 < pass.old.share.parts }
+    requires parts { most_lanes < pass.old.share.parts }
     requires can { CanJoin S.told (map C.told clients.old) (K.told cache.old) (X.told cancel.old) core.old leader.old
         writer.old }
     ensures turn { JoinTurn S.told tries

@@ -1,5 +1,6 @@
 //! A round: lanes fetch blocks, the writer writes a window beside them or before, and what that came to is taken in.
 ghost use Rattle.std.specs.Prelude.{◌≡◌, ◌<◌, length, map};
+ghost use Rattle.xet_ties.specs.Setup.{most_lanes};
 ghost use Rattle.xet_leader.specs.FetchLists.{Each};
 ghost use Rattle.xet_leader.specs.Looks.{CanRequest};
 ghost use Rattle.xet_turns.specs.RoundCalls.{CanRound, FetchTurn, RoundLeads, RoundTurn};
@@ -49,7 +50,7 @@ pub fn run_round<
     lengths: List<u64>,
     tries: u32,
 ) -> Result<Outcome>
-    requires parts { 65536 < pass.old.share.parts }
+    requires parts { most_lanes < pass.old.share.parts }
     requires can { CanRound S.told (map C.told clients.old) core.old leader.old places.now lengths writer.old }
     ensures turn { RoundTurn S.told tries places.now lengths
         (record { clients = map C.told clients.old; writer = writer.old })
@@ -103,7 +104,7 @@ fn fetch_blocks<
     places: &[BlockAt],
     beside: bool,
 ) -> Result<Joined>
-    requires parts { 65536 < pass.old.share.parts }
+    requires parts { most_lanes < pass.old.share.parts }
     requires some { 0 < length clients.old }
     requires requests { Each (CanRequest leader.now.plans) places.now }
     ensures turn { FetchTurn S.told leader.now places.now

@@ -1,6 +1,6 @@
 //! A run.
 ghost use Rattle.std.specs.Prelude.{◌≡◌, ◌<◌, ◌^◌, [], None, map};
-ghost use Rattle.xet_ties.specs.Causes.{failing_setting};
+ghost use Rattle.xet_ties.specs.Causes.{refused_setting};
 ghost use Rattle.xet_ties.specs.RunCalls.{RunCall};
 ghost use Rattle.xet_ties.specs.Setup.{told_of};
 ghost use Rattle.xet_turns.specs.Ending.{RunEnds};
@@ -65,7 +65,7 @@ fn run_with<
     requires name { blank.name ≡ L.name }
     requires parts { (blank.parts ≡ L.parts) × (L.parts ≡ 2 ^ 32) }
     requires none { core.old ≡ [] }
-    requires settings { failing_setting (setup_of_job order.job) (map C.told clients.old) ≡ None }
+    requires settings { refused_setting (setup_of_job order.job) (map C.told clients.old) ≡ None }
     requires some { order.job.byte_range.start < order.job.byte_range.end }
     requires fresh { IsFresh writer.old }
     ensures { RunEnds (setup_of_job order.job)
@@ -135,7 +135,7 @@ fn run_some<
     writer: &mut S,
 ) -> Result<u64>
     requires none { core.old ≡ [] }
-    requires settings { failing_setting (setup_of_job order.job) (map C.told clients.old) ≡ None }
+    requires settings { refused_setting (setup_of_job order.job) (map C.told clients.old) ≡ None }
     requires some { order.job.byte_range.start < order.job.byte_range.end }
     ensures { RunEnds (setup_of_job order.job)
         (told_of C.told K.told X.told S.told B.told clients.old cache.old cancel.old writer.old budget.old)

@@ -1,7 +1,7 @@
 //! Takes turns, until all is written.
 ghost use Rattle.std.specs.Prelude.{◌≡◌, ◌<◌, length, map};
 ghost use Rattle.xet_events.specs.Allowed.{IsRunning};
-ghost use Rattle.xet_ties.specs.Setup.{told_of};
+ghost use Rattle.xet_ties.specs.Setup.{most_lanes, told_of};
 ghost use Rattle.xet_leader.specs.Led.{AreStale, setup_of_job};
 ghost use Rattle.xet_turns.specs.Turns.{IsSteadyRun, LeadRun, TurnCall};
 ghost use Rattle.xet_turns.specs.Works.{CanWork, FirstSettled, WorkLeads};
@@ -51,7 +51,7 @@ pub fn lead<
     cancel: &mut X,
     writer: &mut SequentialWriter<S>,
 ) -> Result<()>
-    requires parts { 65536 < pass.old.share.parts }
+    requires parts { most_lanes < pass.old.share.parts }
     requires some { 0 < length clients.old }
     requires steady { IsSteadyRun S.told (setup_of_job job)
         (record {
@@ -108,7 +108,7 @@ pub fn turn<
     cancel: &mut X,
     writer: &mut SequentialWriter<S>,
 ) -> Result<bool>
-    requires parts { 65536 < pass.old.share.parts }
+    requires parts { most_lanes < pass.old.share.parts }
     requires some { 0 < length clients.old }
     requires steady { IsSteadyRun S.told (setup_of_job job)
         (record {
@@ -163,7 +163,7 @@ fn join_and_settle<
     writer: &mut SequentialWriter<S>,
     job: Job,
 ) -> Result<()>
-    requires parts { 65536 < pass.old.share.parts }
+    requires parts { most_lanes < pass.old.share.parts }
     requires some { 0 < length clients.old }
     requires can { CanWork S.told (setup_of_job job)
         (record {

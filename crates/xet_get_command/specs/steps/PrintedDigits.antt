@@ -13,7 +13,7 @@ use Rattle.xet_error.specs.declared.error.FileReconstructionError.TheVariants as
 use Rattle.xet_error.specs.declared.error.Setting.{Setting}
 use Rattle.xet_error.specs.Errors.{corruption_number}
 use Rattle.xet_blocks.specs.ServedChunks.{AllServed}
-use Rattle.xet_reconstruct.specs.Setup.{no_limits}
+use Rattle.xet_reconstruct.specs.Lent.{no_limits}
 use Rattle.xet_ties.specs.LegalWords.{IsExact}
 use Rattle.xet_ties.specs.RunCalls.{Unfailed}
 use Rattle.xet_ties.specs.Setup.{RunTold}
@@ -24,7 +24,7 @@ use Rattle.xet_get_command.specs.declared.wanted.Wanted.{Wanted}
 use Rattle.xet_room.specs.declared.status.Status.{Status}
 use Rattle.xet_room.specs.declared.status.Status.TheVariants as status
 use Rattle.xet_get_command.specs.Taps.{FromTaps, LanesHonest, TapsGoOn, all_passed, lane_taps}
-use Rattle.xet_get_command.specs.Wanted.{IsFound, IsMissing, failing_setting, setup_of, wanted_bytes}
+use Rattle.xet_get_command.specs.Wanted.{IsFound, IsMissing, unmet_setting, wanted_bytes, wanted_setup}
 
 -- what the arguments of a run tell that no signal stops
 abbrev pub told_of : List ClientTold → CacheTold → SinkTold → RunTold
@@ -41,7 +41,7 @@ TapCause s q H b n error.FileNotFound = H → IsMissing s q
 TapCause s q H b n error.UrlExpired = ⊥
 TapCause s q H b n error.IoError = Rose b.faults n.faults
 TapCause s q H b n (error.CorruptedReconstruction k) = H → ⊥
-TapCause s q H b n (error.ConfigurationError e) = failing_setting q ≡ Some e
+TapCause s q H b n (error.ConfigurationError e) = unmet_setting q ≡ Some e
 TapCause s q H b n error.Cancelled = ⊥
 TapCause s q H b n (error.InternalWriterError w) = ⊥
 
@@ -84,10 +84,10 @@ AllPassed s q ts us = IfSome (all_passed (lane_taps q ts) (lane_taps q us)) (All
 -- a run over connections to a valid store behind taps
 pub record Tapped (s : Store) (q : Wanted) (ts us : List TapTold) (b n : SinkTold)
     (answer : Result ℕ FileReconstructionError) : Type 0 where
-  pub exact : LanesHonest q ts → IfOk answer (IsExact s (setup_of q) b n)
+  pub exact : LanesHonest q ts → IfOk answer (IsExact s (wanted_setup q) b n)
   pub prefix : LanesHonest q ts → TookPrefix b.took n.took (wanted_bytes s q)
   pub cause : IfErr answer (TapCause s q (LanesHonest q ts) b n)
-  pub settings : (e : Setting) → failing_setting q ≡ Some e → IsRefusal e answer × (n.took ≡ b.took)
+  pub settings : (e : Setting) → unmet_setting q ≡ Some e → IsRefusal e answer × (n.took ≡ b.took)
   pub chunks : LanesHonest q ts → OnOk answer (AllPassed s q ts us)
   pub counts : CountsOk b n answer
   pub any : Wrote (FromTaps s q ts us) b n (status_of_answer answer) (result_ok answer)
@@ -100,7 +100,7 @@ pub record Tapped (s : Store) (q : Wanted) (ts us : List TapTold) (b n : SinkTol
 
 -- what a writer took in a run over the store, where the taps are honest
 abbrev pub RanAs : Store → Wanted → SinkTold → SinkTold → Printed → Type 0
-RanAs s q b n (Whole k) = IsExact s (setup_of q) b n k
+RanAs s q b n (Whole k) = IsExact s (wanted_setup q) b n k
 RanAs s q b n NoFile = IsMissing s q × Took b.took n.took []
 RanAs s q b n Part = TookPrefix b.took n.took (wanted_bytes s q)
 RanAs s q b n (Stopped e) = (e ≡ Failed → Rose b.faults n.faults) × TookPrefix b.took n.took (wanted_bytes s q)
@@ -125,12 +125,12 @@ UnfailedAs _ b n = n.faults ≡ b.faults
 
 -- the settings can be met, or this one fails first
 abbrev pub SettingsAs : Wanted → Printed → Type 0
-SettingsAs q (Whole k) = failing_setting q ≡ None
-SettingsAs q NoFile = failing_setting q ≡ None
+SettingsAs q (Whole k) = unmet_setting q ≡ None
+SettingsAs q NoFile = unmet_setting q ≡ None
 SettingsAs q Part = Unit {0}
 SettingsAs q (Stopped e) = Unit {0}
-SettingsAs q (BadBlock k) = failing_setting q ≡ None
-SettingsAs q (BadSettings e) = failing_setting q ≡ Some e
+SettingsAs q (BadBlock k) = unmet_setting q ≡ None
+SettingsAs q (BadSettings e) = unmet_setting q ≡ Some e
 
 -- the status of a text that the bytes may stand in
 abbrev pub status_of_printed : Printed → Status

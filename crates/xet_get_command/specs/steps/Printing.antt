@@ -12,7 +12,7 @@ use Rattle.xet_get_command.specs.Get.{IsCutGet, IsPrinted, IsRefused, settings_t
 use Rattle.xet_room.specs.Outcome.{Finished}
 use Rattle.xet_get_command.specs.Taps.{FromTaps, LanesHonest, TapsGoOn}
 use Rattle.xet_room.specs.Texts.{line}
-use Rattle.xet_get_command.specs.Wanted.{failing_setting}
+use Rattle.xet_get_command.specs.Wanted.{unmet_setting}
 use Rattle.xet_get_command.specs.steps.PrintedDigits.{AllPassed}
 
 -- what was printed of a store, by the status
@@ -26,10 +26,10 @@ GetFrom s q b n _ = ⊥
 
 -- the settings can be met, or this one fails first and its text was printed
 abbrev pub SettingsFrom : Wanted → SinkTold → SinkTold → Status → Type 0
-SettingsFrom q b n Done = failing_setting q ≡ None
-SettingsFrom q b n NotFound = failing_setting q ≡ None
-SettingsFrom q b n (BadBlock k) = failing_setting q ≡ None
-SettingsFrom q b n (BadSettings e) = (failing_setting q ≡ Some e) × Took b.took n.took (settings_text e)
+SettingsFrom q b n Done = unmet_setting q ≡ None
+SettingsFrom q b n NotFound = unmet_setting q ≡ None
+SettingsFrom q b n (BadBlock k) = unmet_setting q ≡ None
+SettingsFrom q b n (BadSettings e) = (unmet_setting q ≡ Some e) × Took b.took n.took (settings_text e)
 SettingsFrom q b n _ = Unit {0}
 
 -- what was done over a store and the taps, by the status

@@ -16,7 +16,7 @@ use Rattle.xet_ties.specs.Setup.{CacheTells}
 use Rattle.xet_get_command.specs.declared.wanted.Wanted.{Wanted}
 use Rattle.xet_get_command.specs.GetOptions.{budget_of}
 use Rattle.xet_get_command.specs.Taps.{FromTaps, LanesHonest, TapsGoOn, all_passed, lane_taps}
-use Rattle.xet_get_command.specs.Wanted.{failing_setting, setup_of, wanted_bytes}
+use Rattle.xet_get_command.specs.Wanted.{unmet_setting, wanted_bytes, wanted_setup}
 use Rattle.xet_get_command.specs.steps.OwnTaps.{behind_own}
 use Rattle.xet_get_command.specs.steps.PrintedDigits.{CountsOk, IsRefusal, TapCause, Wrote, status_of_answer}
 
@@ -43,10 +43,10 @@ IsCacheOf q k = q.options.cache ≡ true → k ≡ new_cache
 -- a run over connections to a valid store behind taps, where `H` says that these are honest
 pub record BehindAll (s : Store) (q : Wanted) (H : Type 0) (k : CacheTold) (b n : SinkTold)
     (answer : Result ℕ FileReconstructionError) : Type 0 where
-  pub exact : H → CacheTells s k → IfOk answer (IsExact s (setup_of q) b n)
+  pub exact : H → CacheTells s k → IfOk answer (IsExact s (wanted_setup q) b n)
   pub prefix : H → CacheTells s k → TookPrefix b.took n.took (wanted_bytes s q)
   pub cause : IfErr answer (TapCause s q H b n)
-  pub settings : (e : Setting) → failing_setting q ≡ Some e → IsRefusal e answer × (n.took ≡ b.took)
+  pub settings : (e : Setting) → unmet_setting q ≡ Some e → IsRefusal e answer × (n.took ≡ b.took)
   pub counts : CountsOk b n answer
   pub faults : b.faults ≤ n.faults
   pub unfailed : Unfailed b.faults n.faults answer

@@ -23,16 +23,19 @@ use Rattle.xet_lanes.specs.declared.drawing.Next.TheVariants as next
 abbrev pub IsNext : ℕ → View → View → Next → Type 0
 IsNext count v w (next.Number n) = (n < count) × (w ≡ gained v n)
 IsNext count v w next.Over = (w ≡ missed v) ⊎ (w ≡ saw v)
+IsNext count v w (next.Stopped e) = w ≡ v
 IsNext count v w next.Short = w ≡ v
 
 -- a check of the run's state that found nothing
 abbrev pub calm_check : RunCall
 calm_check = call.CheckRunState None
 
--- where a number was drawn, such a check is the last call on the run's state
+-- where a number was drawn, such a check is the last call on the run's state; else where the run is to stop, one that
+-- was answered so
 abbrev pub HasSeen : Next → Option RunCall → Type 0
 HasSeen (next.Number n) last = last ≡ Some calm_check
 HasSeen next.Over last = Unit {0}
+HasSeen (next.Stopped e) last = last ≡ Some (call.CheckRunState (Some e))
 HasSeen next.Short last = Unit {0}
 
 -- it stopped no other; and where it saw no stop, it drew until there was nothing left, and made a step for each number

@@ -39,11 +39,11 @@ returns-in-Over g c =
       told = drawing_told _ _ _ _ _ _ _ i.drawing;
     }
 
-pub returns-in-Short : goal.returns-in-Short
-returns-in-Short g c =
+pub returns-in-Stopped : goal.returns-in-Stopped
+returns-in-Stopped g c =
     let i = c.loop.invariant in
     let s = c.stop_short.ensures in
-    let n = c.in-Short.ensures.next in
+    let n = c.in-Stopped.ensures.next in
     record {
       same_reference = i.same;
       of = s.of;
@@ -52,6 +52,23 @@ returns-in-Short g c =
       drew = drawing_ends _ _ _ _ _ _ i.drawing (ap drawn_by s.stopped ∙ ap drawn_by n);
       last = drawing_last _ _ _ _ _ i.drawing;
       ended = short_ended _ (pass_view c.stop_short.new.claim) _ s.short;
+      stops = halted_stops _ (pass_view c.next_number.new.claim) _ c.loop.lane.steps.items s.stopped;
+      told = drawing_told _ _ _ _ _ _ _ i.drawing;
+    }
+
+pub returns-in-Short : goal.returns-in-Short
+returns-in-Short g c =
+    let i = c.loop.invariant in
+    let s = c.stop_short-in-Short.ensures in
+    let n = c.in-Short.ensures.next in
+    record {
+      same_reference = i.same;
+      of = s.of;
+      weight = ap weight_by s.stopped ∙ (ap weight_by n ∙ i.weight);
+      parts = s.parts ∙ (c.next_number.ensures.parts ∙ i.parts);
+      drew = drawing_ends _ _ _ _ _ _ i.drawing (ap drawn_by s.stopped ∙ ap drawn_by n);
+      last = drawing_last _ _ _ _ _ i.drawing;
+      ended = short_ended _ (pass_view c.stop_short-in-Short.new.claim) _ s.short;
       stops = halted_stops _ (pass_view c.next_number.new.claim) _ c.loop.lane.steps.items s.stopped;
       told = drawing_told _ _ _ _ _ _ _ i.drawing;
     }

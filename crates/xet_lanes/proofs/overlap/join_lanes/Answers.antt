@@ -4,6 +4,7 @@ use Rattle.std.proofs.lemmas.List.{length-map}
 use Rattle.xet_claims.specs.declared.claims.ClaimPass.{ClaimPass}
 use Rattle.xet_claims.specs.ClaimPasses.{IsPassOf, drawn_of, misses_of, raised_count, stopped_count, weight_of}
 use Rattle.xet_claims.specs.ClaimViews.{times}
+use Rattle.xet_ties.specs.Setup.{most_lanes}
 use Rattle.xet_lane.specs.Fetches.{ask_of}
 use Rattle.xet_lanes.proofs.RoundEnds.{drew_ends, drew_parts, drew_passes, drew_some, drew_weight, lanes_drew}
 use Rattle.xet_lanes.proofs.overlap.join_lanes.Goals as goal
@@ -31,7 +32,7 @@ returns-clause-call g c =
     c.in_ok-claims.ensures.claims.0 ∙ sym (length-map c.args.fetches.now ask_of) in
     let some : 0 < length (map g.C.Client.told c.args.clients.now) =
     rw (length-map c.args.clients.now g.C.Client.told) c.requires.clients.0 in
-    let few : length (map g.C.Client.told c.args.clients.now) ≤ 65536 =
+    let few : length (map g.C.Client.told c.args.clients.now) ≤ most_lanes =
     rw (length-map c.args.clients.now g.C.Client.told) c.requires.clients.1 in
     record {
       refused = tt;

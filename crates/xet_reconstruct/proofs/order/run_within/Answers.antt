@@ -1,6 +1,5 @@
-use Rattle.xet_ties.specs.Setup.{told_of}
+use Rattle.xet_ties.specs.Setup.{setup_of, told_of}
 use Rattle.xet_ties.proofs.CallerLemmas.{legal_of}
-use Rattle.xet_reconstruct.specs.Setup.{setup_of}
 use Rattle.xet_reconstruct.proofs.Limits.{unlimited_legal}
 use Rattle.xet_reconstruct.proofs.order.run_within.Goals as goal
 

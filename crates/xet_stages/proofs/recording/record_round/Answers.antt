@@ -1,5 +1,6 @@
 use Rattle.std.proofs.Common.{◌≤◌, ◌++◌, List, length, subst, sym}
 use Rattle.xet_events.specs.Allowed.{AllowedAfter}
+use Rattle.xet_ties.specs.Setup.{most_lanes}
 use Rattle.xet_lane.specs.declared.joined.LaneEnd.{LaneEnd}
 use Rattle.xet_stages.specs.RoundRecords.{expired_events, fetched_events, lanes_of, window_events}
 use Rattle.xet_stages.proofs.RoundRecords.{round_short, round_then, round_unwritten, window_allowed}
@@ -25,7 +26,7 @@ returns-in-Err-wrote g c =
 
 pub record_lanes-requires-clause-lanes : goal.record_lanes-requires-clause-lanes
 record_lanes-requires-clause-lanes g c =
-    subst (λ (es : List LaneEnd). length es ≤ 65536) (sym c.as_slice.ensures.value) c.requires.lanes
+    subst (λ (es : List LaneEnd). length es ≤ most_lanes) (sym c.as_slice.ensures.value) c.requires.lanes
 
 pub record_lanes-requires-clause-fetched : goal.record_lanes-requires-clause-fetched
 record_lanes-requires-clause-fetched g c =

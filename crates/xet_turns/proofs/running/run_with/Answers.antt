@@ -67,6 +67,6 @@ returns-in-Err g c =
     led_ends told (setup_of_job a.order.job) b m after a.writer.now (Err c.in-Err.error) c.end_run-in-Err.result
     (unbegun told (setup_of_job a.order.job) b a.core.now a.writer.now c.in-Err.error c.requires.none
     c.requires.settings
-    (memory_alone _ _ _ (sizes_met g.C.Client.told a.order.job a.clients.now c.requires.settings)
+    (memory_alone _ _ _ (sizes_met (setup_of_job a.order.job) b.clients c.requires.settings)
     c.in-Err.ensures.fails))
     (c.end_run-in-Err.ensures.leads (setup_of_job a.order.job) m refl refl)

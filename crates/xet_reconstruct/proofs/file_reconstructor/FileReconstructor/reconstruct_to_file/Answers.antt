@@ -1,7 +1,9 @@
+use Rattle.std.proofs.Common.{None, Some}
+use Rattle.xet_ties.specs.Setup.{setup_of}
+use Rattle.xet_ties.proofs.CallerLemmas.{refused_is}
 use Rattle.xet_reconstruct.specs.Ran.{limit_of}
-use Rattle.xet_reconstruct.specs.Setup.{lent_of, setup_of}
+use Rattle.xet_reconstruct.specs.Lent.{lent_of}
 use Rattle.xet_reconstruct.specs.ToFile.{place_for}
-use Rattle.xet_reconstruct.proofs.Settings.{setting_fails, settings_met}
 use Rattle.xet_reconstruct.proofs.ToFiles.{ready_file, refused_file, unready_file}
 use Rattle.xet_reconstruct.proofs.file_reconstructor.FileReconstructor.reconstruct_to_file.Goals as goal
 
@@ -12,7 +14,8 @@ returns-in-Some g c =
     let b = lent_of g.C.Client.told g.K.ChunkCache.told g.X.CancelSignal.told g.F.Sink.told a.clients.now a.cache.now
     a.cancel.now a.file.now in
     let e = c.in-Some.setting in
-    let fails = setting_fails g.C.Client.told s.file_hash s.byte_range s.config a.clients.now e c.in-Some.ensures in
+    let fails = refused_is g.C.Client.told (setup_of s.file_hash s.byte_range s.config) a.clients.now (Some e)
+    c.in-Some.ensures in
     refused_file (limit_of s.book s.config) (setup_of s.file_hash s.byte_range s.config) a.truncate_file
     (place_for a.write_offset s.byte_range) b e fails
 
@@ -25,7 +28,8 @@ returns-in-Ok g c =
     a.cancel.now a.file.now in
     let after = lent_of g.C.Client.told g.K.ChunkCache.told g.X.CancelSignal.told g.F.Sink.told n.clients n.cache
     n.cancel n.writer in
-    let met = settings_met g.C.Client.told s.file_hash s.byte_range s.config a.clients.now c.in-None.ensures in
+    let met = refused_is g.C.Client.told (setup_of s.file_hash s.byte_range s.config) a.clients.now None
+    c.in-None.ensures in
     ready_file (limit_of s.book s.config) (setup_of s.file_hash s.byte_range s.config) a.truncate_file
     (place_for a.write_offset s.byte_range) c.unwrap_or-place.result b after (g.F.Sink.told c.make_ready.new.file)
     c.reconstruct_to_writer.result c.unwrap_or-place.ensures met c.in-Ok.ensures c.reconstruct_to_writer.ensures.legal
@@ -37,7 +41,8 @@ returns-in-Err g c =
     let s = a.self in
     let b = lent_of g.C.Client.told g.K.ChunkCache.told g.X.CancelSignal.told g.F.Sink.told a.clients.now a.cache.now
     a.cancel.now a.file.now in
-    let met = settings_met g.C.Client.told s.file_hash s.byte_range s.config a.clients.now c.in-None.ensures in
+    let met = refused_is g.C.Client.told (setup_of s.file_hash s.byte_range s.config) a.clients.now None
+    c.in-None.ensures in
     unready_file (limit_of s.book s.config) (setup_of s.file_hash s.byte_range s.config) a.truncate_file
     (place_for a.write_offset s.byte_range) c.unwrap_or-place.result b (g.F.Sink.told c.make_ready.new.file)
     c.in-Err.error met c.in-Err.ensures
