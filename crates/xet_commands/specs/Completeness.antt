@@ -10,7 +10,7 @@ use Rattle.xet_room.specs.Ends.{Told}
 use Rattle.xet_room.specs.Texts.{number_of}
 use Rattle.xet_track.specs.Texts.{track_reads}
 use Rattle.xet_get_command.specs.declared.wanted.Wanted.{Wanted}
-use Rattle.xet_get_command.specs.Wanted.{IsFound, IsMissing, failing_setting}
+use Rattle.xet_get_command.specs.Wanted.{IsFound, IsMissing, unmet_setting}
 use Rattle.xet_commands.specs.declared.commands.Command.{Command}
 use Rattle.xet_commands.specs.declared.commands.Command.TheVariants as command
 use Rattle.xet_commands.specs.Commands.{Answers, command_of}
@@ -33,11 +33,11 @@ abbrev pub GetBy : ℕ → Wanted → List ℕ → Status → Type 0
 GetBy limit wanted text TooLong = limit < length text
 GetBy limit wanted text BadStore = (length text ≤ limit) × NoStore text
 GetBy limit wanted text (BadSettings e) =
-    (store : Store) × IsDocument limit text store × (failing_setting wanted ≡ Some e)
+    (store : Store) × IsDocument limit text store × (unmet_setting wanted ≡ Some e)
 GetBy limit wanted text NotFound =
-    (store : Store) × IsDocument limit text store × (failing_setting wanted ≡ None) × IsMissing store wanted
+    (store : Store) × IsDocument limit text store × (unmet_setting wanted ≡ None) × IsMissing store wanted
 GetBy limit wanted text Done =
-    (store : Store) × IsDocument limit text store × (failing_setting wanted ≡ None) × IsFound store wanted
+    (store : Store) × IsDocument limit text store × (unmet_setting wanted ≡ None) × IsFound store wanted
 GetBy limit wanted text _ = ⊥
 
 -- and `track`

@@ -44,7 +44,8 @@ input of get:
   one hash, or where a number anywhere has a fraction or an exponent, needs more than 64 bits, or
   is -0.
   While it is read the document is in memory beside its store: mostly a few times its size, and
-  up to a hundred times where it is made to take as much as it can.
+  ten times at most where each xorb and each file has this form and each number is whole and of
+  64 bits, also under keys that are passed over. Else up to 175 times.
 
 input of track:
   A script on standard input, of at most 67108864 bytes: a call of a new tracker of uploads on
@@ -60,7 +61,7 @@ input of track:
     background NAME N       the same
     done NAME               the xorb was uploaded: ok
     status                  the completed bytes of all files, and their total
-    complete                true where all files and xorbs are completed, or false
+    complete                true where these two sums are equal, or false
   A call that is refused changes nothing and prints refused K, where K is 6 for an unknown file,
   7 for an unknown xorb, 8 for another size, 9 past a total, 10 where the xorb is completed, and
   11 where a sum has no room.

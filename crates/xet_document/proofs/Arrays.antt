@@ -1,10 +1,10 @@
 -- Arrays that are read an item at a time.
-use Rattle.std.proofs.Common.{◌≡◌, ℕ, ◌-◌, ◌<◌, ◌≤◌, List, [], ◌∷◌, ◌++◌, length, Option, Some, None, option_map, option_and_then, refl, ◌∙◌, ap, arith}
+use Rattle.std.proofs.Common.{◌≡◌, ℕ, ◌-◌, ◌<◌, ◌≤◌, Bool, List, [], ◌∷◌, ◌++◌, length, Option, Some, None, option_map, option_and_then, refl, ◌∙◌, ap, arith}
 use Rattle.json.specs.Token.{Token}
 use Rattle.json.specs.Json as json
 use Rattle.json.specs.Json.{parse_map, after_end_array, items, value}
 use Rattle.json.proofs.Grammar.{value_is, value-begin_array, items_end, items_more}
-use Rattle.serde_json.specs.Data.{Data, array, string, number, Num, Items, no_items, item}
+use Rattle.serde_json.specs.Data.{Data, array, boolean, null, string, number, Num, Items, no_items, item}
 use Rattle.serde_json.specs.Find.{as_array}
 use Rattle.serde_json.specs.Read.{of_json, of_items, number_of}
 use Rattle.xet_base.specs.declared.stored.StoredTerm.{StoredTerm}
@@ -18,6 +18,12 @@ reads_string depth text rest = record { found = json.string text; reads = value_
 
 pub reads_number : (depth : ℕ) (text : List ℕ) (n : Num) (rest : List Token) → number_of text ≡ Some n → ReadsValue depth (Token.number text ∷ rest) (number n) rest
 reads_number depth text n rest e = record { found = json.number text; reads = value_is depth (Token.number text ∷ rest); is = rw e refl }
+
+pub reads_boolean : (depth : ℕ) (b : Bool) (rest : List Token) → ReadsValue depth (Token.boolean b ∷ rest) (boolean b) rest
+reads_boolean depth b rest = record { found = json.boolean b; reads = value_is depth (Token.boolean b ∷ rest); is = refl }
+
+pub reads_null : (depth : ℕ) (rest : List Token) → ReadsValue depth (Token.null ∷ rest) null rest
+reads_null depth rest = record { found = json.null; reads = value_is depth (Token.null ∷ rest); is = refl }
 
 pub reads_array : (depth : ℕ) (before after : List Token) (ds : Items) → 0 < depth → ReadsItems (depth - 1) before ds after → ReadsValue depth (Token.begin_array ∷ before) (array ds) after
 reads_array depth before after ds some e = record {

@@ -5,7 +5,9 @@ mod DigitPairs
 mod DocumentChunks
 mod DocumentMembers
 mod DocumentTerms
+mod Floats
 mod HashDigits
+mod Kept
 mod Leads
 mod Listings
 mod Objects

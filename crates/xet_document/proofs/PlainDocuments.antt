@@ -1,11 +1,10 @@
--- A document with two keys, and the store that it lists.
-use Rattle.std.proofs.Common.{◌≡◌, ℕ, ◌<◌, List, [], ◌∷◌, false, codes, length, map, refl, ◌∙◌, ap, arith}
-use Rattle.std.specs.Prelude.{Option, Some, None, Result, Ok, Err, IfOk, IsUtf8, option_and_then, option_map}
+-- A document, and the store that it lists.
+use Rattle.std.proofs.Common.{◌≡◌, ℕ, List, [], ◌∷◌, ◌∙◌, codes, false, true, inl, inr, map, refl, ap, sym, subst, arith}
+use Rattle.std.specs.Prelude.{◌⊎◌, Option, Some, None, IsUtf8, MatchOption, option_and_then, option_map}
 use Rattle.json.specs.Token.{Token}
 use Rattle.json.specs.Lex.{tokens}
-use Rattle.json.specs.Json.{read_key}
-use Rattle.serde_json.specs.Data.{Data, null, boolean, number, string, array, object, Num, unsigned, negative, float, Items, no_items, item, Members, no_members, member, put}
-use Rattle.serde_json.specs.Find.{as_array, as_str, as_u64}
+use Rattle.serde_json.specs.Data.{Data, null, boolean, number, string, array, object, Num, unsigned, negative, float, Items, no_items, item, Members, no_members, member}
+use Rattle.serde_json.specs.Find.{as_array, as_object, as_str, as_u64, get_member}
 use Rattle.serde_json.specs.Read.{read}
 use Rattle.serde_json.specs.Written.{has_float, items_have_float, members_have_float}
 use Rattle.xet_base.specs.HashText.{hash_of_text}
@@ -13,15 +12,16 @@ use Rattle.xet_base.specs.declared.mdb_shard.Xorb.{Xorb}
 use Rattle.xet_base.specs.declared.stored.StoredFile.{StoredFile}
 use Rattle.xet_base.specs.declared.stored.StoredTerm.{StoredTerm}
 use Rattle.xet_base.specs.Store.{Store, IsValid}
-use Rattle.xet_document.specs.Document.{HasStore, chunk_of, chunks_of_items, file_of_member, files_of_members, number_of_data, term_of_items, terms_of_items, xorb_of_member, xorbs_of_members}
+use Rattle.xet_document.specs.Document.{HasStore, NoStore, chunk_of, chunks_of_items, file_of_member, files_of_members, listed_store, number_of_data, term_of_items, terms_of_items, xorb_of_member, xorbs_of_members}
 use Rattle.xet_document.specs.declared.joined_chunks.JoinedChunks.{JoinedChunks}
 use Rattle.xet_document.specs.declared.joined_chunks.XorbPlace.{XorbPlace}
 use Rattle.xet_document.specs.declared.plain_files.ListedFile.{ListedFile}
+use Rattle.xet_document.specs.declared.plain_store.Found.{Found}
 use Rattle.xet_document.specs.declared.plain_store.Listed.{Listed}
-use Rattle.xet_document.specs.steps.AddedMembers.{no_store}
+use Rattle.xet_document.specs.steps.AddedMembers.{no_store, with_files, with_xorbs}
 use Rattle.xet_document.specs.steps.Placed.{placed_xorb}
-use Rattle.xet_document.specs.steps.Reads.{IsRead, Lists, ListsFile, ListsXorb, ReadsMembers, document_of, stored_file, with_listed}
-use Rattle.xet_document.proofs.Objects.{reads_object, no_members_yet, member_more, members_read}
+use Rattle.xet_document.specs.steps.Reads.{IsFound, IsRead, Lists, ListsFile, ListsXorb, ReadsMembers, Takes, stored_file, stored_files, stored_xorbs}
+use Rattle.xet_document.proofs.Objects.{reads_object}
 
 -- ---- what is listed
 
@@ -136,40 +136,74 @@ files_no_float (member k d ms) fs e =
     let rest = under _ (files_of_members ms) fs first.2 in
     rw (file_no_float k d first.0 first.1) (files_no_float ms rest.0 rest.1)
 
+-- what is listed has no float
+module _ {K : Type 0} (text_of : K → List ℕ) where
+  pub xorbs_free : (j : JoinedChunks) (ms : Members) (es : List (K × XorbPlace)) → Lists text_of (ListsXorb j) ms es → members_have_float ms ≡ false
+  xorbs_free j ms es h = xorbs_no_float ms _ (xorbs_listed text_of j ms es h)
+
+  pub files_free : (ms : Members) (es : List (K × ListedFile)) → Lists text_of ListsFile ms es → members_have_float ms ≡ false
+  files_free ms es h = files_no_float ms _ (files_listed text_of ms es h)
+
 -- ---- the whole
 
-in_order : (xs fs : Members) → object (put (codes "files") (object fs) (put (codes "xorbs") (object xs) no_members)) ≡ document_of xs fs
-in_order xs fs = refl
+same_data : (x y : Data) → ◌≡◌ {A = Option Data} (Some x) (Some y) → x ≡ y
+same_data x y e = cc
+
+same_store : (x y : Store) → ◌≡◌ {A = Option Store} (Some x) (Some y) → x ≡ y
+same_store x y e = cc
 
 -- the tokens of a document
-pub document_read : (text : List ℕ) (t u v w : List Token) (xs fs : Members) → tokens text ≡ Token.begin_object ∷ Token.key (codes "xorbs") ∷ Token.begin_object ∷ t
-    → ReadsMembers 125 t xs u → length u < length t → u ≡ Token.key (codes "files") ∷ Token.begin_object ∷ v
-    → ReadsMembers 125 v fs w → length w < length v → read_key w ≡ Some (None, []) → read text ≡ Some (document_of xs fs)
-document_read text t u v w xs fs opens xorbs less files_next files lesser over =
-    let inner = Token.key (codes "xorbs") ∷ Token.begin_object ∷ t in
-    let first = member_more 126 inner inner (Token.begin_object ∷ t) u no_members (codes "xorbs") (object xs) (no_members_yet 126 inner) refl (omega (arith, less)) (reads_object 126 t u xs (omega arith) xorbs) in
-    let next : read_key u ≡ Some (Some (codes "files"), Token.begin_object ∷ v) = ap read_key files_next in
-    let second = member_more 126 inner u (Token.begin_object ∷ v) w (put (codes "xorbs") (object xs) no_members) (codes "files") (object fs) first next (omega (arith, lesser)) (reads_object 126 v w fs (omega arith) files) in
-    let all = members_read 126 inner w [] (put (codes "files") (object fs) (put (codes "xorbs") (object xs) no_members)) second over in
-    let whole = reads_object 127 inner [] (put (codes "files") (object fs) (put (codes "xorbs") (object xs) no_members)) (omega arith) all.0 in
-    rw (opens, whole.reads) (whole.is ∙ ap Some (in_order xs fs))
+pub document_read : (text : List ℕ) (t : List Token) (ms : Members) → tokens text ≡ Token.begin_object ∷ t → ReadsMembers 126 t ms [] → read text ≡ Some (object ms)
+document_read text t ms opens e =
+    let whole = reads_object 127 t [] ms (omega arith) e in
+    rw (opens, whole.reads) whole.is
 
--- the store of what was read
-pub has_store : (text : List ℕ) (l : Listed) (s : Store) → IsUtf8 text → IsRead text l
-    → s.xorbs ≡ map (λ e. placed_xorb l.xorbs.joined.bytes.items l.xorbs.joined.ends.items e.1) l.xorbs.places.entries
-    → s.files ≡ map (λ e. stored_file e.1) l.files.entries → IsValid s → HasStore text s
-has_store text l s utf8 r xorbs files valid =
-    let xs = xorbs_listed (λ k. k.text.now) l.xorbs.joined r.xorb_members l.xorbs.places.entries r.xorbs in
-    let fs = files_listed (λ k. k.text.now) r.file_members l.files.entries r.files in record {
-      data_of = document_of r.xorb_members r.file_members;
-      reads = record { utf8 = utf8; value = r.reads };
-      store = record {
-        listed = rw (xs, fs, ← xorbs, ← files) refl;
-        no_float = rw (files_no_float r.file_members _ fs, xorbs_no_float r.xorb_members _ xs) refl;
-        valid = valid;
-      };
-    }
+abbrev no_store_of : List Xorb → Option Store
+no_store_of xs = None
 
-pub stored : {E : Type 0} (text : List ℕ) (l : Listed) (r : Result Store E) → IsUtf8 text → IsRead text l → IfOk r (λ s. s ≡ with_listed no_store l) → IfOk r IsValid → IfOk r (HasStore text)
-stored text l (Ok s) utf8 read added valid = has_store text l s utf8 read (ap (λ (w : Store). w.xorbs) added) (ap (λ (w : Store). w.files) added) valid
-stored text l (Err e) utf8 read added valid = tt
+-- where a key is missing the text is a document of no store
+lacks : (text : List ℕ) (ms : Members) (found : Found) → read text ≡ Some (object ms) → IsFound ms found → (found.xorbs ≡ None) ⊎ (found.files ≡ None) → NoStore text
+lacks text ms found reads is (inl none) s has =
+    let same : has.data_of ≡ object ms = same_data has.data_of (object ms) (sym has.reads.value ∙ reads) in
+    let absent : get_member (codes "xorbs") ms ≡ None = rw none at is.xorbs in
+    let listed : listed_store (object ms) ≡ Some s = rw same at has.store.listed in
+    nothing s (rw absent at listed)
+  where
+    nothing : (s : Store) → None ≡ Some s → ⊥
+    nothing s e = cc
+lacks text ms found reads is (inr none) s has =
+    let same : has.data_of ≡ object ms = same_data has.data_of (object ms) (sym has.reads.value ∙ reads) in
+    let absent : get_member (codes "files") ms ≡ None = rw none at is.files in
+    let listed : listed_store (object ms) ≡ Some s = rw same at has.store.listed in
+    nothing s (option_and_then xorbs_of_members (option_and_then as_object (get_member (codes "xorbs") ms))) (rw absent at listed)
+  where
+    nothing : (s : Store) (o : Option (List Xorb)) → option_and_then no_store_of o ≡ Some s → ⊥
+    nothing s None e = cc
+    nothing s (Some xs) e = cc
+
+-- where both were found it reads as a document with them
+pub both_read : (text : List ℕ) (found : Found) (o : Option Listed) (ms : Members) → MatchOption o ((found.xorbs ≡ None) ⊎ (found.files ≡ None)) (λ l. found ≡ record { xorbs = Some l.xorbs; files = Some l.files })
+    → read text ≡ Some (object ms) → IsFound ms found → MatchOption o (NoStore text) (IsRead text)
+both_read text found None ms none reads is = lacks text ms found reads is none
+both_read text found (Some l) ms same reads is = record { document = ms; reads = reads; found = subst (IsFound ms) same is }
+
+-- the store that it lists
+listed : (text : List ℕ) (l : Listed) (r : IsRead text l) → listed_store (object r.document) ≡ Some (with_files (with_xorbs no_store (stored_xorbs l.xorbs)) (stored_files l.files))
+listed text l r =
+    let own = r.found.xorbs in
+    let others = r.found.files in
+    let xs = xorbs_listed (λ k. k.text.now) l.xorbs.joined own.0 l.xorbs.places.entries own.2 in
+    let fs = files_listed (λ k. k.text.now) others.0 l.files.entries others.2 in
+    rw (own.1, others.1, xs, fs) refl
+
+-- the store of what was read, where it is valid
+pub stored : (text : List ℕ) (l : Listed) (o : Option Store) → IsUtf8 text → IsRead text l → MatchOption o (Takes no_store l false no_store) (Takes no_store l true) → MatchOption o (NoStore text) (HasStore text)
+stored text l None utf8 r refused = λ s has.
+    let same = same_data has.data_of (object r.document) (sym has.reads.value ∙ r.reads) in
+    let is = same_store s _ (sym (rw same at has.store.listed) ∙ listed text l r) in
+    refused (subst IsValid is has.store.valid)
+stored text l (Some s) utf8 r taken = record {
+  data_of = object r.document;
+  reads = record { utf8 = utf8; value = r.reads };
+  store = record { listed = listed text l r ∙ ap Some (sym taken.0); no_float = r.found.no_float; valid = taken.1 };
+}

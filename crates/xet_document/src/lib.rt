@@ -4,6 +4,7 @@
 #![tactic(auto)]
 
 mod hex_digits;
+mod ignored;
 mod joined_chunks;
 mod plain_files;
 mod plain_store;

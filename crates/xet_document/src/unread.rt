@@ -11,7 +11,7 @@ use xet_base::OutOfMemory;
 pub(crate) enum Unread {
     /// Memory was refused.
     OutOfMemory,
-    /// It hasn't the plain form, or it lists no valid store. The tree of its values tells.
+    /// A xorb or a file hasn't its form, a number isn't whole and of 64 bits, or it is no JSON. The tree tells.
     NotPlain,
 }
 

@@ -163,7 +163,7 @@ fn terms_of(
 }
 
 // Whether the store took what was added to it.
-fn was_added(answer: Result<(), StoreRefused>) -> Result<bool, OutOfMemory>
+pub(crate) fn was_added(answer: Result<(), StoreRefused>) -> Result<bool, OutOfMemory>
     ensures added { IfOk result (λ added. cond added (answer ≡ Ok tt)
         ((refused : StoreRefused) × (answer ≡ Err refused) × (refused ≢ StoreRefused.OutOfMemory))) }
     ensures memory { IfErr result (λ _. answer ≡ Err StoreRefused.OutOfMemory) }

@@ -43,3 +43,15 @@ no_store = record { xorbs = []; files = [] }
 abbrev pub IsStoreOf : Members → Members → Option Store → Type 0
 IsStoreOf xs fs None = AddsBoth no_store xs fs false no_store
 IsStoreOf xs fs (Some t) = AddsBoth no_store xs fs true t
+
+-- ---- the same of lists
+
+-- these xorbs were added, and the store is valid; or there is no valid store with them, whatever its files are
+abbrev pub TakesXorbs : Store → List Xorb → Bool → Store → Type 0
+TakesXorbs s xs true t = (t ≡ with_xorbs s xs) × IsValid t
+TakesXorbs s xs false t = (fs : List StoredFile) → IsValid (record (with_xorbs s xs) { files = fs }) → ⊥
+
+-- these files were added, and the store is valid; or there is no valid store with them
+abbrev pub TakesFiles : Store → List StoredFile → Bool → Store → Type 0
+TakesFiles s fs true t = (t ≡ with_files s fs) × IsValid t
+TakesFiles s fs false t = IsValid (with_files s fs) → ⊥

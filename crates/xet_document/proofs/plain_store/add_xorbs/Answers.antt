@@ -3,9 +3,9 @@ use Rattle.std.proofs.lemmas.List.Elements.{All-head, All-tail}
 use Rattle.xet_base.specs.Store.{IsValid}
 use Rattle.xet_document.specs.steps.AddedMembers.{with_xorbs}
 use Rattle.xet_document.specs.steps.Placed.{IsPlaced, placed_xorb}
-use Rattle.xet_document.proofs.Adding.{no_xorbs, xorb_then}
+use Rattle.xet_document.proofs.Adding.{no_xorbs, xorb_stops, xorb_then}
+use Rattle.xet_document.proofs.DocumentMembers.{why_refused}
 use Rattle.xet_document.proofs.StoreRefusals.{valid_after_xorb}
-use Rattle.std.proofs.lemmas.Result.{IfOk-from_err}
 use Rattle.xet_document.proofs.plain_store.add_xorbs.Goals as goal
 
 pub xorb_at-requires : goal.xorb_at-requires
@@ -15,6 +15,18 @@ xorb_at-requires c =
     rw (c.in_ok-bytes.ensures.ok, c.as_slice.ensures.value)
     (All-head (λ e. IsPlaced own.bytes.items own.ends.items e.1) (c.in-Some.field-0-0, c.in-Some.place) c.next.new.self placed)
 
+pub returns-then-not-branch : goal.returns-then-not-branch
+returns-then-not-branch c =
+    let l = c.loop-place in
+    let own = c.args.xorbs.joined in
+    let xorb = placed_xorb own.bytes.items own.ends.items c.in-Some.place in
+    let made : c.in_ok-xorb.xorb ≡ xorb = rw (c.in_ok-bytes.ensures.ok, c.as_slice.ensures.value) at c.in_ok-xorb.ensures in
+    let not_added = rw c.if-not-branch.true at c.in_ok-was_added.ensures.added in
+    let why = why_refused _ _ (rw made at c.add_joined.ensures.refused) not_added in
+    let more = ap (map (λ e. placed_xorb own.bytes.items own.ends.items e.1)) c.in-Some.ensures.steps in
+    let rest = map (λ e. placed_xorb own.bytes.items own.ends.items e.1) c.next.new.self in
+    xorb_stops c.args.store.now l.store _ xorb rest why.0 (l.invariant.left ∙ ap (with_xorbs l.store) more) why.1
+
 pub loop-place-preserved : goal.loop-place-preserved
 loop-place-preserved c =
     let l = c.loop-place in
@@ -22,7 +34,7 @@ loop-place-preserved c =
     let place = c.in-Some.place in
     let xorb = placed_xorb own.bytes.items own.ends.items place in
     let made : c.in_ok-xorb.xorb ≡ xorb = rw (c.in_ok-bytes.ensures.ok, c.as_slice.ensures.value) at c.in_ok-xorb.ensures in
-    let added : c.add_joined.result ≡ Ok tt = c.in_ok-taken.ensures.taken in
+    let added : c.add_joined.result ≡ Ok tt = rw c.if-not-branch.false at c.in_ok-was_added.ensures.added in
     let now = rw (added, made) at c.add_joined.ensures.added in
     let accepted = rw (added, made) at c.add_joined.ensures.accepted in
     let more = ap (map (λ e. placed_xorb own.bytes.items own.ends.items e.1)) c.in-Some.ensures.steps in
@@ -35,20 +47,8 @@ loop-place-preserved c =
       valid = subst IsValid (sym now) (valid_after_xorb l.store xorb l.invariant.valid accepted);
     }
 
-pub returns-clause-added : goal.returns-clause-added
-returns-clause-added c =
+pub returns : goal.returns
+returns c =
     let l = c.loop-place in
     let own = c.args.xorbs.joined in
-    sym (l.invariant.left ∙ ap (λ ps. with_xorbs l.store (map (λ e. placed_xorb own.bytes.items own.ends.items e.1) ps)) c.in-None.ensures.steps.0 ∙ no_xorbs l.store)
-
-pub returns-in_err-bytes : goal.returns-in_err-bytes
-returns-in_err-bytes c = record { added = IfOk-from_err _ _ c.from_residual.ensures.0; valid = IfOk-from_err _ _ c.from_residual.ensures.0 }
-
-pub returns-in_err-xorb : goal.returns-in_err-xorb
-returns-in_err-xorb c = record { added = IfOk-from_err _ _ c.from_residual-in_err-xorb.ensures.0; valid = IfOk-from_err _ _ c.from_residual-in_err-xorb.ensures.0 }
-
-pub returns-in_err-taken : goal.returns-in_err-taken
-returns-in_err-taken c = record { added = IfOk-from_err _ _ c.from_residual-in_err-taken.ensures.0; valid = IfOk-from_err _ _ c.from_residual-in_err-taken.ensures.0 }
-
-pub returns-clause-valid : goal.returns-clause-valid
-returns-clause-valid c = c.loop-place.invariant.valid
+    (sym (l.invariant.left ∙ ap (λ ps. with_xorbs l.store (map (λ e. placed_xorb own.bytes.items own.ends.items e.1) ps)) c.in-None.ensures.steps.0 ∙ no_xorbs l.store), l.invariant.valid)
