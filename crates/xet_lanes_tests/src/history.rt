@@ -7,7 +7,7 @@ use std::sync::Wait;
 use std::sync::ledger::{Blank, Ledger};
 use xet_base::{List, MerkleHash, OutOfMemory};
 use xet_error::FileReconstructionError;
-use xet_run::{CallLog, KeptCalls, RunCall, RunError, RunPass, RunState, ToldCalls};
+use xet_run::{CallLog, KeptCalls, RunCall, RunError, RunPass, RunState};
 
 /// Calls, a letter each: a small one by the run's first pass, and a great one by the pass that is split from it.
 const CALLS: &str = "iUeTtsCBR";
@@ -127,25 +127,8 @@ fn kept_calls<L: Ledger, R: Wait>(
     Ok((made, state.close(pass)))
 }
 
-/// The calls of a run that keeps none, as the passes tell them.
-fn told_calls<L: Ledger, R: Wait>(
-    rt: &R,
-    alloc: Global,
-    blank: Blank,
-) -> Result<Vec<RunCall>, OutOfMemory>
-    requires name { blank.name ≡ L.name }
-    requires parts { (blank.parts ≡ L.parts) × (L.parts ≡ 2 ^ 32) }
-{
-    let (state, mut pass) = RunState::<L, ToldCalls>::new(alloc, blank, MerkleHash([1; 32]))?;
-    Ok(told_of(rt, alloc, &state, &mut pass))
-}
-
 fn kept_run<R: Wait>(rt: &R, alloc: Global) -> Result<(Vec<RunCall>, List<RunCall>), OutOfMemory> {
     kept_calls::<Brand, R>(rt, alloc, Blank::new(1 << 32))
-}
-
-fn told_run<R: Wait>(rt: &R, alloc: Global) -> Result<Vec<RunCall>, OutOfMemory> {
-    told_calls::<Brand, R>(rt, alloc, Blank::new(1 << 32))
 }
 
 #[test]
@@ -155,14 +138,6 @@ fn a_run_keeps_its_calls(rt: HostRuntime) {
             assert!(rt; made.as_slice() == HISTORY.as_slice());
             assert!(rt; kept.as_slice() == HISTORY.as_slice());
         }
-        Err(_) => panic!(rt; "memory"),
-    }
-}
-
-#[test]
-fn a_run_that_keeps_no_calls_answers_the_same(rt: HostRuntime) {
-    match told_run(&rt, rt.alloc()) {
-        Ok(made) => assert!(rt; made.as_slice() == HISTORY.as_slice()),
         Err(_) => panic!(rt; "memory"),
     }
 }

@@ -3,8 +3,6 @@ use crate::rows::{comes_to, cut, put};
 use crate::scripts::played;
 use crate::sinks::{Unflushed, Watched, sink_of};
 use std::alloc::Global;
-use xet_sinks::VecSink;
-use xet_writers::{SequentialWriter, laws};
 
 /// Whether a write is handed one piece or up to 24; what the writes of the sink do; and the calls. Their answers, the
 /// bytes that the sink took, the pieces and the bytes of its first six writes, its flushes, and its empty pieces.
@@ -135,15 +133,4 @@ fn admissions_after_a_failed_flush(rt: HostRuntime) {
         let told = told_unflushed(rt.alloc(), use_vectorized);
         comes_to(&rt, "a failed flush", told, ";IoError;IoError;50151;1");
     }
-}
-
-#[test]
-fn laws_answer(rt: HostRuntime) {
-    let alloc = rt.alloc();
-    laws::ready_with_one_more();
-    let one = SequentialWriter::new(alloc, VecSink::new(alloc), true);
-    let mut one = laws::writer_is_sent(one);
-    let mut other = SequentialWriter::new(alloc, VecSink::new(alloc), false);
-    let answers = laws::loops_append_the_same(alloc, &mut one, &mut other);
-    assert!(rt; answers.0 == Ok(0) && answers.1 == Ok(0));
 }

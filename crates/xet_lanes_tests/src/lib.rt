@@ -1,7 +1,6 @@
-//! Tests of `xet_claims`, `xet_events`, `xet_run`, `xet_writers` and `xet_lanes`: numbers that two threads draw, the
-//! calls of a run, limits that follow the running downloads, both writers with both loops; that lanes run side by
-//! side, beside the writing, and stop one another, and what a gate is told and when. They stand in a crate of their
-//! own, since a crate with tests is proved twice.
+//! Tests of `xet_events`, `xet_run`, `xet_writers` and `xet_lanes`: the calls of a run, limits that follow the running
+//! downloads, both writers with both loops; that lanes run side by side, beside the writing, and stop one another, and
+//! what a gate is told and when. They stand in a crate of their own, since a crate with tests is proved twice.
 #![tactic(auto)]
 
 #[cfg(test)]
@@ -10,8 +9,6 @@ mod books;
 mod by_completion;
 #[cfg(test)]
 mod calls;
-#[cfg(test)]
-mod claims;
 #[cfg(test)]
 mod drawn;
 #[cfg(test)]
@@ -24,8 +21,6 @@ mod in_order;
 mod meeting;
 #[cfg(test)]
 mod one_byte;
-#[cfg(test)]
-mod over_std;
 #[cfg(test)]
 mod rounds;
 #[cfg(test)]
