@@ -11,13 +11,13 @@ use std::sync::{Arc, Wait};
 use xet_base::{MerkleHash, OutOfMemory, UniqueID};
 use xet_progress::{
     CompletionTracker, FileXorbDependency, GroupProgress, ProgressError, TrackerCall, TrackerPass,
-    TrackerReply,
+    TrackerReply, TrackerStep,
 };
 
 /// How many bytes to be transferred the group has before; the calls by one pass, and those by another. `grower` is a
 /// file that grows, a xorb goes by the byte of its hash, and dependencies in one list have a `+` between them. Then the
 /// replies; the group's completed and all bytes, its transferred bytes and those to be transferred; the parts and the
-/// calls of both passes, and whether the replies were kept.
+/// calls of both passes, and whether the calls and the replies were kept.
 const TRACKERS: &str = "\
 0|file 110;file 60;status;complete;ext 0 1 110;status;complete|dep 1 2 60;status;done 2;xorb 2 60;done \
 2;status;complete;missing: FileId(0) FileId(1) Sums { completed: 0, total: 170 } Flag(false) Done Sums { completed: \
@@ -275,22 +275,118 @@ fn show_replies(history: &[TrackerCall], told: &mut String) {
 }
 
 /// Whether these are the kept replies.
-fn is_kept(alloc: Global, history: &[TrackerCall], replies: &str) -> bool {
+fn are_kept(alloc: Global, history: &[TrackerCall], replies: &str) -> bool {
     let mut kept = String::new(alloc);
     show_replies(history, &mut kept);
     kept.as_str() == replies
 }
 
-/// Shows the sums of the group, what the passes count, and whether the replies were kept.
+/// Writes a dependency as a row has it.
+fn spell_dependency(out: &mut String, part: &FileXorbDependency) {
+    let word = if part.is_external { "ext" } else { "dep" };
+    let (file, xorb, bytes) = (part.file_id, xorb_number(&part.xorb_hash), part.n_bytes);
+    let _ = write!(out, "{word} {file} {xorb} {bytes}");
+}
+
+/// Writes dependencies as a row has them.
+fn spell_dependencies(out: &mut String, dependencies: &[FileXorbDependency]) {
+    for (number, part) in dependencies.iter().enumerate() {
+        if number > 0 {
+            let _ = out.push_str("+");
+        }
+        spell_dependency(out, part);
+    }
+}
+
+/// Writes a call on a file or a xorb as a row has it.
+fn spell(out: &mut String, word: &str, first: u64, bytes: u64) {
+    let _ = write!(out, "{word} {first} {bytes}");
+}
+
+/// The number of a xorb.
+fn xorb_number(xorb: &MerkleHash) -> u64 {
+    u64::from(xorb.0[0])
+}
+
+/// Writes a call as a row has it.
+fn spell_call(out: &mut String, step: &TrackerStep) {
+    match step {
+        TrackerStep::RegisterNewFile { n_bytes: None } => {
+            let _ = out.push_str("grower");
+        }
+        TrackerStep::RegisterNewFile { n_bytes: Some(n) } => {
+            let _ = write!(out, "file {n}");
+        }
+        TrackerStep::IncrementFileSize {
+            file_id,
+            size_increment,
+        } => spell(out, "grow", *file_id, *size_increment),
+        TrackerStep::RegisterNewXorb {
+            xorb_hash,
+            xorb_size,
+        } => spell(out, "xorb", xorb_number(xorb_hash), *xorb_size),
+        TrackerStep::RegisterDependencies { dependencies } => {
+            spell_dependencies(out, dependencies.as_slice())
+        }
+        TrackerStep::RegisterXorbUploadCompletion { xorb_hash } => {
+            let _ = write!(out, "done {}", xorb_number(xorb_hash));
+        }
+        TrackerStep::RegisterXorbUploadProgress {
+            xorb_hash,
+            new_byte_progress,
+        } => spell(out, "progress", xorb_number(xorb_hash), *new_byte_progress),
+        TrackerStep::RegisterXorbUploadProgressBackground {
+            xorb_hash,
+            new_byte_progress,
+        } => spell(
+            out,
+            "background",
+            xorb_number(xorb_hash),
+            *new_byte_progress,
+        ),
+        TrackerStep::Status => {
+            let _ = out.push_str("status");
+        }
+        TrackerStep::IsComplete => {
+            let _ = out.push_str("complete");
+        }
+        TrackerStep::AssertComplete => {
+            let _ = out.push_str("missing");
+        }
+    }
+}
+
+/// Writes calls as a row has them, each with an end.
+fn spell_each(out: &mut String, history: &[TrackerCall]) {
+    for call in history {
+        spell_call(out, &call.step);
+        let _ = out.push_str(";");
+    }
+}
+
+/// Whether these are the kept calls.
+fn are_asked(alloc: Global, history: &[TrackerCall], calls: &str) -> bool {
+    let mut kept = String::new(alloc);
+    spell_each(&mut kept, history);
+    let (calls, others) = cut(calls, "|");
+    let kept = kept.as_str();
+    match kept.strip_prefix(calls) {
+        Some(rest) => rest.strip_prefix(';').unwrap_or("").strip_suffix(';') == Some(others),
+        None => false,
+    }
+}
+
+/// Shows the sums of the group, what the passes count, and whether the calls and the replies were kept.
 fn show_end<R: Wait>(
     rt: &R,
     alloc: Global,
     group: &GroupProgress,
     counts: (u64, u64),
     history: &[TrackerCall],
+    calls: &str,
     told: &mut String,
 ) {
-    let kept = is_kept(alloc, history, told.as_str());
+    let kept = are_kept(alloc, history, told.as_str()) && are_asked(alloc, history, calls);
     show(told, &sums(group.report(rt)));
     show(told, &(counts.0, counts.1, kept));
 }
@@ -320,7 +416,7 @@ fn ended<L: Ledger, R: Wait>(
     pass.gather(other);
     let counts = (pass.parts(), pass.calls());
     let history = tracker.close(pass);
-    show_end(rt, alloc, group, counts, history.as_slice(), told);
+    show_end(rt, alloc, group, counts, history.as_slice(), calls, told);
 }
 
 /// Makes the calls on a tracker of a group. The calls are no `&str`, since a call that picks a ledger has none.

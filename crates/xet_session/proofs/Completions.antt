@@ -15,8 +15,9 @@ use Rattle.xet_session.specs.Calls.{Backs, CountsSent, Cut, CutPut, CutStill, Cu
 use Rattle.xet_session_parts.specs.Thresholds.{FitTogether, waiting_bytes}
 use Rattle.xet_session.specs.Completions.{TakesFile, with_file_counts, with_waiting}
 use Rattle.xet_session.specs.Sessions.{HasListed, IsListed, SessionTold, known_of, waiting_names}
-use Rattle.xet_session.proofs.Ends.{backs-kept, ordered-grown, says-none}
-use Rattle.xet_session.proofs.Keeping.{keeps-both, keeps-counted, keeps-refl, keeps-still}
+use Rattle.xet_session.proofs.Ends.{backs-kept, ordered-grown, says-none, waits-same}
+use Rattle.xet_session_parts.specs.Storable.{IsStorable}
+use Rattle.xet_session.proofs.Keeping.{keeps-both, keeps-counted, keeps-refl, keeps-still, repeats-same}
 use Rattle.xet_session.proofs.Listing.{names-merged}
 
 -- a failure that is kept stays, so none was kept before
@@ -60,7 +61,7 @@ names-aside b a m w v now answer h e is k f g =
     let P : SessionTold → Type 0 = λ z. Cut z m now answer in
     let cut : Cut (with_waiting b w) m now answer = subst P e k in
     let before = unfailed (with_waiting b w) m cut.keeps.failed f in
-    let listed = h before (sym cut.keeps.finalized ∙ g) in
+    let listed = h.all before (sym cut.keeps.finalized ∙ g) in
     let Q : Waiting → Type 0 = λ z. All (Contains m.listed) (waiting_names z.files) in
     subst Q (sym is) (all-lists b m (cut-lists (with_waiting b w) m now answer cut) (waiting_names b.waiting.files) listed.waiting)
 
@@ -72,7 +73,7 @@ names-after b m w now answer h k f g =
 -- ---- the exits
 
 keeps-waiting : (b : SessionTold) (w : Waiting) → Keeps b (with_waiting b w)
-keeps-waiting b w = keeps-still b (with_waiting b w) refl refl refl refl refl refl
+keeps-waiting b w = keeps-still b (with_waiting b w) refl refl refl refl refl refl (repeats-same b (with_waiting b w) refl)
 
 counts-none : (b n : SessionTold) → n.metrics ≡ b.metrics → CountsSent b n
 counts-none b n e = e ∙ sym (ap (λ (m : DeduplicationMetrics). record b.metrics { xorb_bytes_uploaded = m.xorb_bytes_uploaded }) e)
@@ -83,11 +84,12 @@ cut-unfailed b m now (Ok u) k = k.unfailed ∙ sym (unfailed b m k.keeps.failed 
 cut-unfailed b m now (Err e) k = tt
 
 -- both fit
-pub took-joined : (b n : SessionTold) (w : Waiting) (now : ℕ) → FitTogether b.thresholds b.waiting w → n ≡ with_waiting b (merged b.waiting w) → TakesFile b n w now (Ok tt)
-took-joined b n w now fits e =
+pub took-joined : (b n : SessionTold) (w : Waiting) (now : ℕ) → IsStorable w.chunks → FitTogether b.thresholds b.waiting w → n ≡ with_waiting b (merged b.waiting w) → TakesFile b n w now (Ok tt)
+took-joined b n w now s fits e =
     let P : SessionTold → Type 0 = λ z. TakesFile b z w now (Ok tt) in
     subst P (sym e) (record {
       keeps = keeps-waiting b (merged b.waiting w);
+      storable = s;
       listed = λ a l f. record { finished = l.finished; waiting = names-merged b.listed b.waiting w l.waiting a; put = l.put };
       exits = inl (record { fits = fits; ok = refl; err = tt });
       counts = refl;
@@ -96,9 +98,10 @@ took-joined b n w now fits e =
       why = tt;
     })
 
-pub took-unjoined : (b n : SessionTold) (w : Waiting) (now : ℕ) (e : DataError) → FitTogether b.thresholds b.waiting w → n ≡ b → e ≡ data_error.OutOfMemory → TakesFile b n w now (Err e)
-took-unjoined b n w now e fits is why = record {
+pub took-unjoined : (b n : SessionTold) (w : Waiting) (now : ℕ) (e : DataError) → IsStorable w.chunks → FitTogether b.thresholds b.waiting w → n ≡ b → e ≡ data_error.OutOfMemory → TakesFile b n w now (Err e)
+took-unjoined b n w now e s fits is why = record {
   keeps = keeps-refl b n is;
+  storable = s;
   listed = λ a l f. subst (λ (z : SessionTold). IsListed z) (sym is) l;
   exits = inl (record { fits = fits; ok = tt; err = is });
   counts = counts-none b n (ap (λ (z : SessionTold). z.metrics) is);
@@ -108,14 +111,15 @@ took-unjoined b n w now e fits is why = record {
 }
 
 -- the file's data was cut, and what waited waits on
-pub took-cut : (b a m n : SessionTold) (w v : Waiting) (now : ℕ) (answer : Result (Unit {0}) DataError) → (FitTogether b.thresholds b.waiting w → ⊥) → waiting_bytes b.waiting ≤ waiting_bytes w → a ≡ with_waiting b w → Cut a m now answer → n ≡ with_waiting m v → v ≡ b.waiting → TakesFile b n w now answer
-took-cut b a m n w v now answer passes larger before k same is =
+pub took-cut : (b a m n : SessionTold) (w v : Waiting) (now : ℕ) (answer : Result (Unit {0}) DataError) → IsStorable w.chunks → (FitTogether b.thresholds b.waiting w → ⊥) → waiting_bytes b.waiting ≤ waiting_bytes w → a ≡ with_waiting b w → Cut a m now answer → n ≡ with_waiting m v → v ≡ b.waiting → TakesFile b n w now answer
+took-cut b a m n w v now answer s passes larger before k same is =
     let C : SessionTold → Type 0 = λ z. Cut z m now answer in
     let cut : Cut (with_waiting b w) m now answer = subst C before k in
     let now_is : n ≡ with_waiting m b.waiting = same ∙ ap (with_waiting m) is in
     let P : SessionTold → Type 0 = λ z. TakesFile b z w now answer in
     subst P (sym now_is) (record {
       keeps = keeps-both b m (with_waiting m b.waiting) (keeps-both b (with_waiting b w) m (keeps-waiting b w) cut.keeps) (keeps-waiting m b.waiting);
+      storable = s;
       listed = λ a l f.
           let after = cut.listed (record { finished = l.finished; waiting = a; put = l.put }) f in
           record { finished = after.finished; waiting = all-lists b m (cut-lists (with_waiting b w) m now answer cut) (waiting_names b.waiting.files) l.waiting; put = after.put };
@@ -127,11 +131,12 @@ took-cut b a m n w v now answer passes larger before k same is =
     })
 
 -- what waited was cut, and the file's data waits
-pub took-after : (b m n : SessionTold) (w : Waiting) (now : ℕ) (u : Unit {0}) → (FitTogether b.thresholds b.waiting w → ⊥) → waiting_bytes w < waiting_bytes b.waiting → Cut b m now (Ok u) → n ≡ with_waiting m w → TakesFile b n w now (Ok tt)
-took-after b m n w now u passes larger cut same =
+pub took-after : (b m n : SessionTold) (w : Waiting) (now : ℕ) (u : Unit {0}) → IsStorable w.chunks → (FitTogether b.thresholds b.waiting w → ⊥) → waiting_bytes w < waiting_bytes b.waiting → Cut b m now (Ok u) → n ≡ with_waiting m w → TakesFile b n w now (Ok tt)
+took-after b m n w now u s passes larger cut same =
     let P : SessionTold → Type 0 = λ z. TakesFile b z w now (Ok tt) in
     subst P (sym same) (record {
       keeps = keeps-both b m (with_waiting m w) cut.keeps (keeps-waiting m w);
+      storable = s;
       listed = λ a l f.
           let after = cut.listed l f in
           record { finished = after.finished; waiting = all-lists b m (cut-lists b m now (Ok u) cut) (waiting_names w.files) a; put = after.put };
@@ -143,9 +148,10 @@ took-after b m n w now u passes larger cut same =
     })
 
 -- the cut of what waited failed
-pub took-uncut : (b n : SessionTold) (w : Waiting) (now : ℕ) (e : DataError) → (FitTogether b.thresholds b.waiting w → ⊥) → waiting_bytes w < waiting_bytes b.waiting → Cut b n now (Err e) → TakesFile b n w now (Err e)
-took-uncut b n w now e passes larger cut = record {
+pub took-uncut : (b n : SessionTold) (w : Waiting) (now : ℕ) (e : DataError) → IsStorable w.chunks → (FitTogether b.thresholds b.waiting w → ⊥) → waiting_bytes w < waiting_bytes b.waiting → Cut b n now (Err e) → TakesFile b n w now (Err e)
+took-uncut b n w now e s passes larger cut = record {
   keeps = cut.keeps;
+  storable = s;
   listed = λ a l f. cut.listed l f;
   exits = inr (inr (record { passes = passes; larger = larger; middle = n; cut = cut; ok = tt; err = refl }));
   counts = cut.counts;
@@ -155,12 +161,15 @@ took-uncut b n w now e passes larger cut = record {
 }
 
 -- a backed session stays backed
-pub backs-taken : (b n : SessionTold) (w : Waiting) (now : ℕ) (answer : Result (Unit {0}) DataError) → HasListed b → (b.failed ≡ None → b.finalized ≡ false → All (Contains b.listed) (waiting_names w.files)) → TakesFile b n w now answer → Backs b n
-backs-taken b n w now answer h named k = record {
-  listed = λ f g.
-      let e = unfailed b n k.keeps.failed f in
-      let d = sym k.keeps.finalized ∙ g in
-      k.listed (named e d) (h e d) f;
+pub backs-taken : (b n : SessionTold) (w : Waiting) (now : ℕ) (answer : Result (Unit {0}) DataError) → HasListed b → (b.failed ≡ None → b.finalized ≡ false → All (Contains b.listed) (waiting_names w.files)) → TakesFile b n w now answer → IsStorable n.waiting.chunks → Backs b n
+backs-taken b n w now answer h named k s = record {
+  listed = record {
+    all = λ f g.
+        let e = unfailed b n k.keeps.failed f in
+        let d = sym k.keeps.finalized ∙ g in
+        k.listed (named e d) (h.all e d) f;
+    waits = s;
+  };
   backed = λ t s f g. k.keeps.stands t (s (unfailed b n k.keeps.failed f) (sym k.keeps.finalized ∙ g));
   ordered = λ t s. ordered-grown b n (known_of b) (k.keeps.grew t);
 }
@@ -170,9 +179,9 @@ backs-taken b n w now answer h named k = record {
 pub keeps-merged : (b n : SessionTold) (c : DeduplicationMetrics) → n ≡ record b { metrics = with_file_counts b.metrics c } → Keeps b n
 keeps-merged b n c e =
     let P : SessionTold → Type 0 = λ z. Keeps b z in
-    subst P (sym e) (keeps-counted b (record b { metrics = with_file_counts b.metrics c }) refl refl refl refl refl refl)
+    subst P (sym e) (keeps-counted b (record b { metrics = with_file_counts b.metrics c }) refl refl refl refl refl refl (repeats-same b (record b { metrics = with_file_counts b.metrics c }) refl))
 
 pub backs-merged : (b n : SessionTold) (c : DeduplicationMetrics) → HasListed b → n ≡ record b { metrics = with_file_counts b.metrics c } → Backs b n
 backs-merged b n c h e =
     let P : SessionTold → Type 0 = λ z. IsListed z in
-    backs-kept b n h (keeps-merged b n c e) (λ l f. subst P (sym e) (record { finished = l.finished; waiting = l.waiting; put = l.put }))
+    backs-kept b n h (keeps-merged b n c e) (λ l f. subst P (sym e) (record { finished = l.finished; waiting = l.waiting; put = l.put })) (waits-same b n h (ap (λ (t : SessionTold). t.waiting) e))

@@ -1,5 +1,5 @@
 -- The exits of a cut, and those of a call that is given a xorb.
-use Rattle.std.proofs.Common.{◌≡◌, ℕ, ◌<◌, ◌⊎◌, inl, inr, true, false, List, [], ◌∷◌, ◌++◌, length, map, refl, sym, ◌∙◌, ap, subst, arith}
+use Rattle.std.proofs.Common.{◌≡◌, ℕ, zero, suc, ◌<◌, ◌⊎◌, inl, inr, true, false, List, [], ◌∷◌, ◌++◌, length, map, refl, sym, ◌∙◌, ap, subst, arith}
 use Rattle.std.specs.Prelude.{All, Contains, Option, Some, None, IfSome, IsSome, is_some, Result, Ok, Err, IfErr, OnOk, OnErr}
 use Rattle.std.specs.List.{AllZip}
 use Rattle.std.proofs.lemmas.Bool.{false≢true}
@@ -24,11 +24,12 @@ use Rattle.xet_upload.specs.declared.data_error.DataError.TheVariants as data_er
 use Rattle.xet_waiting.specs.declared.raw_xorb.PendingFile.{PendingFile}
 use Rattle.xet_waiting.specs.declared.raw_xorb.RawXorbData.{RawXorbData}
 use Rattle.xet_waiting.specs.declared.waiting.WaitingFile.{WaitingFile}
-use Rattle.xet_session.specs.Calls.{CountsSent, Cut, CutPut, Keeps, PutsFail, Recorded, Refuses, RegisterStopped, Registers, Says, StoresFail, WasPut, WasRefused, finalized_error, record_of_xorb, waiting_hash, waiting_records, without_waiting}
+use Rattle.xet_session.specs.Calls.{CountsSent, Cut, CutPut, CutRepeated, Keeps, PutsFail, Recorded, Refuses, RegisterStopped, Registers, RepeatsGrow, Says, StoresFail, WasPut, WasRefused, finalized_error, record_of_xorb, waiting_hash, waiting_records, with_repeated, without_waiting}
 use Rattle.xet_session.specs.Trackings.{IsRefusal}
 use Rattle.xet_session.specs.Sessions.{HasListed, IsListed, SessionTold, log_of, waiting_names}
-use Rattle.xet_session.specs.steps.SessionSteps.{AddedRecord, PutFinished, PutGiven, PutRaw, TookWaiting, with_sent}
-use Rattle.xet_session.proofs.Keeping.{keeps-added, keeps-both, keeps-put, keeps-refl, keeps-still, keeps-unput, put-why}
+use Rattle.xet_session.specs.steps.SessionSteps.{AddedRecord, PutFinished, PutGiven, PutRaw, Repeats, TookWaiting, with_sent}
+use Rattle.xet_session_parts.specs.Storable.{IsStorable}
+use Rattle.xet_session.proofs.Keeping.{keeps-added, keeps-both, keeps-put, keeps-refl, keeps-still, keeps-unput, put-why, repeats-same}
 use Rattle.xet_session.proofs.Recording.{described-is, record-unnoted, recorded-is}
 use Rattle.xet_session.proofs.Sounding.{put-contained}
 use Rattle.xet_session.proofs.Listing.{AreFine, fine-empty, fine-known, listed-after, listed-more, names-listed}
@@ -136,7 +137,7 @@ module _ (b n1 n2 n : SessionTold) (x : Xorb) (h : MDBXorbInfo) (fs : List MDBFi
     put-finished =
         let stored = recorded-is n2.shards n.shards h now answer a.recorded in
         let one = keeps-put b n1 x u r in
-        let two = keeps-still n1 n2 (ap (λ (z : SessionTold). z.uploader) finishes) (ap (λ (z : SessionTold). z.shards) finishes) (ap (λ (z : SessionTold). z.listed) finishes) (ap (λ (z : SessionTold). z.metrics) finishes) (ap (λ (z : SessionTold). z.failed) finishes) (ap (λ (z : SessionTold). z.finalized) finishes) in
+        let two = keeps-still n1 n2 (ap (λ (z : SessionTold). z.uploader) finishes) (ap (λ (z : SessionTold). z.shards) finishes) (ap (λ (z : SessionTold). z.listed) finishes) (ap (λ (z : SessionTold). z.metrics) finishes) (ap (λ (z : SessionTold). z.failed) finishes) (ap (λ (z : SessionTold). z.finalized) finishes) (repeats-same n1 n2 (ap (λ (z : SessionTold). z.repeated) finishes)) in
         record {
           keeps = keeps-both b n1 n one (keeps-both n1 n2 n two (keeps-added n2 n x h answer a.same stored there was-put describes));
           ok = on_ok answer was;
@@ -226,10 +227,15 @@ module _ (b n : SessionTold) (x : Xorb) (fs : List MDBFileInfo) (now : ℕ) wher
 
 -- ---- the exits of a cut
 
+-- why nothing was put
+abbrev Still : SessionTold → SessionTold → Type 0
+Still b n = ((b.waiting.chunks ≡ []) × (n.repeated ≡ b.repeated)) ⊎ CutRepeated b n
+
 -- a put had failed
-pub cut-failed : (b : SessionTold) (now : ℕ) (e : ClientError) → b.failed ≡ Some e → Cut b b now (Err (of_client_error e))
-cut-failed b now e f = record {
+pub cut-failed : (b : SessionTold) (now : ℕ) (e : ClientError) → IsStorable b.waiting.chunks → b.failed ≡ Some e → Cut b b now (Err (of_client_error e))
+cut-failed b now e s f = record {
   keeps = keeps-refl b b refl;
+  storable = s;
   listed = λ l q. l;
   ok = tt;
   err = inl refl;
@@ -244,9 +250,10 @@ cut-failed b now e f = record {
 }
 
 -- there was no memory to take what waits
-pub cut-same : (b n : SessionTold) (now : ℕ) (e : OutOfMemory) → b.failed ≡ None → TookWaiting b n (Err e) → Cut b n now (Err data_error.OutOfMemory)
-cut-same b n now e sound took = record {
+pub cut-same : (b n : SessionTold) (now : ℕ) (e : OutOfMemory) → IsStorable b.waiting.chunks → b.failed ≡ None → TookWaiting b n (Err e) → Cut b n now (Err data_error.OutOfMemory)
+cut-same b n now e s sound took = record {
   keeps = keeps-refl b n took.err;
+  storable = s;
   listed = λ l q. subst (λ (z : SessionTold). IsListed z) (sym took.err) l;
   ok = tt;
   err = inl took.err;
@@ -260,7 +267,7 @@ cut-same b n now e sound took = record {
   why = inl (inl (inl refl));
 }
 
-module _ (b t n : SessionTold) (now : ℕ) (r : RawXorbData × List PendingFile) (took : TookWaiting b t (Ok r)) (sound : b.failed ≡ None) where
+module _ (b t n : SessionTold) (now : ℕ) (r : RawXorbData × List PendingFile) (storable : IsStorable b.waiting.chunks) (took : TookWaiting b t (Ok r)) (sound : b.failed ≡ None) where
   taken : t ≡ without_waiting b
   taken = took.ok
 
@@ -279,35 +286,69 @@ module _ (b t n : SessionTold) (now : ℕ) (r : RawXorbData × List PendingFile)
       subst (λ (z : MerkleHash). Contains b.registered z) hash (subst P (ap (λ (z : SessionTold). z.registered) taken) c)
 
   -- nothing was put
-  pub cut-still : (k : ℕ) → k ≡ length b.waiting.chunks → AreCounted (length b.waiting.chunks) b.waiting.files → n ≡ record t { finished = t.finished ++ map (λ p. p.info) r.1 } → (k ≡ 0) ⊎ Contains t.registered r.0.xorb.hash → Cut b n now (Ok tt)
-  cut-still k count counted is why =
-      let whole : n ≡ record b { waiting = no_waiting; finished = b.finished ++ waiting_records b } = is ∙ ap (λ (z : SessionTold). record z { finished = z.finished ++ map (λ p. p.info) r.1 }) taken ∙ ap (λ (fs : List MDBFileInfo). record b { waiting = no_waiting; finished = b.finished ++ fs }) files in
-      let listed : n.listed ≡ b.listed ++ [] = ap (λ (z : SessionTold). z.listed) whole ∙ none-more b.listed in
-      let registered : n.registered ≡ b.registered ++ [] = ap (λ (z : SessionTold). z.registered) whole ∙ none-more b.registered in
-      let finished : n.finished ≡ b.finished ++ waiting_records b = ap (λ (z : SessionTold). z.finished) whole in
-      let waiting : n.waiting ≡ no_waiting = ap (λ (z : SessionTold). z.waiting) whole in
-      record {
-        keeps = keeps-still b n (ap (λ (z : SessionTold). z.uploader) whole) (ap (λ (z : SessionTold). z.shards) whole) (ap (λ (z : SessionTold). z.listed) whole) (ap (λ (z : SessionTold). z.metrics) whole) (ap (λ (z : SessionTold). z.failed) whole) (ap (λ (z : SessionTold). z.finalized) whole);
-        listed = λ l q. listed-after b n [] listed (waiting_hash b) [] waiting finished (fine why l (ap (λ (z : SessionTold). z.listed) whole)) registered (All-nil (Contains n.listed)) l;
-        ok = inl (record { same = whole; reason = reason why });
-        err = tt;
-        emptied = waiting;
-        finished = finished;
-        counts = counts-same b n (ap (λ (z : SessionTold). z.metrics) whole);
-        unfailed = ap (λ (z : SessionTold). z.failed) whole ∙ sound;
-        idle = not-idle b sound;
-        said = says-none n (Ok tt) (ap (λ (z : SessionTold). z.failed) whole ∙ sound);
-        refused = λ g q. not-both b.failed g sound q;
-        why = tt;
-      }
+  pub cut-still : (k : ℕ) → k ≡ length b.waiting.chunks → AreCounted (length b.waiting.chunks) b.waiting.files → (m : SessionTold) → m ≡ record t { finished = t.finished ++ map (λ p. p.info) r.1 } → Repeats m n r.0.xorb → (k ≡ 0) ⊎ Contains t.registered r.0.xorb.hash → Cut b n now (Ok tt)
+  cut-still k count counted m is told why = made (because (length b.waiting.chunks) refl (reason why))
     where
       reason : (k ≡ 0) ⊎ Contains t.registered r.0.xorb.hash → (b.waiting.chunks ≡ []) ⊎ Contains b.registered (waiting_hash b)
       reason (inl e) = inl (nil_from_length b.waiting.chunks (sym count ∙ e))
       reason (inr c) = inr (old c)
 
+      middle : m ≡ record (without_waiting b) { finished = b.finished ++ waiting_records b }
+      middle = is ∙ ap (λ (z : SessionTold). record z { finished = z.finished ++ map (λ p. p.info) r.1 }) taken ∙ ap (λ (fs : List MDBFileInfo). record b { waiting = no_waiting; finished = b.finished ++ fs }) files
+
+      size : length r.0.xorb.chunks ≡ length b.waiting.chunks
+      size = ap (λ (x : Xorb). length x.chunks) xorb
+
+      whole : n ≡ record (without_waiting b) { finished = b.finished ++ waiting_records b; repeated = n.repeated }
+      whole = told.same ∙ ap (λ (z : SessionTold). record z { repeated = n.repeated }) middle
+
+      before : m.repeated ≡ b.repeated
+      before = ap (λ (z : SessionTold). z.repeated) middle
+
+      none : b.waiting.chunks ≡ [] → Still b n
+      none e = inl (e, told.none (size ∙ ap length e) ∙ before)
+
+      some : Contains b.registered (waiting_hash b) → 0 < length b.waiting.chunks → Still b n
+      some c low = inr (record {
+        some = low;
+        before = c;
+        told = told.some (omega (arith, low, size)) ∙ ap (λ (xs : List Xorb). xs ++ r.0.xorb ∷ []) before ∙ ap (λ (x : Xorb). b.repeated ++ x ∷ []) xorb;
+      })
+
+      because : (j : ℕ) → length b.waiting.chunks ≡ j → (b.waiting.chunks ≡ []) ⊎ Contains b.registered (waiting_hash b) → Still b n
+      because j q (inl e) = none e
+      because zero q (inr c) = none (nil_from_length b.waiting.chunks q)
+      because (suc j) q (inr c) = some c (omega (arith, q))
+
+      grown : Still b n → RepeatsGrow b n
+      grown (inl h) = repeats-same b n h.1
+      grown (inr h) = (xorb_of_chunks b.waiting.chunks ∷ [], h.told)
+
       fine : (k ≡ 0) ⊎ Contains t.registered r.0.xorb.hash → IsListed b → n.listed ≡ b.listed → AreFine n.listed (waiting_hash b) b.waiting.files
       fine (inl e) l q = fine-empty n.listed (waiting_hash b) b.waiting.files (subst (λ (j : ℕ). AreCounted j b.waiting.files) (sym count ∙ e) counted)
       fine (inr c) l q = fine-known n.listed (waiting_hash b) (subst (λ (z : List MerkleHash). Contains z (waiting_hash b)) (sym q) (All-contains (Contains b.listed) b.registered (waiting_hash b) l.put (old c))) b.waiting.files
+
+      made : Still b n → Cut b n now (Ok tt)
+      made h =
+          let listed : n.listed ≡ b.listed ++ [] = ap (λ (z : SessionTold). z.listed) whole ∙ none-more b.listed in
+          let registered : n.registered ≡ b.registered ++ [] = ap (λ (z : SessionTold). z.registered) whole ∙ none-more b.registered in
+          let finished : n.finished ≡ b.finished ++ waiting_records b = ap (λ (z : SessionTold). z.finished) whole in
+          let waiting : n.waiting ≡ no_waiting = ap (λ (z : SessionTold). z.waiting) whole in
+          record {
+            keeps = keeps-still b n (ap (λ (z : SessionTold). z.uploader) whole) (ap (λ (z : SessionTold). z.shards) whole) (ap (λ (z : SessionTold). z.listed) whole) (ap (λ (z : SessionTold). z.metrics) whole) (ap (λ (z : SessionTold). z.failed) whole) (ap (λ (z : SessionTold). z.finalized) whole) (grown h);
+            storable = storable;
+            listed = λ l q. listed-after b n [] listed (waiting_hash b) [] waiting finished (fine why l (ap (λ (z : SessionTold). z.listed) whole)) registered (All-nil (Contains n.listed)) l;
+            ok = inl (record { same = whole; reason = h });
+            err = tt;
+            emptied = waiting;
+            finished = finished;
+            counts = counts-same b n (ap (λ (z : SessionTold). z.metrics) whole);
+            unfailed = ap (λ (z : SessionTold). z.failed) whole ∙ sound;
+            idle = not-idle b sound;
+            said = says-none n (Ok tt) (ap (λ (z : SessionTold). z.failed) whole ∙ sound);
+            refused = λ g q. not-both b.failed g sound q;
+            why = tt;
+          }
 
   -- the xorb was put, or its put failed
   pub cut-put : (k : ℕ) → k ≡ length b.waiting.chunks → 0 < k → (Contains t.registered r.0.xorb.hash → ⊥) → (answer : Result (Unit {0}) DataError) → PutFinished t n r.0.xorb (map (λ p. p.info) r.1) now answer → Cut b n now answer
@@ -335,7 +376,7 @@ module _ (b t n : SessionTold) (now : ℕ) (r : RawXorbData × List PendingFile)
           new (subst P (sym (ap (λ (z : SessionTold). z.registered) taken)) (subst (λ (z : MerkleHash). Contains b.registered z) (sym hash) c))
 
       keeps : Keeps (without_waiting b) n → Keeps b n
-      keeps q = keeps-both b (without_waiting b) n (keeps-still b (without_waiting b) refl refl refl refl refl refl) q
+      keeps q = keeps-both b (without_waiting b) n (keeps-still b (without_waiting b) refl refl refl refl refl refl (repeats-same b (without_waiting b) refl)) q
 
       listed : FinishedAll (without_waiting b) n (xorb_of_chunks b.waiting.chunks) (waiting_records b) → IsListed b → IsListed n
       listed d l =
@@ -348,6 +389,7 @@ module _ (b t n : SessionTold) (now : ℕ) (r : RawXorbData × List PendingFile)
       go : (a : Result (Unit {0}) DataError) → PutFinished (without_waiting b) n (xorb_of_chunks b.waiting.chunks) (waiting_records b) now a → Cut b n now a
       go (Err e) w = record {
         keeps = keeps w.keeps;
+        storable = storable;
         listed = λ l none. listed (finished-all (without_waiting b) n (xorb_of_chunks b.waiting.chunks) (waiting_records b) now (Err e) w none) l;
         ok = tt;
         err = inr (stopped w.err);
@@ -368,6 +410,7 @@ module _ (b t n : SessionTold) (now : ℕ) (r : RawXorbData × List PendingFile)
           let d = was-finished (without_waiting b) n (xorb_of_chunks b.waiting.chunks) (waiting_records b) now (Ok u) w.ok in
           record {
             keeps = keeps w.keeps;
+            storable = storable;
             listed = λ l none. listed d l;
             ok = inr (cut-so (Ok u) w.ok);
             err = tt;
@@ -397,21 +440,21 @@ given-put b n x now a p = go a p
 
 -- what a call changes that is given a xorb
 abbrev Changed : SessionTold → SessionTold → Type 0
-Changed b n = n ≡ record b { uploader = n.uploader; shards = n.shards; listed = n.listed; registered = n.registered; metrics = n.metrics; failed = n.failed }
+Changed b n = n ≡ record b { uploader = n.uploader; shards = n.shards; listed = n.listed; registered = n.registered; repeated = n.repeated; metrics = n.metrics; failed = n.failed }
 
 changed-same : (b n : SessionTold) → n ≡ b → Changed b n
 changed-same b n e =
-    e ∙ ap (λ (z : SessionTold). record b { uploader = z.uploader; shards = z.shards; listed = z.listed; registered = z.registered; metrics = z.metrics; failed = z.failed }) (sym e)
+    e ∙ ap (λ (z : SessionTold). record b { uploader = z.uploader; shards = z.shards; listed = z.listed; registered = z.registered; repeated = z.repeated; metrics = z.metrics; failed = z.failed }) (sym e)
 
 changed-put : (b n : SessionTold) (x : Xorb) (now : ℕ) (a : Result (Unit {0}) DataError) → WasPut b n x [] now a → Changed b n
 changed-put b n x now a p =
     let none : b.finished ++ [] ≡ b.finished = append-nil b.finished in
     let whole = p.same ∙ ap (λ (fs : List MDBFileInfo). record b { uploader = n.uploader; shards = n.shards; finished = fs; listed = b.listed ++ x.hash ∷ []; registered = b.registered ++ x.hash ∷ []; metrics = n.metrics }) none in
-    whole ∙ ap (λ (z : SessionTold). record b { uploader = z.uploader; shards = z.shards; listed = z.listed; registered = z.registered; metrics = z.metrics; failed = z.failed }) (sym whole)
+    whole ∙ ap (λ (z : SessionTold). record b { uploader = z.uploader; shards = z.shards; listed = z.listed; registered = z.registered; repeated = z.repeated; metrics = z.metrics; failed = z.failed }) (sym whole)
 
 changed-refused : (b n : SessionTold) → WasRefused b n → Changed b n
 changed-refused b n w =
-    w.same ∙ ap (λ (z : SessionTold). record b { uploader = z.uploader; shards = z.shards; listed = z.listed; registered = z.registered; metrics = z.metrics; failed = z.failed }) (sym w.same)
+    w.same ∙ ap (λ (z : SessionTold). record b { uploader = z.uploader; shards = z.shards; listed = z.listed; registered = z.registered; repeated = z.repeated; metrics = z.metrics; failed = z.failed }) (sym w.same)
 
 -- a xorb that has chunks and is new is put
 pub put-nothing : {P C : Type 0} (chunks : ℕ) → (chunks ≡ 0) ⊎ C → (C → ⊥) → 0 < chunks → P
@@ -489,10 +532,10 @@ module _ (b : SessionTold) (x : Xorb) (now : ℕ) where
         still (inl q) = inl q
         still (inr q) = inr ((q.0, q.2), refl)
 
-    pub registers-again : Contains b.registered x.hash → Registers b b x now (Ok false)
+    pub registers-again : Contains b.registered x.hash → Registers b (with_repeated b x) x now (Ok false)
     registers-again old = record {
-      keeps = keeps-refl b b refl;
-      listed = λ l q. l;
+      keeps = keeps-still b (with_repeated b x) refl refl refl refl refl refl (x ∷ [], refl);
+      listed = λ l q. record { finished = l.finished; waiting = l.waiting; put = l.put };
       same = refl;
       again = λ q. (old, refl);
       new = λ q. absurd (false≢true q);
@@ -500,7 +543,7 @@ module _ (b : SessionTold) (x : Xorb) (now : ℕ) where
       counts = refl;
       finalized = never;
       unfailed = λ q. absurd (false≢true q);
-      said = λ none. says-none b (Ok false) none;
+      said = λ none. says-none (with_repeated b x) (Ok false) none;
       refused = λ q new. absurd (new old);
       idle = λ q r. tt;
       why = tt;
@@ -586,7 +629,7 @@ module _ (b t : SessionTold) (r : RawXorbData × List PendingFile) (took : TookW
   took-files = took.files
 
   listed-before : t.finalized ≡ false → IsListed b
-  listed-before z = has sound (sym (ap (λ (s : SessionTold). s.finalized) took-same) ∙ z)
+  listed-before z = has.all sound (sym (ap (λ (s : SessionTold). s.finalized) took-same) ∙ z)
 
   same-list : t.listed ≡ b.listed
   same-list = ap (λ (s : SessionTold). s.listed) took-same

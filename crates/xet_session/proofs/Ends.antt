@@ -29,10 +29,12 @@ use Rattle.xet_upload.specs.declared.data_error.DataError.{DataError}
 use Rattle.xet_upload.specs.declared.metrics.DeduplicationMetrics.{DeduplicationMetrics}
 use Rattle.xet_upload.proofs.CallerLemmas.{ordered-none, ordered-xorb}
 use Rattle.xet_session_parts.specs.declared.cut_thresholds.CutThresholds.{CutThresholds}
-use Rattle.xet_session.specs.Calls.{AllPut, Backs, Counted, Cut, EndsCut, EndsSo, EndsUncut, Finalizes, GrewByXorbs, GrewToEnd, HasFiles, IsPut, Keeps, KeepsFailed, NoQueries, PutsFail, ResumedKept, Says, SomePut, StoresFail, end_counts, finalized_error, new_session, waiting_records}
+use Rattle.xet_session.specs.Calls.{AllPut, Backs, Counted, Cut, EndsCut, EndsSo, EndsUncut, Finalizes, GrewByXorbs, GrewToEnd, HasFiles, IsPut, Keeps, KeepsFailed, NoQueries, PutsFail, ResumedKept, Says, SomePut, StoresFail, RepeatsGrow, end_counts, finalized_error, new_session, waiting_records}
 use Rattle.xet_session.specs.Sessions.{HasListed, IsBackedSession, IsListed, SessionTold, Stands, Tells, known_of, log_of, waiting_names}
 use Rattle.xet_session.specs.steps.SessionSteps.{AddedFinished, PutRecords}
-use Rattle.xet_session.proofs.Keeping.{failed-same, keeps-refl, later-both, later-same, queries-same, stores-later}
+use Rattle.xet_session_parts.specs.Storable.{IsStorable}
+use Rattle.xet_session.proofs.Keeping.{failed-same, keeps-refl, later-both, later-same, queries-same, repeats-same, stores-later}
+use Rattle.xet_session.proofs.Tests.{tested-storable, waits-empty}
 
 -- ---- the order
 
@@ -147,6 +149,7 @@ finalizes-again b now e = record {
   recorded = λ t. tt;
   put = λ t d. tt;
   grew = λ t. record { xorbs = []; shards = []; grown = sym (append-nil (log_of b)); kept = 0; cached = cache-none b.shards.cache.records; resumed = inl refl; sent = λ few. omega (arith, few) };
+  repeated = repeats-same b b refl;
   dry = λ t d. record { xorbs = []; grown = sym (append-nil (log_of b)); sent = λ few. omega (arith, few) };
   quiet = λ f. refl;
   queries = queries-same b b refl;
@@ -208,9 +211,10 @@ module _ (b n1 : SessionTold) (now : ℕ) (first : b.finalized ≡ false) where
     recorded = λ t. tt;
     put = λ t d. tt;
     grew = λ t. grew-end n1 [] (sym (append-nil (log_of n1))) refl 0 (cached-none n1 c.keeps.known) (inl (resumed-same n1 c.keeps.known)) (c.keeps.grew (begun t));
+    repeated = c.keeps.repeated;
     dry = λ t d. grew-so n1 refl refl (c.keeps.grew (begun t));
     quiet = c.keeps.quiet;
-    queries = record { asked = c.keeps.queries.asked; answered = c.keeps.queries.answered };
+    queries = record { first = c.keeps.queries.first; asked = c.keeps.queries.asked; answered = c.keeps.queries.answered };
     failed = failed-so n1 refl refl c.keeps.failed;
     steady = c.keeps.steady;
     stores = c.keeps.stores;
@@ -230,6 +234,7 @@ module _ (b n1 : SessionTold) (now : ℕ) (first : b.finalized ≡ false) where
 
     queries-so : (n : SessionTold) → n.uploader ≡ n1.uploader → NoQueries b n
     queries-so n u = record {
+      first = ap (λ (v : UploaderTold). v.first) u ∙ cut.keeps.queries.first;
       asked = ap (λ (v : UploaderTold). v.asked) u ∙ cut.keeps.queries.asked;
       answered = ap (λ (v : UploaderTold). v.answered) u ∙ cut.keeps.queries.answered;
     }
@@ -248,6 +253,10 @@ module _ (b n1 : SessionTold) (now : ℕ) (first : b.finalized ≡ false) where
     -- no put failed in the cut
     stayed1 : n1.uploader.faults ≡ b.uploader.faults
     stayed1 = cut.keeps.steady (inl (unfailed1 ∙ sym none-before))
+
+    -- what came after the cut repeats no xorb
+    repeats-so : (n : SessionTold) → n.repeated ≡ n1.repeated → RepeatsGrow b n
+    repeats-so n e = (cut.keeps.repeated.0, e ∙ cut.keeps.repeated.1)
 
     -- the records could not be added
     pub finalizes-added : {A : Type 0} (e : DataError) → AddedFinished n1 n2 (Err e) → Finalizes {A = A} b n2 now (Err e)
@@ -286,6 +295,7 @@ module _ (b n1 : SessionTold) (now : ℕ) (first : b.finalized ≡ false) where
           recorded = λ t. tt;
           put = λ t d. tt;
           grew = λ t. grew-end n2 [] (log ∙ sym (append-nil (log_of n1))) m 0 (cached-none n2 (a.known ∙ cut.keeps.known)) (inl (resumed-same n2 (a.known ∙ cut.keeps.known))) (cut.keeps.grew (begun t));
+          repeated = repeats-so n2 (ap (λ (z : SessionTold). z.repeated) same);
           dry = λ t d. grew-so n2 log m (cut.keeps.grew (begun t));
           quiet = sound;
           queries = queries-so n2 (ap (λ (z : SessionTold). z.uploader) same);
@@ -325,6 +335,9 @@ module _ (b n1 : SessionTold) (now : ℕ) (first : b.finalized ≡ false) where
 
       finished : z.finished ≡ n1.finished
       finished = ap (λ (s : SessionTold). s.finished) ends ∙ ap (λ (s : SessionTold). s.finished) p.same ∙ ap (λ (s : SessionTold). s.finished) a.same
+
+      repeated : RepeatsGrow b z
+      repeated = repeats-so z (ap (λ (s : SessionTold). s.repeated) ends ∙ ap (λ (s : SessionTold). s.repeated) p.same ∙ ap (λ (s : SessionTold). s.repeated) a.same)
 
       metrics : z.metrics.xorb_bytes_uploaded ≡ n1.metrics.xorb_bytes_uploaded
       metrics = sent ∙ ap (λ (s : SessionTold). s.metrics.xorb_bytes_uploaded) p.same ∙ ap (λ (s : SessionTold). s.metrics.xorb_bytes_uploaded) a.same
@@ -378,6 +391,7 @@ module _ (b n1 : SessionTold) (now : ℕ) (first : b.finalized ≡ false) where
       queries =
           let before = queries-so n2 (ap (λ (s : SessionTold). s.uploader) a.same) in
           record {
+            first = ap (λ (v : UploaderTold). v.first) uploader ∙ p.uploads.first ∙ before.first;
             asked = ap (λ (v : UploaderTold). v.asked) uploader ∙ p.uploads.asked ∙ before.asked;
             answered = ap (λ (v : UploaderTold). v.answered) uploader ∙ p.uploads.answered ∙ before.answered;
           }
@@ -517,6 +531,7 @@ module _ (b n1 : SessionTold) (now : ℕ) (first : b.finalized ≡ false) where
             recorded = recorded;
             put = λ t d. is-put (log-put (shards_of n2.shards) (told2 t) (subst (λ (r : Result ℕ DataError). OnOk r (n.uploader.puts ≡ with_puts n2.uploader.puts (shards_of n2.shards))) is (p.uploads.ok (told2 t).shards.session (ap (λ (r : ShardRules). r.dry_run) rules ∙ d)))) (a.files (cut.keeps.tells (begun t)));
             grew = grew;
+            repeated = repeated;
             dry = dry;
             quiet = sound;
             queries = queries;
@@ -541,6 +556,7 @@ module _ (b n1 : SessionTold) (now : ℕ) (first : b.finalized ≡ false) where
         recorded = λ t. tt;
         put = λ t d. tt;
         grew = grew;
+        repeated = repeated;
         dry = dry;
         quiet = sound;
         queries = queries;
@@ -639,6 +655,7 @@ retold {A = A} {B = B} b n now e k = record {
   recorded = λ t. tt;
   put = λ t d. tt;
   grew = k.grew;
+  repeated = k.repeated;
   dry = k.dry;
   quiet = k.quiet;
   queries = k.queries;
@@ -667,6 +684,7 @@ retold-ok {A = A} {B = B} b n now x y k = record {
   recorded = k.recorded;
   put = k.put;
   grew = k.grew;
+  repeated = k.repeated;
   dry = k.dry;
   quiet = k.quiet;
   queries = k.queries;
@@ -806,9 +824,10 @@ module _ (b m n : SessionTold) (now : ℕ) (x : DeduplicationMetrics) (k : Final
         recorded = recorded;
         put = put;
         grew = λ t. let g = k.grew t in record { xorbs = g.xorbs; shards = g.shards; grown = log-listed ∙ g.grown; kept = g.kept; cached = cache-listed ∙ g.cached; resumed = resumed-listed g.resumed; sent = λ few. ap (λ (z : SessionTold). z.metrics.xorb_bytes_uploaded) same ∙ g.sent few };
+        repeated = (k.repeated.0, ap (λ (z : SessionTold). z.repeated) same ∙ k.repeated.1);
         dry = λ t d. grew-listed (k.dry t d);
         quiet = λ f. log-listed ∙ k.quiet f;
-        queries = record { asked = ap (λ (z : SessionTold). z.uploader.asked) same ∙ k.queries.asked; answered = ap (λ (z : SessionTold). z.uploader.answered) same ∙ k.queries.answered };
+        queries = record { first = ap (λ (z : SessionTold). z.uploader.first) same ∙ k.queries.first; asked = ap (λ (z : SessionTold). z.uploader.asked) same ∙ k.queries.asked; answered = ap (λ (z : SessionTold). z.uploader.answered) same ∙ k.queries.answered };
         said = λ f. says-none n said (ap (λ (z : SessionTold). z.failed) same ∙ k.unfailed);
         failed = failed-listed;
         steady = λ q. ap (λ (z : SessionTold). z.uploader.faults) same ∙ k.steady (subst (λ (o : Option ClientError). (o ≡ b.failed) ⊎ (o ≡ Some client_error.OutOfMemory)) (ap (λ (z : SessionTold). z.failed) same) q);
@@ -873,9 +892,9 @@ case-bool true = inl refl
 case-bool false = inr refl
 
 -- a call that puts xorbs alone
-pub backs-kept : (b n : SessionTold) → HasListed b → Keeps b n → (IsListed b → n.failed ≡ None → IsListed n) → Backs b n
-backs-kept b n h k keep = record {
-  listed = λ f g. keep (h (sound f (case b.failed)) (sym k.finalized ∙ g)) f;
+pub backs-kept : (b n : SessionTold) → HasListed b → Keeps b n → (IsListed b → n.failed ≡ None → IsListed n) → IsStorable n.waiting.chunks → Backs b n
+backs-kept b n h k keep w = record {
+  listed = record { all = λ f g. keep (h.all (sound f (case b.failed)) (sym k.finalized ∙ g)) f; waits = w };
   backed = λ t s f g. k.stands t (s (sound f (case b.failed)) (sym k.finalized ∙ g));
   ordered = λ t s. ordered-grown b n (known_of b) (k.grew t);
 }
@@ -885,14 +904,18 @@ backs-kept b n h k keep = record {
     sound f (inr e) = e
     sound f (inl e) = absurd (false≢true (ap (λ (o : Option ClientError). is_some o) (sym f ∙ k.failed.stays e) ∙ e))
 
+-- the same waits
+pub waits-same : (b n : SessionTold) → HasListed b → n.waiting ≡ b.waiting → IsStorable n.waiting.chunks
+waits-same b n h e = subst (λ (w : Waiting). IsStorable w.chunks) (sym e) h.waits
+
 -- a call that changed nothing
 pub backs-same : (b n : SessionTold) → n ≡ b → HasListed b → Backs b n
-backs-same b n e h = backs-kept b n h (keeps-refl b n e) (λ l f. subst (λ (t : SessionTold). IsListed t) (sym e) l)
+backs-same b n e h = backs-kept b n h (keeps-refl b n e) (λ l f. subst (λ (t : SessionTold). IsListed t) (sym e) l) (waits-same b n h (ap (λ (t : SessionTold). t.waiting) e))
 
 -- the end of a session
-pub backs-finalized : {A : Type 0} (b n : SessionTold) (now : ℕ) (answer : Result A DataError) → HasListed b → Finalizes b n now answer → Backs b n
-backs-finalized b n now answer l k = record {
-  listed = λ f g. absurd (false≢true (sym g ∙ k.finalized));
+pub backs-finalized : {A : Type 0} (b n : SessionTold) (now : ℕ) (answer : Result A DataError) → HasListed b → Finalizes b n now answer → IsStorable n.waiting.chunks → Backs b n
+backs-finalized b n now answer l k w = record {
+  listed = record { all = λ f g. absurd (false≢true (sym g ∙ k.finalized)); waits = w };
   backed = λ t s f g. absurd (false≢true (sym g ∙ k.finalized));
   ordered = λ t s. go (case b.failed) (case-bool b.finalized) t l s;
 }
@@ -903,7 +926,7 @@ backs-finalized b n now answer l k = record {
     go : (is_some b.failed ≡ true) ⊎ (b.failed ≡ None) → (b.finalized ≡ true) ⊎ (b.finalized ≡ false) → Tells b → HasListed b → IsBackedSession b → IsOrdered (log_of n) (length (log_of b)) (known_of b)
     go (inl e) g t l s = subst P (sym (k.quiet e)) (ordered-none (log_of b) (known_of b))
     go (inr e) (inl g) t l s = subst P (sym (ap log_of (k.again g).1)) (ordered-none (log_of b) (known_of b))
-    go (inr e) (inr g) t l s = k.ordered t (s e g) (l e g)
+    go (inr e) (inr g) t l s = k.ordered t (s e g) (l.all e g)
 
 -- a new session over a store without records is backed
 pub new-backed : (t : SessionTold) → t.listed ≡ [] → records_of t.shards.session ≡ no_records → IsBackedSession t
@@ -926,8 +949,11 @@ made-backed told u i j q c (Err x) same e = tt
 
 -- a new session
 pub new-listed : (t : SessionTold) → t.finished ≡ [] → t.waiting ≡ no_waiting → t.registered ≡ [] → HasListed t
-new-listed t f w r p q =
+new-listed t f w r =
     let A : List MDBFileInfo → Type 0 = λ fs. All (Contains t.listed) (names_of fs) in
     let W : Waiting → Type 0 = λ v. All (Contains t.listed) (waiting_names v.files) in
     let R : List MerkleHash → Type 0 = λ hs. All (Contains t.listed) hs in
-    record { finished = subst A (sym f) (All-nil (Contains t.listed)); waiting = subst W (sym w) (All-nil (Contains t.listed)); put = subst R (sym r) (All-nil (Contains t.listed)) }
+    record {
+      all = λ p q. record { finished = subst A (sym f) (All-nil (Contains t.listed)); waiting = subst W (sym w) (All-nil (Contains t.listed)); put = subst R (sym r) (All-nil (Contains t.listed)) };
+      waits = subst (λ (v : Waiting). IsStorable v.chunks) (sym w) (tested-storable [] waits-empty);
+    }

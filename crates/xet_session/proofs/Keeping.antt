@@ -26,7 +26,7 @@ use Rattle.xet_upload.specs.Orders.{IsBacked, IsThere, names_of}
 use Rattle.xet_upload.specs.declared.data_error.DataError.{DataError}
 use Rattle.xet_upload.specs.declared.metrics.DeduplicationMetrics.{DeduplicationMetrics}
 use Rattle.xet_upload.proofs.CallerLemmas.{backed-more, put-there}
-use Rattle.xet_session.specs.Calls.{FaultsStay, GrewByXorbs, Keeps, KeepsFailed, NoQueries, PutsFail, StoresFail, one_xorb, xorb_bytes}
+use Rattle.xet_session.specs.Calls.{FaultsStay, GrewByXorbs, Keeps, KeepsFailed, NoQueries, PutsFail, RepeatsGrow, StoresFail, one_xorb, xorb_bytes}
 use Rattle.xet_session.specs.Sessions.{SessionTold, Stands, Tells, known_of, log_of}
 use Rattle.xet_session.specs.steps.SessionSteps.{MaybeAdded, PutRaw, with_sent}
 use Rattle.xet_session.proofs.Recording.{IsRecorded}
@@ -110,7 +110,7 @@ steady-both b m n h k x y q = go m.failed refl
         at same (inr g) = inr (sym same ∙ g)
 
 pub queries-same : (b n : SessionTold) → n.uploader ≡ b.uploader → NoQueries b n
-queries-same b n u = record { asked = ap (λ (v : UploaderTold). v.asked) u; answered = ap (λ (v : UploaderTold). v.answered) u }
+queries-same b n u = record { first = ap (λ (v : UploaderTold). v.first) u; asked = ap (λ (v : UploaderTold). v.asked) u; answered = ap (λ (v : UploaderTold). v.answered) u }
 
 -- ---- the log and the list
 
@@ -141,11 +141,19 @@ none-put b n u m = record {
   sent = λ few. m ∙ omega (arith, few);
 }
 
--- nothing but the files, what waits, and counts of chunks changed
-pub keeps-counted : (b n : SessionTold) → n.uploader ≡ b.uploader → n.shards ≡ b.shards → n.listed ≡ b.listed → n.metrics.xorb_bytes_uploaded ≡ b.metrics.xorb_bytes_uploaded → n.failed ≡ b.failed → n.finalized ≡ b.finalized → Keeps b n
-keeps-counted b n u i l m f z = record {
+-- no xorb more was left out as a repeated one
+pub repeats-same : (b n : SessionTold) → n.repeated ≡ b.repeated → RepeatsGrow b n
+repeats-same b n e = ([], e ∙ sym (append-nil b.repeated))
+
+pub repeats-both : (b m n : SessionTold) → RepeatsGrow b m → RepeatsGrow m n → RepeatsGrow b n
+repeats-both b m n h k = (h.0 ++ k.0, k.1 ∙ ap (λ (xs : List Xorb). xs ++ k.0) h.1 ∙ append_assoc b.repeated h.0 k.0)
+
+-- nothing but the files, what waits, the repeated xorbs, and counts of chunks changed
+pub keeps-counted : (b n : SessionTold) → n.uploader ≡ b.uploader → n.shards ≡ b.shards → n.listed ≡ b.listed → n.metrics.xorb_bytes_uploaded ≡ b.metrics.xorb_bytes_uploaded → n.failed ≡ b.failed → n.finalized ≡ b.finalized → RepeatsGrow b n → Keeps b n
+keeps-counted b n u i l m f z r = record {
   tells = λ t. record { puts = subst (λ (v : UploaderTold). IsSome v.puts) (sym u) t.puts; shards = subst (λ (j : InterfaceTold). StoresTell j) (sym i) t.shards };
   grew = λ t. none-put b n u m;
+  repeated = r;
   stands = λ t s. stands-at n (log_of b) (known_of b) b.listed (records_of b.shards.session) (ap puts_of u) (ap (λ (j : InterfaceTold). map (λ (r : MDBXorbInfo). r.hash) (known_xorbs (known_told j))) i) l (ap (λ (j : InterfaceTold). records_of j.session) i) s;
   sound = λ k t a s. sound-same k b n (ap puts_of u) (searched-same b n i) s;
   known = ap known_told i;
@@ -159,13 +167,13 @@ keeps-counted b n u i l m f z = record {
   finalized = z;
 }
 
--- nothing but the files and what waits changed
-pub keeps-still : (b n : SessionTold) → n.uploader ≡ b.uploader → n.shards ≡ b.shards → n.listed ≡ b.listed → n.metrics ≡ b.metrics → n.failed ≡ b.failed → n.finalized ≡ b.finalized → Keeps b n
-keeps-still b n u i l m f z = keeps-counted b n u i l (ap (λ (c : DeduplicationMetrics). c.xorb_bytes_uploaded) m) f z
+-- nothing but the files, what waits and the repeated xorbs changed
+pub keeps-still : (b n : SessionTold) → n.uploader ≡ b.uploader → n.shards ≡ b.shards → n.listed ≡ b.listed → n.metrics ≡ b.metrics → n.failed ≡ b.failed → n.finalized ≡ b.finalized → RepeatsGrow b n → Keeps b n
+keeps-still b n u i l m f z r = keeps-counted b n u i l (ap (λ (c : DeduplicationMetrics). c.xorb_bytes_uploaded) m) f z r
 
 pub keeps-refl : (b n : SessionTold) → n ≡ b → Keeps b n
 keeps-refl b n e =
-    keeps-still b n (ap (λ (t : SessionTold). t.uploader) e) (ap (λ (t : SessionTold). t.shards) e) (ap (λ (t : SessionTold). t.listed) e) (ap (λ (t : SessionTold). t.metrics) e) (ap (λ (t : SessionTold). t.failed) e) (ap (λ (t : SessionTold). t.finalized) e)
+    keeps-still b n (ap (λ (t : SessionTold). t.uploader) e) (ap (λ (t : SessionTold). t.shards) e) (ap (λ (t : SessionTold). t.listed) e) (ap (λ (t : SessionTold). t.metrics) e) (ap (λ (t : SessionTold). t.failed) e) (ap (λ (t : SessionTold). t.finalized) e) (repeats-same b n (ap (λ (t : SessionTold). t.repeated) e))
 
 -- ---- two calls
 
@@ -186,13 +194,14 @@ pub keeps-both : (b m n : SessionTold) → Keeps b m → Keeps m n → Keeps b n
 keeps-both b m n h k = record {
   tells = λ t. k.tells (h.tells t);
   grew = λ t. grew-both b m n (h.grew t) (k.grew (h.tells t));
+  repeated = repeats-both b m n h.repeated k.repeated;
   stands = λ t s. k.stands (h.tells t) (h.stands t s);
   sound = λ w t a s. let g = k.grew (h.tells t) in k.sound w (h.tells t) a (h.sound w t (agree-before w (log_of m) (log_of n) (map put.Xorb g.xorbs) g.grown a) s);
   known = k.known ∙ h.known;
   rules = k.rules ∙ h.rules;
   files = k.files ∙ h.files;
   quiet = λ f. k.quiet (ap (λ (o : Option ClientError). is_some o) (h.failed.stays f) ∙ f) ∙ h.quiet f;
-  queries = record { asked = k.queries.asked ∙ h.queries.asked; answered = k.queries.answered ∙ h.queries.answered };
+  queries = record { first = k.queries.first ∙ h.queries.first; asked = k.queries.asked ∙ h.queries.asked; answered = k.queries.answered ∙ h.queries.answered };
   failed = failed-both b m n h.failed k.failed;
   steady = steady-both b m n h.failed k.failed h.steady k.steady;
   stores = later-both b.shards m.shards n.shards h.stores k.stores;
@@ -218,6 +227,7 @@ keeps-put b n x u r =
             let bytes : r.sent ≡ min (xorb_bytes x) (2 ^ 64 - 1) = r.bytes t in
             a ∙ omega (arith, few, bytes);
       };
+      repeated = repeats-same b n (ap (λ (z : SessionTold). z.repeated) is);
       stands = λ t s. stands-at n (log_of b ++ put.Xorb x ∷ []) (known_of b) (b.listed ++ x.hash ∷ []) (records_of b.shards.session) (r.put t) (ap known_of is) (ap (λ (z : SessionTold). z.listed) is) (ap (λ (z : SessionTold). records_of z.shards.session) is)
           (backed-grown (log_of b) (put.Xorb x ∷ []) (known_of b) b.listed (x.hash ∷ []) (records_of b.shards.session) (records_of b.shards.session) [] (sym (append-nil (records_of b.shards.session).xorbs)) refl
           (All-cons (IsThere (log_of b ++ put.Xorb x ∷ []) (known_of b)) x.hash [] (put-there (log_of b) (known_of b) x) (All-nil _)) (All-nil _) s);
@@ -241,6 +251,7 @@ keeps-unput b n x e r =
     record {
       tells = r.tells;
       grew = λ t. record { xorbs = []; grown = log ∙ sym (append-nil (log_of b)); sent = λ few. ap (λ (z : SessionTold). z.metrics.xorb_bytes_uploaded) is ∙ omega (arith, few) };
+      repeated = repeats-same b n (ap (λ (z : SessionTold). z.repeated) is);
       stands = λ t s. stands-at n (log_of b) (known_of b) b.listed (records_of b.shards.session) log (ap known_of is) (ap (λ (z : SessionTold). z.listed) is) (ap (λ (z : SessionTold). records_of z.shards.session) is) s;
       sound = λ k t a s. sound-same k b n log (searched-same b n (ap (λ (z : SessionTold). z.shards) is)) s;
       known = ap (λ (z : SessionTold). known_told z.shards) is;
@@ -274,7 +285,7 @@ put-refused b n x e f c is none told =
       err = is ∙ ap (λ (o : Option ClientError). record b { uploader = n.uploader; failed = o }) (sym kept);
       grew = tt;
       put = λ t. tt;
-      queries = record { asked = c.asked; answered = c.answered };
+      queries = record { first = c.first; asked = c.asked; answered = c.answered };
       unput = ap (λ (o : Option (List Put)). unwrap_or o []) refused;
       unfailed = none;
       faults = c.faults;
@@ -303,6 +314,7 @@ keeps-added b n x h answer is a there was-put describes =
     record {
       tells = λ t. record { puts = subst (λ (v : UploaderTold). IsSome v.puts) (sym u) t.puts; shards = a.tells t.shards };
       grew = λ t. none-put b n u (ap (λ (z : SessionTold). z.metrics.xorb_bytes_uploaded) is);
+      repeated = repeats-same b n (ap (λ (z : SessionTold). z.repeated) is);
       stands = λ t s. go a.added t s;
       sound = λ k t agree s. sound-added k b n x h log (was-put t.puts) describes agree a.known a.added s;
       known = a.known;

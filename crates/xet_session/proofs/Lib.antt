@@ -5,6 +5,7 @@ pub mod Cuts
 pub mod Ends
 pub mod Keeping
 pub mod Listing
+pub mod Putting
 pub mod Queries
 pub mod Recording
 pub mod Sounding

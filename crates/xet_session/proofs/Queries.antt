@@ -20,7 +20,7 @@ use Rattle.xet_upload.specs.declared.data_error.DataError.TheVariants as data_er
 use Rattle.xet_session.specs.Calls.{Keeps, Queries, SearchesInOrder}
 use Rattle.xet_session.specs.Sessions.{IsListed, SessionTold, Stands, Tells, known_of, log_of}
 use Rattle.xet_session.specs.steps.SessionSteps.{OnList}
-use Rattle.xet_session.proofs.Keeping.{failed-same, keeps-refl, later-same, none-put, queries-same, stands-at, steady-same}
+use Rattle.xet_session.proofs.Keeping.{failed-same, keeps-refl, later-same, none-put, queries-same, repeats-same, stands-at, steady-same}
 use Rattle.xet_session.specs.Sounds.{searched}
 use Rattle.xet_session.proofs.Sounding.{sound-same}
 use Rattle.xet_session.proofs.Listing.{listed-more}
@@ -109,6 +109,7 @@ module _ (b n : SessionTold) (extra : List MerkleHash) (looks : Looks b.shards n
   keeps-looked = record {
     tells = λ t. record { puts = subst (λ v. IsSome v.puts) (sym uploader) t.puts; shards = looks-tell b.shards n.shards looks t.shards };
     grew = λ t. none-put b n uploader (ap (λ (z : SessionTold). z.metrics.xorb_bytes_uploaded) is);
+    repeated = repeats-same b n (ap (λ (z : SessionTold). z.repeated) is);
     stands = λ t s. stands-at n (log_of b) (known_of b) (b.listed ++ extra) (records_of b.shards.session) (ap puts_of uploader) known listed records
         (record { on_list = All-append (IsThere (log_of b) (known_of b)) b.listed extra s.on_list (there t s); described = s.described; named = s.named });
     sound = λ k t a s. sound-same k b n (ap puts_of uploader) found s;

@@ -1,6 +1,7 @@
 -- Tests of what a session's lists have.
-use Rattle.std.proofs.Common.{◌≡◌, true, false, List, [], ◌∷◌, ◌++◌, map, refl, sym, ◌∙◌, ap, subst}
-use Rattle.std.specs.Prelude.{All, Contains, None, Result, Ok, Err, OnOk, OnErr}
+use Rattle.std.proofs.Common.{◌≡◌, ℕ, ◌<◌, true, false, List, [], ◌∷◌, ◌++◌, length, map, refl, sym, ◌∙◌, ap, subst, arith}
+use Rattle.std.specs.Prelude.{All, Contains, None, Result, Ok, Err, OnOk, OnErr, ltb}
+use Rattle.std.proofs.lemmas.Bool.{lt-ltb, ltb-true}
 use Rattle.std.proofs.lemmas.List.{map-append}
 use Rattle.std.proofs.lemmas.List.Concat.{flat_map-append}
 use Rattle.std.proofs.lemmas.List.Elements.{All-nil, All-cons, All-append, All-same, All-weaker, Contains-append_left, Contains-push}
@@ -8,11 +9,12 @@ use Rattle.std.proofs.lemmas.List.Sums.{AllPass-from_list_all, list_all-from_All
 use Rattle.xet_base.specs.declared.merklehash.MerkleHash.{MerkleHash}
 use Rattle.xet_base.specs.declared.mdb_shard.MDBFileInfo.{MDBFileInfo}
 use Rattle.xet_upload.specs.Orders.{names_of}
-use Rattle.xet_upload.specs.Waitings.{Waiting, merged, no_waiting}
+use Rattle.xet_upload.specs.Waitings.{IsWithin, Waiting, merged, no_waiting}
 use Rattle.xet_waiting.specs.declared.raw_xorb.PendingFile.{PendingFile}
 use Rattle.xet_session.specs.Sessions.{HasListed, IsListed, SessionTold, waiting_names}
 use Rattle.xet_session_parts.specs.HashLists.{has}
-use Rattle.xet_session.specs.steps.Listings.{AreListed, has_all}
+use Rattle.xet_session_parts.specs.Storable.{IsStorable}
+use Rattle.xet_session.specs.steps.Listings.{AreListed, AreStorable, has_all}
 use Rattle.xet_session_parts.proofs.CallerLemmas.{contains-has, has-contains}
 use Rattle.xet_session.proofs.Listing.{names-merged}
 
@@ -41,9 +43,52 @@ tested-listed t l = record {
   put = listed-all t.listed t.registered l.put;
 }
 
--- the type's fact
-pub has-listed : (t : SessionTold) → (t.failed ≡ None → t.finalized ≡ false → AreListed t.listed t.registered t.finished t.waiting) → HasListed t
-has-listed t h f g = listed-tested t (h f g)
+-- the test passes exactly where a xorb of the chunks can be stored
+module _ (cs : List (List ℕ)) where
+  abbrev Passes : List ℕ → Type 0
+  Passes c = ltb 0 (length c) ≡ true
+
+  abbrev HasByte : List ℕ → Type 0
+  HasByte c = 0 < length c
+
+  pub tested-storable : AreStorable cs → IsStorable cs
+  tested-storable a = record {
+    some = All-weaker Passes HasByte (λ c k. ltb-true 0 (length c) k) cs (AllPass-from_list_all (λ c. ltb 0 (length c)) cs a.some);
+    within = a.within;
+  }
+
+  pub storable-tested : IsStorable cs → AreStorable cs
+  storable-tested s = record {
+    some = list_all-from_AllPass (λ c. ltb 0 (length c)) cs (All-weaker HasByte Passes (λ c k. lt-ltb 0 (length c) k) cs s.some);
+    within = s.within;
+  }
+
+-- the type's facts
+pub has-listed : (t : SessionTold) → (t.failed ≡ None → t.finalized ≡ false → AreListed t.listed t.registered t.finished t.waiting) → AreStorable t.waiting.chunks → HasListed t
+has-listed t h w = record { all = λ f g. listed-tested t (h f g); waits = tested-storable t.waiting.chunks w }
+
+-- ---- what waits goes on being storable
+
+pub waits-empty : AreStorable []
+waits-empty = record { some = refl; within = (omega arith, omega arith) }
+
+pub waits-none : (w : Waiting) → w ≡ no_waiting → AreStorable w.chunks
+waits-none w e = subst (λ (v : Waiting). AreStorable v.chunks) (sym e) waits-empty
+
+-- other data waits
+pub waits-replaced : (v u : Waiting) → u ≡ v → IsStorable v.chunks → AreStorable u.chunks
+waits-replaced v u e s = subst (λ (w : Waiting). AreStorable w.chunks) (sym e) (storable-tested v.chunks s)
+
+-- data joined what waits, or it was refused
+pub waits-joined : {E : Type 0} (w v u : Waiting) (answer : Result (Unit {0}) E) → OnOk answer (u ≡ merged w v) → OnErr answer (u ≡ w) → AreStorable w.chunks → IsStorable v.chunks → IsWithin (w.chunks ++ v.chunks) → AreStorable u.chunks
+waits-joined w v u (Ok t) ok err a s within =
+    waits-replaced (merged w v) u ok (record { some = All-append (λ (c : List ℕ). 0 < length c) w.chunks v.chunks (tested-storable w.chunks a).some s.some; within = within })
+waits-joined w v u (Err e) ok err a s within = subst (λ (z : Waiting). AreStorable z.chunks) (sym err) a
+
+-- what waited was taken, or it waits on
+pub waits-taken : {A E : Type 0} (w v : Waiting) (answer : Result A E) → OnOk answer (v ≡ no_waiting) → OnErr answer (v ≡ w) → AreStorable w.chunks → AreStorable v.chunks
+waits-taken w v (Ok x) ok err a = waits-none v ok
+waits-taken w v (Err e) ok err a = subst (λ (z : Waiting). AreStorable z.chunks) (sym err) a
 
 -- ---- what keeps the tests
 

@@ -33,6 +33,7 @@ use Rattle.xet_upload.specs.Waitings.{no_waiting, record_of_file, xorb_of_chunks
 use Rattle.xet_upload.specs.declared.data_error.DataError.{DataError}
 use Rattle.xet_upload.specs.declared.data_error.DataError.TheVariants as data_error
 use Rattle.xet_upload.specs.declared.metrics.DeduplicationMetrics.{DeduplicationMetrics}
+use Rattle.xet_session_parts.specs.Storable.{IsStorable}
 use Rattle.xet_session_parts.specs.declared.cut_thresholds.CutThresholds.{CutThresholds}
 use Rattle.xet_session.specs.Sounds.{IsSound, XorbsAgree}
 use Rattle.xet_session.specs.Sessions.{HasListed, IsBackedSession, IsListed, SessionTold, Stands, Tells, known_of}
@@ -48,6 +49,7 @@ new_session u i q t = record {
   finished = [];
   listed = [];
   registered = [];
+  repeated = [];
   metrics = no_counts;
   failed = None;
   finalized = false;
@@ -68,8 +70,9 @@ abbrev pub PutsFail : SessionTold → SessionTold → DataError → Type 0
 PutsFail b n e = StoresFail b.shards n.shards e
     ⊎ ((f : ClientError) × (n.failed ≡ Some f) × (e ≡ of_client_error f))
 
--- the uploader was asked for no records
+-- the uploader was asked for no records, and is one to the same store
 pub record NoQueries (b n : SessionTold) : Type 0 where
+  pub first : n.uploader.first ≡ b.uploader.first
   pub asked : n.uploader.asked ≡ b.uploader.asked
   pub answered : n.uploader.answered ≡ b.uploader.answered
 
@@ -106,11 +109,16 @@ pub record GrewByXorbs (b n : SessionTold) : Type 0 where
   pub sent : b.metrics.xorb_bytes_uploaded < 2 ^ 64 → n.metrics.xorb_bytes_uploaded
       ≡ min (b.metrics.xorb_bytes_uploaded + sum_by xorb_bytes xorbs) (2 ^ 64 - 1)
 
+-- the xorbs that were not put again stay told, and some may be told more
+abbrev pub RepeatsGrow : SessionTold → SessionTold → Type 0
+RepeatsGrow b n = (xs : List Xorb) × (n.repeated ≡ b.repeated ++ xs)
+
 -- a call that puts xorbs alone, and after which each named xorb is there if it was before; over a store k of the known
 -- xorbs, and where xorbs agree, the searched records go on describing xorbs that are there
 pub record Keeps (b n : SessionTold) : Type 0 where
   pub tells : Tells b → Tells n
   pub grew : Tells b → GrewByXorbs b n
+  pub repeated : RepeatsGrow b n
   pub stands : Tells b → Stands b → Stands n
   pub sound : (k : Store) → Tells b → XorbsAgree (world k (log_of n)) → IsSound k b → IsSound k n
   pub known : known_told n.shards ≡ known_told b.shards
@@ -188,10 +196,20 @@ waiting_records b = map (record_of_file (waiting_hash b)) b.waiting.files
 abbrev pub without_waiting : SessionTold → SessionTold
 without_waiting b = record b { waiting = no_waiting }
 
+-- one more xorb was not put, since one of its hash was put before
+abbrev pub with_repeated : SessionTold → Xorb → SessionTold
+with_repeated b x = record b { repeated = b.repeated ++ x ∷ [] }
+
+-- some chunks wait whose hash a xorb has that was put before; it is told that theirs is not put
+pub record CutRepeated (b n : SessionTold) : Type 0 where
+  pub some : 0 < length b.waiting.chunks
+  pub before : Contains b.registered (waiting_hash b)
+  pub told : n.repeated ≡ b.repeated ++ xorb_of_chunks b.waiting.chunks ∷ []
+
 -- nothing was put, since no chunk waits, or a xorb of the hash was put before; the files are finished
 pub record CutStill (b n : SessionTold) : Type 0 where
-  pub same : n ≡ record (without_waiting b) { finished = b.finished ++ waiting_records b }
-  pub reason : (b.waiting.chunks ≡ []) ⊎ Contains b.registered (waiting_hash b)
+  pub same : n ≡ record (without_waiting b) { finished = b.finished ++ waiting_records b; repeated = n.repeated }
+  pub reason : ((b.waiting.chunks ≡ []) × (n.repeated ≡ b.repeated)) ⊎ CutRepeated b n
 
 -- what waits was put as a xorb, which has some chunks, and of whose hash none was put before
 pub record CutPut (b n : SessionTold) (now : ℕ) (answer : Result (Unit {0}) DataError) : Type 0 where
@@ -204,9 +222,10 @@ abbrev pub CutStopped : SessionTold → SessionTold → ℕ → Result (Unit {0}
 CutStopped b n now answer = (n ≡ b) ⊎ WasRefused (without_waiting b) n ⊎ CutPut b n now answer
 
 -- a cut: nothing waits afterwards, what waited is listed, and its files are finished; after a failed put that is kept
--- nothing changes
+-- nothing changes; a xorb of what waited can be stored
 pub record Cut (b n : SessionTold) (now : ℕ) (answer : Result (Unit {0}) DataError) : Type 0 where
   pub keeps : Keeps b n
+  pub storable : IsStorable b.waiting.chunks
   pub listed : IsListed b → n.failed ≡ None → IsListed n
   pub ok : OnOk answer (CutStill b n ⊎ CutPut b n now answer)
   pub err : OnErr answer (CutStopped b n now answer)
@@ -235,8 +254,8 @@ finalized_error = data_error.InvalidOperation invalid.Finalized
 abbrev pub Refuses : SessionTold → SessionTold → DataError → Type 0
 Refuses b n e = ((why : Invalid) × (e ≡ data_error.InvalidOperation why)) × (n ≡ b)
 
--- a xorb was registered: it was put, or one with its hash was put before and nothing changed; a call that would put
--- nothing is refused, or fails for want of memory, but never with a kept failure
+-- a xorb was registered: it was put, or one with its hash was put before, and it is told as repeated; a call that
+-- would put nothing is refused, or fails for want of memory, but never with a kept failure
 pub record Registers (b n : SessionTold) (x : Xorb) (now : ℕ) (answer : Result Bool DataError) : Type 0 where
   pub keeps : Keeps b n
   pub listed : IsListed b → n.failed ≡ None → IsListed n
@@ -245,10 +264,11 @@ pub record Registers (b n : SessionTold) (x : Xorb) (now : ℕ) (answer : Result
     shards = n.shards;
     listed = n.listed;
     registered = n.registered;
+    repeated = n.repeated;
     metrics = n.metrics;
     failed = n.failed;
   }
-  pub again : IfOk answer (λ y. y ≡ false → Contains b.registered x.hash × (n ≡ b))
+  pub again : IfOk answer (λ y. y ≡ false → Contains b.registered x.hash × (n ≡ with_repeated b x))
   pub new : IfOk answer (λ y. y ≡ true → RegisteredNew b n x now)
   pub err : IfErr answer (RegisterStopped b n x now)
   pub counts : CountsSent b n
@@ -392,6 +412,7 @@ pub record Finalizes {A : Type 0} (b n : SessionTold) (now : ℕ) (answer : Resu
   pub put : Tells b → b.shards.rules.dry_run ≡ false
       → OnOk answer ((f : MDBFileInfo) → Contains n.finished f → IsPut (log_of n) f)
   pub grew : Tells b → GrewToEnd b n
+  pub repeated : RepeatsGrow b n
   pub dry : Tells b → b.shards.rules.dry_run ≡ true → GrewByXorbs b n
   pub quiet : is_some b.failed ≡ true → log_of n ≡ log_of b
   pub queries : NoQueries b n

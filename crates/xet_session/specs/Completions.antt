@@ -4,6 +4,7 @@ use Rattle.xet_upload.specs.Metrics.{both}
 use Rattle.xet_upload.specs.Waitings.{Waiting, merged}
 use Rattle.xet_upload.specs.declared.data_error.DataError.{DataError}
 use Rattle.xet_upload.specs.declared.metrics.DeduplicationMetrics.{DeduplicationMetrics}
+use Rattle.xet_session_parts.specs.Storable.{IsStorable}
 use Rattle.xet_session_parts.specs.Thresholds.{FitTogether, waiting_bytes}
 use Rattle.xet_session.specs.Calls.{CountsSent, Cut, Keeps, PutsFail, Says}
 use Rattle.xet_session.specs.Sessions.{IsListed, SessionTold, waiting_names}
@@ -45,10 +46,11 @@ pub record CutsWaiting (b n : SessionTold) (w : Waiting) (now : ℕ)
   pub ok : OnOk answer (n ≡ with_waiting middle w)
   pub err : OnErr answer (n ≡ middle)
 
--- the data of a file was taken, whose xorbs are on the list
+-- the data of a file was taken, whose xorbs are on the list, and of which a xorb can be stored
 pub record TakesFile (b n : SessionTold) (w : Waiting) (now : ℕ)
     (answer : Result (Unit {0}) DataError) : Type 0 where
   pub keeps : Keeps b n
+  pub storable : IsStorable w.chunks
   pub listed : All (Contains b.listed) (waiting_names w.files) → IsListed b → n.failed ≡ None → IsListed n
   pub exits : Joins b n w answer ⊎ CutsFile b n w now answer ⊎ CutsWaiting b n w now answer
   pub counts : CountsSent b n

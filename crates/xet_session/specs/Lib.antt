@@ -1,5 +1,6 @@
 pub mod Calls
 pub mod Completions
+pub mod Puts
 pub mod Sessions
 pub mod Sounds
 pub mod Telling

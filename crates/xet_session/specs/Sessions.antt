@@ -3,6 +3,7 @@ use Rattle.std.specs.Prelude.{◌≡◌, Bool, false, List, [], ◌∷◌, map, 
 use Rattle.std.specs.List.{flat_map}
 use Rattle.xet_base.specs.declared.merklehash.MerkleHash.{MerkleHash}
 use Rattle.xet_base.specs.declared.mdb_shard.MDBFileInfo.{MDBFileInfo}
+use Rattle.xet_base.specs.declared.mdb_shard.Xorb.{Xorb}
 use Rattle.xet_outside.specs.declared.client.ClientError.{ClientError}
 use Rattle.xet_uploader.specs.declared.uploader.Put.{Put}
 use Rattle.xet_uploader.specs.Uploads.{UploaderTold}
@@ -14,6 +15,7 @@ use Rattle.xet_upload.specs.declared.metrics.DeduplicationMetrics.{Deduplication
 use Rattle.xet_waiting.specs.declared.waiting.TermXorb.{TermXorb}
 use Rattle.xet_waiting.specs.declared.waiting.TermXorb.TheVariants.{Own, Stored}
 use Rattle.xet_waiting.specs.declared.waiting.WaitingFile.{WaitingFile}
+use Rattle.xet_session_parts.specs.Storable.{IsStorable}
 use Rattle.xet_session_parts.specs.declared.cut_thresholds.CutThresholds.{CutThresholds}
 
 -- what the session's uploader and stores tell, and its own data
@@ -26,6 +28,8 @@ pub record SessionTold : Type 0 where
   pub listed : List MerkleHash
   -- the xorbs that were put
   pub registered : List MerkleHash
+  -- the xorbs that were not put, since one of their hash was put before
+  pub repeated : List Xorb
   pub metrics : DeduplicationMetrics
   -- the first put that failed
   pub failed : Option ClientError
@@ -65,9 +69,11 @@ pub record IsListed (t : SessionTold) : Type 0 where
   pub waiting : All (Contains t.listed) (waiting_names t.waiting.files)
   pub put : All (Contains t.listed) t.registered
 
--- what the type keeps of its own data: all is listed, unless a failed put is kept or the session is finalized
-abbrev pub HasListed : SessionTold → Type 0
-HasListed t = t.failed ≡ None → t.finalized ≡ false → IsListed t
+-- what the type keeps of its own data: all is listed, unless a failed put is kept or the session is finalized; and a
+-- xorb of what waits can be stored
+pub record HasListed (t : SessionTold) : Type 0 where
+  pub all : t.failed ≡ None → t.finalized ≡ false → IsListed t
+  pub waits : IsStorable t.waiting.chunks
 
 -- ---- backed sessions
 

@@ -17,6 +17,7 @@ told_by u r s = record {
   finished = map (λ p. p.info) s.finished.items;
   listed = s.listed.hashes.items;
   registered = s.registered.hashes.items;
+  repeated = s.repeated.told;
   metrics = s.metrics;
   failed = s.failed;
   finalized = s.finalized;

@@ -2,6 +2,7 @@
 ghost use Rattle.std.specs.Prelude.{◌≡◌, ◌<◌, ◌≤◌, ℕ, All, Contains, None, false};
 ghost use Rattle.xet_session.specs.Calls.{Backs};
 ghost use Rattle.xet_session.specs.Completions.{TakesFile};
+ghost use Rattle.xet_session_parts.specs.Storable.{IsStorable};
 ghost use Rattle.xet_session_parts.specs.Thresholds.{FitTogether, waiting_bytes};
 ghost use Rattle.xet_session.specs.Sessions.{waiting_names};
 ghost use Rattle.xet_session.specs.Trackings.{TracksFile};
@@ -26,6 +27,7 @@ impl<U: Uploader, R: ShardStore> FileUploadSession<U, R> {
     ) -> Result<(), DataError>
         requires named { self.old.failed ≡ None → self.old.finalized ≡ false
             → All (Contains self.old.listed.hashes.items) (waiting_names file_data.files) }
+        requires storable { IsStorable file_data.chunks }
         requires passes { FitTogether self.old.thresholds self.old.waiting file_data → ⊥ }
         requires larger { waiting_bytes self.old.waiting ≤ waiting_bytes file_data }
         ensures call { TakesFile (told_by U.told R.told self.old) (told_by U.told R.told self.new)
@@ -50,6 +52,7 @@ impl<U: Uploader, R: ShardStore> FileUploadSession<U, R> {
     ) -> Result<(), DataError>
         requires named { self.old.failed ≡ None → self.old.finalized ≡ false
             → All (Contains self.old.listed.hashes.items) (waiting_names file_data.files) }
+        requires storable { IsStorable file_data.chunks }
         requires passes { FitTogether self.old.thresholds self.old.waiting file_data → ⊥ }
         requires larger { waiting_bytes file_data < waiting_bytes self.old.waiting }
         ensures call { TakesFile (told_by U.told R.told self.old) (told_by U.told R.told self.new)
@@ -71,6 +74,7 @@ impl<U: Uploader, R: ShardStore> FileUploadSession<U, R> {
     fn join_waiting(&mut self, alloc: Global, file_data: DataAggregator) -> Result<(), DataError>
         requires named { self.old.failed ≡ None → self.old.finalized ≡ false
             → All (Contains self.old.listed.hashes.items) (waiting_names file_data.files) }
+        requires storable { IsStorable file_data.chunks }
         requires fits { FitTogether self.old.thresholds self.old.waiting file_data }
         ensures call { (now : ℕ) → TakesFile (told_by U.told R.told self.old) (told_by U.told R.told self.new)
             file_data now result }

@@ -13,14 +13,15 @@ ghost use Rattle.xet_upload.specs.Waitings.{IsWithin, merged};
 ghost use Rattle.xet_shards.specs.Shards.{no_records};
 ghost use Rattle.xet_session.specs.Calls.{Backs, Counted, Cut, Finalizes, HasFiles, Keeps, PutsFail, Queries};
 ghost use Rattle.xet_session.specs.Calls.{Registers, SearchesInOrder, end_counts, new_session};
+ghost use Rattle.xet_session_parts.specs.Storable.{IsStorable};
 ghost use Rattle.xet_session_parts.specs.Thresholds.{thresholds_of};
 ghost use Rattle.xet_session.specs.Completions.{with_file_counts};
 ghost use Rattle.xet_session.specs.Sessions.{HasListed, IsBackedSession, waiting_names};
 ghost use Rattle.xet_session.specs.Trackings.{CountsPut, StartsFile, Tracks, TracksCut, TracksXorb};
-ghost use Rattle.xet_session.specs.steps.Listings.{AreListed};
+ghost use Rattle.xet_session.specs.steps.Listings.{AreListed, AreStorable};
 ghost use Rattle.xet_session.specs.steps.SessionSteps.{AddedFinished, AddedRecord, GivenCounted, OnList};
 ghost use Rattle.xet_session.specs.Calls.{AsksFor};
-ghost use Rattle.xet_session.specs.steps.SessionSteps.{PutCounted, PutFinished, PutRaw, PutRecords};
+ghost use Rattle.xet_session.specs.steps.SessionSteps.{PutCounted, PutFinished, PutRaw, PutRecords, Repeats};
 ghost use Rattle.xet_session.specs.steps.SessionSteps.{TookWaiting};
 
 use std::alloc::Global;
@@ -34,7 +35,7 @@ use xet_base::{
 use xet_outside::ClientError;
 use xet_pointer::TranslatorConfig;
 use xet_progress::{FileXorbDependency, GroupProgress, GroupProgressReport, ItemProgressReport};
-use xet_session_parts::{CutThresholds, FileTracker, HashList};
+use xet_session_parts::{CutThresholds, FileTracker, HashList, RepeatedXorbs};
 use xet_shard_interface::{SessionShardInterface, SessionStores};
 use xet_shards::ShardStore;
 use xet_upload::{DataAggregator, DataError, DeduplicationMetrics, PendingFile, RawXorbData};
@@ -55,6 +56,8 @@ pub struct FileUploadSession<U: Uploader, R: ShardStore> {
     listed: HashList,
     // the xorbs that were put
     registered: HashList,
+    // the xorbs that were not put, since one of their hash was put before
+    repeated: RepeatedXorbs,
     metrics: DeduplicationMetrics,
     // the first put that failed
     failed: Option<ClientError>,
@@ -72,6 +75,8 @@ pub struct FileUploadSession<U: Uploader, R: ShardStore> {
     // what is named is on the list, unless a failed put is kept or the session is finalized
     ghost lists: { failed ≡ None → finalized ≡ false
         → AreListed listed.hashes.items registered.hashes.items (map (λ p. p.info) finished.items) waiting },
+    // a xorb of what waits can be stored
+    ghost waits: { AreStorable waiting.chunks },
 }
 
 impl<U: Uploader, R: ShardStore> FileUploadSession<U, R> {
@@ -161,6 +166,7 @@ impl<U: Uploader, R: ShardStore> FileUploadSession<U, R> {
             finished: Vec::new(alloc),
             listed: HashList::new(alloc),
             registered: HashList::new(alloc),
+            repeated: RepeatedXorbs::new(),
             metrics: DeduplicationMetrics::new(),
             failed: None,
             finalized: false,
@@ -340,6 +346,7 @@ impl<U: Uploader, R: ShardStore> FileUploadSession<U, R> {
     pub(crate) fn replace_waiting(&mut self, file_data: DataAggregator) -> DataAggregator
         requires named { self.old.failed ≡ None → self.old.finalized ≡ false
             → All (Contains self.old.listed.hashes.items) (waiting_names file_data.files) }
+        requires storable { IsStorable file_data.chunks }
         ensures same { told_by U.told R.told self.new
             ≡ record (told_by U.told R.told self.old) { waiting = file_data } }
         ensures is { result ≡ self.old.waiting }
@@ -358,6 +365,7 @@ impl<U: Uploader, R: ShardStore> FileUploadSession<U, R> {
         requires within { IsWithin (self.old.waiting.chunks ++ file_data.chunks) }
         requires named { self.old.failed ≡ None → self.old.finalized ≡ false
             → All (Contains self.old.listed.hashes.items) (waiting_names file_data.files) }
+        requires storable { IsStorable file_data.chunks }
         ensures ok { OnOk result (told_by U.told R.told self.new
             ≡ record (told_by U.told R.told self.old) { waiting = merged self.old.waiting file_data }) }
         ensures err { OnErr result (told_by U.told R.told self.new ≡ told_by U.told R.told self.old) }
@@ -436,16 +444,26 @@ impl<U: Uploader, R: ShardStore> FileUploadSession<U, R> {
         }
         let chunks = self.waiting.num_chunks();
         let (raw, files) = self.take_waiting(alloc)?;
-        let noted = self
-            .files
-            .register_cut(rt, alloc, &raw, files.as_slice(), &self.registered);
+        let noted = self.files.register_cut(rt, alloc, &raw, files.as_slice());
         if !self.is_new(chunks, &raw.xorb.hash) {
             self.finish_files(files);
+            self.repeat_cut(&raw.xorb);
             return Ok(());
         }
         match self.put_finished(rt, alloc, &raw, files, now) {
             Ok(()) => noted,
             Err(error) => Err(error),
+        }
+    }
+
+    // Tells that a xorb which was cut is not put, since one of its hash was put before. One without chunks is not told.
+    fn repeat_cut(&mut self, xorb: &Xorb)
+        ensures call { Repeats (told_by U.told R.told self.old) (told_by U.told R.told self.new) xorb.now }
+        ensures untold { self.new.files.tracker ≡ self.old.files.tracker }
+        ensures group { KeepsGroup self.old self.new }
+    {
+        if xorb.chunks.len() > 0 {
+            self.repeated.push(xorb);
         }
     }
 
@@ -488,6 +506,7 @@ impl<U: Uploader, R: ShardStore> FileUploadSession<U, R> {
         ensures group { KeepsGroup self.old self.new }
     {
         if self.registered.contains(&raw.xorb.hash) {
+            self.repeated.push(&raw.xorb);
             return Ok(false);
         }
         if raw.xorb.chunks.len() == 0 {
@@ -562,8 +581,7 @@ impl<U: Uploader, R: ShardStore> FileUploadSession<U, R> {
         ensures registered { self.new.registered ≡ self.old.registered }
         ensures group { KeepsGroup self.old self.new }
     {
-        self.files
-            .register_dependencies(rt, alloc, dependencies, &self.registered)
+        self.files.register_dependencies(rt, alloc, dependencies)
     }
 
     /// Begins a file: an item of the session's group with the next id and this name, and a file of the tracker, whose

@@ -3,3 +3,4 @@ mod CutNotes
 mod Hashes
 mod Tracked
 mod TrackerCalls
+mod Walks

@@ -1,5 +1,6 @@
 //! From where on the data of a file does not join what waits.
 ghost use Rattle.std.specs.Prelude.{◌≡◌, ◌↔◌, IsTrue};
+ghost use Rattle.xet_session_parts.specs.Storable.{IsStorable};
 ghost use Rattle.xet_session_parts.specs.Thresholds.{FitTogether, thresholds_of};
 
 use xet_pointer::TranslatorConfig;
@@ -29,12 +30,13 @@ impl CutThresholds {
 
     /// Whether both together pass neither of the two, and keep the limits of a xorb.
     pub fn fit(&self, waiting: &DataAggregator, file_data: &DataAggregator) -> bool
-        ensures { IsTrue result ↔ FitTogether self.now waiting.now file_data.now }
+        ensures fit { IsTrue result ↔ FitTogether self.now waiting.now file_data.now }
+        ensures storable { IsStorable file_data.now.chunks }
     {
-        if waiting.num_bytes() + file_data.num_bytes() > self.bytes {
+        if waiting.num_chunks() + file_data.num_chunks() > self.chunks {
             return false;
         }
-        if waiting.num_chunks() + file_data.num_chunks() > self.chunks {
+        if waiting.num_bytes() + file_data.num_bytes() > self.bytes {
             return false;
         }
         waiting.fits_with(file_data)

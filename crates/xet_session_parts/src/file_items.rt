@@ -1,32 +1,22 @@
 //! The items of a session's files.
-use crate::hash_list::HashList;
 use std::alloc::Global;
-use std::collections::BTreeMap;
 use std::sync::Wait;
-use xet_base::{MerkleHash, OutOfMemory};
-use xet_progress::{FileXorbDependency, ItemProgressUpdater};
+use xet_base::OutOfMemory;
+use xet_progress::{FileXorbDependency, ItemProgressUpdater, TrackerState};
+use xet_progress_state::{Found, TrackedFile};
 
-/// A file's item, and the file's size as far as it is known, in bytes.
+/// A file's item, and the completed bytes that it was told.
 #[derive(Drop)]
-struct TrackedFile {
+struct ToldItem {
     item: ItemProgressUpdater,
-    total: u64,
-    fixed: bool,
+    completed: u64,
 }
 
-/// Bytes of a file that wait for a xorb.
-#[derive(Clone, Copy)]
-struct FilePart {
-    file_id: u64,
-    n_bytes: u64,
-}
-
-/// The items of the files by the tracker's ids, and the parts of files that wait for xorbs which weren't put. A report
-/// that an item refuses, and one for which memory is refused, is left out.
+/// The items of the files by the tracker's ids. They are told what the tracker counts of their files. A report that an
+/// item refuses is left out.
 #[derive(Drop)]
 pub(crate) struct FileItems {
-    files: Vec<TrackedFile>,
-    waits: BTreeMap<MerkleHash, Vec<FilePart>>,
+    files: Vec<ToldItem>,
 }
 
 impl FileItems {
@@ -34,7 +24,6 @@ impl FileItems {
     pub(crate) fn new(alloc: Global) -> FileItems {
         FileItems {
             files: Vec::new(alloc),
-            waits: BTreeMap::new(alloc),
         }
     }
 
@@ -46,74 +35,69 @@ impl FileItems {
 
     /// Adds the item of the next file, and tells it the file's size: a final one, or none yet.
     pub(crate) fn add<W: Wait>(&mut self, rt: &W, item: ItemProgressUpdater, size: Option<u64>) {
-        let total = size.unwrap_or(0);
-        let fixed = size.is_some();
-        let _ = item.update_item_size(rt, total, fixed);
-        let _ = self.files.push(TrackedFile { item, total, fixed });
+        let _ = item.update_item_size(rt, size.unwrap_or(0), size.is_some());
+        let _ = self.files.push(ToldItem { item, completed: 0 });
     }
 
-    /// Tells the item of a file whose size isn't fixed that the file has so many bytes more.
-    pub(crate) fn grow<W: Wait>(&mut self, rt: &W, file_id: u64, bytes: u64) {
-        let Some(file) = self.files.get_mut(file_id as usize) else {
+    /// Tells the item of a file that grows the file's total. A fixed size stays.
+    pub(crate) fn tell_size<W: Wait>(&self, rt: &W, tracker: &TrackerState, file_id: u64) {
+        let Some(file) = tracker.file(file_id) else {
             return;
         };
         if file.fixed {
             return;
         }
-        file.total = file.total.saturating_add(bytes);
-        let _ = file.item.update_item_size(rt, file.total, false);
-    }
-
-    /// Tells a file's item that so many bytes more are completed.
-    fn credit<W: Wait>(&self, rt: &W, part: FilePart) {
-        if let Some(file) = self.files.get(part.file_id as usize) {
-            let _ = file.item.report_bytes_completed(rt, part.n_bytes);
+        if let Some(told) = self.files.get(file_id as usize) {
+            let _ = told.item.update_item_size(rt, file.total, false);
         }
     }
 
-    /// The bytes wait for the xorb.
-    fn wait(&mut self, alloc: Global, xorb: MerkleHash, part: FilePart) -> Result<(), OutOfMemory> {
-        if let Some(parts) = self.waits.get_mut(&xorb) {
-            parts.push(part)?;
-            return Ok(());
-        }
-        let mut parts = Vec::new(alloc);
-        parts.push(part)?;
-        if self.waits.insert(xorb, parts).is_err() {
-            return Err(OutOfMemory);
-        }
-        Ok(())
-    }
-
-    /// Tells the items of the files of what they have in xorbs: at once where the bytes are external or the xorb was
-    /// put, and else once it is put.
-    pub(crate) fn depend<W: Wait>(
+    /// Tells the items of the files of dependencies what is completed of them.
+    pub(crate) fn tell_dependencies<W: Wait>(
         &mut self,
         rt: &W,
-        alloc: Global,
+        tracker: &TrackerState,
         dependencies: &[FileXorbDependency],
-        put: &HashList,
     ) {
         for dependency in dependencies {
-            let part = FilePart {
-                file_id: dependency.file_id,
-                n_bytes: dependency.n_bytes,
-            };
-            if dependency.is_external || put.contains(&dependency.xorb_hash) {
-                self.credit(rt, part);
-            } else {
-                let _ = self.wait(alloc, dependency.xorb_hash, part);
+            self.tell_completed(rt, dependency.file_id, tracker.file(dependency.file_id));
+        }
+    }
+
+    /// Tells the items of the files that wait for a xorb what is completed of them, given the xorb's entry before it
+    /// was completed.
+    pub(crate) fn tell_xorb<W: Wait>(
+        &mut self,
+        rt: &W,
+        tracker: &TrackerState,
+        before: Option<Found>,
+    ) {
+        let Some(found) = before else {
+            return;
+        };
+        if found.completed {
+            return;
+        }
+        for number in 0..tracker.waiting_count(found.place) {
+            if let Some(file_id) = tracker.waiting_file(found.place, number) {
+                self.tell_completed(rt, file_id, tracker.file(file_id));
             }
         }
     }
 
-    /// Tells the items of the files that wait for a xorb that it was put.
-    pub(crate) fn complete<W: Wait>(&mut self, rt: &W, xorb: &MerkleHash) {
-        let Some(parts) = self.waits.remove(xorb) else {
+    /// Tells a file's item what is completed of it beyond what it was told.
+    fn tell_completed<W: Wait>(&mut self, rt: &W, file_id: u64, file: Option<TrackedFile>) {
+        let Some(file) = file else {
             return;
         };
-        for part in parts.as_slice() {
-            self.credit(rt, *part);
+        let Some(told) = self.files.get_mut(file_id as usize) else {
+            return;
+        };
+        if file.completed > told.completed {
+            let _ = told
+                .item
+                .report_bytes_completed(rt, file.completed - told.completed);
+            told.completed = file.completed;
         }
     }
 }

@@ -95,7 +95,7 @@ impl FileTracker {
     {
         match self.tracker.increment_file_size(file_id, bytes) {
             Ok(()) => {
-                self.items.grow(rt, file_id, bytes);
+                self.items.tell_size(rt, &self.tracker, file_id);
                 Ok(())
             }
             Err(error) => Err(DataError::from(error)),
@@ -118,7 +118,7 @@ impl FileTracker {
         self.tracker.register_new_xorb(alloc, hash, size)
     }
 
-    /// Registers what files have in xorbs, all of it or nothing. `put` has the xorbs that were put.
+    /// Registers what files have in xorbs, all of it or nothing.
     ///
     /// `UnknownFile` where one names no file, else `PastTotal` where a file's dependencies would pass its size.
     /// `OutOfMemory` where an allocation was refused.
@@ -127,16 +127,16 @@ impl FileTracker {
         rt: &W,
         alloc: Global,
         dependencies: &[FileXorbDependency],
-        put: &HashList,
     ) -> Result<(), ProgressError>
         ensures { CallOf self.old.tracker self.new.tracker (RegisterDependencies dependencies.now) tt result }
     {
         self.tracker.register_dependencies(alloc, dependencies)?;
-        self.items.depend(rt, alloc, dependencies, put);
+        self.items
+            .tell_dependencies(rt, &self.tracker, dependencies);
         Ok(())
     }
 
-    /// Registers what files have in xorbs, all of it or nothing. `put` has the xorbs that were put.
+    /// Registers what files have in xorbs, all of it or nothing.
     ///
     /// `UnknownFile` where one names no file, else `PastTotal` where a file's dependencies would pass its size.
     /// `OutOfMemory` where an allocation was refused.
@@ -145,11 +145,10 @@ impl FileTracker {
         rt: &W,
         alloc: Global,
         dependencies: &[FileXorbDependency],
-        put: &HashList,
     ) -> Result<(), DataError>
         ensures { Tracks self.old.tracker self.new.tracker (RegisterDependencies dependencies.now ∷ []) result }
     {
-        match self.depend(rt, alloc, dependencies, put) {
+        match self.depend(rt, alloc, dependencies) {
             Ok(()) => Ok(()),
             Err(error) => Err(DataError::from(error)),
         }
@@ -173,27 +172,28 @@ impl FileTracker {
             (xorb_calls put.now.hashes.items raw.now.xorb dependencies.now) result }
     {
         if put.contains(&raw.xorb.hash) {
-            return self.register_dependencies(rt, alloc, dependencies, put);
+            return self.register_dependencies(rt, alloc, dependencies);
         }
         match self.register_xorb(alloc, raw.xorb.hash, raw.num_bytes()) {
-            Ok(_new) => self.register_dependencies(rt, alloc, dependencies, put),
+            Ok(_new) => self.register_dependencies(rt, alloc, dependencies),
             Err(error) => Err(DataError::from(error)),
         }
     }
 
-    /// Counts a xorb as put. A refusal changes nothing. `OutOfMemory` where an allocation was refused.
+    /// Counts a xorb as complete. A refusal changes nothing. `OutOfMemory` where an allocation was refused.
     pub fn complete<W: Wait>(&mut self, rt: &W, hash: &MerkleHash) -> Result<(), OutOfMemory>
         ensures ok { OnOk result (self.new.tracker
             ≡ with_call self.old.tracker (RegisterXorbUploadCompletion hash.now)) }
         ensures err { OnErr result (self.new.tracker ≡ self.old.tracker) }
     {
+        let before = self.tracker.xorb(hash);
         if let Err(ProgressError::OutOfMemory) = self
             .tracker
             .register_xorb_upload_completion(*hash)
         {
             return Err(OutOfMemory);
         }
-        self.items.complete(rt, hash);
+        self.items.tell_xorb(rt, &self.tracker, before);
         Ok(())
     }
 
@@ -215,14 +215,13 @@ impl FileTracker {
         rt: &W,
         alloc: Global,
         dependencies: &[FileXorbDependency],
-        put: &HashList,
     ) -> Result<(), DataError>
         ensures ok { OnOk result (self.new.tracker
             ≡ with_call self.old.tracker (RegisterDependencies dependencies.now)) }
         ensures err { OnErr result (self.new.tracker ≡ self.old.tracker) }
         ensures memory { IfErr result (λ e. e ≡ data_error.OutOfMemory) }
     {
-        match self.depend(rt, alloc, dependencies, put) {
+        match self.depend(rt, alloc, dependencies) {
             Err(ProgressError::OutOfMemory) => Err(DataError::OutOfMemory),
             _ => Ok(()),
         }
@@ -236,7 +235,6 @@ impl FileTracker {
         alloc: Global,
         raw: &RawXorbData,
         files: &[PendingFile],
-        put: &HashList,
     ) -> Result<(), DataError>
         ensures notes { NotesCut self.old.tracker self.new.tracker raw.now files.now result }
         ensures memory { IfErr result (λ e. e ≡ data_error.OutOfMemory) }
@@ -247,7 +245,7 @@ impl FileTracker {
         let hash = raw.xorb.hash;
         let dependencies = parts_in(alloc, hash, files)?;
         self.note_xorb(alloc, hash, raw.num_bytes())?;
-        self.note_parts(rt, alloc, dependencies.as_slice(), put)
+        self.note_parts(rt, alloc, dependencies.as_slice())
     }
 }
 

@@ -74,6 +74,7 @@ puts-none u b x = record {
   cached = cache-none b.cache.records;
   unput = inl refl;
   asked = refl;
+  first = refl;
   answered = refl;
   failure = failure-none u x (StoreFails b.cache.faults b.cache.faults) tt;
   cache = omega arith;
@@ -115,6 +116,7 @@ module _ (u m v : UploaderTold) (b c n : InterfaceTold) (x y z : Option ClientEr
           cached = cached ∙ ap (all_with_shards b.cache.records) (sym all);
           unput = inl (p.failure.ok ∙ h.failure.ok);
           asked = p.asked ∙ h.asked;
+          first = p.first ∙ h.first;
           answered = p.answered ∙ h.answered;
           failure = record { ok = p.failure.ok ∙ h.failure.ok; unfailed = p.failure.unfailed ∙ h.failure.unfailed; err = tt; faults = omega (arith, h.failure.faults, p.failure.faults) };
           cache = omega (arith, h.cache, p.cache);
@@ -139,6 +141,7 @@ module _ (u m v : UploaderTold) (b c n : InterfaceTold) (x y z : Option ClientEr
           cached = p.err.0 ∙ h.ok.1;
           unput = inr (refl, low);
           asked = p.asked ∙ h.asked;
+          first = p.first ∙ h.first;
           answered = p.answered ∙ h.answered;
           failure = failure;
           cache = omega (arith, h.cache, p.cache);
@@ -157,6 +160,7 @@ module _ (u m v : UploaderTold) (b c n : InterfaceTold) (x y z : Option ClientEr
           cached = p.err.0 ∙ h.ok.1;
           unput = inl (f ∙ h.failure.ok);
           asked = p.asked ∙ h.asked;
+          first = p.first ∙ h.first;
           answered = p.answered ∙ h.answered;
           failure = failure;
           cache = omega (arith, h.cache, p.cache);
@@ -191,6 +195,7 @@ uploads-refused u b n x e m =
       unforgotten = refl;
       forgot = λ d. tt;
       asked = refl;
+      first = refl;
       answered = refl;
       faults = record { resumed = omega arith; session = m.faults; cache = omega arith; staging = omega arith };
       failure = record { ok = tt; unfailed = tt; err = inl (refl, refl, inl m.why); faults = omega arith };
@@ -222,6 +227,7 @@ module _ (u : UploaderTold) (b c : InterfaceTold) (x : Option ClientError) (ss :
         unforgotten = tt;
         forgot = λ q. absurd (false≢true (sym q ∙ sym rules-same ∙ d));
         asked = refl;
+        first = refl;
         answered = refl;
         faults = record { resumed = omega arith; session = m.faults; cache = omega arith; staging = omega arith };
         failure = failure-none u x (UploadFails b (record b { session = c.session })) k;
@@ -279,6 +285,7 @@ module _ (u : UploaderTold) (b c : InterfaceTold) (x : Option ClientError) (ss :
           unforgotten = unforgotten said p.same kept;
           forgot = λ q. subst (λ (o : Option ShardsTold). OnOk said (Forgot o n.resumed)) (resumed-is p.same) forgot;
           asked = p.asked;
+          first = p.first;
           answered = p.answered;
           failure = record { ok = failure.ok; unfailed = failure.unfailed; err = IfErr-weaker said (FailsSo u v x z (StoreFails c.cache.faults d.cache.faults)) (FailsSo u v x z (UploadFails b n)) (so-too e) failure.err; faults = failure.faults };
           faults = record {

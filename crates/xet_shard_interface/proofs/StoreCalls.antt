@@ -70,6 +70,7 @@ module _ (u v : UploaderTold) (b : InterfaceTold) (x : Option ClientError) (r : 
     err = (refl, inl h.refused);
     unput = inr h.refused;
     asked = h.asked;
+    first = h.first;
     answered = h.answered;
     failure = record {
       ok = tt;
@@ -88,6 +89,7 @@ module _ (u v : UploaderTold) (b : InterfaceTold) (x : Option ClientError) (r : 
       err = tt;
       unput = inl refl;
       asked = h.asked;
+      first = h.first;
       answered = h.answered;
       failure = record { ok = refl; unfailed = h.unfailed; err = tt; faults = h.faults };
       cache = a.faults;
@@ -100,6 +102,7 @@ module _ (u v : UploaderTold) (b : InterfaceTold) (x : Option ClientError) (r : 
       err = (a.kept, inr h.accepted);
       unput = inl refl;
       asked = h.asked;
+      first = h.first;
       answered = h.answered;
       failure = record { ok = tt; unfailed = tt; err = inl (refl, h.unfailed, store-fails b.cache.faults s.faults e a.failed); faults = h.faults };
       cache = a.faults;

@@ -98,6 +98,7 @@ pub record PutsShard (u v : UploaderTold) (b n : InterfaceTold) (before after : 
   pub err : OnErr answer ((n.cache.records ≡ b.cache.records)
       × ((v.puts ≡ u.puts) ⊎ (v.puts ≡ with_puts u.puts (s ∷ []))))
   pub unput : (after ≡ before) ⊎ (v.puts ≡ u.puts)
+  pub first : v.first ≡ u.first
   pub asked : v.asked ≡ u.asked
   pub answered : v.answered ≡ u.answered
   pub failure : Fails u v before after (StoreFails b.cache.faults n.cache.faults) answer
@@ -121,6 +122,7 @@ pub record PutsShards (u v : UploaderTold) (b n : InterfaceTold) (before after :
   pub close : count ≤ kept + 1
   pub cached : n.cache.records ≡ all_with_shards b.cache.records (take kept ss)
   pub unput : StopsAtFailure before after count kept ss
+  pub first : v.first ≡ u.first
   pub asked : v.asked ≡ u.asked
   pub answered : v.answered ≡ u.answered
   pub failure : Fails u v before after (StoreFails b.cache.faults n.cache.faults) answer
@@ -187,6 +189,7 @@ pub record Uploads (u v : UploaderTold) (b n : InterfaceTold) (before after : Op
       ⊎ (resumed_records n.resumed ≡ forgotten (resumed_records b.resumed))
   pub unforgotten : OnErr answer (resumed_records n.resumed ≡ resumed_records b.resumed)
   pub forgot : b.rules.dry_run ≡ false → OnOk answer (Forgot b.resumed n.resumed)
+  pub first : v.first ≡ u.first
   pub asked : v.asked ≡ u.asked
   pub answered : v.answered ≡ u.answered
   pub failure : Fails u v before after (UploadFails b n) answer

@@ -1,10 +1,11 @@
--- What the lists of a session have, as tests: a ghost field takes a fact of which there is one proof at most.
-use Rattle.std.specs.Prelude.{◌≡◌, Bool, true, List}
+-- What the lists of a session have, and what waits, as tests: a ghost field takes a fact of which there is one proof at
+-- most.
+use Rattle.std.specs.Prelude.{ℕ, ◌≡◌, Bool, true, ltb, List, length}
 use Rattle.std.specs.List.{list_all}
 use Rattle.xet_base.specs.declared.merklehash.MerkleHash.{MerkleHash}
 use Rattle.xet_base.specs.declared.mdb_shard.MDBFileInfo.{MDBFileInfo}
 use Rattle.xet_upload.specs.Orders.{names_of}
-use Rattle.xet_upload.specs.Waitings.{Waiting}
+use Rattle.xet_upload.specs.Waitings.{IsWithin, Waiting}
 use Rattle.xet_session.specs.Sessions.{waiting_names}
 use Rattle.xet_session_parts.specs.HashLists.{has}
 
@@ -17,3 +18,12 @@ pub record AreListed (listed registered : List MerkleHash) (files : List MDBFile
   pub finished : has_all listed (names_of files) ≡ true
   pub waiting : has_all listed (waiting_names waits.files) ≡ true
   pub put : has_all listed registered ≡ true
+
+-- each chunk has a byte
+abbrev pub have_bytes : List (List ℕ) → Bool
+have_bytes cs = list_all (λ c. ltb 0 (length c)) cs
+
+-- a xorb of what waits can be stored
+pub record AreStorable (chunks : List (List ℕ)) : Type 0 where
+  pub some : have_bytes chunks ≡ true
+  pub within : IsWithin chunks

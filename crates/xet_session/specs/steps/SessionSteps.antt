@@ -118,6 +118,12 @@ pub record OnList (b n : SessionTold) (x : MerkleHash) : Type 0 where
   pub same : (n ≡ b) ⊎ (n ≡ record b { listed = b.listed ++ x ∷ [] })
   pub once : Contains b.listed x → n ≡ b
 
+-- a xorb with chunks is told as one that was not put
+pub record Repeats (b n : SessionTold) (x : Xorb) : Type 0 where
+  pub same : n ≡ record b { repeated = n.repeated }
+  pub some : 0 < length x.chunks → n.repeated ≡ b.repeated ++ x ∷ []
+  pub none : length x.chunks ≡ 0 → n.repeated ≡ b.repeated
+
 -- a xorb was put and is counted as complete, or its put failed and the tracker is as before
 pub record PutCounted (b n : SessionTold) (told after : List TrackerStep) (h : MerkleHash)
     (answer : Result (Unit {0}) DataError) : Type 0 where

@@ -9,7 +9,7 @@ use Rattle.xet_session.proofs.session.FileUploadSession.put_new.Goals as goal
 pub returns-then-contains : goal.returns-then-contains
 returns-then-contains g c =
     let old = c.contains.ensures.yes c.if-contains.true in
-    record { call = registers-again _ _ _ c.requires.first old; why = tt; tracked = given-again _ _ _ _ _ refl old refl; group = (refl, refl) }
+    record { call = rw c.push.ensures (registers-again _ _ _ c.requires.first old); why = tt; tracked = given-again _ _ _ _ _ refl old refl; group = (refl, refl) }
 
 pub returns-in_err-complete : goal.returns-in_err-complete
 returns-in_err-complete g c =

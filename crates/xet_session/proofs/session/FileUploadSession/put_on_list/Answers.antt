@@ -6,7 +6,7 @@ use Rattle.xet_session.proofs.Tests.{are-found}
 use Rattle.xet_session.proofs.session.FileUploadSession.put_on_list.Goals as goal
 
 pub invariant_of-self : goal.invariant_of-self
-invariant_of-self g c = record { lists = λ f z. are-found _ _ _ _ (c.args.self.now.lists f z) _ _ c.push_reserved.ensures }
+invariant_of-self g c = record { lists = λ f z. are-found _ _ _ _ (c.args.self.now.lists f z) _ _ c.push_reserved.ensures; waits = c.args.self.now.waits }
 
 pub returns-clause-call : goal.returns-clause-call
 returns-clause-call g c =

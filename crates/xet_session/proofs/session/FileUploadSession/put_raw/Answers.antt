@@ -7,4 +7,4 @@ pub returns-in-Err-clause-call : goal.returns-in-Err-clause-call
 returns-in-Err-clause-call g c = put-refused _ _ _ _ _ (rw c.in-Err.is at c.put_xorb.ensures) refl c.requires.unfailed c.from.ensures
 
 pub invariant_of-self : goal.invariant_of-self
-invariant_of-self g c = record { lists = λ f z. are-put _ _ _ _ (c.args.self.now.lists f z) _ _ _ c.push_reserved.ensures c.push_reserved-in-Ok.ensures }
+invariant_of-self g c = record { lists = λ f z. are-put _ _ _ _ (c.args.self.now.lists f z) _ _ _ c.push_reserved.ensures c.push_reserved-in-Ok.ensures; waits = c.args.self.now.waits }

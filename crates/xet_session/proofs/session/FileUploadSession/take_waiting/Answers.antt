@@ -4,7 +4,7 @@ use Rattle.xet_base.proofs.CallerLemmas.{err-of}
 use Rattle.xet_waiting.specs.declared.raw_xorb.PendingFile.{PendingFile}
 use Rattle.xet_session.specs.Telling.{told_by}
 use Rattle.xet_session.proofs.CutTracking.{on_ok, took-so, took-space}
-use Rattle.xet_session.proofs.Tests.{are-taken}
+use Rattle.xet_session.proofs.Tests.{are-taken, waits-taken}
 use Rattle.xet_session.proofs.session.FileUploadSession.take_waiting.Goals as goal
 
 pub returns-in_err-make_room : goal.returns-in_err-make_room
@@ -50,4 +50,5 @@ returns g c =
 pub invariant_of-self-2 : goal.invariant_of-self-2
 invariant_of-self-2 g c = record {
   lists = λ f z. are-taken _ _ _ _ _ (c.make_room.new.self.lists f z) c.in_ok-reserve.ensures.same _ c.finalize.result c.finalize.ensures.emptied c.finalize.ensures.kept;
+  waits = waits-taken _ _ c.finalize.result c.finalize.ensures.emptied c.finalize.ensures.kept c.make_room.new.self.waits;
 }
