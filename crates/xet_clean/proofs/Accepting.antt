@@ -4,7 +4,7 @@ use Rattle.std.specs.Prelude.{All, Contains, IsSome, None, Some, Result, Ok, fin
 use Rattle.std.specs.List.{concat, flat_map}
 use Rattle.std.specs.Option.{option_or}
 use Rattle.std.proofs.lemmas.Bool.{false≢true}
-use Rattle.std.proofs.lemmas.List.Elements.{All-head, All-tail}
+use Rattle.std.proofs.lemmas.List.Elements.{All-head, All-tail, Contains-append_cases, Contains-append_left, Contains-append_right}
 use Rattle.xet_base.specs.declared.mdb_shard.MDBFileInfo.{MDBFileInfo}
 use Rattle.xet_base.specs.declared.mdb_shard.Xorb.{Xorb}
 use Rattle.xet_base.specs.declared.merklehash.MerkleHash.{MerkleHash}
@@ -21,39 +21,33 @@ use Rattle.xet_uploader.specs.StoresAfter.{file_of_record, files_in, store_after
 use Rattle.xet_uploader.proofs.CallerLemmas.{after_finds_files, after_finds_xorbs}
 use Rattle.xet_shard_interface.specs.declared.shard_interface.ShardRules.{ShardRules}
 use Rattle.xet_shard_interface.specs.Puts.{shards_of}
-use Rattle.xet_upload.specs.Standing.{AgreeOn, Stand, StandsFor, term_of, world}
+use Rattle.xet_upload.specs.Standing.{Stand, StandsFor, term_of, world}
 use Rattle.xet_upload.specs.Waitings.{Waiting, no_waiting}
 use Rattle.xet_upload.specs.declared.data_error.DataError.{DataError}
 use Rattle.xet_upload.proofs.CallerLemmas.{later_resolved, resolved, same_bytes, stand-grown}
 use Rattle.xet_uploader.specs.Uploads.{xorbs_in}
-use Rattle.xet_session.specs.Calls.{Cut, EndsCut, EndsSo, EndsUncut, Finalizes, IsPut, as_finalized, finalized_error, waiting_hash}
+use Rattle.xet_session.specs.Calls.{Cut, EndsCut, EndsSo, EndsUncut, Finalizes, IsPut, as_finalized, finalized_error}
 use Rattle.xet_session.specs.Sessions.{SessionTold, Tells, log_of}
 use Rattle.xet_clean_parts.specs.Learnings.{Learns}
-use Rattle.xet_session.specs.Sounds.{XorbsAgree}
 use Rattle.xet_clean_parts.proofs.CallerLemmas.{learns-sound, learns-tells}
 use Rattle.xet_clean.specs.Cleaners.{Cleaner, CleanerStands}
 use Rattle.xet_clean.specs.Laws.{AcceptedReads, AcceptedResolves, CallsKeepSteady, CountsKeepRecords, CutKeepsRecords, EndAccepts, FileKeepsRecords, KeepsCleaners, LearningKeepsCleaners, LearningKeepsRecords, LearningKeepsSteady, LeavesRecords, RegisterKeepsRecords, SearchKeepsRecords, StoredResolves}
-use Rattle.xet_clean_parts.specs.Premises.{IsSteady, waiting_xorb, with_xorbs}
+use Rattle.xet_clean_parts.specs.Premises.{HashesAgree, IsSteady}
 use Rattle.xet_clean.specs.Records.{CleanedFile, HasRecord, IsAccepted, IsRecorded, WaitsFor}
 use Rattle.xet_clean.proofs.Holding.{cut-holds, cut-recorded, cut-waited, left-holds, recorded-grown, takes-holds}
 use Rattle.xet_clean_parts.proofs.CallerLemmas.{opened}
-use Rattle.xet_clean_parts.proofs.CallerLemmas.{Contains-head, agree-made, ok-err, world-grew, world-has}
+use Rattle.xet_clean_parts.proofs.CallerLemmas.{ok-err, world-grew, world-has}
 
 -- ---- other calls
 
 pub leaves-keeps : LeavesRecords
 leaves-keeps k b n f l s o r = left-holds k b n no_waiting 0 s o f l.keeps l.waiting l.finished r
 
-waited-agrees : (k : Store) (b n : SessionTold) → XorbsAgree (with_xorbs (world k (log_of n)) (waiting_xorb b ∷ []))
-    → AgreeOn (world k (log_of n)).xorbs (waiting_hash b) b.waiting.chunks
-waited-agrees k b n a = agree-made (world k (log_of n)) (waiting_xorb b ∷ []) (waiting_xorb b) a (Contains-head
-    (waiting_xorb b) [])
-
 pub cut-keeps : CutKeepsRecords
 cut-keeps k b n now answer f c s o a r =
     let before = opened b n c.keeps o in
     cut-holds k b n now s.tells f s.sound (s.backed before.unfailed before.unfinished)
-    (s.listed before.unfailed before.unfinished).put (waited-agrees k b n a) answer c o.unfailed r
+    (s.listed.all before.unfailed before.unfinished).put a answer c o.unfailed r
 
 pub cleaner-grown : KeepsCleaners
 cleaner-grown k b n c bytes keeps s a =
@@ -87,8 +81,7 @@ counts-keep k b n counts f e r = subst (λ (t : SessionTold). HasRecord k t f) (
 
 -- the data of another file
 pub file-keeps : FileKeepsRecords
-file-keeps k b n w now answer f t s o a r = takes-holds k b n w now s o f (waiting_xorb b ∷ []) a answer t
-    (Contains-head (waiting_xorb b) []) r
+file-keeps k b n w now answer f t s o a r = takes-holds k b n w now s o f a answer t r
 
 -- queries of the uploader
 module _ (k : Store) (b n : SessionTold) (hashes : List MerkleHash) (answer : Result Bool DataError)
@@ -140,7 +133,7 @@ learning-steady k b n hashes answer l backs more s = record {
 
 module _ {A : Type 0} (k : Store) (b n : SessionTold) (now : ℕ) (counts : A) (f : CleanedFile)
     (z : Finalizes b n now (Ok counts)) (s : IsSteady k b) (dry : b.shards.rules.dry_run ≡ false)
-    (agree : XorbsAgree (with_xorbs (world k (log_of n)) (waiting_xorb b ∷ []))) (r : HasRecord k b f) where
+    (agree : HashesAgree k n) (r : HasRecord k b f) where
   -- it was not finalized
   first : b.finalized ≡ false
   first = go b.finalized refl
@@ -184,16 +177,29 @@ module _ {A : Type 0} (k : Store) (b n : SessionTold) (now : ℕ) (counts : A) (
     grown : log_of n ≡ log_of m ++ map put.Shard (shards_of n.shards)
     grown = (ends.all tells_middle (ap (λ (x : ShardRules). x.dry_run) cut.keeps.rules ∙ dry)).0
 
-    agree_middle : AgreeOn (world k (log_of m)).xorbs (waiting_hash b) b.waiting.chunks
-    agree_middle = λ x c e. waited-agrees k b n agree x (world-has k (log_of m) (log_of n) (map put.Shard
-        (shards_of n.shards)) grown x c) e
+    -- the hashes agree before the shards too
+    agree_middle : HashesAgree k m
+    agree_middle x y c d = agree x y (more x c) (more y d)
+      where
+        more : (x : Xorb) → Contains ((world k (log_of m)).xorbs ++ m.repeated) x
+            → Contains ((world k (log_of n)).xorbs ++ n.repeated) x
+        more x c = go (Contains-append_cases (world k (log_of m)).xorbs m.repeated x c)
+          where
+            go : Contains (world k (log_of m)).xorbs x ⊎ Contains m.repeated x
+                → Contains ((world k (log_of n)).xorbs ++ n.repeated) x
+            go (inl e) = Contains-append_left (world k (log_of n)).xorbs n.repeated x
+                (world-has k (log_of m) (log_of n) (map put.Shard (shards_of n.shards)) grown x e)
+            go (inr e) =
+                let same : n.repeated ≡ m.repeated = ap (λ (t : SessionTold). t.repeated) ends.same in
+                Contains-append_right (world k (log_of n)).xorbs n.repeated x
+                (subst (λ (xs : List Xorb). Contains xs x) (sym same) e)
 
     in-middle : IsRecorded (world k (log_of m)) m.finished f
     in-middle = go r
       where
         go : HasRecord k b f → IsRecorded (world k (log_of m)) m.finished f
         go (inl a) = cut-waited k (as_finalized b) m now begun f s.sound (s.backed unfailed_before first)
-            (s.listed unfailed_before first).put agree_middle tt cut a
+            (s.listed.all unfailed_before first).put agree_middle tt cut a
         go (inr a) = cut-recorded k (as_finalized b) m now begun f (Ok tt) cut a
 
     accepted-after : IsAccepted k (log_of n) f

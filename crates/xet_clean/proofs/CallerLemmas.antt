@@ -3,6 +3,10 @@
 -- the end of a file
 pub use Rattle.xet_clean.proofs.Completing.{backs-both, none-missing, waits-still}
 -- what is fed, in two calls
-pub use Rattle.xet_clean.proofs.Feeding.{counts-both, feeds-both, feeds-none, never, never-failed}
+pub use Rattle.xet_clean.proofs.Feeding.{counts-both, feeds-both, cut-stands, feeds-none, feeds-so, never, never-failed}
 -- records that go on standing
 pub use Rattle.xet_clean.proofs.Holding.{left-holds}
+-- chunks that stay one with what waits
+pub use Rattle.xet_clean.proofs.Taking.{stay-picked}
+-- the end of a session
+pub use Rattle.xet_clean.proofs.Accepting.{end-accepts}

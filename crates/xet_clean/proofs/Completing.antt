@@ -1,41 +1,41 @@
 -- The end of a cleaner: the session has a record of its file.
 use Rattle.std.proofs.Common.{◌≡◌, ℕ, ◌⊎◌, inl, inr, true, false, List, [], ◌∷◌, ◌++◌, length, refl, sym, ◌∙◌, ap, subst}
-use Rattle.std.specs.Prelude.{All, Contains, Option, Some, None, Result, Ok, Err, IfErr, IfOk, OnOk}
+use Rattle.std.specs.Prelude.{All, Contains, Option, Some, None, Result, Ok, Err, IfErr, IfOk, OnErr, OnOk}
 use Rattle.std.proofs.lemmas.List.{append-nil}
-use Rattle.std.proofs.lemmas.List.Elements.{All-contains, All-same, All-tail, Contains-append_cases, Contains-append_left, Contains-append_right, Contains-push}
+use Rattle.std.proofs.lemmas.List.Elements.{All-contains, All-same, All-tail, Contains-append_right, Contains-push}
 use Rattle.sha2.specs.Hashers.{Holds256}
-use Rattle.xet_base.specs.declared.mdb_shard.Xorb.{Xorb}
 use Rattle.xet_base.specs.declared.merklehash.MerkleHash.{MerkleHash}
 use Rattle.xet_base.specs.Digests.{file_hash_of}
 use Rattle.xet_base.specs.Store.{Store}
 use Rattle.xet_pointer.specs.declared.xet_file_info.XetFileInfo.{XetFileInfo}
 use Rattle.xet_upload.specs.FileDatas.{Parts, with_file}
 use Rattle.xet_upload.specs.Standing.{world}
-use Rattle.xet_upload.specs.Waitings.{Waiting, no_waiting, xorb_of_chunks}
+use Rattle.xet_upload.specs.Waitings.{Waiting, no_waiting}
 use Rattle.xet_upload.specs.declared.data_error.DataError.{DataError}
 use Rattle.xet_upload.specs.declared.data_error.DataError.TheVariants as data_error
 use Rattle.xet_upload.specs.declared.metrics.DeduplicationMetrics.{DeduplicationMetrics}
 use Rattle.xet_upload.specs.declared.sha256_policy.Sha256Policy.{Sha256Policy}
 use Rattle.xet_upload.specs.declared.sha256_policy.Sha256Policy.TheVariants.{Compute}
 use Rattle.xet_waiting.specs.declared.waiting.WaitingFile.{WaitingFile}
-use Rattle.xet_session.specs.Calls.{Backs, CutStopped, Keeps, finalized_error}
+use Rattle.xet_session.specs.Calls.{Backs, CountsSent, CutStopped, Keeps, finalized_error}
 use Rattle.xet_session.specs.Completions.{CutsFile, CutsWaiting, Joins, TakesFile, with_file_counts}
-use Rattle.xet_session.specs.Sessions.{HasListed, SessionTold, known_of, log_of, waiting_names}
-use Rattle.xet_session.specs.Sounds.{XorbsAgree}
+use Rattle.xet_session.specs.Sessions.{HasListed, SessionTold, Tells, known_of, log_of, waiting_names}
 use Rattle.xet_session.proofs.CallerLemmas.{keeps-both, keeps-refl, ordered-grown}
 use Rattle.xet_clean.specs.Cleaners.{Cleaner, CleanerStands, Completes, Counts, CountsChunks, CutsChunks, EndRefused, Finishes, IsFed, cleaned_file, unknown_xorb}
 use Rattle.xet_clean_parts.specs.Cleanings.{IsFirstUnlisted}
 use Rattle.xet_clean_parts.specs.Pointers.{pointer_to, recorded_sha256}
 use Rattle.xet_clean_parts.specs.Cleanings.{AreNamed, ChunkFails, CleanFails, Leaves, NoFault, term_names}
-use Rattle.xet_clean_parts.specs.Made.{IsMadeOf, IsPickedFrom}
-use Rattle.xet_clean_parts.specs.Premises.{IsOpen, IsSteady, NoClash, waiting_xorb, with_xorbs}
+use Rattle.xet_clean_parts.specs.Made.{IsPickedFrom, PutsMade, PutsNone, PutsSome, StayOne}
+use Rattle.xet_clean_parts.specs.Premises.{HashesAgree, IsOpen, IsSteady, NoClash}
 use Rattle.xet_clean.specs.Records.{CleanedFile, HasRecord, WaitsFor}
-use Rattle.xet_clean_parts.proofs.CallerLemmas.{fails-later, fails-memory, leaves-refl, steady-left}
+use Rattle.xet_clean_parts.proofs.CallerLemmas.{fails-later, fails-memory, leaves-refl, sent-both, steady-left}
 use Rattle.xet_clean.proofs.Feeding.{cut-fed, cut-stands, never, never-failed}
 use Rattle.xet_clean.proofs.Holding.{left-holds, takes-holds, takes-taken}
 use Rattle.xet_clean_parts.proofs.CallerLemmas.{opened}
-use Rattle.xet_clean_parts.proofs.CallerLemmas.{made-both, made-none, made-one, made-wider, picked-all, picked-behind, picked-both, picked-front, picked-none, picked-same, picked-trans}
-use Rattle.xet_clean_parts.proofs.CallerLemmas.{Contains-cons, Contains-head, agree-alone, world-has}
+use Rattle.xet_clean_parts.proofs.CallerLemmas.{made-both, made-more, made-moved, made-still, none-both, none-same, says-err, says-none}
+use Rattle.xet_clean_parts.proofs.CallerLemmas.{picked-all, picked-behind, picked-both, picked-front, picked-none, picked-same, picked-trans, picked-within}
+use Rattle.xet_clean_parts.proofs.CallerLemmas.{Contains-head, agree-alone, hashes-before, world-has}
+use Rattle.xet_clean.proofs.Taking.{stay-picked, takes-full, takes-puts, takes-thresholds}
 
 -- ---- what waits afterwards
 
@@ -125,8 +125,10 @@ module _ (b : SessionTold) (c : Cleaner) (ended : c.pending ≡ []) (hash : Merk
   completes-none n e same why = record {
     keeps = keeps-refl b n same;
     backs = (leaves-refl b n same).backs;
-    made = [];
-    made_of = made-none c.parts.own.chunks;
+    puts = λ t. made-still b n (b.waiting.chunks ++ c.parts.own.chunks) (ap log_of same)
+        (ap (λ (z : SessionTold). z.repeated) same);
+    full = λ w. none-same b n same;
+    thresholds = ap (λ (z : SessionTold). z.thresholds) same;
     waits = waits-still b n c.parts.own.chunks (ap (λ (z : SessionTold). z.waiting) same);
     hash = hash;
     hash_is = is;
@@ -136,13 +138,12 @@ module _ (b : SessionTold) (c : Cleaner) (ended : c.pending ≡ []) (hash : Merk
     unfailed = tt;
     counts = tt;
     counted = tt;
+    uncounted = (leaves-refl b n same).counts;
+    said = says-none b n (Err e) (ap (λ (z : SessionTold). z.failed) same);
     why = fails-memory b n e why;
   }
 
   module _ (w : Waiting) (id : ℕ) (data_is : w ≡ with_file c.parts id hash sha) (now : ℕ) where
-    abbrev own : Xorb
-    own = xorb_of_chunks w.chunks
-
     waits : (s : Store) (bytes : List ℕ) → CleanerStands s c bytes → WaitsFor s w (cleaned_file c hash bytes)
     waits s bytes a =
         let P : Waiting → Type 0 = λ z. WaitsFor s z (cleaned_file c hash bytes) in
@@ -152,9 +153,16 @@ module _ (b : SessionTold) (c : Cleaner) (ended : c.pending ≡ []) (hash : Merk
     chunks_are : w.chunks ≡ c.parts.own.chunks
     chunks_are = ap (λ (z : Waiting). z.chunks) data_is
 
-    made-own : All (IsMadeOf c.parts.own.chunks) (own ∷ [])
-    made-own = made-one w.chunks c.parts.own.chunks (picked-same w.chunks c.parts.own.chunks c.parts.own.chunks
-        chunks_are (picked-all c.parts.own.chunks))
+    puts-own : (n : SessionTold) (answer : Result (Unit {0}) DataError) → TakesFile b n w now answer → Tells b
+        → PutsMade b n (b.waiting.chunks ++ c.parts.own.chunks)
+    puts-own n answer t tells =
+        let P : List (List ℕ) → Type 0 = λ cs. PutsMade b n (b.waiting.chunks ++ cs) in
+        subst P chunks_are (takes-puts b n w now answer t tells)
+
+    full-own : (n : SessionTold) (answer : Result (Unit {0}) DataError) → TakesFile b n w now answer
+        → StayOne b c.parts.own.chunks → PutsNone b n
+    full-own n answer t s = takes-full b n w now answer t
+        (subst (λ (cs : List (List ℕ)). StayOne b cs) (sym chunks_are) s)
 
     waits-own : (n : SessionTold) (answer : Result (Unit {0}) DataError) → TakesFile b n w now answer
         → IsPickedFrom n.waiting.chunks (b.waiting.chunks ++ c.parts.own.chunks)
@@ -168,18 +176,20 @@ module _ (b : SessionTold) (c : Cleaner) (ended : c.pending ≡ []) (hash : Merk
     completes-err n e t k = record {
       keeps = t.keeps;
       backs = λ h. k;
-      made = own ∷ [];
-      made_of = made-own;
+      puts = puts-own n (Err e) t;
+      full = full-own n (Err e) t;
+      thresholds = takes-thresholds b n w now (Err e) t;
       waits = waits-own n (Err e) t;
       hash = hash;
       hash_is = is;
-      holds = λ m f s o a r. takes-holds m b n w now s o f (waiting_xorb b ∷ own ∷ []) a (Err e) t (Contains-head
-          (waiting_xorb b) (own ∷ [])) r;
+      holds = λ m f s o a r. takes-holds m b n w now s o f a (Err e) t r;
       stands = λ m bytes s o a r. tt;
       pointer = λ bytes a. tt;
       unfailed = tt;
       counts = tt;
       counted = tt;
+      uncounted = t.counts;
+      said = λ none. says-err n e (t.said none);
       why = inr t.why;
     }
 
@@ -209,21 +219,23 @@ module _ (b : SessionTold) (c : Cleaner) (ended : c.pending ≡ []) (hash : Merk
           record {
             keeps = whole;
             backs = λ h. backs-both b m n' t.keeps whole one two;
-            made = own ∷ [];
-            made_of = made-own;
+            puts = λ x. made-moved b b m n' (b.waiting.chunks ++ c.parts.own.chunks) refl refl refl refl
+                (puts-own m (Ok u) t x);
+            full = λ s x. full-own m (Ok u) t s x;
+            thresholds = takes-thresholds b m w now (Ok u) t;
             waits = waits-own m (Ok u) t;
             hash = hash;
             hash_is = is;
-            holds = λ k f s o a r. takes-holds k b m w now s (open-before o) f (waiting_xorb b ∷ own ∷ []) a (Ok u) t
-                (Contains-head (waiting_xorb b) (own ∷ [])) r;
-            stands = λ k bytes s o a r. takes-taken k b m w now s (open-before o) (cleaned_file c hash bytes)
-                (waiting_xorb b ∷ own ∷ []) a u t (Contains-cons (waiting_xorb b) (own ∷ []) own
-                (Contains-head own [])) (waits (world k (log_of b)) bytes r);
+            holds = λ k f s o a r. takes-holds k b m w now s (open-before o) f a (Ok u) t r;
+            stands = λ k bytes s o a r. takes-taken k b m w now s (open-before o) (cleaned_file c hash bytes) a u t
+                (waits (world k (log_of b)) bytes r);
             pointer = λ bytes a. pointer ∙ ap (λ (z : ℕ). pointer_to hash z sha) a.count
                 ∙ ap (λ (o : Option MerkleHash). pointer_to hash (length bytes) o) (recorded bytes a.hashed);
             unfailed = t.unfailed;
             counts = refl;
             counted = counted-all;
+            uncounted = tt;
+            said = says-none b n' (Ok (info, c.counts)) t.unfailed;
             why = tt;
           }
 
@@ -249,12 +261,15 @@ module _ (b n : SessionTold) (c : Cleaner) (listed : HasListed b) where
   finishes-finalized e fin = record {
     keeps = keeps-refl b n e;
     backs = (leaves-refl b n e).backs listed;
-    made = [];
     cut = [];
     rest = c.pending;
     pending = refl;
+    places = tt;
     all = tt;
-    made_of = made-none (c.parts.own.chunks ++ []);
+    puts = λ t. made-still b n (b.waiting.chunks ++ (c.parts.own.chunks ++ [])) (ap log_of e)
+        (ap (λ (z : SessionTold). z.repeated) e);
+    full = λ w. none-same b n e;
+    thresholds = ap (λ (z : SessionTold). z.thresholds) e;
     waits = waits-still b n (c.parts.own.chunks ++ []) (ap (λ (z : SessionTold). z.waiting) e);
     hash = file_hash_of c.parts.infos;
     hash_is = tt;
@@ -263,7 +278,9 @@ module _ (b n : SessionTold) (c : Cleaner) (listed : HasListed b) where
     pointer = λ bytes a. tt;
     counts = tt;
     counted = tt;
+    uncounted = (leaves-refl b n e).counts;
     unfailed = tt;
+    said = says-none b n (Err finalized_error) (ap (λ (z : SessionTold). z.failed) e);
     finalized = λ g. (refl, e);
     kept = λ g. never b.finalized g fin;
     unknown = λ g. never b.finalized g fin;
@@ -275,12 +292,15 @@ module _ (b n : SessionTold) (c : Cleaner) (listed : HasListed b) where
   finishes-kept e same fin failed = record {
     keeps = keeps-refl b n same;
     backs = (leaves-refl b n same).backs listed;
-    made = [];
     cut = [];
     rest = c.pending;
     pending = refl;
+    places = tt;
     all = tt;
-    made_of = made-none (c.parts.own.chunks ++ []);
+    puts = λ t. made-still b n (b.waiting.chunks ++ (c.parts.own.chunks ++ [])) (ap log_of same)
+        (ap (λ (z : SessionTold). z.repeated) same);
+    full = λ w. none-same b n same;
+    thresholds = ap (λ (z : SessionTold). z.thresholds) same;
     waits = waits-still b n (c.parts.own.chunks ++ []) (ap (λ (z : SessionTold). z.waiting) same);
     hash = file_hash_of c.parts.infos;
     hash_is = tt;
@@ -289,7 +309,9 @@ module _ (b n : SessionTold) (c : Cleaner) (listed : HasListed b) where
     pointer = λ bytes a. tt;
     counts = tt;
     counted = tt;
+    uncounted = (leaves-refl b n same).counts;
     unfailed = tt;
+    said = says-none b n (Err e) (ap (λ (z : SessionTold). z.failed) same);
     finalized = λ g. never b.finalized fin g;
     kept = λ g x k. (
       let both : Some e ≡ Some x = sym failed ∙ k in let one : e ≡ x = cc in ap (λ
@@ -322,12 +344,15 @@ module _ (b n : SessionTold) (c : Cleaner) (listed : HasListed b) where
   finishes-unknown h same fin none first = record {
     keeps = keeps-refl b n same;
     backs = (leaves-refl b n same).backs listed;
-    made = [];
     cut = [];
     rest = c.pending;
     pending = refl;
+    places = tt;
     all = tt;
-    made_of = made-none (c.parts.own.chunks ++ []);
+    puts = λ t. made-still b n (b.waiting.chunks ++ (c.parts.own.chunks ++ [])) (ap log_of same)
+        (ap (λ (z : SessionTold). z.repeated) same);
+    full = λ w. none-same b n same;
+    thresholds = ap (λ (z : SessionTold). z.thresholds) same;
     waits = waits-still b n (c.parts.own.chunks ++ []) (ap (λ (z : SessionTold). z.waiting) same);
     hash = file_hash_of c.parts.infos;
     hash_is = tt;
@@ -336,7 +361,9 @@ module _ (b n : SessionTold) (c : Cleaner) (listed : HasListed b) where
     pointer = λ bytes a. tt;
     counts = tt;
     counted = tt;
+    uncounted = (leaves-refl b n same).counts;
     unfailed = tt;
+    said = says-none b n (Err (unknown_xorb h)) (ap (λ (z : SessionTold). z.failed) same);
     finalized = λ g. never b.finalized fin g;
     kept = λ g x k. never-failed c.failed x none k;
     unknown = λ g k x other. (
@@ -362,19 +389,30 @@ module _ (b n : SessionTold) (c : Cleaner) (listed : HasListed b) where
       first.missing (All-contains (Contains b.listed) (first.front ++ h ∷ first.rest) h all
       (Contains-append_right first.front (h ∷ first.rest) h (Contains-head h first.rest)))
 
+  -- the file's own chunks and those that were cut stand behind what waits
+  behind : (cut : List (List ℕ)) → IsPickedFrom (c.parts.own.chunks ++ cut)
+      (b.waiting.chunks ++ (c.parts.own.chunks ++ cut))
+  behind cut = picked-behind b.waiting.chunks (c.parts.own.chunks ++ cut) (c.parts.own.chunks ++ cut)
+      (picked-all (c.parts.own.chunks ++ cut))
+
   -- a chunk of the bytes that waited failed
-  pub finishes-uncut : (e : DataError) → Leaves b n → b.finalized ≡ false → c.failed ≡ None
+  pub finishes-uncut : (e : DataError) → Leaves b n
+      → PutsSome {A = Unit {0}} b n c.parts.own.chunks c.pending (Err e) → b.finalized ≡ false → c.failed ≡ None
       → AreNamed b.listed c.parts.terms → ChunkFails b n e → Finishes b n c (Err e)
-  finishes-uncut e l fin none named why = record {
+  finishes-uncut e l p fin none named why = record {
     keeps = l.keeps;
     backs = l.backs listed;
-    made = [];
-    cut = [];
-    rest = c.pending;
-    pending = refl;
+    cut = p.cut;
+    rest = p.rest;
+    pending = p.bytes_are;
+    places = tt;
     all = tt;
-    made_of = made-none (c.parts.own.chunks ++ []);
-    waits = waits-still b n (c.parts.own.chunks ++ []) l.waiting;
+    puts = λ t. made-more b n (c.parts.own.chunks ++ p.cut) (b.waiting.chunks ++ (c.parts.own.chunks ++ p.cut))
+        (behind p.cut) (p.so.puts t);
+    full = λ w. p.so.full (picked-within (c.parts.own.chunks ++ p.cut)
+        (b.waiting.chunks ++ (c.parts.own.chunks ++ p.cut)) (behind p.cut) w.within);
+    thresholds = l.thresholds;
+    waits = waits-still b n (c.parts.own.chunks ++ p.cut) l.waiting;
     hash = file_hash_of c.parts.infos;
     hash_is = tt;
     holds = λ k f s o a r. left-holds k b n no_waiting 0 s o f l.keeps l.waiting l.finished r;
@@ -382,75 +420,45 @@ module _ (b n : SessionTold) (c : Cleaner) (listed : HasListed b) where
     pointer = λ bytes a. tt;
     counts = tt;
     counted = tt;
+    uncounted = l.counts;
     unfailed = tt;
+    said = λ t. says-err n e (p.so.said t);
     finalized = λ g. never b.finalized fin g;
     kept = λ g x k. never-failed c.failed x none k;
     unknown = λ g k x first. absurd (none-missing named x first);
     why = inr (inr why);
   }
 
-  module _ (m : SessionTold) (d : Cleaner) (l : Leaves b m) (cuts : CutsChunks b m c d) (answer : Result (XetFileInfo
+  module _ (m : SessionTold) (d : Cleaner) (l : Leaves b m) (cuts : CutsChunks true b m c d) (answer : Result (XetFileInfo
       × DeduplicationMetrics) DataError) (z : Completes m n d answer) where
-    abbrev made : List Xorb
-    made = cuts.cleans.made ++ z.made
+    abbrev own : List (List ℕ)
+    own = c.parts.own.chunks ++ cuts.cut
 
     policy : d.policy ≡ c.policy
     policy = ap (λ (y : Cleaner). y.policy) cuts.same
 
-    module _ (k : Store) (s : IsSteady k b) (o : IsOpen n) (clash : NoClash (world k (log_of n))
-        (waiting_xorb b ∷ made) cuts.cut) where
-      grown : (x : Xorb) → Contains (world k (log_of m)).xorbs x → Contains (world k (log_of n)).xorbs x
-      grown x c = let g = z.keeps.grew (l.keeps.tells s.tells) in world-has k (log_of m) (log_of n) _ g.grown x c
-
-      -- xorbs of the world, of what waits, and of some that were made
-      among : (xs : List Xorb) → ((x : Xorb) → Contains xs x → Contains made x) → (x : Xorb) → Contains ((world k
-          (log_of n)).xorbs ++ (waiting_xorb b ∷ xs)) x → Contains ((world k (log_of n)).xorbs ++
-          (waiting_xorb b ∷ made)) x
-      among xs sub x c = go (Contains-append_cases (world k (log_of n)).xorbs (waiting_xorb b ∷ xs) x c)
-        where
-          go : Contains (world k (log_of n)).xorbs x ⊎ Contains (waiting_xorb b ∷ xs) x → Contains ((world k
-              (log_of n)).xorbs ++ (waiting_xorb b ∷ made)) x
-          go (inl e) = Contains-append_left (world k (log_of n)).xorbs (waiting_xorb b ∷ made) x e
-          go (inr e) = Contains-append_right (world k (log_of n)).xorbs (waiting_xorb b ∷ made) x (more
-              (Contains-append_cases (waiting_xorb b ∷ []) xs x e))
-            where
-              more : Contains (waiting_xorb b ∷ []) x ⊎ Contains xs x → Contains (waiting_xorb b ∷ made) x
-              more (inl f) = Contains-append_left (waiting_xorb b ∷ []) made x f
-              more (inr f) = Contains-append_right (waiting_xorb b ∷ []) made x (sub x f)
-
+    module _ (k : Store) (s : IsSteady k b) (o : IsOpen n) (agree : HashesAgree k n) where
       was_open : IsOpen m
       was_open = opened m n z.keeps o
 
-      agree : XorbsAgree (with_xorbs (world k (log_of n)) (waiting_xorb m ∷ z.made))
-      agree =
-          let P : Waiting → Type 0 = λ w. XorbsAgree (with_xorbs (world k (log_of n))
-          (xorb_of_chunks w.chunks ∷ z.made)) in
-          subst P (sym l.waiting) (λ x y c e. clash.xorbs x y (among z.made
-          (λ x f. Contains-append_right cuts.cleans.made z.made x f) x c) (among z.made
-          (λ x f. Contains-append_right cuts.cleans.made z.made x f) y e))
-
-      before : NoClash (world k (log_of m)) cuts.cleans.made cuts.cut
-      before = record {
-        xorbs = λ x y c e. clash.xorbs x y (front x c) (front y e);
-        chunks = λ x y c e. clash.chunks x y (grown x c) e;
-      }
-        where
-          front : (x : Xorb) → Contains ((world k (log_of m)).xorbs ++ cuts.cleans.made) x → Contains ((world k
-              (log_of n)).xorbs ++ (waiting_xorb b ∷ made)) x
-          front x c = go (Contains-append_cases (world k (log_of m)).xorbs cuts.cleans.made x c)
-            where
-              go : Contains (world k (log_of m)).xorbs x ⊎ Contains cuts.cleans.made x → Contains ((world k
-                  (log_of n)).xorbs ++ (waiting_xorb b ∷ made)) x
-              go (inl e) = Contains-append_left (world k (log_of n)).xorbs (waiting_xorb b ∷ made) x (grown x e)
-              go (inr e) = Contains-append_right (world k (log_of n)).xorbs (waiting_xorb b ∷ made) x (Contains-cons
-                  (waiting_xorb b) made x (Contains-append_left cuts.cleans.made z.made x e))
+      agreed : HashesAgree k m
+      agreed = hashes-before k m n z.keeps (l.keeps.tells s.tells) agree
 
       middle : IsSteady k m
-      middle = steady-left k b m l (agree-alone (world k (log_of m)) cuts.cleans.made before.xorbs) s
+      middle = steady-left k b m l (agree-alone (world k (log_of m)) m.repeated agreed) s
 
       finish-holds : (f : CleanedFile) → HasRecord k b f → HasRecord k n f
       finish-holds f r = z.holds k f middle o agree
           (left-holds k b m no_waiting 0 s was_open f l.keeps l.waiting l.finished r)
+
+    module _ (k : Store) (s : IsSteady k b) (o : IsOpen n) (clash : NoClash k n cuts.cut) where
+      before : NoClash k m cuts.cut
+      before = record {
+        xorbs = hashes-before k m n z.keeps (l.keeps.tells s.tells) clash.xorbs;
+        chunks = λ x y e f.
+            let g = z.keeps.grew (l.keeps.tells s.tells) in
+            clash.chunks x y (world-has k (log_of m) (log_of n) _ g.grown x e) f;
+      }
 
       finish-stands : (bytes : List ℕ) → CleanerStands (world k (log_of b)) c bytes → OnOk answer (HasRecord k n
           (cleaned_file c z.hash bytes))
@@ -461,14 +469,15 @@ module _ (b n : SessionTold) (c : Cleaner) (listed : HasListed b) where
                 recorded_sha256 p bytes;
             bytes = bytes;
           })) in
-          subst P policy (z.stands k bytes middle o agree (cut-stands b m c d cuts k bytes s was_open before a))
+          subst P policy (z.stands k bytes (middle k s o clash.xorbs) o clash.xorbs
+          (cut-stands true b m c d cuts k bytes s (opened m n z.keeps o) before a))
 
     finish-pointer : (bytes : List ℕ) → IsFed c bytes → IfOk answer (λ r. r.0 ≡ pointer_to z.hash (length bytes)
         (recorded_sha256 c.policy bytes))
     finish-pointer bytes a =
         let P : Sha256Policy → Type 0 = λ p. IfOk answer (λ r. r.0 ≡ pointer_to z.hash (length bytes)
         (recorded_sha256 p bytes)) in
-        subst P policy (z.pointer bytes (cut-fed b m c d cuts bytes a))
+        subst P policy (z.pointer bytes (cut-fed true b m c d cuts bytes a))
 
     finish-counted : (x : Result (XetFileInfo × DeduplicationMetrics) DataError) → IfOk x (λ r. Counts m n r.1)
         → IfOk x (λ r. Counts b n r.1)
@@ -495,18 +504,32 @@ module _ (b n : SessionTold) (c : Cleaner) (listed : HasListed b) where
         (same, (keeps-both b m n l.keeps z.keeps).steady (inl same))
     finish-unfailed (Err x) e = tt
 
-    -- the made xorbs, and what waits
-    finish-made : All (IsMadeOf (c.parts.own.chunks ++ cuts.cut)) made
-    finish-made = made-both (c.parts.own.chunks ++ cuts.cut) cuts.cleans.made z.made cuts.cleans.into.made_of
-        (made-wider d.parts.own.chunks (c.parts.own.chunks ++ cuts.cut) z.made cuts.cleans.into.own z.made_of)
-
-    finish-waits : IsPickedFrom n.waiting.chunks (b.waiting.chunks ++ (c.parts.own.chunks ++ cuts.cut))
-    finish-waits =
-        let all = c.parts.own.chunks ++ cuts.cut in
-        let P : Waiting → Type 0 = λ w. IsPickedFrom n.waiting.chunks (w.chunks ++ d.parts.own.chunks) in
-        picked-trans n.waiting.chunks (b.waiting.chunks ++ d.parts.own.chunks) (b.waiting.chunks ++ all)
-        (subst P l.waiting z.waits) (picked-both b.waiting.chunks d.parts.own.chunks b.waiting.chunks all
+    -- what is put, and what waits
+    with-own : IsPickedFrom (m.waiting.chunks ++ d.parts.own.chunks) (b.waiting.chunks ++ own)
+    with-own =
+        let P : Waiting → Type 0 = λ w. IsPickedFrom (w.chunks ++ d.parts.own.chunks) (b.waiting.chunks ++ own) in
+        subst P (sym l.waiting) (picked-both b.waiting.chunks d.parts.own.chunks b.waiting.chunks own
         (picked-all b.waiting.chunks) cuts.cleans.into.own)
+
+    finish-puts : Tells b → PutsMade b n (b.waiting.chunks ++ own)
+    finish-puts t = made-both b m n (b.waiting.chunks ++ own)
+        (made-more b m own (b.waiting.chunks ++ own) (behind cuts.cut) (cuts.so.puts t))
+        (made-more m n (m.waiting.chunks ++ d.parts.own.chunks) (b.waiting.chunks ++ own) with-own
+        (z.puts (l.keeps.tells t)))
+
+    finish-full : StayOne b own → PutsNone b n
+    finish-full w = none-both b m n l.keeps
+        (cuts.so.full (picked-within own (b.waiting.chunks ++ own) (behind cuts.cut) w.within))
+        (z.full (stay-picked b m d.parts.own.chunks own with-own l.thresholds w))
+
+    finish-waits : IsPickedFrom n.waiting.chunks (b.waiting.chunks ++ own)
+    finish-waits = picked-trans n.waiting.chunks (m.waiting.chunks ++ d.parts.own.chunks) (b.waiting.chunks ++ own)
+        z.waits with-own
+
+    finish-uncounted : (x : Result (XetFileInfo × DeduplicationMetrics) DataError) → OnErr x (CountsSent m n)
+        → OnErr x (CountsSent b n)
+    finish-uncounted (Ok r) e = tt
+    finish-uncounted (Err x) e = sent-both b m n l.counts e
 
     -- all bytes were cut, and the session took the data or refused it
     pub finishes-complete : b.finalized ≡ false → c.failed ≡ None → AreNamed b.listed c.parts.terms
@@ -517,12 +540,14 @@ module _ (b n : SessionTold) (c : Cleaner) (listed : HasListed b) where
         record {
           keeps = whole;
           backs = backs-both b m n l.keeps whole one (z.backs one.listed);
-          made = made;
           cut = cuts.cut;
           rest = d.pending;
           pending = cuts.pending;
+          places = on-any answer cuts.places;
           all = on-any answer ended;
-          made_of = finish-made;
+          puts = finish-puts;
+          full = finish-full;
+          thresholds = z.thresholds ∙ l.thresholds;
           waits = finish-waits;
           hash = z.hash;
           hash_is = on-any answer (z.hash_is ∙ ap file_hash_of cuts.cleans.into.infos);
@@ -531,6 +556,8 @@ module _ (b n : SessionTold) (c : Cleaner) (listed : HasListed b) where
           pointer = finish-pointer;
           counts = finish-counts answer z.counts;
           counted = finish-counted answer z.counted;
+          uncounted = finish-uncounted answer z.uncounted;
+          said = λ t. z.said (cuts.cleans.failed ∙ t);
           unfailed = finish-unfailed answer z.unfailed;
           finalized = λ g. never b.finalized fin g;
           kept = λ g x k. never-failed c.failed x none k;

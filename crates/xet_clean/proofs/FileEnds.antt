@@ -1,5 +1,5 @@
 -- What the end of a file refuses.
-use Rattle.std.proofs.Common.{◌≡◌, ℕ, ◌⊎◌, inl, inr, List, [], ◌∷◌, ◌++◌, refl, sym, ◌∙◌, ap, subst}
+use Rattle.std.proofs.Common.{◌≡◌, ℕ, ◌⊎◌, inl, inr, true, List, [], ◌∷◌, ◌++◌, refl, sym, ◌∙◌, ap, subst}
 use Rattle.std.specs.Prelude.{Option, Result, Ok, Err, IfErr, OnOk, OnErr}
 use Rattle.std.proofs.lemmas.List.{append-nil}
 use Rattle.std.proofs.lemmas.List.Elements.{All-nil}
@@ -13,7 +13,6 @@ use Rattle.xet_upload.specs.FileDatas.{Parts, with_file}
 use Rattle.xet_upload.specs.Waitings.{Waiting}
 use Rattle.xet_upload.specs.declared.data_error.DataError.{DataError}
 use Rattle.xet_upload.specs.declared.data_error.DataError.TheVariants as data_error
-use Rattle.xet_upload.specs.declared.metrics.DeduplicationMetrics.{DeduplicationMetrics}
 use Rattle.xet_upload.specs.declared.sha256_policy.Sha256Policy.TheVariants.{Compute}
 use Rattle.xet_waiting.specs.declared.waiting.WaitingFile.{WaitingFile}
 use Rattle.xet_session.specs.Completions.{TakesFile}
@@ -24,7 +23,7 @@ use Rattle.xet_clean_parts.specs.Pointers.{recorded_sha256}
 use Rattle.xet_clean_parts.specs.Cleanings.{CleanFails}
 use Rattle.xet_clean_parts.specs.FileCalls.{IsLate, IsPartOf, RefusedOf, RefusesFor, TellsOf}
 use Rattle.xet_clean.specs.Records.{WaitsFor}
-use Rattle.xet_clean_parts.specs.SessionCalls.{Calls}
+use Rattle.xet_clean_parts.specs.SessionCalls.{Calls, with_counts}
 use Rattle.xet_clean.specs.FileEnds.{CutsAndTakes, EndsFile, IsSame, TookFile}
 use Rattle.xet_clean.proofs.Completing.{file-waits}
 use Rattle.xet_clean_parts.proofs.CallerLemmas.{end-refused}
@@ -88,14 +87,15 @@ module _ (b m : SessionTold) (c : Cleaner) (w : Waiting) (h : MerkleHash) (sha :
     later = m;
     takes = t;
     tracks = k;
-    counted = refl;
+    counted = tt;
+    uncounted = refl;
   }
 
   -- it took them, and the counts were added
-  pub took-ok : {A : Type 0} (n : SessionTold) (after : List TrackerStep) (counts : DeduplicationMetrics) (r : A)
-      → TakesFile b m w now (Ok tt) → TracksFile b m w before told (Ok tt) → n ≡ record m { metrics = counts }
-      → after ≡ told → TookFile b n c now before after (Ok r)
-  took-ok n after counts r t k same untold =
+  pub took-ok : {A : Type 0} (n : SessionTold) (after : List TrackerStep) (r : A) → TakesFile b m w now (Ok tt)
+      → TracksFile b m w before told (Ok tt) → n ≡ with_counts m c.counts → after ≡ told
+      → TookFile b n c now before after (Ok r)
+  took-ok n after r t k same untold =
       let P : List TrackerStep → Type 0 = λ l. TracksFile b m w before l (Ok tt) in
       record {
         taken = w;
@@ -108,8 +108,8 @@ module _ (b m : SessionTold) (c : Cleaner) (w : Waiting) (h : MerkleHash) (sha :
         later = m;
         takes = t;
         tracks = subst P (sym untold) k;
-        counted = same ∙ ap (λ (x : DeduplicationMetrics). record m { metrics = x })
-            (sym (ap (λ (z : SessionTold). z.metrics) same));
+        counted = same;
+        uncounted = tt;
       }
 
 module _ {A : Type 0} (b : SessionTold) (c : Cleaner) (now : ℕ) (before : List TrackerStep) where
@@ -146,7 +146,7 @@ module _ {A : Type 0} (b : SessionTold) (c : Cleaner) (now : ℕ) (before : List
 
   -- all were cut
   pub ends-so : {B : Type 0} (m n : SessionTold) (d : Cleaner) (told after : List TrackerStep)
-      (own : DataError → Type 0) (x : B) (answer : Result A DataError) → CutsChunks b m c d → Calls now b m
+      (own : DataError → Type 0) (x : B) (answer : Result A DataError) → CutsChunks true b m c d → Calls now b m
       → TellsOf (IsPartOf c.file_id) own before told (Ok x)
       → OnOk answer (TookFile m n d now told after answer)
       → OnErr answer (IsSame m n told after ⊎ TookFile m n d now told after answer)

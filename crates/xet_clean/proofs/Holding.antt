@@ -5,7 +5,6 @@ use Rattle.std.proofs.lemmas.Bool.{false≢true}
 use Rattle.std.proofs.lemmas.List.{append-nil}
 use Rattle.std.proofs.lemmas.List.Elements.{All-contains, Contains-append_left, Contains-append_right}
 use Rattle.xet_base.specs.declared.merklehash.MerkleHash.{MerkleHash}
-use Rattle.xet_base.specs.declared.mdb_shard.Xorb.{Xorb}
 use Rattle.xet_base.specs.declared.mdb_shard.MDBFileInfo.{MDBFileInfo}
 use Rattle.xet_base.specs.Store.{Store, chunks_of}
 use Rattle.xet_outside.specs.declared.client.ClientError.{ClientError}
@@ -18,14 +17,13 @@ use Rattle.xet_upload.specs.declared.data_error.DataError.{DataError}
 use Rattle.xet_waiting.specs.declared.waiting.WaitingFile.{WaitingFile}
 use Rattle.xet_waiting.specs.declared.waiting.WaitingTerm.{WaitingTerm}
 use Rattle.xet_upload.proofs.CallerLemmas.{cut_stands, stand-before, stand-behind, stand-grown, stand-named}
-use Rattle.xet_session.specs.Calls.{Cut, CutPut, CutStill, CutStopped, Keeps, waiting_hash, waiting_records}
+use Rattle.xet_session.specs.Calls.{Cut, CutPut, CutRepeated, CutStill, CutStopped, Keeps, waiting_hash, waiting_records}
 use Rattle.xet_session.specs.Completions.{CutsFile, CutsWaiting, Joins, TakesFile, with_waiting}
 use Rattle.xet_session.specs.Sessions.{SessionTold, Stands, Tells, log_of}
-use Rattle.xet_session.specs.Sounds.{IsSound, XorbsAgree}
-use Rattle.xet_session.proofs.CallerLemmas.{unfailed}
-use Rattle.xet_clean_parts.specs.Premises.{IsOpen, IsSteady, waiting_xorb, with_xorbs}
+use Rattle.xet_session.specs.Sounds.{IsSound}
+use Rattle.xet_clean_parts.specs.Premises.{HashesAgree, IsOpen, IsSteady, waiting_xorb}
 use Rattle.xet_clean.specs.Records.{CleanedFile, HasRecord, IsRecorded, WaitsFor}
-use Rattle.xet_clean_parts.proofs.CallerLemmas.{Contains-map, agree-made, found-agrees, listed-stored, opened, world-grew}
+use Rattle.xet_clean_parts.proofs.CallerLemmas.{Contains-map, agree-again, agree-put, found-agrees, listed-stored, opened, world-grew}
 
 -- ---- a world that grows
 
@@ -133,8 +131,8 @@ module _ (k : Store) (b n : SessionTold) (now : ℕ) (tells : Tells b) (f : Clea
       recorded-grown k (log_of b) (log_of n) (map put.Xorb g.xorbs) g.grown b.finished n.finished f
       (sub-kept b n e.0 e.1) a
 
-  module _ (sound : IsSound k b) (stands : Stands b) (listed : All (Contains b.listed) b.registered) (agree : AgreeOn
-      (world k (log_of n)).xorbs (waiting_hash b) b.waiting.chunks) where
+  module _ (sound : IsSound k b) (stands : Stands b) (listed : All (Contains b.listed) b.registered)
+      (agree : HashesAgree k n) where
     sub-waiting : n.finished ≡ b.finished ++ waiting_records b → (g : WaitingFile) → Contains b.waiting.files g
         → Contains n.finished (record_of_file (waiting_hash b) g)
     sub-waiting finished g d =
@@ -152,7 +150,8 @@ module _ (k : Store) (b n : SessionTold) (now : ℕ) (tells : Tells b) (f : Clea
         }) in
         let finished : n.finished ≡ b.finished ++ waiting_records b = ap (λ
         (z : SessionTold). z.finished) p.put.same in
-        recorded-put k (log_of b) (log_of n) b.waiting n.finished f grown agree (sub-waiting finished) a
+        recorded-put k (log_of b) (log_of n) b.waiting n.finished f grown
+        (agree-put k n (log_of b) (waiting_xorb b) grown agree) (sub-waiting finished) a
 
     -- nothing was put
     waited-still : CutStill b n → WaitsFor (world k (log_of b)) b.waiting f → IsRecorded (world k
@@ -168,16 +167,16 @@ module _ (k : Store) (b n : SessionTold) (now : ℕ) (tells : Tells b) (f : Clea
         P : List Put → Type 0
         P ps = IsRecorded (world k ps) n.finished f
 
-        go : (b.waiting.chunks ≡ []) ⊎ Contains b.registered (waiting_hash b) → IsRecorded (world k
+        go : ((b.waiting.chunks ≡ []) × (n.repeated ≡ b.repeated)) ⊎ CutRepeated b n → IsRecorded (world k
             (log_of n)) n.finished f
         go (inl e) = subst P (sym log) (recorded-empty (world k (log_of b)) b.waiting (waiting_hash b) n.finished f
-            (sub-waiting finished) e a)
+            (sub-waiting finished) e.0 a)
         go (inr c) =
-            let there = All-contains (Contains b.listed) b.registered (waiting_hash b) listed c in
+            let there = All-contains (Contains b.listed) b.registered (waiting_hash b) listed c.before in
             let stored = listed-stored k b (waiting_hash b) sound stands there in
             let Q : List Put → Type 0 = λ ps. AgreeOn (world k ps).xorbs (waiting_hash b) b.waiting.chunks in
             let is = found-agrees (world k (log_of b)).xorbs (waiting_hash b) b.waiting.chunks stored
-            (subst Q log agree) in
+            (subst Q log (agree-again k n b.repeated (waiting_xorb b) c.told agree)) in
             subst P (sym log) (recorded-old (world k (log_of b)) b.waiting (waiting_hash b) n.finished f
             (sub-waiting finished) is a)
 
@@ -249,7 +248,7 @@ module _ (k : Store) (b n : SessionTold) (w : Waiting) (now : ℕ) (steady : IsS
     stood = steady.backed was_open.unfailed was_open.unfinished
 
     puts : All (Contains b.listed) b.registered
-    puts = (steady.listed was_open.unfailed was_open.unfinished).put
+    puts = (steady.listed.all was_open.unfailed was_open.unfinished).put
 
   -- what waits goes on waiting, after a call that leaves it
   waits-on : Keeps b n → n.waiting ≡ b.waiting → WaitsFor (world k (log_of b)) b.waiting f → HasRecord k n f
@@ -291,34 +290,32 @@ module _ (k : Store) (b n : SessionTold) (w : Waiting) (now : ℕ) (steady : IsS
     file-holds (inl a) = waits-on keeps (ap (λ (z : SessionTold). z.waiting) c.same) a
     file-holds (inr a) = from-middle (cut-recorded k (with_waiting b w) c.middle now aside_tells f answer c.cut a)
 
-  file-taken : (keeps : Keeps b n) (u : Unit {0}) (c : CutsFile b n w now (Ok u)) → AgreeOn (world k (log_of n)).xorbs
-      (xorb_of_chunks w.chunks).hash w.chunks → WaitsFor (world k (log_of b)) w f → HasRecord k n f
+  file-taken : (keeps : Keeps b n) (u : Unit {0}) (c : CutsFile b n w now (Ok u)) → HashesAgree k n
+      → WaitsFor (world k (log_of b)) w f → HasRecord k n f
   file-taken keeps u c agree a =
-      let P : List Put → Type 0 = λ ps. AgreeOn (world k ps).xorbs (xorb_of_chunks w.chunks).hash w.chunks in
-      let agree_middle = subst P (ap log_of c.same) agree in
       from-middle keeps (Ok u) c (cut-waited k (with_waiting b w) c.middle now (aside_tells keeps
-      (Ok u) c) f steady.sound (stood keeps) (puts keeps) agree_middle u c.cut a)
+      (Ok u) c) f steady.sound (stood keeps) (puts keeps) (subst (λ (z : SessionTold). HashesAgree k z) c.same agree)
+      u c.cut a)
 
   -- what waited was cut, and the file's data waits
-  module _ (keeps : Keeps b n) (agree : AgreeOn (world k (log_of n)).xorbs (waiting_hash b) b.waiting.chunks) where
+  module _ (keeps : Keeps b n) (agree : HashesAgree k n) where
     waiting-holds : (answer : Result (Unit {0}) DataError) → CutsWaiting b n w now answer → HasRecord k b f
         → HasRecord k n f
     waiting-holds (Ok u) c (inl a) =
-        let P : List Put → Type 0 = λ ps. AgreeOn (world k ps).xorbs (waiting_hash b) b.waiting.chunks in
+        let P : SessionTold → Type 0 = λ z. HashesAgree k z in
         let e : n ≡ with_waiting c.middle w = c.ok in
         subst (λ (z : SessionTold). HasRecord k z f) (sym e) (inr
-        (cut-waited k b c.middle now steady.tells f steady.sound (stood keeps) (puts keeps) (subst P
-        (ap log_of e) agree) u c.cut a))
+        (cut-waited k b c.middle now steady.tells f steady.sound (stood keeps) (puts keeps) (subst P e agree) u c.cut a))
     waiting-holds (Ok u) c (inr a) =
         let e : n ≡ with_waiting c.middle w = c.ok in
         subst (λ (z : SessionTold). HasRecord k z f) (sym e) (inr (cut-recorded k b c.middle now steady.tells f
         (Ok u) c.cut a))
     waiting-holds (Err d) c a =
-        let P : List Put → Type 0 = λ ps. AgreeOn (world k ps).xorbs (waiting_hash b) b.waiting.chunks in
+        let P : SessionTold → Type 0 = λ z. HashesAgree k z in
         let e : n ≡ c.middle = c.err in
         let none : c.middle.failed ≡ None = sym (ap (λ (z : SessionTold). z.failed) e) ∙ open_now.unfailed in
         subst (λ (z : SessionTold). HasRecord k z f) (sym e) (cut-holds k b c.middle now steady.tells f steady.sound
-        (stood keeps) (puts keeps) (subst P (ap log_of e) agree) (Err d) c.cut none a)
+        (stood keeps) (puts keeps) (subst P e agree) (Err d) c.cut none a)
 
   waiting-taken : (u : Unit {0}) → CutsWaiting b n w now (Ok u) → WaitsFor (world k (log_of b)) w f → HasRecord k n f
   waiting-taken u c a =
@@ -327,25 +324,23 @@ module _ (k : Store) (b n : SessionTold) (w : Waiting) (now : ℕ) (steady : IsS
       subst (λ (z : SessionTold). HasRecord k z f) (sym e) (inl (waits-grown k (log_of b) (log_of c.middle)
       (map put.Xorb g.xorbs) g.grown w f a))
 
-  module _ (made : List Xorb) (agree : XorbsAgree (with_xorbs (world k (log_of n)) made)) where
+  module _ (agree : HashesAgree k n) where
     -- the end of a file keeps what other records stand for
-    pub takes-holds : (answer : Result (Unit {0}) DataError) → TakesFile b n w now answer → Contains made
-        (waiting_xorb b) → HasRecord k b f → HasRecord k n f
-    takes-holds answer t there a = go t.exits
+    pub takes-holds : (answer : Result (Unit {0}) DataError) → TakesFile b n w now answer → HasRecord k b f
+        → HasRecord k n f
+    takes-holds answer t a = go t.exits
       where
         go : Joins b n w answer ⊎ CutsFile b n w now answer ⊎ CutsWaiting b n w now answer → HasRecord k n f
         go (inl j) = joins-holds answer j a
         go (inr (inl c)) = file-holds t.keeps answer c a
-        go (inr (inr c)) = waiting-holds t.keeps (agree-made (world k (log_of n)) made
-            (waiting_xorb b) agree there) answer c a
+        go (inr (inr c)) = waiting-holds t.keeps agree answer c a
 
     -- and what was taken stands for what it stood for
-    pub takes-taken : (u : Unit {0}) → TakesFile b n w now (Ok u) → Contains made (xorb_of_chunks w.chunks) → WaitsFor
-        (world k (log_of b)) w f → HasRecord k n f
-    takes-taken u t there a = go t.exits
+    pub takes-taken : (u : Unit {0}) → TakesFile b n w now (Ok u) → WaitsFor (world k (log_of b)) w f
+        → HasRecord k n f
+    takes-taken u t a = go t.exits
       where
         go : Joins b n w (Ok u) ⊎ CutsFile b n w now (Ok u) ⊎ CutsWaiting b n w now (Ok u) → HasRecord k n f
         go (inl j) = joins-taken u j a
-        go (inr (inl c)) = file-taken t.keeps u c (agree-made (world k (log_of n)) made
-            (xorb_of_chunks w.chunks) agree there) a
+        go (inr (inl c)) = file-taken t.keeps u c agree a
         go (inr (inr c)) = waiting-taken u c a

@@ -4,3 +4,4 @@ mod Completing
 mod Feeding
 mod FileEnds
 mod Holding
+mod Taking

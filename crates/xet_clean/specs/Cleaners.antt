@@ -1,42 +1,42 @@
 -- A cleaner, what it stands for, and what its calls do.
-use Rattle.std.specs.Prelude.{ℕ, ◌≡◌, ◌+◌, ◌-◌, ◌<◌, ◌^◌, ◌⊎◌, Bool, true, false, List, [], ◌∷◌, ◌++◌, length, All}
-use Rattle.std.specs.Prelude.{Option, Some, None, unwrap_or, Result, Ok, Err, IfOk, IfErr, OnOk}
+use Rattle.std.specs.Prelude.{ℕ, ◌≡◌, ◌+◌, ◌-◌, ◌<◌, ◌^◌, ◌⊎◌, Bool, true, false, List, [], ◌∷◌, ◌++◌, length}
+use Rattle.std.specs.Prelude.{Option, Some, None, IfSome, unwrap_or, Result, Ok, Err, IfOk, IfErr, OnOk, OnErr}
 use Rattle.std.specs.List.{concat}
 use Rattle.std.specs.Option.{option_or}
 use Rattle.sha2.specs.Hashers.{Holds256}
-use Rattle.sha2.specs.Sha256.{sha256}
 use Rattle.sha2.specs.declared.Sha256.{Sha256}
 use Rattle.xet_base.specs.declared.invalid.Invalid.TheVariants as invalid
 use Rattle.xet_base.specs.declared.merklehash.MerkleHash.{MerkleHash}
-use Rattle.xet_base.specs.declared.mdb_shard.Xorb.{Xorb}
 use Rattle.xet_base.specs.Digests.{file_hash_of, infos_of}
 use Rattle.xet_base.specs.Store.{Store}
 use Rattle.xet_pointer.specs.declared.xet_file_info.XetFileInfo.{XetFileInfo}
 use Rattle.xet_upload.specs.FileDatas.{Parts, PartsStand, no_parts}
 use Rattle.xet_upload.specs.Metrics.{both, no_counts}
 use Rattle.xet_upload.specs.Standing.{world}
+use Rattle.xet_upload.specs.Waitings.{IsWithin}
 use Rattle.xet_upload.specs.declared.data_error.DataError.{DataError}
 use Rattle.xet_upload.specs.declared.data_error.DataError.TheVariants as data_error
 use Rattle.xet_upload.specs.declared.metrics.DeduplicationMetrics.{DeduplicationMetrics}
 use Rattle.xet_upload.specs.declared.sha256_policy.Sha256Policy.{Sha256Policy}
 use Rattle.xet_upload.specs.declared.sha256_policy.Sha256Policy.TheVariants.{Compute}
-use Rattle.xet_session.specs.Calls.{Backs, Keeps, finalized_error}
+use Rattle.xet_session.specs.Calls.{Backs, CountsSent, Keeps, Says, finalized_error}
 use Rattle.xet_session.specs.Completions.{with_file_counts}
-use Rattle.xet_session.specs.Sessions.{HasListed, SessionTold, log_of}
-use Rattle.xet_session.specs.Sounds.{XorbsAgree}
+use Rattle.xet_session.specs.Sessions.{HasListed, SessionTold, Tells, log_of}
 use Rattle.xet_clean_parts.specs.Cleanings.{AreNamed, ChunkFails, CleanFails, Cleans, Leaves, NoFault}
 use Rattle.xet_clean_parts.specs.FileCalls.{IsLate}
-use Rattle.xet_clean_parts.specs.Made.{CutInto, IsMadeOf, IsPickedFrom}
-use Rattle.xet_clean_parts.specs.Premises.{IsOpen, IsSteady, NoClash, waiting_xorb, with_xorbs}
+use Rattle.xet_clean_parts.specs.Made.{CutInto, IsPickedFrom, PutsMade, PutsNone, PutsSo, PutsSome, StayOne}
+use Rattle.xet_clean_parts.specs.Places.{CutAt, CutBy, IsCutUp, IsNextCut, Telling}
+use Rattle.xet_clean_parts.specs.Premises.{HashesAgree, IsOpen, IsSteady, NoClash}
 use Rattle.xet_clean_parts.specs.Cleanings.{IsFirstUnlisted}
 use Rattle.xet_clean_parts.specs.Pointers.{pointer_to, recorded_sha256}
 use Rattle.xet_clean.specs.Records.{CleanedFile, HasRecord}
 
--- a cleaner, but for its cutter
+-- a cleaner, of whose cutter is seen what it tells
 pub record Cleaner : Type 0 where
   pub file_id : ℕ
   pub size : Option ℕ
   pub policy : Sha256Policy
+  pub tell : Telling
   -- what was cut
   pub parts : Parts
   -- the bytes that were not cut yet
@@ -61,9 +61,10 @@ pub record CleanerStands (s : Store) (c : Cleaner) (bytes : List ℕ) : Type 0 w
   pub fed : IsFed c bytes
 
 -- a cleaner to which nothing was fed
-pub record IsNewCleaner (c : Cleaner) (size : Option ℕ) (policy : Sha256Policy) : Type 0 where
+pub record IsNewCleaner (c : Cleaner) (size : Option ℕ) (policy : Sha256Policy) (tell : Telling) : Type 0 where
   pub size_is : c.size ≡ size
   pub policy_is : c.policy ≡ policy
+  pub tell_is : c.tell ≡ tell
   pub parts : c.parts ≡ no_parts
   pub pending : c.pending ≡ []
   pub fed : c.fed ≡ 0
@@ -97,29 +98,34 @@ pub record TakesIn (c : Cleaner) (bytes : List ℕ) (d : Cleaner) : Type 0 where
   }
   pub hashed : c.policy ≡ Compute → (m : List ℕ) → Holds256 c.hasher m → Holds256 d.hasher (m ++ bytes)
 
--- the next chunk came off the front, or none does
+-- the next chunk came off the front, where the cutter says so, or none does
 pub record NextChunk (c d : Cleaner) (last : Bool) (chunk : Option (List ℕ)) : Type 0 where
   pub same : d ≡ record c { pending = d.pending }
   pub pending : c.pending ≡ unwrap_or chunk [] ++ d.pending
   pub none : chunk ≡ None → last ≡ true → c.pending ≡ []
+  pub place : IfSome chunk (λ cut. IsNextCut c.tell last c.pending (Some (length cut)))
+  pub waits : chunk ≡ None → IsCutUp c.tell last c.pending
 
--- chunks were cut off the front of the pending bytes and cleaned
-pub record CutsChunks (b n : SessionTold) (c d : Cleaner) : Type 0 where
+-- chunks were cut off the front of the pending bytes, each where the cutter says so, and cleaned
+pub record CutsChunks (last : Bool) (b n : SessionTold) (c d : Cleaner) : Type 0 where
   pub cut : List (List ℕ)
   pub cleans : Cleans b n c.parts d.parts cut
   pub pending : c.pending ≡ concat cut ++ d.pending
+  pub places : CutAt c.tell last c.pending cut d.pending
+  pub so : PutsSo {A = Unit {0}} b n c.parts.own.chunks cut (Ok tt)
   pub counts : CountsChunks c.counts cut d.counts
   pub same : d ≡ record c { parts = d.parts; pending = d.pending; counts = d.counts }
 
 -- the cleaner stands for these bytes too, and its terms are on the list as before
 pub record Feeds (b n : SessionTold) (c : Cleaner) (bytes : List ℕ) (d : Cleaner) : Type 0 where
-  pub made : List Xorb
   pub cut : List (List ℕ)
-  pub into : CutInto c.parts d.parts made cut
+  pub into : CutInto c.parts d.parts cut
   pub pending : c.pending ++ bytes ≡ concat cut ++ d.pending
+  pub puts : Tells b → PutsMade b n (c.parts.own.chunks ++ cut)
+  pub full : IsWithin (c.parts.own.chunks ++ cut) → PutsNone b n
   pub failed : n.failed ≡ b.failed
   pub counts : CountsChunks c.counts cut d.counts
-  pub stands : (k : Store) (before : List ℕ) → IsSteady k b → IsOpen n → NoClash (world k (log_of n)) made cut
+  pub stands : (k : Store) (before : List ℕ) → IsSteady k b → IsOpen n → NoClash k n cut
       → CleanerStands (world k (log_of b)) c before → CleanerStands (world k (log_of n)) d (before ++ bytes)
   pub fed : (before : List ℕ) → IsFed c before → IsFed d (before ++ bytes)
   pub named : HasListed b → IsOpen n → AreNamed b.listed c.parts.terms → AreNamed n.listed d.parts.terms
@@ -130,6 +136,11 @@ pub record Feeds (b n : SessionTold) (c : Cleaner) (bytes : List ℕ) (d : Clean
     fed = c.fed + length bytes;
     counts = d.counts;
   }
+
+-- so it is of bytes that came at once, and chunks were cut where the cutter says so
+pub record FeedsOnce (b n : SessionTold) (c : Cleaner) (bytes : List ℕ) (d : Cleaner) : Type 0 where
+  pub feeds : Feeds b n c bytes d
+  pub places : CutBy c.tell false (c.pending ++ bytes) feeds.cut d.pending
 
 -- how many bytes may be fed
 abbrev pub total_of : Cleaner → ℕ
@@ -155,7 +166,8 @@ IsOwnError finalized c bytes e = IsLate finalized e ⊎ (c.failed ≡ Some e)
 pub record FeedsSo (b n : SessionTold) (c : Cleaner) (bytes : List ℕ) (d : Cleaner)
     (answer : Result (Unit {0}) DataError) : Type 0 where
   pub leaves : Leaves b n
-  pub ok : OnOk answer (Feeds b n c bytes d)
+  pub ok : OnOk answer (FeedsOnce b n c bytes d)
+  pub puts : PutsSome b n c.parts.own.chunks (c.pending ++ bytes) answer
   pub failed : d.failed ≡ c.failed
   pub finalized : b.finalized ≡ true → (answer ≡ Err finalized_error) × (n ≡ b)
   pub kept : b.finalized ≡ false → (e : DataError) → c.failed ≡ Some e → (answer ≡ Err e) × (n ≡ b)
@@ -172,7 +184,8 @@ error_of (Err e) = Some e
 pub record AddsData (b n : SessionTold) (c : Cleaner) (bytes : List ℕ) (d : Cleaner)
     (answer : Result (Unit {0}) DataError) : Type 0 where
   pub leaves : Leaves b n
-  pub ok : OnOk answer (Feeds b n c bytes d)
+  pub ok : OnOk answer (FeedsOnce b n c bytes d)
+  pub puts : PutsSome b n c.parts.own.chunks (c.pending ++ bytes) answer
   pub failed : d.failed ≡ option_or c.failed (error_of answer)
   pub unfailed : OnOk answer (NoFault b n)
   pub finalized : b.finalized ≡ true → (answer ≡ Err finalized_error) × (n ≡ b)
@@ -219,15 +232,15 @@ pub record Completes (b n : SessionTold) (c : Cleaner)
     (answer : Result (XetFileInfo × DeduplicationMetrics) DataError) : Type 0 where
   pub keeps : Keeps b n
   pub backs : HasListed b → Backs b n
-  pub made : List Xorb
-  pub made_of : All (IsMadeOf c.parts.own.chunks) made
+  pub puts : Tells b → PutsMade b n (b.waiting.chunks ++ c.parts.own.chunks)
+  pub full : StayOne b c.parts.own.chunks → PutsNone b n
+  pub thresholds : n.thresholds ≡ b.thresholds
   pub waits : IsPickedFrom n.waiting.chunks (b.waiting.chunks ++ c.parts.own.chunks)
   pub hash : MerkleHash
   pub hash_is : hash ≡ file_hash_of c.parts.infos
-  pub holds : (k : Store) (f : CleanedFile) → IsSteady k b → IsOpen n
-      → XorbsAgree (with_xorbs (world k (log_of n)) (waiting_xorb b ∷ made)) → HasRecord k b f → HasRecord k n f
-  pub stands : (k : Store) (bytes : List ℕ) → IsSteady k b → IsOpen n
-      → XorbsAgree (with_xorbs (world k (log_of n)) (waiting_xorb b ∷ made))
+  pub holds : (k : Store) (f : CleanedFile) → IsSteady k b → IsOpen n → HashesAgree k n → HasRecord k b f
+      → HasRecord k n f
+  pub stands : (k : Store) (bytes : List ℕ) → IsSteady k b → IsOpen n → HashesAgree k n
       → CleanerStands (world k (log_of b)) c bytes
       → OnOk answer (HasRecord k n (cleaned_file c hash bytes))
   pub pointer : (bytes : List ℕ) → IsFed c bytes
@@ -235,34 +248,39 @@ pub record Completes (b n : SessionTold) (c : Cleaner)
   pub unfailed : OnOk answer (n.failed ≡ b.failed)
   pub counts : IfOk answer (λ r. r.1 ≡ c.counts)
   pub counted : IfOk answer (λ r. Counts b n r.1)
+  pub uncounted : OnErr answer (CountsSent b n)
+  pub said : b.failed ≡ None → Says n answer
   pub why : IfErr answer (CleanFails b n)
 
 -- a cleaner ended: what other records stand for is kept, and the session has a record that stands for what the cleaner
--- stood for; the pending bytes were cut, each made xorb is picked from the file's own chunks and those that were cut,
--- and what waits from what waited and these
+-- stood for; the pending bytes were cut, and what was put is made of what waited, of the file's own chunks and of those
+-- that were cut; nothing was put where all these stay one
 pub record Finishes (b n : SessionTold) (c : Cleaner)
     (answer : Result (XetFileInfo × DeduplicationMetrics) DataError) : Type 0 where
   pub keeps : Keeps b n
   pub backs : Backs b n
-  pub made : List Xorb
   pub cut : List (List ℕ)
   pub rest : List ℕ
   pub pending : c.pending ≡ concat cut ++ rest
+  pub places : OnOk answer (CutAt c.tell true c.pending cut rest)
   pub all : OnOk answer (rest ≡ [])
-  pub made_of : All (IsMadeOf (c.parts.own.chunks ++ cut)) made
+  pub puts : Tells b → PutsMade b n (b.waiting.chunks ++ (c.parts.own.chunks ++ cut))
+  pub full : StayOne b (c.parts.own.chunks ++ cut) → PutsNone b n
+  pub thresholds : n.thresholds ≡ b.thresholds
   pub waits : IsPickedFrom n.waiting.chunks (b.waiting.chunks ++ (c.parts.own.chunks ++ cut))
   pub hash : MerkleHash
   pub hash_is : OnOk answer (hash ≡ file_hash_of (c.parts.infos ++ infos_of cut))
-  pub holds : (k : Store) (f : CleanedFile) → IsSteady k b → IsOpen n
-      → NoClash (world k (log_of n)) (waiting_xorb b ∷ made) cut → HasRecord k b f → HasRecord k n f
-  pub stands : (k : Store) (bytes : List ℕ) → IsSteady k b → IsOpen n
-      → NoClash (world k (log_of n)) (waiting_xorb b ∷ made) cut → CleanerStands (world k (log_of b)) c bytes
-      → OnOk answer (HasRecord k n (cleaned_file c hash bytes))
+  pub holds : (k : Store) (f : CleanedFile) → IsSteady k b → IsOpen n → HashesAgree k n → HasRecord k b f
+      → HasRecord k n f
+  pub stands : (k : Store) (bytes : List ℕ) → IsSteady k b → IsOpen n → NoClash k n cut
+      → CleanerStands (world k (log_of b)) c bytes → OnOk answer (HasRecord k n (cleaned_file c hash bytes))
   pub pointer : (bytes : List ℕ) → IsFed c bytes
       → IfOk answer (λ r. r.0 ≡ pointer_to hash (length bytes) (recorded_sha256 c.policy bytes))
   pub counts : IfOk answer (λ r. CountsChunks c.counts cut r.1)
   pub counted : IfOk answer (λ r. Counts b n r.1)
+  pub uncounted : OnErr answer (CountsSent b n)
   pub unfailed : OnOk answer (NoFault b n)
+  pub said : b.failed ≡ None → Says n answer
   pub finalized : b.finalized ≡ true → (answer ≡ Err finalized_error) × (n ≡ b)
   pub kept : b.finalized ≡ false → (e : DataError) → c.failed ≡ Some e → (answer ≡ Err e) × (n ≡ b)
   pub unknown : b.finalized ≡ false → c.failed ≡ None → (h : MerkleHash) → IsFirstUnlisted b.listed c.parts.terms h

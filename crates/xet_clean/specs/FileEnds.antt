@@ -1,5 +1,5 @@
 -- How a cleaner's file ends: which calls of the session it makes, and what data the session takes.
-use Rattle.std.specs.Prelude.{ℕ, ◌≡◌, ◌⊎◌, List, [], ◌∷◌, ◌++◌, All, Result, Ok, Err, OnOk, OnErr}
+use Rattle.std.specs.Prelude.{ℕ, ◌≡◌, ◌⊎◌, true, List, [], ◌∷◌, ◌++◌, All, Result, Ok, Err, OnOk, OnErr}
 use Rattle.xet_base.specs.Digests.{file_hash_of}
 use Rattle.xet_base.specs.Store.{Store}
 use Rattle.xet_progress_state.specs.declared.step.TrackerStep.{TrackerStep}
@@ -7,6 +7,7 @@ use Rattle.xet_upload.specs.Waitings.{Waiting}
 use Rattle.xet_upload.specs.declared.data_error.DataError.{DataError}
 use Rattle.xet_waiting.specs.declared.waiting.WaitingFile.{WaitingFile}
 use Rattle.xet_session.specs.Completions.{TakesFile}
+use Rattle.xet_clean_parts.specs.SessionCalls.{with_counts}
 use Rattle.xet_session.specs.Sessions.{SessionTold}
 use Rattle.xet_session.specs.Trackings.{TracksFile}
 use Rattle.xet_clean_parts.specs.FileCalls.{IsPartOf}
@@ -20,8 +21,8 @@ abbrev pub unit_of : {A : Type 0} → Result A DataError → Result (Unit {0}) D
 unit_of (Ok a) = Ok tt
 unit_of (Err e) = Err e
 
--- the session took the data of one file, or refused it, at this moment; then counts may have been added. The data have
--- this one record, which stands for the bytes that the cleaner stood for
+-- the session took the data of one file, and then the cleaner's counts were added, or it refused them, at this moment.
+-- The data have this one record, which stands for the bytes that the cleaner stood for
 pub record TookFile {A : Type 0} (b n : SessionTold) (c : Cleaner) (now : ℕ) (before after : List TrackerStep)
     (answer : Result A DataError) : Type 0 where
   pub taken : Waiting
@@ -34,7 +35,8 @@ pub record TookFile {A : Type 0} (b n : SessionTold) (c : Cleaner) (now : ℕ) (
   pub later : SessionTold
   pub takes : TakesFile b later taken now (unit_of answer)
   pub tracks : TracksFile b later taken before after (unit_of answer)
-  pub counted : n ≡ record later { metrics = n.metrics }
+  pub counted : OnOk answer (n ≡ with_counts later c.counts)
+  pub uncounted : OnErr answer (n ≡ later)
 
 -- nothing changed, and the tracker was told nothing
 abbrev pub IsSame : SessionTold → SessionTold → List TrackerStep → List TrackerStep → Type 0
@@ -43,7 +45,7 @@ IsSame b n before after = (n ≡ b) × (after ≡ before)
 -- chunks of a cleaner were cut, and then the session took its data
 pub record CutsAndTakes {A : Type 0} (b m n : SessionTold) (c d : Cleaner) (now : ℕ) (told after : List TrackerStep)
     (answer : Result A DataError) : Type 0 where
-  pub cuts : CutsChunks b m c d
+  pub cuts : CutsChunks true b m c d
   pub took : TookFile m n d now told after answer
 
 -- a cleaner's file ended: chunks were cut, and then the session took its data; an error may come before

@@ -25,7 +25,7 @@ use Rattle.xet_session.specs.Sounds.{XorbsAgree}
 use Rattle.xet_upload.specs.declared.data_error.DataError.{DataError}
 use Rattle.xet_clean.specs.Cleaners.{Cleaner, CleanerStands}
 use Rattle.xet_clean_parts.specs.Cleanings.{Leaves}
-use Rattle.xet_clean_parts.specs.Premises.{IsOpen, IsSteady, waiting_xorb, with_xorbs}
+use Rattle.xet_clean_parts.specs.Premises.{HashesAgree, IsOpen, IsSteady}
 use Rattle.xet_clean.specs.Records.{CleanedFile, HasRecord, IsAccepted, IsRecorded}
 
 -- ---- other calls
@@ -57,14 +57,13 @@ LearningKeepsRecords = (k : Store) (b n : SessionTold) (hashes : List MerkleHash
 -- so does the data of another file that is taken, at each exit
 abbrev pub FileKeepsRecords : Type 0
 FileKeepsRecords = (k : Store) (b n : SessionTold) (w : Waiting) (now : ℕ) (answer : Result (Unit {0}) DataError)
-    (f : CleanedFile) → TakesFile b n w now answer → IsSteady k b → IsOpen n
-    → XorbsAgree (with_xorbs (world k (log_of n)) (waiting_xorb b ∷ [])) → HasRecord k b f → HasRecord k n f
+    (f : CleanedFile) → TakesFile b n w now answer → IsSteady k b → IsOpen n → HashesAgree k n → HasRecord k b f
+    → HasRecord k n f
 
 -- so does a cut, at each exit
 abbrev pub CutKeepsRecords : Type 0
 CutKeepsRecords = (k : Store) (b n : SessionTold) (now : ℕ) (answer : Result (Unit {0}) DataError) (f : CleanedFile)
-    → Cut b n now answer → IsSteady k b → IsOpen n
-    → XorbsAgree (with_xorbs (world k (log_of n)) (waiting_xorb b ∷ [])) → HasRecord k b f → HasRecord k n f
+    → Cut b n now answer → IsSteady k b → IsOpen n → HashesAgree k n → HasRecord k b f → HasRecord k n f
 
 -- and each call of the session keeps what a cleaner stands for
 abbrev pub KeepsCleaners : Type 0
@@ -100,9 +99,8 @@ LearningKeepsSteady = (k : Store) (b n : SessionTold) (hashes : List MerkleHash)
 -- after an end that answered Ok, and was no dry run, each record is in an accepted shard
 abbrev pub EndAccepts : Type 0 → Type 0
 EndAccepts A = (k : Store) (b n : SessionTold) (now : ℕ) (ended : A) (f : CleanedFile)
-    → Finalizes b n now (Ok ended) → IsSteady k b → b.shards.rules.dry_run ≡ false
-    → XorbsAgree (with_xorbs (world k (log_of n)) (waiting_xorb b ∷ [])) → HasRecord k b f
-    → IsAccepted k (log_of n) f
+    → Finalizes b n now (Ok ended) → IsSteady k b → b.shards.rules.dry_run ≡ false → HashesAgree k n
+    → HasRecord k b f → IsAccepted k (log_of n) f
 
 -- the same of the three calls that end one
 abbrev pub FinalizeAccepts : Type 0

@@ -12,7 +12,9 @@ ghost use Rattle.xet_clean.specs.Cleaners.{IsEndError, IsNewCleaner, IsOwnError,
 ghost use Rattle.xet_clean.specs.Cleaners.{chunk_counts, past_total, started};
 ghost use Rattle.xet_clean_parts.specs.Cleanings.{AreNamed, ChunkFails, Cleans, Leaves, TrackFails};
 ghost use Rattle.xet_clean_parts.specs.FileCalls.{GrowsFirst, IsFor, IsLate, IsPartOf, RefusedOf, TellsOf, growth};
+ghost use Rattle.xet_clean_parts.specs.Made.{PutsSo, PutsSome};
 ghost use Rattle.xet_clean_parts.specs.Pending.{bytes_left};
+ghost use Rattle.xet_clean_parts.specs.Places.{IsCutUp};
 ghost use Rattle.xet_clean_parts.specs.SessionCalls.{Calls};
 ghost use Rattle.xet_clean.specs.FileEnds.{EndsFile, IsSame, TookFile};
 ghost use Rattle.xet_clean.specs.Showing.{cleaner_of};
@@ -61,7 +63,7 @@ impl<T: Cutter> SingleFileCleaner<T> {
         policy: Sha256Policy,
         cutter: T,
     ) -> SingleFileCleaner<T>
-        ensures cleaner { IsNewCleaner (cleaner_of result) size policy }
+        ensures cleaner { IsNewCleaner (cleaner_of T.told result) size policy (T.told cutter) }
         ensures number { result.file_id ≡ file_id }
     {
         SingleFileCleaner {
@@ -80,7 +82,7 @@ impl<T: Cutter> SingleFileCleaner<T> {
 
     // Adds bytes to those whose SHA-256 is computed.
     fn hash(&mut self, bytes: &[u8])
-        ensures same { cleaner_of self.new ≡ record (cleaner_of self.old) { hasher = self.new.hasher } }
+        ensures same { cleaner_of T.told self.new ≡ record (cleaner_of T.told self.old) { hasher = self.new.hasher } }
         ensures hashed { self.old.policy ≡ Compute → (m : List ℕ) → Holds256 self.old.hasher m
             → Holds256 self.new.hasher (m ++ bytes.now) }
     {
@@ -94,8 +96,8 @@ impl<T: Cutter> SingleFileCleaner<T> {
     // Takes in bytes, behind those that wait to be cut.
     fn take_in(&mut self, bytes: &[u8]) -> Result<(), OutOfMemory>
         requires { self.old.fed + length bytes.now < 2 ^ 64 }
-        ensures ok { OnOk result (TakesIn (cleaner_of self.old) bytes.now (cleaner_of self.new)) }
-        ensures err { OnErr result (cleaner_of self.new ≡ cleaner_of self.old) }
+        ensures ok { OnOk result (TakesIn (cleaner_of T.told self.old) bytes.now (cleaner_of T.told self.new)) }
+        ensures err { OnErr result (cleaner_of T.told self.new ≡ cleaner_of T.told self.old) }
     {
         self.pending.push(bytes)?;
         self.hash(bytes);
@@ -105,7 +107,7 @@ impl<T: Cutter> SingleFileCleaner<T> {
 
     // Takes the next chunk off the bytes that wait. None where more bytes are waited for, or none are left.
     fn next_chunk(&mut self, alloc: Global, last: bool) -> Result<Option<Bytes>, OutOfMemory>
-        ensures next { IfOk result (NextChunk (cleaner_of self.old) (cleaner_of self.new) last) }
+        ensures next { IfOk result (NextChunk (cleaner_of T.told self.old) (cleaner_of T.told self.new) last) }
         ensures some { IfOk result (λ o. IfSome o (λ chunk. 0 < length chunk)) }
         ensures short { IfOk result (λ o. IfSome o (λ chunk. length chunk ≤ most_chunk_bytes)) }
         ensures failed { self.new.failed ≡ self.old.failed }
@@ -133,7 +135,9 @@ impl<T: Cutter> SingleFileCleaner<T> {
         ensures leaves { Leaves (told_by U.told R.told session.old) (told_by U.told R.told session.new) }
         ensures cleans { OnOk result (Cleans (told_by U.told R.told session.old) (told_by U.told R.told session.new)
             self.old.parts self.new.parts (chunk ∷ [])) }
-        ensures same { OnOk result (cleaner_of self.new ≡ record (cleaner_of self.old) {
+        ensures puts { PutsSo (told_by U.told R.told session.old) (told_by U.told R.told session.new)
+            self.old.parts.own.chunks (chunk ∷ []) result }
+        ensures same { OnOk result (cleaner_of T.told self.new ≡ record (cleaner_of T.told self.old) {
           parts = self.new.parts;
           counts = self.new.counts;
         }) }
@@ -170,10 +174,14 @@ impl<T: Cutter> SingleFileCleaner<T> {
         now: u64,
     ) -> Result<bool, DataError>
         ensures leaves { Leaves (told_by U.told R.told session.old) (told_by U.told R.told session.new) }
-        ensures cuts { OnOk result (CutsChunks (told_by U.told R.told session.old) (told_by U.told R.told session.new)
-            (cleaner_of self.old) (cleaner_of self.new)) }
+        ensures cuts { OnOk result (CutsChunks last (told_by U.told R.told session.old)
+            (told_by U.told R.told session.new) (cleaner_of T.told self.old) (cleaner_of T.told self.new)) }
+        ensures puts { PutsSome (told_by U.told R.told session.old) (told_by U.told R.told session.new)
+            self.old.parts.own.chunks (bytes_left self.old.pending) result }
         ensures shorter { IfOk result (λ more. more ≡ true
             → length (bytes_left self.new.pending) < length (bytes_left self.old.pending)) }
+        ensures up { IfOk result (λ more. more ≡ false
+            → IsCutUp (T.told self.old.cutter) last (bytes_left self.new.pending)) }
         ensures none { IfOk result (λ more. more ≡ false → last ≡ true → bytes_left self.new.pending ≡ []) }
         ensures failed { self.new.failed ≡ self.old.failed }
         ensures why { IfErr result (ChunkFails (told_by U.told R.told session.old)
@@ -202,8 +210,11 @@ impl<T: Cutter> SingleFileCleaner<T> {
         now: u64,
     ) -> Result<(), DataError>
         ensures leaves { Leaves (told_by U.told R.told session.old) (told_by U.told R.told session.new) }
-        ensures cuts { OnOk result (CutsChunks (told_by U.told R.told session.old) (told_by U.told R.told session.new)
-            (cleaner_of self.old) (cleaner_of self.new)) }
+        ensures cuts { OnOk result (CutsChunks last (told_by U.told R.told session.old)
+            (told_by U.told R.told session.new) (cleaner_of T.told self.old) (cleaner_of T.told self.new)) }
+        ensures puts { PutsSome (told_by U.told R.told session.old) (told_by U.told R.told session.new)
+            self.old.parts.own.chunks (bytes_left self.old.pending) result }
+        ensures up { OnOk result (IsCutUp (T.told self.old.cutter) last (bytes_left self.new.pending)) }
         ensures none { OnOk result (last ≡ true → bytes_left self.new.pending ≡ []) }
         ensures failed { self.new.failed ≡ self.old.failed }
         ensures why { IfErr result (ChunkFails (told_by U.told R.told session.old)
@@ -224,9 +235,9 @@ impl<T: Cutter> SingleFileCleaner<T> {
 
     // Why so many bytes more are refused: they pass the size that is fixed.
     fn past_total(&self, bytes: &[u8]) -> Option<DataError>
-        ensures some { IfSome result (λ e. PassesTotal (cleaner_of self.now) bytes.now
-            × (e ≡ past_total (cleaner_of self.now) bytes.now)) }
-        ensures none { result ≡ None → PassesTotal (cleaner_of self.now) bytes.now → ⊥ }
+        ensures some { IfSome result (λ e. PassesTotal (cleaner_of T.told self.now) bytes.now
+            × (e ≡ past_total (cleaner_of T.told self.now) bytes.now)) }
+        ensures none { result ≡ None → PassesTotal (cleaner_of T.told self.now) bytes.now → ⊥ }
         ensures fits { result ≡ None → self.now.fed + length bytes.now < 2 ^ 64 }
     {
         let total = self.size.unwrap_or(u64::MAX);
@@ -273,9 +284,9 @@ impl<T: Cutter> SingleFileCleaner<T> {
         now: u64,
     ) -> Result<(), DataError>
         ensures feeds { FeedsSo (told_by U.told R.told session.old) (told_by U.told R.told session.new)
-            (cleaner_of self.old) bytes.now (cleaner_of self.new) result }
+            (cleaner_of T.told self.old) bytes.now (cleaner_of T.told self.new) result }
         ensures tells { TellsOf (IsFor self.old.file_id self.old.size (length bytes.now))
-            (IsOwnError session.old.finalized (cleaner_of self.old) bytes.now)
+            (IsOwnError session.old.finalized (cleaner_of T.told self.old) bytes.now)
             session.old.files.tracker session.new.files.tracker result }
         ensures grows { OnOk result (GrowsFirst self.old.file_id self.old.size (length bytes.now)
             session.old.files.tracker session.new.files.tracker) }
@@ -314,9 +325,9 @@ impl<T: Cutter> SingleFileCleaner<T> {
         now: u64,
     ) -> Result<(), DataError>
         ensures adds { AddsData (told_by U.told R.told session.old) (told_by U.told R.told session.new)
-            (cleaner_of self.old) bytes.now (cleaner_of self.new) result }
+            (cleaner_of T.told self.old) bytes.now (cleaner_of T.told self.new) result }
         ensures tells { TellsOf (IsFor self.old.file_id self.old.size (length bytes.now))
-            (IsOwnError session.old.finalized (cleaner_of self.old) bytes.now)
+            (IsOwnError session.old.finalized (cleaner_of T.told self.old) bytes.now)
             session.old.files.tracker session.new.files.tracker result }
         ensures grows { OnOk result (GrowsFirst self.old.file_id self.old.size (length bytes.now)
             session.old.files.tracker session.new.files.tracker) }
@@ -346,13 +357,13 @@ impl<T: Cutter> SingleFileCleaner<T> {
             → AreNamed session.old.listed.hashes.items self.parts.terms }
         requires ended { bytes_left self.pending ≡ [] }
         ensures call { Completes (told_by U.told R.told session.old) (told_by U.told R.told session.new)
-            (cleaner_of self) result }
+            (cleaner_of T.told self) result }
         ensures ok { OnOk result (TookFile (told_by U.told R.told session.old) (told_by U.told R.told session.new)
-            (cleaner_of self) now session.old.files.tracker session.new.files.tracker result) }
+            (cleaner_of T.told self) now session.old.files.tracker session.new.files.tracker result) }
         ensures err { OnErr result (IsSame (told_by U.told R.told session.old) (told_by U.told R.told session.new)
             session.old.files.tracker session.new.files.tracker
             ⊎ TookFile (told_by U.told R.told session.old) (told_by U.told R.told session.new)
-            (cleaner_of self) now session.old.files.tracker session.new.files.tracker result) }
+            (cleaner_of T.told self) now session.old.files.tracker session.new.files.tracker result) }
         ensures group { KeepsGroup session.old session.new }
     {
         let hash = MerkleHash::file_hash(self.parts.infos());
@@ -369,8 +380,8 @@ impl<T: Cutter> SingleFileCleaner<T> {
         &self,
         session: &FileUploadSession<U, R>,
     ) -> Option<DataError>
-        ensures some { IfSome result (EndRefused (told_by U.told R.told session.now) (cleaner_of self.now)) }
-        ensures none { result ≡ None → EndPasses (told_by U.told R.told session.now) (cleaner_of self.now) }
+        ensures some { IfSome result (EndRefused (told_by U.told R.told session.now) (cleaner_of T.told self.now)) }
+        ensures none { result ≡ None → EndPasses (told_by U.told R.told session.now) (cleaner_of T.told self.now) }
         ensures listed { HasListed (told_by U.told R.told session.now) }
     {
         if session.is_finalized() {
@@ -405,12 +416,12 @@ impl<T: Cutter> SingleFileCleaner<T> {
     where
         T: Drop,
         ensures ends { Finishes (told_by U.told R.told session.old) (told_by U.told R.told session.new)
-            (cleaner_of self) result }
+            (cleaner_of T.told self) result }
         ensures refused { RefusedOf (IsPartOf self.file_id)
-            (IsEndError (told_by U.told R.told session.old) (cleaner_of self)) session.old.files.tracker
+            (IsEndError (told_by U.told R.told session.old) (cleaner_of T.told self)) session.old.files.tracker
             session.new.files.tracker result }
         ensures so { EndsFile (told_by U.told R.told session.old) (told_by U.told R.told session.new)
-            (cleaner_of self) now session.old.files.tracker session.new.files.tracker result }
+            (cleaner_of T.told self) now session.old.files.tracker session.new.files.tracker result }
         ensures group { KeepsGroup session.old session.new }
     {
         if let Some(error) = self.refused(session) {
@@ -442,7 +453,7 @@ pub fn start_clean<U: Uploader, R: ShardStore, W: Wait, T: Cutter>(
 where
     T: Drop,
     ensures same { told_by U.told R.told session.new ≡ told_by U.told R.told session.old }
-    ensures cleaner { IfOk result (λ r. IsNewCleaner (cleaner_of r.1) size sha256) }
+    ensures cleaner { IfOk result (λ r. IsNewCleaner (cleaner_of T.told r.1) size sha256 (T.told cutter)) }
     ensures starts { StartsFile session.old.files.tracker session.new.files.tracker session.old.ids session.new.ids
         session.old.finalized size (started (λ r. (r.0, r.1.file_id)) result) }
     ensures group { session.new.progress ≡ session.old.progress }

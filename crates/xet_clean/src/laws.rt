@@ -4,6 +4,7 @@ ghost use Rattle.xet_clean.specs.Laws.{CutKeepsRecords, FileKeepsRecords, Finali
 ghost use Rattle.xet_clean.specs.Laws.{FinalizeWithReportAccepts, KeepsCleaners, LearningKeepsCleaners};
 ghost use Rattle.xet_clean.specs.Laws.{LearningKeepsRecords, LearningKeepsSteady, LeavesRecords, RegisterKeepsRecords};
 ghost use Rattle.xet_clean.specs.Laws.{SearchKeepsRecords, StoredResolves};
+ghost use Rattle.xet_clean_parts.specs.Places.{FixedCutsFile};
 
 /// Each call of a session keeps what its records and its cleaners stand for, at each exit at which the session keeps
 /// no failed put: a given xorb, a search, a cut, the data of another file, counts that are added, and queries of the
@@ -37,4 +38,10 @@ pub fn accepted_files_download()
     ensures reads { AcceptedReads }
     ensures resolves { AcceptedResolves }
     ensures stored { StoredResolves }
+{}
+
+/// A cutter of one size cuts a file into chunks of that size, of which the last may be shorter, in whatever pieces its
+/// bytes are fed.
+pub fn fixed_cutters_cut_alike()
+    ensures { FixedCutsFile }
 {}

@@ -1,10 +1,10 @@
 -- Chunks that a session cleans: the parts of a file stand for them too.
-use Rattle.std.proofs.Common.{◌≡◌, ℕ, ◌<◌, ◌≤◌, ◌⊎◌, inl, inr, Bool, true, false, List, [], ◌∷◌, ◌++◌, length, map, refl, sym, ◌∙◌, ap, subst, arith}
+use Rattle.std.proofs.Common.{◌≡◌, ℕ, zero, suc, ◌<◌, ◌≤◌, ◌⊎◌, inl, inr, Bool, true, false, List, [], ◌∷◌, ◌++◌, length, map, refl, sym, ◌∙◌, ap, subst, arith}
 use Rattle.std.specs.Prelude.{All, Contains, None, Some, Result, Ok, Err, OnOk}
 use Rattle.std.specs.List.{concat}
-use Rattle.std.proofs.lemmas.List.{append-nil, append_assoc}
+use Rattle.std.proofs.lemmas.List.{append-nil, append_assoc, nil_from_length}
 use Rattle.std.proofs.lemmas.List.Concat.{flat_map-append}
-use Rattle.std.proofs.lemmas.List.Elements.{All-nil, All-cons, All-append, All-contains, All-head, All-same, All-weaker, Contains-append_cases, Contains-append_left, Contains-append_right, Contains-push}
+use Rattle.std.proofs.lemmas.List.Elements.{All-nil, All-cons, All-append, All-contains, All-head, All-same, All-weaker, Contains-append_left, Contains-push}
 use Rattle.std.proofs.lemmas.List.Folds.{concat-append}
 use Rattle.xet_base.specs.declared.merklehash.MerkleHash.{MerkleHash}
 use Rattle.xet_base.specs.declared.mdb_shard.ChunkInfo.{ChunkInfo}
@@ -23,17 +23,18 @@ use Rattle.xet_upload.specs.declared.data_error.DataError.TheVariants as data_er
 use Rattle.xet_upload.specs.declared.metrics.DeduplicationMetrics.{DeduplicationMetrics}
 use Rattle.xet_waiting.specs.declared.waiting.TermXorb.{TermXorb}
 use Rattle.xet_waiting.specs.declared.waiting.TermXorb.TheVariants.{Own, Stored}
+use Rattle.xet_waiting.specs.declared.waiting.WaitingFile.{WaitingFile}
 use Rattle.xet_waiting.specs.declared.waiting.WaitingTerm.{WaitingTerm}
 use Rattle.xet_upload.proofs.CallerLemmas.{parts-found, parts-own, parts_cut, stand-named}
-use Rattle.xet_session.specs.Calls.{Backs, CountsSent, PutsFail, Refuses, Registers, WasPut, finalized_error}
-use Rattle.xet_session.specs.Sessions.{IsListed, SessionTold, known_of, log_of, named_by}
+use Rattle.xet_session.specs.Calls.{Backs, CountsSent, Keeps, PutsFail, Refuses, Registers, WasPut, finalized_error, with_repeated}
+use Rattle.xet_session.specs.Sessions.{SessionTold, known_of, log_of, named_by}
 use Rattle.xet_session.specs.Sounds.{XorbsAgree, searched}
-use Rattle.xet_session.proofs.CallerLemmas.{backs-kept, keeps-both, keeps-refl, ordered-grown, stores-later}
+use Rattle.xet_session.proofs.CallerLemmas.{backs-same, keeps-both, keeps-refl, ordered-grown, stores-later}
 use Rattle.xet_clean_parts.specs.Cleanings.{AreNamed, ChunkFails, CleanFails, Cleans, FoundChunk, Leaves, TrackFails, term_names}
-use Rattle.xet_clean_parts.specs.Premises.{IsSteady, NoClash}
+use Rattle.xet_clean_parts.specs.Premises.{IsSteady}
 use Rattle.xet_clean_parts.proofs.Worlds.{opened}
 use Rattle.xet_clean_parts.proofs.Picked.{into-both, into-cut, into-found, into-none, into-own}
-use Rattle.xet_clean_parts.proofs.Worlds.{agree-alone, agree-made, found-agrees, found-chunks, listed-stored, world-has}
+use Rattle.xet_clean_parts.proofs.Worlds.{agree-again, agree-alone, agree-put, clash-after, clash-before, clash-none, found-agrees, found-chunks, listed-stored}
 use Rattle.xet_waiting.specs.Limits.{most_chunk_bytes}
 
 -- ---- calls that leave what waits
@@ -44,8 +45,8 @@ counts-none b n e = e ∙ sym (ap (λ (m : DeduplicationMetrics). record b.metri
       m.xorb_bytes_uploaded;
 }) e)
 
-counts-both : (b m n : SessionTold) → CountsSent b m → CountsSent m n → CountsSent b n
-counts-both b m n one two = two ∙ ap (λ (z : DeduplicationMetrics). record z {
+pub sent-both : (b m n : SessionTold) → CountsSent b m → CountsSent m n → CountsSent b n
+sent-both b m n one two = two ∙ ap (λ (z : DeduplicationMetrics). record z {
   xorb_bytes_uploaded =
       n.metrics.xorb_bytes_uploaded;
 }) one
@@ -53,9 +54,10 @@ counts-both b m n one two = two ∙ ap (λ (z : DeduplicationMetrics). record z 
 pub leaves-refl : (b n : SessionTold) → n ≡ b → Leaves b n
 leaves-refl b n e = record {
   keeps = keeps-refl b n e;
-  backs = λ h. backs-kept b n h (keeps-refl b n e) (λ l f. subst (λ (t : SessionTold). IsListed t) (sym e) l);
+  backs = λ h. backs-same b n e h;
   waiting = ap (λ (t : SessionTold). t.waiting) e;
   finished = ap (λ (t : SessionTold). t.finished) e;
+  thresholds = ap (λ (t : SessionTold). t.thresholds) e;
   counts = counts-none b n (ap (λ (t : SessionTold). t.metrics) e);
 }
 
@@ -74,7 +76,8 @@ leaves-both b m n l k =
           };
       waiting = k.waiting ∙ l.waiting;
       finished = k.finished ∙ l.finished;
-      counts = counts-both b m n l.counts k.counts;
+      thresholds = k.thresholds ∙ l.thresholds;
+      counts = sent-both b m n l.counts k.counts;
     }
 
 pub fails-later : (b m n : SessionTold) (e : DataError) → Leaves b m → CleanFails m n e → CleanFails b n e
@@ -118,48 +121,6 @@ steady-left k b n l agree s =
 
 -- ---- two calls
 
-module _ (k : Store) (m n : SessionTold) (grown : (x : Xorb) → Contains (world k (log_of m)).xorbs x → Contains
-    (world k (log_of n)).xorbs x) (made more : List Xorb) (cut cuts : List (List ℕ)) (c : NoClash (world k (log_of n))
-    (made ++ more) (cut ++ cuts)) where
-  in-front : (x : Xorb) → Contains ((world k (log_of m)).xorbs ++ made) x → Contains ((world k (log_of n)).xorbs ++
-      (made ++ more)) x
-  in-front x d = go (Contains-append_cases (world k (log_of m)).xorbs made x d)
-    where
-      go : Contains (world k (log_of m)).xorbs x ⊎ Contains made x → Contains ((world k (log_of n)).xorbs ++
-          (made ++ more)) x
-      go (inl e) = Contains-append_left (world k (log_of n)).xorbs (made ++ more) x (grown x e)
-      go (inr e) = Contains-append_right (world k (log_of n)).xorbs (made ++ more) x
-          (Contains-append_left made more x e)
-
-  behind : (x : Xorb) → Contains ((world k (log_of n)).xorbs ++ more) x → Contains ((world k (log_of n)).xorbs ++
-      (made ++ more)) x
-  behind x d = go (Contains-append_cases (world k (log_of n)).xorbs more x d)
-    where
-      go : Contains (world k (log_of n)).xorbs x ⊎ Contains more x → Contains ((world k (log_of n)).xorbs ++
-          (made ++ more)) x
-      go (inl e) = Contains-append_left (world k (log_of n)).xorbs (made ++ more) x e
-      go (inr e) = Contains-append_right (world k (log_of n)).xorbs (made ++ more) x
-          (Contains-append_right made more x e)
-
-  -- what clashes nowhere at the end clashed nowhere before
-  pub clash-before : NoClash (world k (log_of m)) made cut
-  clash-before = record {
-    xorbs = λ x y d e. c.xorbs x y (in-front x d) (in-front y e);
-    chunks = λ x z d e. c.chunks x z (grown x d) (Contains-append_left cut cuts z e);
-  }
-
-  pub clash-after : NoClash (world k (log_of n)) more cuts
-  clash-after = record {
-    xorbs = λ x y d e. c.xorbs x y (behind x d) (behind y e);
-    chunks = λ x z d e. c.chunks x z d (Contains-append_right cut cuts z e);
-  }
-
--- the world of a call's exit has the xorbs of that of its entry
-pub world-left : (k : Store) (b n : SessionTold) → Leaves b n → IsSteady k b → (x : Xorb) → Contains (world k
-    (log_of b)).xorbs x → Contains (world k (log_of n)).xorbs x
-world-left k b n l s x c = let g = l.keeps.grew s.tells in world-has k (log_of b) (log_of n)
-    (map put.Xorb g.xorbs) g.grown x c
-
 bytes-all : (bytes : List ℕ) (cut cuts : List (List ℕ)) → (bytes ++ concat cut) ++ concat cuts ≡ bytes ++ concat
     (cut ++ cuts)
 bytes-all bytes cut cuts = append_assoc bytes (concat cut) (concat cuts) ∙ ap (λ (xs : List ℕ). bytes ++ xs) (sym
@@ -168,24 +129,17 @@ bytes-all bytes cut cuts = append_assoc bytes (concat cut) (concat cuts) ∙ ap 
 pub cleans-both : (b m n : SessionTold) (p q r : Parts) (cut cuts : List (List ℕ)) → Leaves b m → Leaves m n
     → Cleans b m p q cut → Cleans m n q r cuts → Cleans b n p r (cut ++ cuts)
 cleans-both b m n p q r cut cuts l h one two = record {
-  made = one.made ++ two.made;
-  into = into-both p q r one.made two.made cut cuts one.into two.into;
+  into = into-both p q r cut cuts one.into two.into;
   failed = two.failed ∙ one.failed;
   stands = λ k bytes s o c a.
-      let grown = world-before k s in
-      let before = clash-before k m n grown one.made two.made cut cuts c in
-      let after = clash-after k m n grown one.made two.made cut cuts c in
-      let middle = steady-left k b m l (agree-alone (world k (log_of m)) one.made before.xorbs) s in
+      let before = clash-before k m n cut cuts h.keeps (l.keeps.tells s.tells) c in
+      let after = clash-after k n cut cuts c in
+      let middle = steady-left k b m l (agree-alone (world k (log_of m)) m.repeated before.xorbs) s in
       let P : List ℕ → Type 0 = λ xs. PartsStand (world k (log_of n)) r xs in
       subst P (bytes-all bytes cut cuts) (two.stands k (bytes ++ concat cut) middle o after (one.stands k bytes s
       (opened m n h.keeps o) before a));
   named = λ i o a. two.named (l.backs i).listed o (one.named i (opened m n h.keeps o) a);
 }
-  where
-    world-before : (k : Store) → IsSteady k b → (x : Xorb) → Contains (world k (log_of m)).xorbs x → Contains (world k
-        (log_of n)).xorbs x
-    world-before k s x c = let g = h.keeps.grew (l.keeps.tells s.tells) in world-has k (log_of m) (log_of n)
-        (map put.Xorb g.xorbs) g.grown x c
 
 -- ---- the names of terms
 
@@ -232,6 +186,7 @@ registers-leaves b n x now answer r k = record {
   backs = λ h. k;
   waiting = ap (λ (t : SessionTold). t.waiting) r.same;
   finished = ap (λ (t : SessionTold). t.finished) r.same;
+  thresholds = ap (λ (t : SessionTold). t.thresholds) r.same;
   counts = r.counts;
 }
 
@@ -264,30 +219,27 @@ module _ (b n : SessionTold) (p : Parts) (now : ℕ) (some : 0 < length p.own.ch
   never-empty : {P : Type 0} → p.own.chunks ≡ [] → P
   never-empty e = let none = ap (λ (cs : List (List ℕ)). length cs) e in absurd (omega (arith, some, none))
 
-  alone : Contains (own ∷ []) own
-  alone = (0, omega arith, refl)
-
   -- a xorb of the hash was put before
-  again-cleans : Contains b.registered own.hash → n ≡ b → Cleans b n p (cut_parts p) []
-  again-cleans c e = record {
-    made = own ∷ [];
+  again-cleans : Keeps b n → Contains b.registered own.hash → n ≡ with_repeated b own → Cleans b n p (cut_parts p) []
+  again-cleans keeps c e = record {
     into = into-cut p;
     failed = ap (λ (t : SessionTold). t.failed) e;
     stands = λ k bytes s o clash a.
-        let before = opened b n (keeps-refl b n e) o in
+        let before = opened b n keeps o in
         let there = All-contains (Contains b.listed) b.registered own.hash
-        (s.listed before.unfailed before.unfinished).put c in
+        (s.listed.all before.unfailed before.unfinished).put c in
         let stored = listed-stored k b own.hash s.sound (s.backed before.unfailed before.unfinished) there in
         let P : List Put → Type 0 = λ ps. AgreeOn (world k ps).xorbs own.hash p.own.chunks in
-        let agree = subst P (ap log_of e) (agree-made (world k (log_of n)) (own ∷ []) own clash.xorbs alone) in
+        let agree = subst P (ap log_of e)
+        (agree-again k n b.repeated own (ap (λ (t : SessionTold). t.repeated) e) clash.xorbs) in
         let is = found-agrees (world k (log_of b)).xorbs own.hash p.own.chunks stored agree in
         let Q : List Put → Type 0 = λ ps. PartsStand (world k ps) (cut_parts p) (bytes ++ concat []) in
         subst Q (sym (ap log_of e)) (with-none (world k (log_of b)) (cut_parts p) bytes (parts-old (world k
         (log_of b)) p bytes is a));
     named = λ h o a.
-        let before = opened b n (keeps-refl b n e) o in
+        let before = opened b n keeps o in
         let there = All-contains (Contains b.listed) b.registered own.hash
-        (h before.unfailed before.unfinished).put c in
+        (h.all before.unfailed before.unfinished).put c in
         let P : SessionTold → Type 0 = λ t. AreNamed t.listed (cut_parts p).terms in
         subst P (sym e) (renamed-named b.listed own.hash p.terms there a);
   }
@@ -295,13 +247,12 @@ module _ (b n : SessionTold) (p : Parts) (now : ℕ) (some : 0 < length p.own.ch
   -- it was put
   put-cleans : WasPut b n own [] now (Ok tt) → Cleans b n p (cut_parts p) []
   put-cleans w = record {
-    made = own ∷ [];
     into = into-cut p;
     failed = ap (λ (t : SessionTold). t.failed) w.same;
     stands = λ k bytes s o clash a.
         let grown = w.log s.tells in
         let P : List Put → Type 0 = λ ps. AgreeOn (world k ps).xorbs own.hash p.own.chunks in
-        let agree = subst P grown (agree-made (world k (log_of n)) (own ∷ []) own clash.xorbs alone) in
+        let agree = subst P grown (agree-put k n (log_of b) own grown clash.xorbs) in
         let Q : List Put → Type 0 = λ ps. PartsStand (world k ps) (cut_parts p) (bytes ++ concat []) in
         subst Q (sym grown) (with-none (world k (log_of b ++ put.Xorb own ∷ [])) (cut_parts p) bytes (parts_cut k
         (log_of b) p bytes agree a));
@@ -315,7 +266,7 @@ module _ (b n : SessionTold) (p : Parts) (now : ℕ) (some : 0 < length p.own.ch
   }
 
   own-cleans : (y : Bool) → Registers b n own now (Ok y) → Cleans b n p (cut_parts p) []
-  own-cleans false r = let a = r.again refl in again-cleans a.0 a.1
+  own-cleans false r = let a = r.again refl in again-cleans r.keeps a.0 a.1
   own-cleans true r = go (r.new refl).put
     where
       go : ((own.chunks ≡ []) × (n ≡ b)) ⊎ ((0 < length own.chunks) × WasPut b n own [] now (Ok tt)) → Cleans b n p
@@ -336,10 +287,19 @@ cut-cleans b n p q x now y some is e r =
 pub within-one : (c : List ℕ) → length c ≤ most_chunk_bytes → IsWithin (c ∷ [])
 within-one c short = let one = ap length (append-nil c) in (omega arith, omega (arith, one, short))
 
--- where there is no room for a chunk, some wait
-pub some-wait : (cs : List (List ℕ)) (c : List ℕ) → length c ≤ most_chunk_bytes → (IsWithin (cs ++ c ∷ []) → ⊥) → 0 < length cs
-some-wait [] c short full = absurd (full (within-one c short))
-some-wait (d ∷ cs) c short full = omega arith
+-- whether some wait
+pub some-own : (n : ℕ) (cs : List (List ℕ)) → n ≡ length cs → (n ≡ 0 → ⊥) → 0 < length cs
+some-own n cs e some = some_of (length cs) (λ z. some (e ∙ z))
+  where
+    some_of : (k : ℕ) → (k ≡ 0 → ⊥) → 0 < k
+    some_of zero f = absurd (f refl)
+    some_of (suc k) f = omega arith
+
+pub no-own : (n : ℕ) (w : Waiting) → n ≡ length w.chunks → n ≡ 0 → w.files ≡ [] → w ≡ no_waiting
+no-own n w e none_of files =
+    let none : w.chunks ≡ [] = nil_from_length w.chunks (sym e ∙ none_of) in
+    ap (λ (cs : List (List ℕ)). record w { chunks = cs }) none
+    ∙ ap (λ (fs : List WaitingFile). record no_waiting { files = fs }) files
 
 -- nothing was cut
 pub same-cleans : (b n : SessionTold) (p : Parts) → Leaves b n → n.failed ≡ b.failed
@@ -347,11 +307,10 @@ pub same-cleans : (b n : SessionTold) (p : Parts) → Leaves b n → n.failed �
     (log_of n)) → (bytes : List ℕ) → PartsStand (world k (log_of b)) p bytes → PartsStand (world k (log_of n)) p bytes)
     → ((h : MerkleHash) → Contains b.listed h → Contains n.listed h) → Cleans b n p p []
 same-cleans b n p l failed grown lists = record {
-  made = [];
   into = into-none p p refl refl;
   failed = failed;
   stands = λ k bytes s o c a. with-none (world k (log_of n)) p bytes (grown k s (agree-alone (world k
-      (log_of n)) [] c.xorbs) bytes a);
+      (log_of n)) n.repeated c.xorbs) bytes a);
   named = λ h o a. terms-more b.listed n.listed p.terms lists a;
 }
 
@@ -363,9 +322,6 @@ still-cleans b n p q e f =
 
 -- ---- one chunk more
 
-no-cut : (s : Store) (made : List Xorb) (cut : List (List ℕ)) → NoClash s made cut → NoClash s made []
-no-cut s made cut c = record { xorbs = c.xorbs; chunks = λ x z d e. absurd (let lt = e.1 in omega arith) }
-
 one-more : (bytes c : List ℕ) → bytes ++ c ≡ bytes ++ concat (c ∷ [])
 one-more bytes c = ap (λ (xs : List ℕ). bytes ++ xs) (sym (append-nil c))
 
@@ -373,11 +329,10 @@ one-more bytes c = ap (λ (xs : List ℕ). bytes ++ xs) (sym (append-nil c))
 pub more-cleans : (b n : SessionTold) (p q r : Parts) (c : List ℕ) → Cleans b n p q [] → OwnAdded q c r
     → Cleans b n p r (c ∷ [])
 more-cleans b n p q r c h added = record {
-  made = h.made;
-  into = into-own p q r h.made c h.into added;
+  into = into-own p q r c h.into added;
   failed = h.failed;
   stands = λ k bytes s o clash a.
-      let before = h.stands k bytes s o (no-cut (world k (log_of n)) h.made (c ∷ []) clash) a in
+      let before = h.stands k bytes s o (clash-none k n clash.xorbs) a in
       let P : List ℕ → Type 0 = λ xs. PartsStand (world k (log_of n)) r xs in
       subst P (ap (λ (xs : List ℕ). xs ++ c) (append-nil bytes) ∙ one-more bytes c) (parts-own (world k
       (log_of n)) q r c (bytes ++ concat []) added before);
@@ -391,7 +346,6 @@ more-cleans b n p q r c h added = record {
 pub found-cleans : (b n : SessionTold) (p q : Parts) (c : List ℕ) (e : FileDataSequenceEntry) → FoundChunk b n
     (chunk_hash_of c) (Ok (Some e)) → FoundAdded p e.xorb e.from (info_of c) q → Cleans b n p q (c ∷ [])
 found-cleans b n p q c e found added = record {
-  made = [];
   into = into-found p q e.xorb e.from c added;
   failed = found.failed;
   stands = λ k bytes s o clash a.

@@ -94,6 +94,7 @@ queries-leaves b n hs answer q k = record {
   backs = λ h. k;
   waiting = ap (λ (t : SessionTold). t.waiting) q.same;
   finished = ap (λ (t : SessionTold). t.finished) q.same;
+  thresholds = ap (λ (t : SessionTold). t.thresholds) q.same;
   counts = counts-none b n (ap (λ (t : SessionTold). t.metrics) q.same);
 }
 
@@ -106,6 +107,7 @@ found-some b n h f q =
     let on : IsOnList b n f.1.xorb = q.on_list in
     record {
       log = queries-log b n (h ∷ []) (Ok (Some f)) q;
+      repeated = ap (λ (t : SessionTold). t.repeated) q.same;
       failed = ap (λ (t : SessionTold). t.failed) q.same;
       found = λ t. found-at b h f (q.found (searches-tell b t));
       one = let run = q.run in omega (arith, run.some, run.most, run.count);
@@ -122,6 +124,7 @@ found-some b n h f q =
 pub found-none : (b n : SessionTold) (h : MerkleHash) → Queries b n (h ∷ []) (Ok None) → FoundChunk b n h (Ok None)
 found-none b n h q = record {
   log = queries-log b n (h ∷ []) (Ok None) q;
+  repeated = ap (λ (t : SessionTold). t.repeated) q.same;
   failed = ap (λ (t : SessionTold). t.failed) q.same;
   found = λ t. tt;
   one = tt;
@@ -133,6 +136,7 @@ pub found-err : (b n : SessionTold) (h : MerkleHash) (d e : DataError) → Queri
     → FoundChunk b n h (Err e)
 found-err b n h d e q = record {
   log = queries-log b n (h ∷ []) (Err d) q;
+  repeated = ap (λ (t : SessionTold). t.repeated) q.same;
   failed = ap (λ (t : SessionTold). t.failed) q.same;
   found = λ t. tt;
   one = tt;
@@ -163,6 +167,7 @@ pub found-failed : (b n : SessionTold) (h : MerkleHash) (o : Option FileDataSequ
     → FoundChunk b n h (Ok o) → FoundChunk b n h (Err e)
 found-failed b n h o e f = record {
   log = f.log;
+  repeated = f.repeated;
   failed = f.failed;
   found = λ t. tt;
   one = tt;

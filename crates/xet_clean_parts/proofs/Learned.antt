@@ -20,7 +20,9 @@ use Rattle.xet_shard_interface.specs.Interfaces.{InterfaceTold, StoreFails, Stor
 use Rattle.xet_shard_interface.specs.Puts.{Answered, Learned, LearnedNothing, Unanswered, all_with_shards, with_shards}
 use Rattle.xet_shard_interface.proofs.CallerLemmas.{All-append_left, All-append_right}
 use Rattle.xet_base.specs.Store.{Store}
+use Rattle.xet_session_parts.specs.Storable.{IsStorable}
 use Rattle.xet_upload.specs.Orders.{IsOrdered}
+use Rattle.xet_upload.specs.Waitings.{Waiting}
 use Rattle.xet_upload.specs.Standing.{IsRecordIn, world}
 use Rattle.xet_upload.specs.declared.data_error.DataError.{DataError}
 use Rattle.xet_upload.proofs.CallerLemmas.{backed-known, ordered-none}
@@ -305,9 +307,12 @@ module _ (b n : SessionTold) (hs : List MerkleHash) (answer : Result Bool DataEr
   -- a backed session stays backed, since more is known and nothing else changed
   pub backs-learned : HasListed b → Backs b n
   backs-learned h = record {
-    listed = λ f g.
-        let none = ap (λ (z : SessionTold). z.listed) l.same ∙ sym (append-nil b.listed) in
-        listed-more b n [] none [] (ap (λ (z : SessionTold). z.waiting) l.same) (ap (λ (z : SessionTold). z.finished) l.same) (ap (λ (z : SessionTold). z.registered) l.same ∙ sym (append-nil b.registered)) (All-nil (Contains n.listed)) (h (sym failed ∙ f) (sym finalized ∙ g));
+    listed = record {
+      all = λ f g.
+          let none = ap (λ (z : SessionTold). z.listed) l.same ∙ sym (append-nil b.listed) in
+          listed-more b n [] none [] (ap (λ (z : SessionTold). z.waiting) l.same) (ap (λ (z : SessionTold). z.finished) l.same) (ap (λ (z : SessionTold). z.registered) l.same ∙ sym (append-nil b.registered)) (All-nil (Contains n.listed)) (h.all (sym failed ∙ f) (sym finalized ∙ g));
+      waits = subst (λ (w : Waiting). IsStorable w.chunks) (sym (ap (λ (z : SessionTold). z.waiting) l.same)) h.waits;
+    };
     backed = λ t s f g. learns-stands t (s (sym failed ∙ f) (sym finalized ∙ g));
     ordered = λ t s. let P : List Put → Type 0 = λ ps. IsOrdered ps (length (log_of b)) (known_of b) in subst P (sym log) (ordered-none (log_of b) (known_of b));
   }

@@ -6,5 +6,7 @@ mod Learned
 mod Naming
 mod Pending
 mod Picked
+mod Places
+mod Puts
 mod SessionCalls
 mod Worlds

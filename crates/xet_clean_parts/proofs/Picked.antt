@@ -1,16 +1,16 @@
 -- Chunks that are picked from others, and xorbs that are made of them.
-use Rattle.std.proofs.Common.{◌≡◌, ℕ, inl, inr, List, [], ◌∷◌, ◌++◌, refl, sym, ◌∙◌, ap, subst}
+use Rattle.std.proofs.Common.{◌≡◌, ℕ, ◌≤◌, inl, inr, List, [], ◌∷◌, ◌++◌, length, refl, sym, ◌∙◌, ap, subst, arith}
 use Rattle.std.specs.Prelude.{All}
 use Rattle.std.specs.List.{concat}
-use Rattle.std.proofs.lemmas.List.{append-nil, append_assoc, map-append}
-use Rattle.std.proofs.lemmas.List.Elements.{All-nil, All-cons, All-append, All-weaker}
+use Rattle.std.proofs.lemmas.List.{append-nil, append_assoc, length-append, map-append}
+use Rattle.std.proofs.lemmas.List.Elements.{All-weaker}
 use Rattle.std.proofs.lemmas.List.Folds.{concat-append}
 use Rattle.xet_base.specs.declared.merklehash.MerkleHash.{MerkleHash}
 use Rattle.xet_base.specs.declared.mdb_shard.ChunkInfo.{ChunkInfo}
 use Rattle.xet_base.specs.declared.mdb_shard.Xorb.{Xorb}
 use Rattle.xet_base.specs.Digests.{info_of, infos_of}
 use Rattle.xet_upload.specs.FileDatas.{FoundAdded, OwnAdded, Parts, cut_parts}
-use Rattle.xet_upload.specs.Waitings.{Waiting, xorb_of_chunks}
+use Rattle.xet_upload.specs.Waitings.{IsWithin, Waiting}
 use Rattle.xet_clean_parts.specs.Made.{CutInto, IsMadeOf, IsPickedFrom}
 
 -- ---- chunks that are picked
@@ -64,6 +64,38 @@ picked-later xs ys zs cut cuts p q =
     subst P (append_assoc zs cut cuts) (picked-trans xs (ys ++ cuts) ((zs ++ cut) ++ cuts) p
     (picked-first ys (zs ++ cut) cuts q))
 
+-- ---- what is picked is no more
+
+pub picked-count : (xs ys : List (List ℕ)) → IsPickedFrom xs ys → length xs ≤ length ys
+picked-count xs [] p = let none = ap (λ (ws : List (List ℕ)). length ws) p in omega (arith, none)
+picked-count xs (y ∷ ys) (inl p) = let less = picked-count xs ys p in omega (arith, less)
+picked-count xs (y ∷ ys) (inr p) =
+    let less = picked-count p.0 ys p.2 in
+    let whole = ap (λ (ws : List (List ℕ)). length ws) p.1 in
+    omega (arith, less, whole)
+
+pub picked-bytes : (xs ys : List (List ℕ)) → IsPickedFrom xs ys → length (concat xs) ≤ length (concat ys)
+picked-bytes xs [] p = let none = ap (λ (ws : List (List ℕ)). length (concat ws)) p in omega (arith, none)
+picked-bytes xs (y ∷ ys) (inl p) =
+    let less = picked-bytes xs ys p in
+    let all = length-append y (concat ys) in
+    omega (arith, less, all)
+picked-bytes xs (y ∷ ys) (inr p) =
+    let less = picked-bytes p.0 ys p.2 in
+    let whole = ap (λ (ws : List (List ℕ)). length (concat ws)) p.1 in
+    let one = length-append y (concat p.0) in
+    let all = length-append y (concat ys) in
+    omega (arith, less, whole, one, all)
+
+-- so it is within the limits of a xorb
+pub picked-within : (xs ys : List (List ℕ)) → IsPickedFrom xs ys → IsWithin ys → IsWithin xs
+picked-within xs ys p w =
+    let count = picked-count xs ys p in
+    let bytes = picked-bytes xs ys p in
+    let most = w.0 in
+    let room = w.1 in
+    (omega (arith, count, most), omega (arith, bytes, room))
+
 -- ---- xorbs that are made
 
 pub made-wider : (cs ds : List (List ℕ)) (made : List Xorb) → IsPickedFrom cs ds → All (IsMadeOf cs) made
@@ -71,30 +103,12 @@ pub made-wider : (cs ds : List (List ℕ)) (made : List Xorb) → IsPickedFrom c
 made-wider cs ds made p a = All-weaker (IsMadeOf cs) (IsMadeOf ds) one made a
   where
     one : (x : Xorb) → IsMadeOf cs x → IsMadeOf ds x
-    one x m = record { honest = m.honest; picked = picked-trans x.chunks cs ds m.picked p }
-
-pub made-none : (cs : List (List ℕ)) → All (IsMadeOf cs) []
-made-none cs = All-nil (IsMadeOf cs)
-
--- one xorb of some of the chunks
-pub made-one : (own cs : List (List ℕ)) → IsPickedFrom own cs → All (IsMadeOf cs) (xorb_of_chunks own ∷ [])
-made-one own cs p =
-    All-cons (IsMadeOf cs) (xorb_of_chunks own) [] (record { honest = refl; picked = p }) (All-nil (IsMadeOf cs))
-
-pub made-both : (cs : List (List ℕ)) (made more : List Xorb) → All (IsMadeOf cs) made → All (IsMadeOf cs) more
-    → All (IsMadeOf cs) (made ++ more)
-made-both cs made more a k = All-append (IsMadeOf cs) made more a k
-
--- by one call and then by another
-pub made-later : (zs ys cut cuts : List (List ℕ)) (made more : List Xorb) → IsPickedFrom ys (zs ++ cut)
-    → All (IsMadeOf (zs ++ cut)) made → All (IsMadeOf (ys ++ cuts)) more
-    → All (IsMadeOf (zs ++ (cut ++ cuts))) (made ++ more)
-made-later zs ys cut cuts made more p a k =
-    made-both (zs ++ (cut ++ cuts)) made more
-    (made-wider (zs ++ cut) (zs ++ (cut ++ cuts)) made (picked-both zs (cut) zs (cut ++ cuts) (picked-all zs)
-    (picked-front cut cut cuts (picked-all cut))) a)
-    (made-wider (ys ++ cuts) (zs ++ (cut ++ cuts)) more (picked-later (ys ++ cuts) ys zs cut cuts
-    (picked-all (ys ++ cuts)) p) k)
+    one x m = record {
+      honest = m.honest;
+      picked = picked-trans x.chunks cs ds m.picked p;
+      some = m.some;
+      storable = m.storable;
+    }
 
 -- ---- chunks that are cut
 
@@ -104,56 +118,45 @@ infos-more is js ks cut cuts e f =
     f ∙ ap (λ (l : List ChunkInfo). l ++ infos_of cuts) e ∙ append_assoc is (infos_of cut) (infos_of cuts)
     ∙ ap (λ (l : List ChunkInfo). is ++ l) (sym (map-append info_of cut cuts))
 
-pub into-both : (p q r : Parts) (made more : List Xorb) (cut cuts : List (List ℕ)) → CutInto p q made cut
-    → CutInto q r more cuts → CutInto p r (made ++ more) (cut ++ cuts)
-into-both p q r made more cut cuts one two = record {
-  made_of = made-later p.own.chunks q.own.chunks cut cuts made more one.own one.made_of two.made_of;
+pub into-both : (p q r : Parts) (cut cuts : List (List ℕ)) → CutInto p q cut → CutInto q r cuts
+    → CutInto p r (cut ++ cuts)
+into-both p q r cut cuts one two = record {
   own = picked-later r.own.chunks q.own.chunks p.own.chunks cut cuts two.own one.own;
   infos = infos-more p.infos q.infos r.infos cut cuts one.infos two.infos;
 }
 
 -- nothing was cut
-pub into-none : (p q : Parts) → q.own.chunks ≡ p.own.chunks → q.infos ≡ p.infos → CutInto p q [] []
+pub into-none : (p q : Parts) → q.own.chunks ≡ p.own.chunks → q.infos ≡ p.infos → CutInto p q []
 into-none p q e f = record {
-  made_of = made-none (p.own.chunks ++ []);
   own = picked-same q.own.chunks p.own.chunks (p.own.chunks ++ []) e
       (picked-front p.own.chunks p.own.chunks [] (picked-all p.own.chunks));
   infos = f ∙ sym (append-nil p.infos);
 }
 
 -- the chunks that wait became a xorb
-pub into-cut : (p : Parts) → CutInto p (cut_parts p) (xorb_of_chunks p.own.chunks ∷ []) []
-into-cut p = record {
-  made_of = made-one p.own.chunks (p.own.chunks ++ []) (picked-front p.own.chunks p.own.chunks []
-      (picked-all p.own.chunks));
-  own = picked-none (p.own.chunks ++ []);
-  infos = sym (append-nil p.infos);
-}
+pub into-cut : (p : Parts) → CutInto p (cut_parts p) []
+into-cut p = record { own = picked-none (p.own.chunks ++ []); infos = sym (append-nil p.infos) }
 
 -- one chunk more, that waits or was found
-pub into-own : (p q r : Parts) (made : List Xorb) (c : List ℕ) → CutInto p q made [] → OwnAdded q c r
-    → CutInto p r made (c ∷ [])
-into-own p q r made c i added =
-    let one : CutInto q r [] (c ∷ []) = record {
-      made_of = made-none (q.own.chunks ++ c ∷ []);
+pub into-own : (p q r : Parts) (c : List ℕ) → CutInto p q [] → OwnAdded q c r → CutInto p r (c ∷ [])
+into-own p q r c i added =
+    let one : CutInto q r (c ∷ []) = record {
       own = picked-same r.own.chunks (q.own.chunks ++ c ∷ []) (q.own.chunks ++ c ∷ [])
           (ap (λ (w : Waiting). w.chunks) added.own) (picked-all (q.own.chunks ++ c ∷ []));
       infos = added.infos;
     } in
-    subst (λ (xs : List Xorb). CutInto p r xs (c ∷ [])) (append-nil made) (into-both p q r made [] [] (c ∷ []) i one)
+    into-both p q r [] (c ∷ []) i one
 
 pub into-found : (p q : Parts) (x : MerkleHash) (i : ℕ) (c : List ℕ) → FoundAdded p x i (info_of c) q
-    → CutInto p q [] (c ∷ [])
+    → CutInto p q (c ∷ [])
 into-found p q x i c added = record {
-  made_of = made-none (p.own.chunks ++ c ∷ []);
   own = picked-same q.own.chunks p.own.chunks (p.own.chunks ++ c ∷ []) (ap (λ (w : Waiting). w.chunks) added.own)
       (picked-front p.own.chunks p.own.chunks (c ∷ []) (picked-all p.own.chunks));
   infos = added.infos;
 }
 
-pub into-same : (p q r : Parts) (made : List Xorb) (cut : List (List ℕ)) → p ≡ q → CutInto p r made cut
-    → CutInto q r made cut
-into-same p q r made cut e i = subst (λ (z : Parts). CutInto z r made cut) e i
+pub into-same : (p q r : Parts) (cut : List (List ℕ)) → p ≡ q → CutInto p r cut → CutInto q r cut
+into-same p q r cut e i = subst (λ (z : Parts). CutInto z r cut) e i
 
 -- bytes that were cut in two calls
 pub bytes-later : (bs xs : List ℕ) (rest : List ℕ) (cut cuts : List (List ℕ)) → bs ≡ concat cut ++ xs

@@ -1,9 +1,9 @@
 -- Xorbs of a world that grows: what is found there, and what its chunks are.
-use Rattle.std.proofs.Common.{◌≡◌, ℕ, zero, suc, ◌<◌, inl, inr, Bool, true, false, cond, List, [], ◌∷◌, ◌++◌, length, map, refl, sym, ◌∙◌, ap, subst, arith}
+use Rattle.std.proofs.Common.{◌≡◌, ℕ, zero, suc, ◌<◌, ◌⊎◌, inl, inr, Bool, true, false, cond, List, [], ◌∷◌, ◌++◌, length, map, refl, sym, ◌∙◌, ap, subst, arith}
 use Rattle.std.specs.Prelude.{Contains, Some, IsSome, Result, Ok, Err, find, is_ok, option_map, slice_index_or, unwrap_or}
 use Rattle.std.proofs.lemmas.Bool.{false≢true, true≢false}
 use Rattle.std.proofs.lemmas.List.{append_assoc, get_or-map, length-map}
-use Rattle.std.proofs.lemmas.List.Elements.{All-contains, Contains-append_left, Contains-append_right}
+use Rattle.std.proofs.lemmas.List.Elements.{All-contains, Contains-append_cases, Contains-append_left, Contains-append_right, Contains-push}
 use Rattle.xet_base.specs.declared.merklehash.MerkleHash.{MerkleHash}
 use Rattle.xet_base.specs.declared.mdb_shard.Xorb.{Xorb}
 use Rattle.xet_base.specs.declared.mdb_shard.MDBXorbInfo.{MDBXorbInfo}
@@ -11,16 +11,17 @@ use Rattle.xet_base.specs.Hashes.{hash_eq}
 use Rattle.xet_base.specs.Store.{Store, xorb_of}
 use Rattle.xet_base.proofs.CallerLemmas.{hash_eq-true}
 use Rattle.xet_uploader.specs.declared.uploader.Put.{Put}
+use Rattle.xet_uploader.specs.declared.uploader.Put.TheVariants as put
 use Rattle.xet_uploader.specs.Uploads.{xorbs_in}
 use Rattle.xet_uploader.proofs.CallerLemmas.{xorbs_in-append}
 use Rattle.xet_shard_interface.specs.Interfaces.{known_told, known_xorbs, records_of}
 use Rattle.xet_upload.specs.Orders.{IsThere}
 use Rattle.xet_upload.specs.Standing.{AgreeOn, AgreesWith, IsRecordIn, world}
 use Rattle.xet_session.specs.Calls.{Keeps}
-use Rattle.xet_session.specs.Sessions.{SessionTold, Stands, known_of, log_of}
+use Rattle.xet_session.specs.Sessions.{SessionTold, Stands, Tells, known_of, log_of}
 use Rattle.xet_session.specs.Sounds.{IsSound, XorbsAgree, searched}
 use Rattle.xet_session.proofs.CallerLemmas.{stored-of, unfailed}
-use Rattle.xet_clean_parts.specs.Premises.{IsOpen, with_xorbs}
+use Rattle.xet_clean_parts.specs.Premises.{HashesAgree, IsOpen, NoClash, with_xorbs}
 
 -- an answer is not both
 pub ok-err : {A E P : Type 0} (a : A) (e : E) → Ok a ≡ Err e → P
@@ -120,6 +121,62 @@ agree-made s made x a d y c e = a y x (Contains-append_left s.xorbs made y c)
 pub agree-alone : (s : Store) (made : List Xorb) → XorbsAgree (with_xorbs s made) → XorbsAgree s
 agree-alone s made a x y c d e = a x y (Contains-append_left s.xorbs made x c)
     (Contains-append_left s.xorbs made y d) e
+
+-- a xorb that a session put agrees with each of its hash, where hashes agree
+pub agree-put : (k : Store) (n : SessionTold) (log : List Put) (x : Xorb) → log_of n ≡ log ++ put.Xorb x ∷ []
+    → HashesAgree k n → AgreeOn (world k (log_of n)).xorbs x.hash x.chunks
+agree-put k n log x grown a y c e = a y x (Contains-append_left (world k (log_of n)).xorbs n.repeated y c)
+    (Contains-append_left (world k (log_of n)).xorbs n.repeated x there) e
+  where
+    there : Contains (world k (log_of n)).xorbs x
+    there = subst (λ (xs : List Xorb). Contains xs x) (sym (world-grew k log (log_of n) (put.Xorb x ∷ []) grown))
+        (Contains-append_right (world k log).xorbs (x ∷ []) x (Contains-head x []))
+
+-- and so does one that it did not put again
+pub agree-again : (k : Store) (n : SessionTold) (before : List Xorb) (x : Xorb) → n.repeated ≡ before ++ x ∷ []
+    → HashesAgree k n → AgreeOn (world k (log_of n)).xorbs x.hash x.chunks
+agree-again k n before x grown a = agree-made (world k (log_of n)) n.repeated x a
+    (subst (λ (xs : List Xorb). Contains xs x) (sym grown) (Contains-push before x))
+
+-- hashes that agree after a call agreed before it
+pub hashes-before : (k : Store) (m n : SessionTold) → Keeps m n → Tells m → HashesAgree k n → HashesAgree k m
+hashes-before k m n keeps t a x y c d = a x y (more x c) (more y d)
+  where
+    more : (z : Xorb) → Contains ((world k (log_of m)).xorbs ++ m.repeated) z
+        → Contains ((world k (log_of n)).xorbs ++ n.repeated) z
+    more z e = go (Contains-append_cases (world k (log_of m)).xorbs m.repeated z e)
+      where
+        go : Contains (world k (log_of m)).xorbs z ⊎ Contains m.repeated z
+            → Contains ((world k (log_of n)).xorbs ++ n.repeated) z
+        go (inl f) =
+            let g = keeps.grew t in
+            Contains-append_left (world k (log_of n)).xorbs n.repeated z
+            (world-has k (log_of m) (log_of n) (map put.Xorb g.xorbs) g.grown z f)
+        go (inr f) = Contains-append_right (world k (log_of n)).xorbs n.repeated z
+            (subst (λ (xs : List Xorb). Contains xs z) (sym keeps.repeated.1)
+            (Contains-append_left m.repeated keeps.repeated.0 z f))
+
+-- what clashes nowhere after a call clashed nowhere before it
+pub clash-before : (k : Store) (m n : SessionTold) (cut cuts : List (List ℕ)) → Keeps m n → Tells m
+    → NoClash k n (cut ++ cuts) → NoClash k m cut
+clash-before k m n cut cuts keeps t c = record {
+  xorbs = hashes-before k m n keeps t c.xorbs;
+  chunks = λ x z d e.
+      let g = keeps.grew t in
+      c.chunks x z (world-has k (log_of m) (log_of n) (map put.Xorb g.xorbs) g.grown x d)
+      (Contains-append_left cut cuts z e);
+}
+
+pub clash-after : (k : Store) (n : SessionTold) (cut cuts : List (List ℕ)) → NoClash k n (cut ++ cuts)
+    → NoClash k n cuts
+clash-after k n cut cuts c = record {
+  xorbs = c.xorbs;
+  chunks = λ x z d e. c.chunks x z d (Contains-append_right cut cuts z e);
+}
+
+-- of no chunk
+pub clash-none : (k : Store) (n : SessionTold) → HashesAgree k n → NoClash k n []
+clash-none k n a = record { xorbs = a; chunks = λ x z d e. absurd (let lt = e.1 in omega arith) }
 
 -- a session that is open now, and steady before, was open and stood
 pub opened : (b n : SessionTold) → Keeps b n → IsOpen n → IsOpen b

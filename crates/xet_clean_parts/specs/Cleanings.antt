@@ -7,7 +7,6 @@ use Rattle.xet_base.specs.declared.merklehash.MerkleHash.{MerkleHash}
 use Rattle.xet_base.specs.declared.mdb_shard.ChunkInfo.{ChunkInfo}
 use Rattle.xet_base.specs.declared.mdb_shard.FileDataSequenceEntry.{FileDataSequenceEntry}
 use Rattle.xet_base.specs.declared.mdb_shard.MDBXorbInfo.{MDBXorbInfo}
-use Rattle.xet_base.specs.declared.mdb_shard.Xorb.{Xorb}
 use Rattle.xet_base.specs.Store.{Store}
 use Rattle.xet_upload.specs.FileDatas.{Parts, PartsStand}
 use Rattle.xet_upload.specs.Standing.{world}
@@ -26,6 +25,7 @@ pub record Leaves (b n : SessionTold) : Type 0 where
   pub backs : HasListed b → Backs b n
   pub waiting : n.waiting ≡ b.waiting
   pub finished : n.finished ≡ b.finished
+  pub thresholds : n.thresholds ≡ b.thresholds
   pub counts : CountsSent b n
 
 -- no put failed in the call, and the uploader's faults are as before
@@ -60,12 +60,11 @@ pub record IsFirstUnlisted (listed : List MerkleHash) (terms : List WaitingTerm)
   pub before : All (Contains listed) front
   pub missing : Contains listed hash → ⊥
 
--- chunks were cut, and the parts of the file stand for them too; the made xorbs are chunks of the file that waited
+-- chunks were cut, and the parts of the file stand for them too
 pub record Cleans (b n : SessionTold) (p q : Parts) (cut : List (List ℕ)) : Type 0 where
-  pub made : List Xorb
-  pub into : CutInto p q made cut
+  pub into : CutInto p q cut
   pub failed : n.failed ≡ b.failed
-  pub stands : (k : Store) (bytes : List ℕ) → IsSteady k b → IsOpen n → NoClash (world k (log_of n)) made cut
+  pub stands : (k : Store) (bytes : List ℕ) → IsSteady k b → IsOpen n → NoClash k n cut
       → PartsStand (world k (log_of b)) p bytes → PartsStand (world k (log_of n)) q (bytes ++ concat cut)
   pub named : HasListed b → IsOpen n → AreNamed b.listed p.terms → AreNamed n.listed q.terms
 
@@ -83,6 +82,7 @@ pub record IsAt (records : List MDBXorbInfo) (hash xorb : MerkleHash) (place : �
 pub record FoundChunk (b n : SessionTold) (hash : MerkleHash)
     (answer : Result (Option FileDataSequenceEntry) DataError) : Type 0 where
   pub log : log_of n ≡ log_of b
+  pub repeated : n.repeated ≡ b.repeated
   pub failed : n.failed ≡ b.failed
   pub found : Tells b → IfOk answer (λ o. IfSome o (λ e. IsAt (searched b) hash e.xorb e.from))
   pub one : IfOk answer (λ o. IfSome o (λ e. e.from + 1 ≡ e.to))

@@ -3,6 +3,7 @@ pub mod FileCalls
 pub mod Learnings
 pub mod Made
 pub mod Pending
+pub mod Places
 pub mod Pointers
 pub mod Premises
 pub mod SessionCalls

@@ -2,9 +2,9 @@
 use Rattle.std.specs.Prelude.{ℕ, ◌≡◌, false, List, ◌++◌, Contains, None}
 use Rattle.xet_base.specs.declared.mdb_shard.Xorb.{Xorb}
 use Rattle.xet_base.specs.Store.{Store}
-use Rattle.xet_upload.specs.Standing.{AgreesWith}
+use Rattle.xet_upload.specs.Standing.{AgreesWith, world}
 use Rattle.xet_upload.specs.Waitings.{xorb_of_chunks}
-use Rattle.xet_session.specs.Sessions.{HasListed, IsBackedSession, SessionTold, Tells}
+use Rattle.xet_session.specs.Sessions.{HasListed, IsBackedSession, SessionTold, Tells, log_of}
 use Rattle.xet_session.specs.Sounds.{IsSound, XorbsAgree}
 
 -- uploader and stores tell, the session is backed, and over the known xorbs of k each record that is searched
@@ -28,8 +28,12 @@ with_xorbs s xs = record s { xorbs = s.xorbs ++ xs }
 abbrev pub waiting_xorb : SessionTold → Xorb
 waiting_xorb t = xorb_of_chunks t.waiting.chunks
 
--- equal hashes mean equal contents: among the xorbs of the store with those that were made, and of a chunk of the
--- store's xorbs with one that was cut
-pub record NoClash (s : Store) (made : List Xorb) (cut : List (List ℕ)) : Type 0 where
-  pub xorbs : XorbsAgree (with_xorbs s made)
-  pub chunks : (x : Xorb) (c : List ℕ) → Contains s.xorbs x → Contains cut c → AgreesWith x.chunks c
+-- equal hashes mean equal contents, of the xorbs of a store, those of a session's log, and those that were not put
+-- again
+abbrev pub HashesAgree : Store → SessionTold → Type 0
+HashesAgree k t = XorbsAgree (with_xorbs (world k (log_of t)) t.repeated)
+
+-- so it is, and a chunk of the world's xorbs that has the hash of one that was cut is that chunk
+pub record NoClash (k : Store) (t : SessionTold) (cut : List (List ℕ)) : Type 0 where
+  pub xorbs : HashesAgree k t
+  pub chunks : (x : Xorb) (c : List ℕ) → Contains (world k (log_of t)).xorbs x → Contains cut c → AgreesWith x.chunks c

@@ -5,8 +5,9 @@ use Rattle.xet_base.specs.declared.mdb_shard.FileDataSequenceEntry.{FileDataSequ
 use Rattle.xet_base.specs.declared.mdb_shard.Xorb.{Xorb}
 use Rattle.xet_upload.specs.Waitings.{Waiting}
 use Rattle.xet_upload.specs.declared.data_error.DataError.{DataError}
+use Rattle.xet_upload.specs.declared.metrics.DeduplicationMetrics.{DeduplicationMetrics}
 use Rattle.xet_session.specs.Calls.{Queries, Registers}
-use Rattle.xet_session.specs.Completions.{TakesFile}
+use Rattle.xet_session.specs.Completions.{TakesFile, with_file_counts}
 use Rattle.xet_session.specs.Sessions.{SessionTold}
 
 -- a search of the stores, or a xorb that is given at this moment
@@ -15,11 +16,15 @@ CallsOnce now b n = ((hashes : List MerkleHash)
     × (answer : Result (Option (ℕ × FileDataSequenceEntry × Bool)) DataError) × Queries b n hashes answer)
     ⊎ ((x : Xorb) × (answer : Result Bool DataError) × Registers b n x now answer)
 
+-- these counts of a file's chunks were added
+abbrev pub with_counts : SessionTold → DeduplicationMetrics → SessionTold
+with_counts t counts = record t { metrics = with_file_counts t.metrics counts }
+
 -- such a call, or the data of a file that is taken at this moment, or counts that are added
 abbrev pub UploadsOnce : ℕ → SessionTold → SessionTold → Type 0
 UploadsOnce now b n = CallsOnce now b n
     ⊎ ((w : Waiting) × (answer : Result (Unit {0}) DataError) × TakesFile b n w now answer)
-    ⊎ (n ≡ record b { metrics = n.metrics })
+    ⊎ ((counts : DeduplicationMetrics) × (n ≡ with_counts b counts))
 
 -- calls of a kind, one after another, which leave the session as these
 abbrev pub CallsAll : (SessionTold → SessionTold → Type 0) → List SessionTold → SessionTold → SessionTold → Type 0

@@ -1,10 +1,13 @@
 //! What a chunk of a file becomes in a session: a place in a known xorb, or one more chunk that waits.
-ghost use Rattle.std.specs.Prelude.{◌≡◌, ◌++◌, ◌∷◌, ◌<◌, ◌≤◌, ℕ, [], IfErr, OnOk, length};
+ghost use Rattle.std.specs.Prelude.{◌≡◌, ◌++◌, ◌∷◌, ◌<◌, ◌≤◌, ℕ, [], IfErr, None, OnOk, length};
 ghost use Rattle.xet_base.specs.Digests.{info_of};
 ghost use Rattle.xet_upload.specs.Waitings.{IsWithin, no_waiting};
+ghost use Rattle.xet_session.specs.Calls.{Says};
+ghost use Rattle.xet_session.specs.Sessions.{Tells};
 ghost use Rattle.xet_session.specs.Telling.{KeepsGroup, told_by};
 ghost use Rattle.xet_clean_parts.specs.Cleanings.{ChunkFails, Cleans, FoundChunk, Leaves, TrackFails};
 ghost use Rattle.xet_clean_parts.specs.FileCalls.{IsLate, IsPartOf, TellsOf};
+ghost use Rattle.xet_clean_parts.specs.Made.{PutsMade, PutsSo};
 ghost use Rattle.xet_clean_parts.specs.SessionCalls.{Calls};
 ghost use Rattle.xet_waiting.specs.Limits.{most_chunk_bytes};
 
@@ -18,8 +21,8 @@ use xet_shards::ShardStore;
 use xet_upload::{DataError, FileParts};
 use xet_uploader::Uploader;
 
-// The chunks of a file that wait become a xorb, which the session has then. The tracker is told that the file has them
-// in it.
+// The chunks of a file that wait become a xorb, which the session has then, unless none wait. The tracker is told that
+// the file has them in it.
 fn cut_own<U: Uploader, R: ShardStore, W: Wait>(
     session: &mut FileUploadSession<U, R>,
     rt: &W,
@@ -28,17 +31,23 @@ fn cut_own<U: Uploader, R: ShardStore, W: Wait>(
     parts: &mut FileParts,
     now: u64,
 ) -> Result<(), DataError>
-    requires { 0 < length parts.old.own.chunks }
     ensures leaves { Leaves (told_by U.told R.told session.old) (told_by U.told R.told session.new) }
     ensures cleans { OnOk result (Cleans (told_by U.told R.told session.old) (told_by U.told R.told session.new)
         parts.old parts.new []) }
     ensures emptied { OnOk result (parts.new.own ≡ no_waiting) }
+    ensures puts { Tells (told_by U.told R.told session.old) → PutsMade (told_by U.told R.told session.old)
+        (told_by U.told R.told session.new) parts.old.own.chunks }
+    ensures said { session.old.failed ≡ None → Says (told_by U.told R.told session.new) result }
     ensures why { IfErr result (ChunkFails (told_by U.told R.told session.old) (told_by U.told R.told session.new)) }
     ensures tells { TellsOf (IsPartOf file_id) (IsLate session.old.finalized) session.old.files.tracker
         session.new.files.tracker result }
     ensures calls { Calls now (told_by U.told R.told session.old) (told_by U.told R.told session.new) }
     ensures group { KeepsGroup session.old session.new }
 {
+    let count = parts.num_chunks();
+    if count == 0 {
+        return Ok(());
+    }
     let raw = parts.cut(alloc)?;
     let dependencies = [FileXorbDependency {
         file_id,
@@ -65,6 +74,8 @@ fn make_room<U: Uploader, R: ShardStore, W: Wait>(
     ensures cleans { OnOk result (Cleans (told_by U.told R.told session.old) (told_by U.told R.told session.new)
         parts.old parts.new []) }
     ensures room { OnOk result (IsWithin (parts.new.own.chunks ++ chunk.now ∷ [])) }
+    ensures puts { PutsSo (told_by U.told R.told session.old) (told_by U.told R.told session.new)
+        parts.old.own.chunks (chunk.now ∷ []) result }
     ensures why { IfErr result (ChunkFails (told_by U.told R.told session.old) (told_by U.told R.told session.new)) }
     ensures tells { TellsOf (IsPartOf file_id) (IsLate session.old.finalized) session.old.files.tracker
         session.new.files.tracker result }
@@ -94,6 +105,8 @@ fn add_new<U: Uploader, R: ShardStore, W: Wait>(
     ensures leaves { Leaves (told_by U.told R.told session.old) (told_by U.told R.told session.new) }
     ensures cleans { OnOk result (Cleans (told_by U.told R.told session.old) (told_by U.told R.told session.new)
         parts.old parts.new (chunk ∷ [])) }
+    ensures puts { PutsSo (told_by U.told R.told session.old) (told_by U.told R.told session.new)
+        parts.old.own.chunks (chunk ∷ []) result }
     ensures why { IfErr result (ChunkFails (told_by U.told R.told session.old) (told_by U.told R.told session.new)) }
     ensures tells { TellsOf (IsPartOf file_id) (IsLate session.old.finalized) session.old.files.tracker
         session.new.files.tracker result }
@@ -191,6 +204,8 @@ pub fn add_chunk<U: Uploader, R: ShardStore, W: Wait>(
     ensures leaves { Leaves (told_by U.told R.told session.old) (told_by U.told R.told session.new) }
     ensures cleans { OnOk result (Cleans (told_by U.told R.told session.old) (told_by U.told R.told session.new)
         parts.old parts.new (chunk ∷ [])) }
+    ensures puts { PutsSo (told_by U.told R.told session.old) (told_by U.told R.told session.new)
+        parts.old.own.chunks (chunk ∷ []) result }
     ensures why { IfErr result (ChunkFails (told_by U.told R.told session.old) (told_by U.told R.told session.new)) }
     ensures tells { TellsOf (IsPartOf file_id) (IsLate session.old.finalized) session.old.files.tracker
         session.new.files.tracker result }

@@ -6,7 +6,8 @@ use Rattle.xet_pointer.specs.declared.xet_file_info.XetFileInfo.{XetFileInfo}
 use Rattle.xet_progress_state.specs.declared.step.TrackerStep.{TrackerStep}
 use Rattle.xet_upload.specs.declared.data_error.DataError.{DataError}
 use Rattle.xet_upload.specs.declared.metrics.DeduplicationMetrics.{DeduplicationMetrics}
-use Rattle.xet_session.specs.Sessions.{SessionTold}
+use Rattle.xet_session.specs.Calls.{Backs, Keeps}
+use Rattle.xet_session.specs.Sessions.{HasListed, SessionTold}
 use Rattle.xet_clean.specs.Cleaners.{Cleaner, Finishes, IsNewCleaner}
 use Rattle.xet_clean_parts.specs.SessionCalls.{Calls}
 use Rattle.xet_clean.specs.FileEnds.{CutsAndTakes, EndsFile, IsSame, TookFile, unit_of}
@@ -31,6 +32,7 @@ module _ {A : Type 0} (b n : SessionTold) (now : ℕ) (before after : List Track
     takes = t.takes;
     tracks = t.tracks;
     counted = t.counted;
+    uncounted = t.uncounted;
   }
 
   took-error : (c : Cleaner) (e : DataError) → TookFile {A = A} b n c now before after (Err e)
@@ -47,6 +49,7 @@ module _ {A : Type 0} (b n : SessionTold) (now : ℕ) (before after : List Track
     takes = t.takes;
     tracks = t.tracks;
     counted = t.counted;
+    uncounted = t.uncounted;
   }
 
 module _ {A : Type 0} (b n : SessionTold) (c : Cleaner) (now : ℕ) (before after : List TrackerStep) where
@@ -92,17 +95,19 @@ pub alone-stopped : (now : ℕ) (b n : SessionTold) (f : FileTold) (s : SourceTo
 alone-stopped now b n f s e x calls = record { file = x; ended = tt; stopped = inl calls }
 
 module _ (now : ℕ) (b m n : SessionTold) (f : FileTold) (s : SourceTold) (c d : Cleaner) (u : Unit {0})
-    (new : IsNewCleaner c (Some f.size) f.policy) (p : Pours b m f.source s c d f.size (Ok u))
+    (new : IsNewCleaner c (Some f.size) f.policy f.tell) (p : Pours b m f.source s c d f.size (Ok u))
     (calls : Calls now b m) (told after : List TrackerStep) where
-  upload-ends : (answer : Result (Unit {0}) DataError) → EndsFile m n d now told after answer
-      → EndsUpload now b n f p.bytes answer
-  upload-ends answer e = record {
+  upload-ends : (answer : Result (Unit {0}) DataError) → Keeps b n → (HasListed b → Backs b n)
+      → EndsFile m n d now told after answer → EndsUpload now b n f p.bytes answer
+  upload-ends answer keeps backs e = record {
+    keeps = keeps;
+    backs = backs;
     new = c;
     is_new = new;
     fed = d;
     middle = m;
     calls = calls;
-    feeds = p.feeds;
+    feeds = p.fed.feeds;
     told = told;
     after = after;
     ends = e;
@@ -116,7 +121,7 @@ module _ (now : ℕ) (b m n : SessionTold) (f : FileTold) (s : SourceTold) (c d 
       let P : List ℕ → Type 0 = λ bytes. EndsUpload now b n f bytes (Ok tt) in
       record {
         file = x.0;
-        ended = subst P (sym x.1) (upload-ends (Ok tt) (ends-unit m n d now told after (Ok r) e));
+        ended = subst P (sym x.1) (upload-ends (Ok tt) x.0.keeps x.0.backs (ends-unit m n d now told after (Ok r) e));
         stopped = tt;
       }
   alone-ended (Err y) z e =
@@ -125,6 +130,6 @@ module _ (now : ℕ) (b m n : SessionTold) (f : FileTold) (s : SourceTold) (c d 
       record {
         file = x.0;
         ended = tt;
-        stopped = inr (subst P (sym x.1) (upload-ends (Err y)
+        stopped = inr (subst P (sym x.1) (upload-ends (Err y) x.0.keeps x.0.backs
             (ends-unit {A = XetFileInfo × DeduplicationMetrics} m n d now told after (Err y) e)));
       }

@@ -24,6 +24,7 @@ use Rattle.xet_upload.specs.declared.sha256_policy.Sha256Policy.{Sha256Policy}
 use Rattle.xet_clean.specs.Cleaners.{Cleaner, Finishes, IsEndError, IsNewCleaner, IsOwnError, PassesTotal}
 use Rattle.xet_clean_parts.specs.Cleanings.{IsFirstUnlisted}
 use Rattle.xet_clean_parts.specs.FileCalls.{IsFor, IsLate, IsPartOf, IsUploadCall, RefusedOf, RefusesFor, TellsOf, IsXorbCall}
+use Rattle.xet_clean_parts.specs.Places.{Telling}
 use Rattle.xet_clean_parts.specs.Premises.{IsOpen}
 use Rattle.xet_clean_parts.specs.SessionCalls.{Calls, CallsAll, CallsOf, CallsOnce, UploadsOnce}
 use Rattle.xet_clean.specs.FileEnds.{CutsAndTakes, EndsFile, IsSame, TookFile, unit_of}
@@ -170,16 +171,22 @@ end-error b m n d ids (Err e) file before after fin none open_now r = λ why q. 
 
 -- a file from its begin to its end: `a` is told before, `b` after the begin
 pub file-tells : (a b m n : SessionTold) (before t1 t2 after : List TrackerStep) (i j : ℕ) {size now : ℕ}
-    {policy : Sha256Policy} {source s : SourceTold} {c d : Cleaner} {r : UniqueID × ℕ}
+    {policy : Sha256Policy} {tell : Telling} {source s : SourceTold} {c d : Cleaner} {r : UniqueID × ℕ}
     {answer : Result (XetFileInfo × DeduplicationMetrics) DataError} → b ≡ a → HasListed a
     → StartsFile before t1 i j a.finalized (Some size) (Ok r) → (u : Unit {0})
-    → TellsOf IsXorbCall (IsLate b.finalized) t1 t2 (Ok u) → IsNewCleaner c (Some size) policy
+    → TellsOf IsXorbCall (IsLate b.finalized) t1 t2 (Ok u) → IsNewCleaner c (Some size) policy tell
     → Pours b m source s c d size (Ok u) → Finishes m n d answer
     → RefusedOf (IsPartOf d.file_id) (IsEndError m d) t2 after answer → EndsFile m n d now t2 after answer
     → TellsOf IsUploadCall (IsFileError a n i) before after answer
-file-tells a b m n before t1 t2 after i j {size} {now} {policy} {source} {s} {c} {d} {r} {answer}
+file-tells a b m n before t1 t2 after i j {size} {now} {policy} {tell} {source} {s} {c} {d} {r} {answer}
     same listed start u poured new p z refused e =
-    let f : FileTold = record { name = []; source = source; size = size; policy = policy } in
+    let f : FileTold = record {
+      name = [];
+      source = source;
+      size = size;
+      policy = policy;
+      tell = tell;
+    } in
     let fin = p.leaves.keeps.finalized ∙ ap (λ (t : SessionTold). t.finalized) same in
     let here : HasListed b = subst (λ (t : SessionTold). HasListed t) (sym same) listed in
     let own = IsFileError a n i in
@@ -292,10 +299,12 @@ module _ (now : ℕ) where
 
   took-once : {A : Type 0} (b n : SessionTold) (d : Cleaner) (before after : List TrackerStep)
       (answer : Result A DataError) → TookFile b n d now before after answer → CallsOf (UploadsOnce now) b n
-  took-once b n d before after answer t = (
+  took-once b n d before after (Ok x) t = (
     t.later ∷ n ∷ [],
-    (inr (inl (t.taken, unit_of answer, t.takes)), (inr (inr t.counted), refl)),
+    (inr (inl (t.taken, unit_of (Ok x), t.takes)), (inr (inr (d.counts, t.counted)), refl)),
   )
+  took-once b n d before after (Err e) t =
+      (t.later ∷ [], (inr (inl (t.taken, Err e, t.takes)), t.uncounted))
 
   pub ends-once : {A : Type 0} (b n : SessionTold) (d : Cleaner) (before after : List TrackerStep)
       (answer : Result A DataError) → EndsFile b n d now before after answer → CallsOf (UploadsOnce now) b n

@@ -1,40 +1,39 @@
 -- Several uploads in a row: what the session has of them, and what becomes of the list of files.
 use Rattle.std.proofs.Common.{◌≡◌, ℕ, ◌+◌, ◌<◌, ◌≤◌, ◌⊎◌, inl, inr, true, false, List, [], ◌∷◌, ◌++◌, length, map, take, drop, set, get_or, refl, sym, ◌∙◌, ap, subst, arith}
-use Rattle.std.specs.Prelude.{Option, Some, All, Contains, Result, Ok, Err}
+use Rattle.std.specs.Prelude.{Option, Some, None, All, Result, Ok, Err}
 use Rattle.std.proofs.lemmas.List.{append_assoc, append-nil, drop-set, drop-set-lt, drop_more, get_or_default, length-drop, length-map, map-append, map-set, take-append-drop, take-set, take_all, take_more, take_more_set}
 use Rattle.std.specs.List.{concat}
 use Rattle.std.proofs.lemmas.List.Concat.{flat_map-append}
 use Rattle.std.proofs.lemmas.List.Elements.{All-nil, All-append, All-cons, All-weaker}
 use Rattle.std.proofs.Math.ListN.{get_or-map}
 use Rattle.std.proofs.lemmas.Grind.{drop_more_same}
-use Rattle.xet_base.specs.declared.mdb_shard.Xorb.{Xorb}
 use Rattle.xet_base.specs.declared.merklehash.MerkleHash.{MerkleHash}
 use Rattle.xet_base.specs.Digests.{file_hash_of, infos_of}
 use Rattle.xet_base.specs.Store.{Store}
 use Rattle.xet_outside.specs.Told.{SourceTold}
 use Rattle.xet_pointer.specs.declared.xet_file_info.XetFileInfo.{XetFileInfo}
-use Rattle.xet_uploader.specs.declared.uploader.Put.TheVariants as put
 use Rattle.xet_upload.specs.Metrics.{no_counts}
 use Rattle.xet_upload.specs.Standing.{world}
 use Rattle.xet_upload.specs.declared.metrics.DeduplicationMetrics.{DeduplicationMetrics}
 use Rattle.xet_upload.specs.declared.data_error.DataError.{DataError}
-use Rattle.xet_session.specs.Calls.{Backs, Keeps, finalized_error}
+use Rattle.xet_session.specs.Calls.{Backs, Keeps, Says, finalized_error}
 use Rattle.xet_session.specs.Completions.{with_file_counts}
-use Rattle.xet_session.specs.Sessions.{HasListed, SessionTold, log_of}
+use Rattle.xet_session.specs.Sessions.{HasListed, SessionTold, Tells, log_of}
 use Rattle.xet_session.proofs.CallerLemmas.{keeps-both, keeps-refl}
-use Rattle.xet_clean_parts.specs.Made.{IsMadeOf, IsPickedFrom}
-use Rattle.xet_clean_parts.specs.Premises.{IsOpen, IsSteady, NoClash}
+use Rattle.xet_clean_parts.specs.Made.{IsPickedFrom, PutsMade, PutsNone, StayOne}
+use Rattle.xet_clean_parts.specs.Places.{CutFile, Telling}
+use Rattle.xet_clean_parts.specs.Premises.{HashesAgree, IsOpen, IsSteady, NoClash}
 use Rattle.xet_clean.specs.Records.{CleanedFile, HasRecord}
 use Rattle.xet_clean.specs.Cleaners.{CountsChunks}
 use Rattle.xet_upload_files.specs.Uploads.{CountsFiles, EndsUpload, EndsUploads, fixed_sizes, FailsFirst, FileTold, HasUploads, IsUpload, SessionFails, SourceFails, StopsBehind, StopsUpload, TakesOff, Upload, UploadsFiles, all_chunks, file_after, recorded_file, upload_pointer}
 use Rattle.xet_upload_files.specs.steps.Uploading.{Progress, UploadsAlone, UploadsFile}
-use Rattle.xet_clean_parts.proofs.CallerLemmas.{clash-after, clash-before, leaves-refl}
-use Rattle.xet_clean.proofs.CallerLemmas.{backs-both, waits-still}
+use Rattle.xet_clean_parts.proofs.CallerLemmas.{clash-after, clash-before, hashes-before, leaves-refl}
+use Rattle.xet_clean.proofs.CallerLemmas.{backs-both, stay-picked, waits-still}
 use Rattle.xet_clean.proofs.CallerLemmas.{never}
 use Rattle.xet_clean_parts.proofs.CallerLemmas.{opened}
-use Rattle.xet_clean_parts.proofs.CallerLemmas.{made-later, made-none, picked-later}
+use Rattle.xet_clean_parts.proofs.CallerLemmas.{made-both, made-more, made-still, none-both, none-same, picked-all, picked-both, picked-front, picked-later, says-err, says-none}
 use Rattle.xet_upload_files.proofs.Uploading.{chunk-later}
-use Rattle.xet_clean_parts.proofs.CallerLemmas.{agree-alone, world-has}
+use Rattle.xet_clean_parts.proofs.CallerLemmas.{agree-alone}
 
 -- ---- what the session has
 
@@ -42,15 +41,16 @@ pub uploads-none : (b n : SessionTold) → n ≡ b → HasListed b → HasUpload
 uploads-none b n e listed = record {
   keeps = keeps-refl b n e;
   backs = (leaves-refl b n e).backs listed;
-  made = [];
-  made_of = made-none (b.waiting.chunks ++ []);
+  puts = λ t. made-still b n (b.waiting.chunks ++ []) (ap log_of e) (ap (λ (z : SessionTold). z.repeated) e);
+  full = λ w. none-same b n e;
+  thresholds = ap (λ (z : SessionTold). z.thresholds) e;
   waits = waits-still b n [] (ap (λ (z : SessionTold). z.waiting) e);
   are = All-nil IsUpload;
   holds = λ k f s o a r. subst (λ (z : SessionTold). HasRecord k z f) (sym e) r;
   stand = λ k s o a. All-nil (λ (u : Upload). HasRecord k n (recorded_file u));
 }
 
-module _ (b m n : SessionTold) (done : List Upload) (f : FileTold) (s : SourceTold)
+module _ (b m n : SessionTold) (done : List Upload) (f : FileTold) (s : SourceTold) (l : Telling)
     (answer : Result XetFileInfo DataError) (h : HasUploads b m (all_chunks done) done)
     (x : UploadsFile m n f s answer) where
   keeps : Keeps b n
@@ -59,60 +59,68 @@ module _ (b m n : SessionTold) (done : List Upload) (f : FileTold) (s : SourceTo
   backs : Backs b n
   backs = backs-both b m n h.keeps keeps h.backs (x.backs h.backs.listed)
 
-  abbrev made : List Xorb
-  made = h.made ++ x.made
-
   abbrev cut : List (List ℕ)
   cut = all_chunks done ++ x.cut
 
-  made_of : All (IsMadeOf (b.waiting.chunks ++ cut)) made
-  made_of = made-later b.waiting.chunks m.waiting.chunks (all_chunks done) x.cut h.made x.made h.waits h.made_of
-      x.made_of
+  -- what was cut before, and what may be cut now
+  before-own : IsPickedFrom (b.waiting.chunks ++ all_chunks done) (b.waiting.chunks ++ cut)
+  before-own = picked-both b.waiting.chunks (all_chunks done) b.waiting.chunks cut (picked-all b.waiting.chunks)
+      (picked-front (all_chunks done) (all_chunks done) x.cut (picked-all (all_chunks done)))
+
+  now-own : IsPickedFrom (m.waiting.chunks ++ x.cut) (b.waiting.chunks ++ cut)
+  now-own = picked-later (m.waiting.chunks ++ x.cut) m.waiting.chunks b.waiting.chunks (all_chunks done) x.cut
+      (picked-all (m.waiting.chunks ++ x.cut)) h.waits
+
+  puts : Tells b → PutsMade b n (b.waiting.chunks ++ cut)
+  puts t = made-both b m n (b.waiting.chunks ++ cut)
+      (made-more b m (b.waiting.chunks ++ all_chunks done) (b.waiting.chunks ++ cut) before-own (h.puts t))
+      (made-more m n (m.waiting.chunks ++ x.cut) (b.waiting.chunks ++ cut) now-own (x.puts (h.keeps.tells t)))
+
+  full : StayOne b cut → PutsNone b n
+  full w = none-both b m n h.keeps (h.full (stay-picked b b (all_chunks done) cut before-own refl w))
+      (x.full (stay-picked b m x.cut cut now-own h.thresholds w))
 
   waits : IsPickedFrom n.waiting.chunks (b.waiting.chunks ++ cut)
   waits = picked-later n.waiting.chunks m.waiting.chunks b.waiting.chunks (all_chunks done) x.cut x.waits h.waits
 
   abbrev one : Upload
-  one = record { file = f; source = s; bytes = x.bytes; chunks = x.cut; hash = x.hash }
+  one = record { file = f; source = s; later = l; bytes = x.bytes; chunks = x.cut; hash = x.hash }
 
-  module _ (k : Store) (y : IsSteady k b) (o : IsOpen n) (clash : NoClash (world k (log_of n)) made cut) where
-    grown : (z : Xorb) → Contains (world k (log_of m)).xorbs z → Contains (world k (log_of n)).xorbs z
-    grown z e = let g = x.keeps.grew (h.keeps.tells y.tells) in world-has k (log_of m) (log_of n)
-        (map put.Xorb g.xorbs) g.grown z e
-
-    before : NoClash (world k (log_of m)) h.made (all_chunks done)
-    before = clash-before k m n grown h.made x.made (all_chunks done) x.cut clash
-
-    after : NoClash (world k (log_of n)) x.made x.cut
-    after = clash-after k m n grown h.made x.made (all_chunks done) x.cut clash
+  module _ (k : Store) (y : IsSteady k b) (o : IsOpen n) (agree : HashesAgree k n) where
+    agreed : HashesAgree k m
+    agreed = hashes-before k m n x.keeps (h.keeps.tells y.tells) agree
 
     middle : IsSteady k m
     middle = record {
       tells = h.keeps.tells y.tells;
       backed = h.backs.backed y.tells y.backed;
       listed = h.backs.listed;
-      sound = h.keeps.sound k y.tells (agree-alone (world k (log_of m)) h.made before.xorbs) y.sound;
+      sound = h.keeps.sound k y.tells (agree-alone (world k (log_of m)) m.repeated agreed) y.sound;
     }
 
     was_open : IsOpen m
     was_open = opened m n x.keeps o
 
     uploads-hold : (g : CleanedFile) → HasRecord k b g → HasRecord k n g
-    uploads-hold g r = x.holds k g middle o after (h.holds k g y was_open before r)
+    uploads-hold g r = x.holds k g middle o agree (h.holds k g y was_open agreed r)
 
-    uploads-stand : All (λ u. HasRecord k n (recorded_file u)) done
-    uploads-stand =
-        let P : Upload → Type 0 = λ u. HasRecord k m (recorded_file u) in
-        let Q : Upload → Type 0 = λ u. HasRecord k n (recorded_file u) in
-        All-weaker P Q (λ u r. x.holds k (recorded_file u) middle o after r) done (h.stand k y was_open before)
+  uploads-stand : (k : Store) → IsSteady k b → IsOpen n → NoClash k n cut
+      → All (λ u. HasRecord k n (recorded_file u)) done
+  uploads-stand k y o clash =
+      let P : Upload → Type 0 = λ u. HasRecord k m (recorded_file u) in
+      let Q : Upload → Type 0 = λ u. HasRecord k n (recorded_file u) in
+      All-weaker P Q (λ u r. x.holds k (recorded_file u) (middle k y o clash.xorbs) o clash.xorbs r) done
+      (h.stand k y (opened m n x.keeps o)
+      (clash-before k m n (all_chunks done) x.cut x.keeps (h.keeps.tells y.tells) clash))
 
   -- the next file was not uploaded
   pub uploads-same : HasUploads b n cut done
   uploads-same = record {
     keeps = keeps;
     backs = backs;
-    made = made;
-    made_of = made_of;
+    puts = puts;
+    full = full;
+    thresholds = x.thresholds ∙ h.thresholds;
     waits = waits;
     are = h.are;
     holds = λ k g y o a r. uploads-hold k y o a g r;
@@ -120,26 +128,29 @@ module _ (b m n : SessionTold) (done : List Upload) (f : FileTold) (s : SourceTo
   }
 
   -- it was
-  uploads-added : length x.bytes ≡ f.size → x.rest ≡ [] → x.hash ≡ file_hash_of (infos_of x.cut)
-      → ((k : Store) → IsSteady k m → IsOpen n → NoClash (world k (log_of n)) x.made x.cut
-      → HasRecord k n (recorded_file one)) → HasUploads b n cut (done ++ one ∷ [])
-  uploads-added size rest hash stands = record {
+  uploads-added : length x.bytes ≡ f.size → x.rest ≡ [] → CutFile f.tell x.bytes x.cut
+      → x.hash ≡ file_hash_of (infos_of x.cut)
+      → ((k : Store) → IsSteady k m → IsOpen n → NoClash k n x.cut → HasRecord k n (recorded_file one))
+      → HasUploads b n cut (done ++ one ∷ [])
+  uploads-added size rest places hash stands = record {
     keeps = keeps;
     backs = backs;
-    made = made;
-    made_of = made_of;
+    puts = puts;
+    full = full;
+    thresholds = x.thresholds ∙ h.thresholds;
     waits = waits;
     are = All-append IsUpload done (one ∷ []) h.are (All-cons IsUpload one [] (record {
       taken = x.taken;
       size = size;
       bytes = x.bytes_are ∙ ap (λ (xs : List ℕ). concat x.cut ++ xs) rest ∙ append-nil (concat x.cut);
+      places = places;
       hash = hash;
     }) (All-nil IsUpload));
     holds = λ k g y o a r. uploads-hold k y o a g r;
     stand = λ k y o a.
         let Q : Upload → Type 0 = λ u. HasRecord k n (recorded_file u) in
-        All-append Q done (one ∷ []) (uploads-stand k y o a) (All-cons Q one [] (stands k (middle k y o a) o
-        (after k y o a)) (All-nil Q));
+        All-append Q done (one ∷ []) (uploads-stand k y o a) (All-cons Q one [] (stands k (middle k y o a.xorbs) o
+        (clash-after k n (all_chunks done) x.cut a)) (All-nil Q));
   }
 
   -- why the next file failed
@@ -149,21 +160,21 @@ module _ (b m n : SessionTold) (done : List Upload) (f : FileTold) (s : SourceTo
 
 -- the upload that a call made
 abbrev pub upload_of : {m n : SessionTold} {answer : Result XetFileInfo DataError} (f : FileTold) (s : SourceTold)
-    → UploadsFile m n f s answer → Upload
-upload_of f s x = record { file = f; source = s; bytes = x.bytes; chunks = x.cut; hash = x.hash }
+    → Telling → UploadsFile m n f s answer → Upload
+upload_of f s l x = record { file = f; source = s; later = l; bytes = x.bytes; chunks = x.cut; hash = x.hash }
 
 -- the chunks of one upload more
 chunks-more : (done : List Upload) (u : Upload) → all_chunks done ++ u.chunks ≡ all_chunks (done ++ u ∷ [])
 chunks-more done u = ap (λ (cs : List (List ℕ)). all_chunks done ++ cs) (sym (append-nil u.chunks))
     ∙ sym (flat_map-append (λ (z : Upload). z.chunks) done (u ∷ []))
 
-pub uploads-more : (b m n : SessionTold) (done : List Upload) (f : FileTold) (s : SourceTold) (info : XetFileInfo)
-    → HasUploads b m (all_chunks done) done → (x : UploadsFile m n f s (Ok info)) → HasUploads b n
-    (all_chunks (done ++ upload_of f s x ∷ [])) (done ++ upload_of f s x ∷ [])
-uploads-more b m n done f s info h x =
-    let u = upload_of f s x in
+pub uploads-more : (b m n : SessionTold) (done : List Upload) (f : FileTold) (s : SourceTold) (l : Telling)
+    (info : XetFileInfo) → HasUploads b m (all_chunks done) done → (x : UploadsFile m n f s (Ok info)) → HasUploads b n
+    (all_chunks (done ++ upload_of f s l x ∷ [])) (done ++ upload_of f s l x ∷ [])
+uploads-more b m n done f s l info h x =
+    let u = upload_of f s l x in
     let P : List (List ℕ) → Type 0 = λ cs. HasUploads b n cs (done ++ u ∷ []) in
-    subst P (chunks-more done u) (uploads-added b m n done f s (Ok info) h x x.whole x.all x.hash_is
+    subst P (chunks-more done u) (uploads-added b m n done f s l (Ok info) h x x.whole x.all x.places x.hash_is
     (λ k y o a. x.stands k y o a))
 
 -- the calls, with those of one file more
@@ -189,6 +200,13 @@ counts-more m x n [] u counts e k w = (
 )
 counts-more m x n (v ∷ done) u counts e k w =
     (e.0, e.1, counts-more (with_file_counts m e.0) x n done u counts e.2 k w)
+
+-- the bytes of xorbs alone grew behind them
+counts-sent : (m x n : DeduplicationMetrics) (done : List Upload) → CountsFiles m done x
+    → n ≡ record x { xorb_bytes_uploaded = n.xorb_bytes_uploaded } → CountsFiles m done n
+counts-sent m x n [] e w =
+    w ∙ ap (λ (y : DeduplicationMetrics). record y { xorb_bytes_uploaded = n.xorb_bytes_uploaded }) e
+counts-sent m x n (v ∷ done) e w = (e.0, e.1, counts-sent (with_file_counts m e.0) x n done e.2 w)
 
 -- the sizes of the files that the tracker knows, with one file more
 pub sizes-begin : (before : List (Option ℕ)) → before ≡ before ++ fixed_sizes (map (λ (u : Upload). u.file) [])
@@ -240,12 +258,12 @@ module _ (before after : List FileTold) (done : List Upload) (i : ℕ) (p : Prog
       drop-set-more x = let low : i < i + 1 = omega arith in drop-set-lt (i + 1) after i x low
 
   -- the next file failed
-  pub progress-stopped : (now : ℕ) (b m n : SessionTold) (f : FileTold) (s : SourceTold) (bytes rest : List ℕ)
-      (part : List (List ℕ)) (e : DataError) → i < length after → get_or after i f ≡ f → TakesOff f.source s bytes
+  pub progress-stopped : (now : ℕ) (b m n : SessionTold) (f : FileTold) (s : SourceTold) (l : Telling)
+      (bytes rest : List ℕ) (part : List (List ℕ)) (e : DataError) → i < length after → get_or after i f ≡ f → TakesOff f.source s bytes
       → length bytes ≤ f.size → bytes ≡ concat part ++ rest → StopsUpload now m n f bytes e
-      → SourceFails f.source s f.size bytes e ⊎ SessionFails b n e → StopsBehind now b m n done part before (set after i (record f { source = s })) e
-  progress-stopped now b m n f s bytes rest part e lt is taken most bytes_are calls why =
-      let g : FileTold = record f { source = s } in
+      → SourceFails f.source s f.size bytes e ⊎ SessionFails b n e → StopsBehind now b m n done part before (set after i (record f { source = s; tell = l })) e
+  progress-stopped now b m n f s l bytes rest part e lt is taken most bytes_are calls why =
+      let g : FileTold = record f { source = s; tell = l } in
       record {
         rest = f ∷ drop (i + 1) before;
         left = g ∷ drop (i + 1) before;
@@ -259,6 +277,7 @@ module _ (before after : List FileTold) (done : List Upload) (i : ℕ) (p : Prog
         why = inl (record {
           file = f;
           source = s;
+          tell = l;
           later = drop (i + 1) before;
           rest_are = refl;
           left_are = refl;
@@ -302,7 +321,8 @@ all-unbegun now b n before after e same are listed fin why = record {
   no_more = tt;
   none = tt;
   unfailed = tt;
-  counts = tt;
+  said = says-none b n (Err e) (ap (λ (z : SessionTold). z.failed) same);
+  counts = (leaves-refl b n same).counts;
   answers = tt;
   all = tt;
   after_are = tt;
@@ -319,8 +339,9 @@ all-unbegun now b n before after e same are listed fin why = record {
 -- a file failed
 pub all-stopped : (now : ℕ) (b m n : SessionTold) (fs gs : List FileTold) (done : List Upload) (cut : List (List ℕ))
     (e : DataError) → b.finalized ≡ false → HasUploads b n (all_chunks done ++ cut) done
+    → CountsFiles b.metrics done n.metrics → (b.failed ≡ None → Says {A = List XetFileInfo} n (Err e))
     → EndsUploads now done b m → StopsBehind now b m n done cut fs gs e → UploadsFiles now b n fs gs (Err e)
-all-stopped now b m n fs gs done cut e fin has ended stops = record {
+all-stopped now b m n fs gs done cut e fin has counts said ended stops = record {
   done = done;
   last = cut;
   has = has;
@@ -329,7 +350,8 @@ all-stopped now b m n fs gs done cut e fin has ended stops = record {
   no_more = tt;
   none = tt;
   unfailed = tt;
-  counts = tt;
+  said = said;
+  counts = counts;
   answers = tt;
   all = tt;
   after_are = tt;
@@ -352,6 +374,7 @@ all-done now b n before after done infos i fin failed counts has ended p h is = 
   no_more = refl;
   none = refl;
   unfailed = (failed, has.keeps.steady (inl failed));
+  said = says-none b n (Ok infos) failed;
   counts = counts;
   answers = is;
   all = progress-all before after done i p h;
@@ -371,53 +394,66 @@ step-within told before files done i p lt =
     omega (arith, low, whole)
 
 module _ {F : Type 0} (told : F → FileTold) (before files : List F) (done : List Upload) (i : ℕ)
-    (p : Progress (map told before) (map told files) done i) (old new : F) (s : SourceTold) (lt : i < length files)
-    (at : get_or files i old ≡ old) (is : told new ≡ record (told old) { source = s }) where
+    (p : Progress (map told before) (map told files) done i) (old new : F) (s : SourceTold) (l : Telling)
+    (lt : i < length files) (at : get_or files i old ≡ old)
+    (is : told new ≡ record (told old) { source = s; tell = l }) where
   at-told : get_or (map told files) i (told old) ≡ told old
   at-told = get_or-map told files i old ∙ ap told at
 
   below : i < length (map told files)
   below = let size = length-map files told in omega (arith, lt, size)
 
-  set-told : map told (set files i new) ≡ set (map told files) i (record (told old) { source = s })
+  set-told : map told (set files i new) ≡ set (map told files) i (record (told old) { source = s; tell = l })
   set-told = map-set told files i new ∙ ap (λ (x : FileTold). set (map told files) i x) is
 
   pub step-more : (bytes : List ℕ) (chunks : List (List ℕ)) (hash : MerkleHash) → Progress (map told before)
       (map told (set files i new)) (done ++ record {
         file = told old;
         source = s;
+        later = l;
         bytes = bytes;
         chunks = chunks;
         hash = hash;
       } ∷ []) (i + 1)
   step-more bytes chunks hash =
-      let u : Upload = record { file = told old; source = s; bytes = bytes; chunks = chunks; hash = hash } in
+      let u : Upload = record {
+        file = told old;
+        source = s;
+        later = l;
+        bytes = bytes;
+        chunks = chunks;
+        hash = hash;
+      } in
       let P : List FileTold → Type 0 = λ xs. Progress (map told before) xs (done ++ u ∷ []) (i + 1) in
       subst P (sym set-told) (progress-more (map told before) (map told files) done i p u below at-told)
 
   pub step-stopped : (now : ℕ) (b m n : SessionTold) (e : DataError) → b.finalized ≡ false
-      → HasUploads b m (all_chunks done) done → EndsUploads now done b m → UploadsAlone now m n (told old) s (Err e)
+      → HasUploads b m (all_chunks done) done → CountsFiles b.metrics done m.metrics → m.failed ≡ b.failed
+      → EndsUploads now done b m → UploadsAlone now m n (told old) s (Err e)
       → UploadsFiles now b n (map told before) (map told (set files i new)) (Err e)
-  step-stopped now b m n e fin h ended a =
+  step-stopped now b m n e fin h counts failed ended a =
       let x = a.file in
       let P : List FileTold → Type 0 = λ xs. UploadsFiles now b n (map told before) xs (Err e) in
       subst P (sym set-told) (all-stopped now b m n (map told before) (set (map told files) i
-      (record (told old) { source = s })) done x.cut e fin (uploads-same b m n done (told old) s (Err e) h x) ended
-      (progress-stopped (map told before) (map told files) done i p now b m n (told old) s x.bytes x.rest x.cut e
+      (record (told old) { source = s; tell = l })) done x.cut e fin
+      (uploads-same b m n done (told old) s l (Err e) h x)
+      (counts-sent b.metrics m.metrics n.metrics done counts x.uncounted)
+      (λ none. says-err {B = List XetFileInfo} n e (x.said (failed ∙ none))) ended
+      (progress-stopped (map told before) (map told files) done i p now b m n (told old) s l x.bytes x.rest x.cut e
       below at-told x.taken x.most x.bytes_are a.stopped (why-later (x.why h.backs.listed))))
     where
       why-later : SourceFails (told old).source s (told old).size a.file.bytes e ⊎ SessionFails m n e → SourceFails
           (told old).source s (told old).size a.file.bytes e ⊎ SessionFails b n e
       why-later (inl w) = inl w
-      why-later (inr w) = inr (session-later b m n done (told old) s (Err e) h a.file e w)
+      why-later (inr w) = inr (session-later b m n done (told old) s l (Err e) h a.file e w)
 
 -- the answers, one more
-pub answers-more : (m n : SessionTold) (f : FileTold) (s : SourceTold) (info : XetFileInfo)
+pub answers-more : (m n : SessionTold) (f : FileTold) (s : SourceTold) (l : Telling) (info : XetFileInfo)
     (x : UploadsFile m n f s (Ok info)) (infos later : List XetFileInfo) (done : List Upload)
     → infos ≡ map upload_pointer done → later ≡ infos ++ info ∷ [] → later ≡ map upload_pointer
-    (done ++ upload_of f s x ∷ [])
-answers-more m n f s info x infos later done e g =
-    let u : Upload = upload_of f s x in
+    (done ++ upload_of f s l x ∷ [])
+answers-more m n f s l info x infos later done e g =
+    let u : Upload = upload_of f s l x in
     let is : info ≡ upload_pointer u = x.pointer in
     g ∙ ap (λ (xs : List XetFileInfo). xs ++ info ∷ []) e ∙ ap (λ (z : XetFileInfo). map upload_pointer done ++ z ∷ [])
     is ∙ sym (map-append upload_pointer done (u ∷ []))

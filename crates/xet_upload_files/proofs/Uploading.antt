@@ -1,14 +1,14 @@
 -- Files that are uploaded from their sources.
-use Rattle.std.proofs.Common.{◌≡◌, ℕ, ◌+◌, ◌<◌, ◌≤◌, ◌^◌, ◌-◌, ◌⊎◌, inl, inr, Bool, true, false, eqb, List, [], ◌∷◌, ◌++◌, length, map, take, refl, sym, ◌∙◌, ap, subst, arith}
-use Rattle.std.specs.Prelude.{All, Contains, Option, Some, None, Result, Ok, Err, IfErr, IfOk, IfSome, OnOk, option_map, unwrap_or}
+use Rattle.std.proofs.Common.{◌≡◌, ℕ, ◌+◌, ◌<◌, ◌≤◌, ◌^◌, ◌-◌, ◌⊎◌, inl, inr, Bool, true, false, eqb, List, [], ◌∷◌, ◌++◌, length, take, refl, sym, ◌∙◌, ap, subst, arith}
+use Rattle.std.specs.Prelude.{Contains, Option, Some, None, Result, Ok, Err, IfErr, IfOk, IfSome, OnErr, OnOk, option_map, unwrap_or}
 use Rattle.std.specs.List.{concat}
 use Rattle.std.specs.Option.{option_or}
 use Rattle.std.proofs.lemmas.Bool.Decides.{eqb_tells}
-use Rattle.std.proofs.lemmas.List.{append_assoc, length-append, length-take-le, map-append, take-append-le}
+use Rattle.std.proofs.lemmas.List.{append-nil, append_assoc, length-append, length-take-le, map-append, take-append-le}
 use Rattle.std.proofs.lemmas.List.Elements.{All-nil}
+use Rattle.std.proofs.lemmas.List.Folds.{concat-append}
 use Rattle.xet_base.specs.declared.invalid.Invalid.TheVariants as invalid
 use Rattle.xet_base.specs.declared.item_id.UniqueID.{UniqueID}
-use Rattle.xet_base.specs.declared.mdb_shard.Xorb.{Xorb}
 use Rattle.xet_base.specs.declared.merklehash.MerkleHash.{MerkleHash}
 use Rattle.xet_base.specs.declared.mdb_shard.ChunkInfo.{ChunkInfo}
 use Rattle.xet_base.specs.Digests.{file_hash_of, info_of, infos_of}
@@ -17,36 +17,38 @@ use Rattle.xet_outside.specs.Told.{ReadCall, SourceTold}
 use Rattle.xet_pointer.specs.declared.xet_file_info.XetFileInfo.{XetFileInfo}
 use Rattle.xet_progress_state.specs.declared.step.TrackerStep.{TrackerStep}
 use Rattle.xet_progress_state.specs.declared.step.TrackerStep.TheVariants.{RegisterNewFile}
-use Rattle.xet_uploader.specs.declared.uploader.Put.TheVariants as put
 use Rattle.xet_upload.specs.FileDatas.{Parts}
 use Rattle.xet_upload.specs.Metrics.{no_counts}
 use Rattle.xet_upload.specs.Standing.{world}
-use Rattle.xet_upload.specs.Waitings.{Waiting, no_waiting}
+use Rattle.xet_upload.specs.DataErrors.{of_client_error}
+use Rattle.xet_upload.specs.Waitings.{IsWithin, Waiting, no_waiting}
 use Rattle.xet_upload.specs.declared.data_error.DataError.{DataError}
 use Rattle.xet_upload.specs.declared.data_error.DataError.TheVariants as data_error
 use Rattle.xet_upload.specs.declared.metrics.DeduplicationMetrics.{DeduplicationMetrics}
 use Rattle.xet_upload.specs.declared.sha256_policy.Sha256Policy.{Sha256Policy}
-use Rattle.xet_session.specs.Calls.{Keeps, finalized_error}
+use Rattle.xet_session.specs.Calls.{CountsSent, Keeps, Says, finalized_error}
 use Rattle.xet_session.specs.Completions.{with_file_counts}
-use Rattle.xet_session.specs.Sessions.{HasListed, SessionTold, log_of}
+use Rattle.xet_session.specs.Sessions.{HasListed, SessionTold, Tells, log_of}
 use Rattle.xet_session.specs.Trackings.{IsRefusal, StartsFile, first_refusal, ids_used_up}
 use Rattle.xet_session.proofs.CallerLemmas.{keeps-both, keeps-refl, stores-later}
 use Rattle.xet_clean.specs.Cleaners.{Counts, CountsChunks, AddFails, AddsData, Cleaner, CleanerStands, Finishes, IsFed, IsNewCleaner, PassesTotal, total_of, unknown_xorb}
 use Rattle.xet_clean_parts.specs.Cleanings.{IsFirstUnlisted}
 use Rattle.xet_clean_parts.specs.Pointers.{pointer_to, recorded_sha256}
 use Rattle.xet_clean_parts.specs.Cleanings.{AreNamed, ChunkFails, NoFault, TrackFails}
-use Rattle.xet_clean_parts.specs.Made.{IsMadeOf, IsPickedFrom}
-use Rattle.xet_clean_parts.specs.Premises.{IsOpen, IsSteady, NoClash, waiting_xorb}
+use Rattle.xet_clean_parts.specs.Made.{IsPickedFrom, PutsMade, PutsNone, PutsSome, StayOne}
+use Rattle.xet_clean_parts.specs.Places.{CutAt, CutBy, CutFile, CutPieces, Telling}
+use Rattle.xet_clean_parts.specs.Premises.{HashesAgree, IsOpen, IsSteady, NoClash}
 use Rattle.xet_clean.specs.Records.{CleanedFile, HasRecord}
 use Rattle.xet_upload_files.specs.Uploads.{FileTold, SessionFails, SourceFails, TakesOff}
 use Rattle.xet_upload_files.specs.steps.Uploading.{Poured, Pours, UploadsFile}
-use Rattle.xet_clean_parts.proofs.CallerLemmas.{clash-after, clash-before, leaves-both, leaves-refl, steady-left}
+use Rattle.xet_clean_parts.proofs.CallerLemmas.{clash-after, clash-before, hashes-before, leaves-both, leaves-refl, sent-both, steady-left}
 use Rattle.xet_clean.proofs.CallerLemmas.{backs-both, none-missing, waits-still}
-use Rattle.xet_clean.proofs.CallerLemmas.{counts-both, feeds-both, feeds-none, never-failed}
+use Rattle.xet_clean.proofs.CallerLemmas.{counts-both, feeds-both, feeds-none, feeds-so, never-failed, stay-picked}
 use Rattle.xet_clean.proofs.CallerLemmas.{left-holds}
 use Rattle.xet_clean_parts.proofs.CallerLemmas.{opened}
-use Rattle.xet_clean_parts.proofs.CallerLemmas.{bytes-later, made-both, made-none, made-one, made-wider, picked-all, picked-behind, picked-both, picked-first, picked-front, picked-trans}
-use Rattle.xet_clean_parts.proofs.CallerLemmas.{agree-alone, world-has}
+use Rattle.xet_clean_parts.proofs.CallerLemmas.{bytes-later, picked-all, picked-behind, picked-both, picked-first, picked-front, picked-trans, picked-within}
+use Rattle.xet_clean_parts.proofs.CallerLemmas.{agree-alone, ok-err}
+use Rattle.xet_clean_parts.proofs.CallerLemmas.{made-both, made-more, made-still, none-both, none-same, pieces-more, says-err, says-none, some-behind}
 
 -- ---- errors, and answers
 
@@ -146,20 +148,51 @@ left-none o (Some xs) e a = let P : Option (List ℕ) → Type 0 = λ z. IfSome 
 
 pub poured-none : (b n : SessionTold) (s t : SourceTold) (c d : Cleaner) → n ≡ b → t ≡ s → d ≡ c → c.failed ≡ None
     → Poured b n s t c d []
-poured-none b n s t c d e f g none = record {
-  leaves = leaves-refl b n e;
-  taken = takes-none s t f;
-  feeds = feeds-none b n c d e g;
-  unfailed = ap (λ (z : Cleaner). z.failed) g ∙ none;
-}
+poured-none b n s t c d e f g none =
+    let x = feeds-none b n c d e g in
+    record {
+      leaves = leaves-refl b n e;
+      taken = takes-none s t f;
+      fed = record {
+        feeds = x.0;
+        pieces = [];
+        bytes_are = refl;
+        places = (x.1, ap (λ (z : Cleaner). z.pending) g);
+      };
+      unfailed = ap (λ (z : Cleaner). z.failed) g ∙ none;
+    }
 
 pub poured-more : (b m n : SessionTold) (s t u : SourceTold) (c x d : Cleaner) (xs ys : List ℕ) (w : Unit {0})
     → Poured b m s t c x xs → TakesOff t u ys → AddsData m n x ys d (Ok w) → Poured b n s u c d (xs ++ ys)
-poured-more b m n s t u c x d xs ys w p taken a = record {
-  leaves = leaves-both b m n p.leaves a.leaves;
-  taken = takes-both s t u xs ys p.taken taken;
-  feeds = feeds-both b m n c x d xs ys p.leaves a.leaves p.feeds a.ok;
-  unfailed = a.failed ∙ ap (λ (o : Option DataError). option_or o None) p.unfailed;
+poured-more b m n s t u c x d xs ys w p taken a =
+    let f = feeds-both b m n c x d xs ys p.leaves a.leaves p.fed.feeds a.ok.feeds in
+    let tell : x.tell ≡ c.tell = ap (λ (z : Cleaner). z.tell) p.fed.feeds.same in
+    let P : List (List ℕ) → Type 0 = λ cs. CutPieces c.tell (p.fed.pieces ++ ys ∷ []) c.pending cs d.pending in
+    let Q : Telling → Type 0 = λ t. CutBy t false (x.pending ++ ys) a.ok.feeds.cut d.pending in
+    record {
+      leaves = leaves-both b m n p.leaves a.leaves;
+      taken = takes-both s t u xs ys p.taken taken;
+      fed = record {
+        feeds = f.0;
+        pieces = p.fed.pieces ++ ys ∷ [];
+        bytes_are = ap (λ (zs : List ℕ). zs ++ ys) p.fed.bytes_are
+            ∙ ap (λ (zs : List ℕ). concat p.fed.pieces ++ zs) (sym (append-nil ys))
+            ∙ sym (concat-append p.fed.pieces (ys ∷ []));
+        places = subst P (sym f.1) (pieces-more c.tell p.fed.pieces ys c.pending x.pending d.pending p.fed.feeds.cut
+            a.ok.feeds.cut p.fed.places (subst Q tell a.ok.places));
+      };
+      unfailed = a.failed ∙ ap (λ (o : Option DataError). option_or o None) p.unfailed;
+    }
+
+-- what was put of these bytes
+poured-puts : {A : Type 0} (b n : SessionTold) (s t : SourceTold) (c d : Cleaner) (bytes : List ℕ)
+    (answer : Result A DataError) → Poured b n s t c d bytes
+    → PutsSome b n c.parts.own.chunks (c.pending ++ bytes) answer
+poured-puts b n s t c d bytes answer p = record {
+  cut = p.fed.feeds.cut;
+  rest = d.pending;
+  bytes_are = p.fed.feeds.pending;
+  so = feeds-so b n c d bytes answer p.fed.feeds;
 }
 
 -- the bytes that a read gave, of a buffer that has more behind
@@ -185,7 +218,7 @@ left-more left size k xs into sum within most =
 -- the size of a cleaner stays
 pub size-kept : (b n : SessionTold) (s t : SourceTold) (c d : Cleaner) (xs : List ℕ) (total : Option ℕ)
     → Poured b n s t c d xs → c.size ≡ total → d.size ≡ total
-size-kept b n s t c d xs total p is = ap (λ (z : Cleaner). z.size) p.feeds.same ∙ is
+size-kept b n s t c d xs total p is = ap (λ (z : Cleaner). z.size) p.fed.feeds.same ∙ is
 
 pub pours-ok : (b n : SessionTold) (s t : SourceTold) (c d : Cleaner) (size : ℕ) (w : Unit {0}) (xs : List ℕ)
     → Poured b n s t c d xs → length xs ≡ size → Pours b n s t c d size (Ok w)
@@ -195,10 +228,15 @@ pours-ok b n s t c d size w xs p whole = record {
   taken = p.taken;
   most = omega (arith, whole);
   whole = whole;
-  feeds = p.feeds;
+  fed = p.fed;
+  puts = poured-puts b n s t c d xs (Ok w) p;
   unfailed = p.unfailed;
   why = tt;
 }
+
+-- an answer that tells of no failure
+abbrev went : Result (Unit {0}) DataError
+went = Ok tt
 
 module _ (b m : SessionTold) (s t : SourceTold) (c x : Cleaner) (size : ℕ) (xs : List ℕ)
     (p : Poured b m s t c x xs) where
@@ -214,7 +252,8 @@ module _ (b m : SessionTold) (s t : SourceTold) (c x : Cleaner) (size : ℕ) (xs
     };
     most = most;
     whole = tt;
-    feeds = tt;
+    fed = tt;
+    puts = poured-puts b m s t c x xs (Err error) p;
     unfailed = tt;
     why = inl (inl (is, let f = p.taken.faults in let rose = r.failed in omega (arith, f, rose)));
   }
@@ -235,7 +274,8 @@ module _ (b m : SessionTold) (s t : SourceTold) (c x : Cleaner) (size : ℕ) (xs
     };
     most = omega (arith, few);
     whole = tt;
-    feeds = tt;
+    fed = tt;
+    puts = poured-puts b m s t c x xs (Err (data_error.SourceEnded size (length xs))) p;
     unfailed = tt;
     why = inl (inr (refl, few, left-none t.left u.left r.took (r.end room refl)));
   }
@@ -245,11 +285,11 @@ module _ (b m : SessionTold) (s t : SourceTold) (c x : Cleaner) (size : ℕ) (xs
 
   module _ (is_size : c.size ≡ Some size) (is_fed : c.fed ≡ 0) where
     total : total_of x ≡ size
-    total = ap (λ (o : Option ℕ). unwrap_or o (2 ^ 64 - 1)) (ap (λ (z : Cleaner). z.size) p.feeds.same ∙ is_size)
+    total = ap (λ (o : Option ℕ). unwrap_or o (2 ^ 64 - 1)) (ap (λ (z : Cleaner). z.size) p.fed.feeds.same ∙ is_size)
 
     fits : (ys : List ℕ) → length xs + length ys ≤ size → PassesTotal x ys → ⊥
     fits ys most passes =
-        let sum = ap (λ (z : Cleaner). z.fed) p.feeds.same in
+        let sum = ap (λ (z : Cleaner). z.fed) p.fed.feeds.same in
         let all = total in
         omega (arith, sum, all, is_fed, most, passes)
 
@@ -271,11 +311,18 @@ module _ (b m : SessionTold) (s t : SourceTold) (c x : Cleaner) (size : ℕ) (xs
       taken = takes-both s t u xs ys p.taken taken;
       most = let sum = length-append xs ys in omega (arith, sum, most);
       whole = tt;
-      feeds = tt;
+      fed = tt;
+      puts = some-behind b m n c.parts.own.chunks x.parts.own.chunks (c.pending ++ (xs ++ ys)) (x.pending ++ ys)
+          p.fed.feeds.cut went (Err e) p.leaves.keeps p.fed.feeds.failed p.fed.feeds.into.own bytes_are
+          (feeds-so b m c x xs went p.fed.feeds) a.puts;
       unfailed = tt;
       why = inr (go a.why);
     }
       where
+        bytes_are : c.pending ++ (xs ++ ys) ≡ concat p.fed.feeds.cut ++ (x.pending ++ ys)
+        bytes_are = sym (append_assoc c.pending xs ys) ∙ ap (λ (zs : List ℕ). zs ++ ys) p.fed.feeds.pending
+            ∙ append_assoc (concat p.fed.feeds.cut) x.pending ys
+
         go : AddFails m n x ys e → ChunkFails b n e
         go (inl k) = never-failed x.failed e p.unfailed k
         go (inr (inl q)) = absurd (fits ys most q.1)
@@ -304,17 +351,21 @@ pub file-unbegun : (b n : SessionTold) (f : FileTold) (s : SourceTold) (e : Data
 file-unbegun b n f s e same is why = record {
   keeps = keeps-refl b n same;
   backs = (leaves-refl b n same).backs;
-  made = [];
   cut = [];
-  made_of = made-none (b.waiting.chunks ++ []);
+  puts = λ t. made-still b n (b.waiting.chunks ++ []) (ap log_of same) (ap (λ (z : SessionTold). z.repeated) same);
+  full = λ w. none-same b n same;
+  thresholds = ap (λ (z : SessionTold). z.thresholds) same;
   waits = waits-still b n [] (ap (λ (z : SessionTold). z.waiting) same);
   bytes = [];
   rest = [];
   bytes_are = refl;
   all = tt;
+  places = tt;
   hash = no_hash;
   hash_is = tt;
   unfailed = tt;
+  said = says-none b n (Err e) (ap (λ (z : SessionTold). z.failed) same);
+  uncounted = (leaves-refl b n same).counts;
   counts = tt;
   taken = takes-none f.source s is;
   most = omega arith;
@@ -333,21 +384,28 @@ file-unstarted b n f s e before after i j size same is start = file-unbegun b n 
 
 -- its bytes were not fed
 pub file-unfed : (b n : SessionTold) (f : FileTold) (s : SourceTold) (c d : Cleaner) (e : DataError)
-    → Pours b n f.source s c d f.size (Err e) → UploadsFile b n f s (Err e)
-file-unfed b n f s c d e p = record {
+    → IsNewCleaner c (Some f.size) f.policy f.tell → Pours b n f.source s c d f.size (Err e)
+    → UploadsFile b n f s (Err e)
+file-unfed b n f s c d e new p = record {
   keeps = p.leaves.keeps;
   backs = p.leaves.backs;
-  made = [];
-  cut = [];
-  made_of = made-none (b.waiting.chunks ++ []);
-  waits = waits-still b n [] p.leaves.waiting;
+  cut = p.puts.cut;
+  puts = λ t. made-more b n p.puts.cut (b.waiting.chunks ++ p.puts.cut) behind
+      (subst (λ (cs : List (List ℕ)). PutsMade b n (cs ++ p.puts.cut)) no_own (p.puts.so.puts t));
+  full = λ w. p.puts.so.full (subst (λ (cs : List (List ℕ)). IsWithin (cs ++ p.puts.cut)) (sym no_own)
+      (picked-within p.puts.cut (b.waiting.chunks ++ p.puts.cut) behind w.within));
+  thresholds = p.leaves.thresholds;
+  waits = waits-still b n p.puts.cut p.leaves.waiting;
   bytes = p.bytes;
-  rest = p.bytes;
-  bytes_are = refl;
+  rest = p.puts.rest;
+  bytes_are = subst (λ (xs : List ℕ). xs ++ p.bytes ≡ concat p.puts.cut ++ p.puts.rest) new.pending p.puts.bytes_are;
   all = tt;
+  places = tt;
   hash = no_hash;
   hash_is = tt;
   unfailed = tt;
+  said = λ t. says-err n e (p.puts.so.said t);
+  uncounted = p.leaves.counts;
   counts = tt;
   taken = p.taken;
   most = p.most;
@@ -358,19 +416,22 @@ file-unfed b n f s c d e p = record {
   why = λ h. go p.why;
 }
   where
+    no_own : c.parts.own.chunks ≡ []
+    no_own = ap (λ (w : Parts). w.own.chunks) new.parts
+
+    behind : IsPickedFrom p.puts.cut (b.waiting.chunks ++ p.puts.cut)
+    behind = picked-behind b.waiting.chunks p.puts.cut p.puts.cut (picked-all p.puts.cut)
+
     go : SourceFails f.source s f.size p.bytes e ⊎ ChunkFails b n e → SourceFails f.source s f.size p.bytes e
         ⊎ SessionFails b n e
     go (inl w) = inl w
     go (inr w) = inr (inl w)
 
 module _ (b m n : SessionTold) (f : FileTold) (s : SourceTold) (c d : Cleaner) (u : Unit {0})
-    (new : IsNewCleaner c (Some f.size) f.policy) (p : Pours b m f.source s c d f.size (Ok u))
+    (new : IsNewCleaner c (Some f.size) f.policy f.tell) (p : Pours b m f.source s c d f.size (Ok u))
     (answer : Result (XetFileInfo × DeduplicationMetrics) DataError) (z : Finishes m n d answer) where
-  abbrev made : List Xorb
-  made = p.feeds.made ++ (waiting_xorb m ∷ z.made)
-
   abbrev cut : List (List ℕ)
-  cut = p.feeds.cut ++ z.cut
+  cut = p.fed.feeds.cut ++ z.cut
 
   -- a new file has no chunks and no bytes
   no_own : c.parts.own.chunks ≡ []
@@ -379,41 +440,82 @@ module _ (b m n : SessionTold) (f : FileTold) (s : SourceTold) (c d : Cleaner) (
   -- its own chunks and the later ones, of those that were cut
   file-own : IsPickedFrom (d.parts.own.chunks ++ z.cut) cut
   file-own =
-      let P : List (List ℕ) → Type 0 = λ cs. IsPickedFrom d.parts.own.chunks (cs ++ p.feeds.cut) in
-      picked-first d.parts.own.chunks p.feeds.cut z.cut (subst P no_own p.feeds.into.own)
+      let P : List (List ℕ) → Type 0 = λ cs. IsPickedFrom d.parts.own.chunks (cs ++ p.fed.feeds.cut) in
+      picked-first d.parts.own.chunks p.fed.feeds.cut z.cut (subst P no_own p.fed.feeds.into.own)
 
-  waited : IsPickedFrom m.waiting.chunks (b.waiting.chunks ++ cut)
-  waited = waits-still b m cut p.leaves.waiting
+  abbrev all : List (List ℕ)
+  all = b.waiting.chunks ++ cut
 
-  file-made : All (IsMadeOf (b.waiting.chunks ++ cut)) made
-  file-made =
-      let all = b.waiting.chunks ++ cut in
-      let P : List (List ℕ) → Type 0 = λ cs. All (IsMadeOf (cs ++ p.feeds.cut)) p.feeds.made in
-      let first = made-wider p.feeds.cut all p.feeds.made (picked-behind b.waiting.chunks p.feeds.cut cut (picked-front
-      p.feeds.cut p.feeds.cut z.cut (picked-all p.feeds.cut))) (subst P no_own p.feeds.into.made_of) in
-      let second = made-one m.waiting.chunks all waited in
-      let third = made-wider (d.parts.own.chunks ++ z.cut) all z.made (picked-behind b.waiting.chunks
-      (d.parts.own.chunks ++ z.cut) cut file-own) z.made_of in
-      made-both all p.feeds.made (waiting_xorb m ∷ z.made) first
-      (made-both all (waiting_xorb m ∷ []) z.made second third)
+  -- what was cut of the bytes that were fed, and all that may be cut at the end
+  fed-own : IsPickedFrom (c.parts.own.chunks ++ p.fed.feeds.cut) all
+  fed-own =
+      let P : List (List ℕ) → Type 0 = λ cs. IsPickedFrom (cs ++ p.fed.feeds.cut) all in
+      subst P (sym no_own) (picked-behind b.waiting.chunks p.fed.feeds.cut cut (picked-front p.fed.feeds.cut
+      p.fed.feeds.cut z.cut (picked-all p.fed.feeds.cut)))
 
-  file-waits : IsPickedFrom n.waiting.chunks (b.waiting.chunks ++ cut)
-  file-waits =
-      let P : Waiting → Type 0 = λ w. IsPickedFrom n.waiting.chunks (w.chunks ++ (d.parts.own.chunks ++ z.cut)) in
-      picked-trans n.waiting.chunks (b.waiting.chunks ++ (d.parts.own.chunks ++ z.cut)) (b.waiting.chunks ++ cut)
-      (subst P p.leaves.waiting z.waits) (picked-both b.waiting.chunks (d.parts.own.chunks ++ z.cut)
-      b.waiting.chunks cut (picked-all b.waiting.chunks) file-own)
+  end-own : IsPickedFrom (m.waiting.chunks ++ (d.parts.own.chunks ++ z.cut)) all
+  end-own =
+      let P : Waiting → Type 0 = λ w. IsPickedFrom (w.chunks ++ (d.parts.own.chunks ++ z.cut)) all in
+      subst P (sym p.leaves.waiting) (picked-both b.waiting.chunks (d.parts.own.chunks ++ z.cut) b.waiting.chunks cut
+      (picked-all b.waiting.chunks) file-own)
+
+  file-puts : Tells b → PutsMade b n all
+  file-puts t = made-both b m n all
+      (made-more b m (c.parts.own.chunks ++ p.fed.feeds.cut) all fed-own (p.fed.feeds.puts t))
+      (made-more m n (m.waiting.chunks ++ (d.parts.own.chunks ++ z.cut)) all end-own (z.puts (p.leaves.keeps.tells t)))
+
+  file-full : StayOne b cut → PutsNone b n
+  file-full w = none-both b m n p.leaves.keeps
+      (p.fed.feeds.full (picked-within (c.parts.own.chunks ++ p.fed.feeds.cut) all fed-own w.within))
+      (z.full (stay-picked b m (d.parts.own.chunks ++ z.cut) cut end-own p.leaves.thresholds w))
+
+  file-waits : IsPickedFrom n.waiting.chunks all
+  file-waits = picked-trans n.waiting.chunks (m.waiting.chunks ++ (d.parts.own.chunks ++ z.cut)) all z.waits end-own
+
+  -- where its chunks end
+  tell : d.tell ≡ f.tell
+  tell = ap (λ (y : Cleaner). y.tell) p.fed.feeds.same ∙ new.tell_is
+
+  file-places : (a : Result (XetFileInfo × DeduplicationMetrics) DataError)
+      → OnOk a (CutAt d.tell true d.pending z.cut z.rest) → OnOk a (z.rest ≡ [])
+      → OnOk (info_of_answer a) (CutFile f.tell p.bytes cut)
+  file-places (Err e) at none = tt
+  file-places (Ok r) at none =
+      let P : Telling → Type 0 = λ t. CutPieces t p.fed.pieces c.pending p.fed.feeds.cut d.pending in
+      let Q : List ℕ → Type 0 = λ xs. CutPieces f.tell p.fed.pieces xs p.fed.feeds.cut d.pending in
+      let R : Telling → Type 0 = λ t. CutAt t true d.pending z.cut z.rest in
+      let S : List ℕ → Type 0 = λ xs. CutAt f.tell true d.pending z.cut xs in
+      record {
+        pieces = p.fed.pieces;
+        bytes_are = p.fed.bytes_are;
+        front = p.fed.feeds.cut;
+        rest = d.pending;
+        fed = subst Q new.pending (subst P new.tell_is p.fed.places);
+        last = z.cut;
+        ended = subst S none (subst R tell at);
+        cut_are = refl;
+      }
+
+  -- a put that failed
+  file-said : (a : Result (XetFileInfo × DeduplicationMetrics) DataError) → Says n a → Says n (info_of_answer a)
+  file-said (Ok r) w = λ e q. ok-err r (of_client_error e) (w e q)
+  file-said (Err e) w = says-err n e w
+
+  file-uncounted : (a : Result (XetFileInfo × DeduplicationMetrics) DataError) → OnErr a (CountsSent m n)
+      → OnErr (info_of_answer a) (CountsSent b n)
+  file-uncounted (Ok r) w = tt
+  file-uncounted (Err e) w = sent-both b m n p.leaves.counts w
 
   file-bytes : p.bytes ≡ concat cut ++ z.rest
   file-bytes =
-      let P : List ℕ → Type 0 = λ xs. xs ++ p.bytes ≡ concat p.feeds.cut ++ d.pending in
-      bytes-later p.bytes d.pending z.rest p.feeds.cut z.cut (subst P new.pending p.feeds.pending) z.pending
+      let P : List ℕ → Type 0 = λ xs. xs ++ p.bytes ≡ concat p.fed.feeds.cut ++ d.pending in
+      bytes-later p.bytes d.pending z.rest p.fed.feeds.cut z.cut (subst P new.pending p.fed.feeds.pending) z.pending
 
   file-infos : d.parts.infos ++ infos_of z.cut ≡ infos_of cut
   file-infos =
-      let P : List ChunkInfo → Type 0 = λ is. d.parts.infos ≡ is ++ infos_of p.feeds.cut in
-      let first = subst P (ap (λ (w : Parts). w.infos) new.parts) p.feeds.into.infos in
-      ap (λ (is : List ChunkInfo). is ++ infos_of z.cut) first ∙ sym (map-append info_of p.feeds.cut z.cut)
+      let P : List ChunkInfo → Type 0 = λ is. d.parts.infos ≡ is ++ infos_of p.fed.feeds.cut in
+      let first = subst P (ap (λ (w : Parts). w.infos) new.parts) p.fed.feeds.into.infos in
+      ap (λ (is : List ChunkInfo). is ++ infos_of z.cut) first ∙ sym (map-append info_of p.fed.feeds.cut z.cut)
 
   file-hash : (a : Result (XetFileInfo × DeduplicationMetrics) DataError) → OnOk a (z.hash ≡ file_hash_of
       (d.parts.infos ++ infos_of z.cut)) → OnOk (info_of_answer a) (z.hash ≡ file_hash_of (infos_of cut))
@@ -424,34 +526,32 @@ module _ (b m n : SessionTold) (f : FileTold) (s : SourceTold) (c d : Cleaner) (
   whole = p.whole
 
   policy : d.policy ≡ f.policy
-  policy = ap (λ (y : Cleaner). y.policy) p.feeds.same ∙ new.policy_is
+  policy = ap (λ (y : Cleaner). y.policy) p.fed.feeds.same ∙ new.policy_is
 
   was_fed : IsFed d p.bytes
-  was_fed = p.feeds.fed [] (new.stands (record { xorbs = []; files = [] })).fed
+  was_fed = p.fed.feeds.fed [] (new.stands (record { xorbs = []; files = [] })).fed
 
-  module _ (k : Store) (y : IsSteady k b) (o : IsOpen n) (clash : NoClash (world k (log_of n)) made cut) where
-    grown : (x : Xorb) → Contains (world k (log_of m)).xorbs x → Contains (world k (log_of n)).xorbs x
-    grown x e = let g = z.keeps.grew (p.leaves.keeps.tells y.tells) in world-has k (log_of m) (log_of n)
-        (map put.Xorb g.xorbs) g.grown x e
-
-    before : NoClash (world k (log_of m)) p.feeds.made p.feeds.cut
-    before = clash-before k m n grown p.feeds.made (waiting_xorb m ∷ z.made) p.feeds.cut z.cut clash
-
-    after : NoClash (world k (log_of n)) (waiting_xorb m ∷ z.made) z.cut
-    after = clash-after k m n grown p.feeds.made (waiting_xorb m ∷ z.made) p.feeds.cut z.cut clash
-
+  module _ (k : Store) (y : IsSteady k b) (o : IsOpen n) (agree : HashesAgree k n) where
     middle : IsSteady k m
-    middle = steady-left k b m p.leaves (agree-alone (world k (log_of m)) p.feeds.made before.xorbs) y
+    middle = steady-left k b m p.leaves (agree-alone (world k (log_of m)) m.repeated
+        (hashes-before k m n z.keeps (p.leaves.keeps.tells y.tells) agree)) y
 
     was_open : IsOpen m
     was_open = opened m n z.keeps o
 
     file-holds : (g : CleanedFile) → HasRecord k b g → HasRecord k n g
-    file-holds g r = z.holds k g middle o after (left-holds k b m no_waiting 0 y was_open g p.leaves.keeps
+    file-holds g r = z.holds k g middle o agree (left-holds k b m no_waiting 0 y was_open g p.leaves.keeps
         p.leaves.waiting p.leaves.finished r)
 
+  module _ (k : Store) (y : IsSteady k b) (o : IsOpen n) (clash : NoClash k n cut) where
+    before : NoClash k m p.fed.feeds.cut
+    before = clash-before k m n p.fed.feeds.cut z.cut z.keeps (p.leaves.keeps.tells y.tells) clash
+
+    after : NoClash k n z.cut
+    after = clash-after k n p.fed.feeds.cut z.cut clash
+
     stood : CleanerStands (world k (log_of m)) d p.bytes
-    stood = p.feeds.stands k [] y was_open before (new.stands (world k (log_of b)))
+    stood = p.fed.feeds.stands k [] y (opened m n z.keeps o) before (new.stands (world k (log_of b)))
 
     file-stands : OnOk (info_of_answer answer) (HasRecord k n (record {
       hash = z.hash;
@@ -464,7 +564,7 @@ module _ (b m n : SessionTold) (f : FileTold) (s : SourceTold) (c d : Cleaner) (
           sha256 = recorded_sha256 w p.bytes;
           bytes = p.bytes;
         })) in
-        on-info _ answer (subst P policy (z.stands k p.bytes middle o after stood))
+        on-info _ answer (subst P policy (z.stands k p.bytes (middle k y o clash.xorbs) o after stood))
 
   file-pointer : (a : Result (XetFileInfo × DeduplicationMetrics) DataError) → IfOk a (λ r. r.0 ≡ pointer_to z.hash
       (length p.bytes) (recorded_sha256 d.policy p.bytes)) → IfOk (info_of_answer a) (λ info. info ≡ pointer_to z.hash
@@ -476,7 +576,7 @@ module _ (b m n : SessionTold) (f : FileTold) (s : SourceTold) (c d : Cleaner) (
   named : HasListed b → IsOpen n → AreNamed m.listed d.parts.terms
   named i o =
       let P : Parts → Type 0 = λ w. AreNamed b.listed w.terms in
-      p.feeds.named i (opened m n z.keeps o) (subst P (sym new.parts) (All-nil (Contains b.listed)))
+      p.fed.feeds.named i (opened m n z.keeps o) (subst P (sym new.parts) (All-nil (Contains b.listed)))
 
   -- the names of its terms are on the list of an open session
   pub file-unlisted : HasListed b → (h : MerkleHash) → IsFirstUnlisted m.listed d.parts.terms h → IsOpen n → ⊥
@@ -493,7 +593,7 @@ module _ (b m n : SessionTold) (f : FileTold) (s : SourceTold) (c d : Cleaner) (
 
   file-unfailed : (a : Result (XetFileInfo × DeduplicationMetrics) DataError) → OnOk a (NoFault m n)
       → OnOk (info_of_answer a) (n.failed ≡ b.failed)
-  file-unfailed (Ok r) e = e.0 ∙ p.feeds.failed
+  file-unfailed (Ok r) e = e.0 ∙ p.fed.feeds.failed
   file-unfailed (Err e) a = tt
 
   -- the counts of its chunks, and those of the session
@@ -503,9 +603,9 @@ module _ (b m n : SessionTold) (f : FileTold) (s : SourceTold) (c d : Cleaner) (
       × Counts b n counts)
   file-counts (Err e) k w = tt
   file-counts (Ok r) k w =
-      let P : DeduplicationMetrics → Type 0 = λ c. CountsChunks c p.feeds.cut d.counts in (
+      let P : DeduplicationMetrics → Type 0 = λ c. CountsChunks c p.fed.feeds.cut d.counts in (
         r.1,
-        counts-both no_counts d.counts r.1 p.feeds.cut z.cut (subst P new.counts p.feeds.counts) k,
+        counts-both no_counts d.counts r.1 p.fed.feeds.cut z.cut (subst P new.counts p.fed.feeds.counts) k,
         w ∙ ap (λ (y : DeduplicationMetrics). record
             (with_file_counts y r.1) { xorb_bytes_uploaded = n.metrics.xorb_bytes_uploaded }) p.leaves.counts,
       )
@@ -516,17 +616,21 @@ module _ (b m n : SessionTold) (f : FileTold) (s : SourceTold) (c d : Cleaner) (
     record {
       keeps = keeps-both b m n p.leaves.keeps z.keeps;
       backs = λ h. backs-both b m n p.leaves.keeps (keeps-both b m n p.leaves.keeps z.keeps) (p.leaves.backs h) z.backs;
-      made = made;
       cut = cut;
-      made_of = file-made;
+      puts = file-puts;
+      full = file-full;
+      thresholds = z.thresholds ∙ p.leaves.thresholds;
       waits = file-waits;
       bytes = p.bytes;
       rest = z.rest;
       bytes_are = file-bytes;
       all = on-info (z.rest ≡ []) answer z.all;
+      places = file-places answer z.places z.all;
       hash = z.hash;
       hash_is = file-hash answer z.hash_is;
       unfailed = file-unfailed answer z.unfailed;
+      said = λ t. file-said answer (z.said (p.fed.feeds.failed ∙ t));
+      uncounted = file-uncounted answer z.uncounted;
       counts = file-counts answer z.counts z.counted;
       taken = p.taken;
       most = p.most;

@@ -1,42 +1,42 @@
 -- Files that are uploaded from their sources.
 use Rattle.std.specs.Prelude.{ℕ, ◌≡◌, ◌+◌, ◌-◌, ◌^◌, ◌⊎◌, ◌<◌, ◌≤◌, true, List, [], ◌∷◌, ◌++◌, length, map, All, IfSome}
-use Rattle.std.specs.Prelude.{option_map, Result, Ok, Err, IfOk, IfErr, OnOk, Option, Some}
+use Rattle.std.specs.Prelude.{option_map, Result, Ok, Err, IfOk, IfErr, OnOk, Option, None, Some}
 use Rattle.std.specs.List.{concat, flat_map}
 use Rattle.xet_base.specs.declared.merklehash.MerkleHash.{MerkleHash}
-use Rattle.xet_base.specs.declared.mdb_shard.Xorb.{Xorb}
 use Rattle.xet_base.specs.Digests.{file_hash_of, infos_of}
 use Rattle.xet_base.specs.Store.{Store}
 use Rattle.xet_outside.specs.Told.{Rose, SourceTold}
 use Rattle.xet_pointer.specs.declared.xet_file_info.XetFileInfo.{XetFileInfo}
 use Rattle.xet_progress_state.specs.declared.step.TrackerStep.{TrackerStep}
 use Rattle.xet_upload.specs.Metrics.{no_counts}
-use Rattle.xet_upload.specs.Standing.{world}
 use Rattle.xet_upload.specs.declared.data_error.DataError.{DataError}
 use Rattle.xet_upload.specs.declared.data_error.DataError.TheVariants as data_error
 use Rattle.xet_upload.specs.declared.metrics.DeduplicationMetrics.{DeduplicationMetrics}
 use Rattle.xet_upload.specs.declared.sha256_policy.Sha256Policy.{Sha256Policy}
-use Rattle.xet_session.specs.Calls.{Backs, Keeps, finalized_error}
+use Rattle.xet_session.specs.Calls.{Backs, Keeps, Says, finalized_error}
 use Rattle.xet_session.specs.Completions.{with_file_counts}
-use Rattle.xet_session.specs.Sessions.{SessionTold, log_of}
+use Rattle.xet_session.specs.Sessions.{HasListed, SessionTold, Tells}
 use Rattle.xet_session.specs.Trackings.{ids_used_up}
 use Rattle.xet_clean.specs.Cleaners.{Cleaner, CountsChunks, Feeds, IsNewCleaner}
 use Rattle.xet_clean_parts.specs.Pointers.{pointer_to, recorded_sha256}
 use Rattle.xet_clean.specs.Cleaners.{unknown_xorb}
 use Rattle.xet_clean_parts.specs.Cleanings.{ChunkFails, NoFault}
 use Rattle.xet_clean_parts.specs.FileCalls.{IsLate}
-use Rattle.xet_clean_parts.specs.Made.{IsMadeOf, IsPickedFrom}
-use Rattle.xet_clean_parts.specs.Premises.{IsOpen, IsSteady, NoClash}
+use Rattle.xet_clean_parts.specs.Made.{IsPickedFrom, PutsMade, PutsNone, StayOne}
+use Rattle.xet_clean_parts.specs.Places.{CutFile, Telling}
+use Rattle.xet_clean_parts.specs.Premises.{HashesAgree, IsOpen, IsSteady, NoClash}
 use Rattle.xet_clean.specs.Records.{CleanedFile, HasRecord}
 use Rattle.xet_clean_parts.specs.SessionCalls.{Calls}
 use Rattle.xet_clean.specs.FileEnds.{EndsFile}
 
--- a file to upload, but for its cutter
+-- a file to upload, of whose cutter is seen what it tells
 pub record FileTold : Type 0 where
   pub name : List ℕ
   pub source : SourceTold
   -- how many bytes it has
   pub size : ℕ
   pub policy : Sha256Policy
+  pub tell : Telling
 
 -- the sizes of files, which are fixed
 abbrev pub fixed_sizes : List FileTold → List (Option ℕ)
@@ -47,20 +47,23 @@ pub record TakesOff (s t : SourceTold) (bytes : List ℕ) : Type 0 where
   pub left : s.left ≡ option_map (λ rest. bytes ++ rest) t.left
   pub faults : s.faults ≤ t.faults
 
--- a file that was uploaded: as it was, its source as it is left, the bytes that were read, the chunks that they were
--- cut into, and the file's hash
+-- a file that was uploaded: as it was, its source as it is left, what its cutter tells then, the bytes that were read,
+-- the chunks that they were cut into, and the file's hash
 pub record Upload : Type 0 where
   pub file : FileTold
   pub source : SourceTold
+  pub later : Telling
   pub bytes : List ℕ
   pub chunks : List (List ℕ)
   pub hash : MerkleHash
 
--- the bytes came off the front of the source, as many as the file has, and the hash is that of their chunks
+-- the bytes came off the front of the source, as many as the file has, and were cut where the cutter says so; the hash
+-- is that of their chunks
 pub record IsUpload (u : Upload) : Type 0 where
   pub taken : TakesOff u.file.source u.source u.bytes
   pub size : length u.bytes ≡ u.file.size
   pub bytes : u.bytes ≡ concat u.chunks
+  pub places : CutFile u.file.tell u.bytes u.chunks
   pub hash : u.hash ≡ file_hash_of (infos_of u.chunks)
 
 -- the chunks of files that were uploaded
@@ -69,7 +72,7 @@ all_chunks done = flat_map (λ u. u.chunks) done
 
 -- the file afterwards
 abbrev pub file_after : Upload → FileTold
-file_after u = record u.file { source = u.source }
+file_after u = record u.file { source = u.source; tell = u.later }
 
 -- what the session records
 abbrev pub recorded_file : Upload → CleanedFile
@@ -85,8 +88,10 @@ upload_pointer u = pointer_to u.hash u.file.size (recorded_sha256 u.file.policy 
 -- and then the file ended, or its end failed
 pub record EndsUpload (now : ℕ) (b n : SessionTold) (f : FileTold) (bytes : List ℕ)
     (answer : Result (Unit {0}) DataError) : Type 0 where
+  pub keeps : Keeps b n
+  pub backs : HasListed b → Backs b n
   pub new : Cleaner
-  pub is_new : IsNewCleaner new (Some f.size) f.policy
+  pub is_new : IsNewCleaner new (Some f.size) f.policy f.tell
   pub fed : Cleaner
   pub middle : SessionTold
   pub calls : Calls now b middle
@@ -132,9 +137,10 @@ pub record FailsAt (now : ℕ) (b reached n : SessionTold) (rest left : List Fil
     (e : DataError) : Type 0 where
   pub file : FileTold
   pub source : SourceTold
+  pub tell : Telling
   pub later : List FileTold
   pub rest_are : rest ≡ file ∷ later
-  pub left_are : left ≡ record file { source = source } ∷ later
+  pub left_are : left ≡ record file { source = source; tell = tell } ∷ later
   pub bytes : List ℕ
   pub taken : TakesOff file.source source bytes
   pub most : length bytes ≤ file.size
@@ -156,18 +162,19 @@ CountsFiles m (u ∷ us) n = (counts : DeduplicationMetrics) × CountsChunks no_
     × CountsFiles (with_file_counts m counts) us n
 
 -- files were uploaded, and maybe one more in part: what other records stand for is kept, and the session has a record
--- of each that stands for the bytes that were read of its source; made xorbs, and what waits, are picked from what
--- waited and from the chunks that were cut
+-- of each that stands for the bytes that were read of its source; what was put is made of what waited and of the chunks
+-- that were cut, and nothing was put where these stay one; what waits is picked from them
 pub record HasUploads (b n : SessionTold) (cut : List (List ℕ)) (done : List Upload) : Type 0 where
   pub keeps : Keeps b n
   pub backs : Backs b n
-  pub made : List Xorb
-  pub made_of : All (IsMadeOf (b.waiting.chunks ++ cut)) made
+  pub puts : Tells b → PutsMade b n (b.waiting.chunks ++ cut)
+  pub full : StayOne b cut → PutsNone b n
+  pub thresholds : n.thresholds ≡ b.thresholds
   pub waits : IsPickedFrom n.waiting.chunks (b.waiting.chunks ++ cut)
   pub are : All IsUpload done
-  pub holds : (k : Store) (f : CleanedFile) → IsSteady k b → IsOpen n → NoClash (world k (log_of n)) made cut
-      → HasRecord k b f → HasRecord k n f
-  pub stand : (k : Store) → IsSteady k b → IsOpen n → NoClash (world k (log_of n)) made cut
+  pub holds : (k : Store) (f : CleanedFile) → IsSteady k b → IsOpen n → HashesAgree k n → HasRecord k b f
+      → HasRecord k n f
+  pub stand : (k : Store) → IsSteady k b → IsOpen n → NoClash k n cut
       → All (λ u. HasRecord k n (recorded_file u)) done
 
 -- some files were uploaded, and then the next failed, of which some chunks were cut, or there was nothing done at all
@@ -180,7 +187,8 @@ pub record StopsBehind (now : ℕ) (b reached n : SessionTold) (done : List Uplo
   pub why : FailsAt now b reached n rest left cut e ⊎ (FailsFirst b e × (n ≡ b) × (after ≡ before))
 
 -- all files were uploaded, in order, and the answers are their pointer records; or some were, up to one that failed,
--- of which some chunks were cut. Nothing was called of the session but what these files need
+-- of which some chunks were cut. Nothing was called of the session but what these files need, and the counts are those
+-- of the uploaded files
 pub record UploadsFiles (now : ℕ) (b n : SessionTold) (before after : List FileTold)
     (answer : Result (List XetFileInfo) DataError) : Type 0 where
   pub done : List Upload
@@ -191,7 +199,8 @@ pub record UploadsFiles (now : ℕ) (b n : SessionTold) (before after : List Fil
   pub no_more : OnOk answer (n ≡ reached)
   pub none : OnOk answer (last ≡ [])
   pub unfailed : OnOk answer (NoFault b n)
-  pub counts : OnOk answer (CountsFiles b.metrics done n.metrics)
+  pub said : b.failed ≡ None → Says n answer
+  pub counts : CountsFiles b.metrics done n.metrics
   pub answers : IfOk answer (λ infos. infos ≡ map upload_pointer done)
   pub all : OnOk answer (before ≡ map (λ u. u.file) done)
   pub after_are : OnOk answer (after ≡ map file_after done)

@@ -54,7 +54,7 @@ fn pour<I: Source, T: Cutter, U: Uploader, R: ShardStore, W: Wait>(
     requires unfailed { cleaner.old.failed ≡ None }
     requires room { 0 < length buffer.old }
     ensures call { Pours (told_by U.told R.told session.old) (told_by U.told R.told session.new)
-        (I.told source.old) (I.told source.new) (cleaner_of cleaner.old) (cleaner_of cleaner.new) total result }
+        (I.told source.old) (I.told source.new) (cleaner_of T.told cleaner.old) (cleaner_of T.told cleaner.new) total result }
     ensures tells { TellsOf IsXorbCall (IsLate session.old.finalized) session.old.files.tracker
         session.new.files.tracker result }
     ensures calls { Calls now (told_by U.told R.told session.old) (told_by U.told R.told session.new) }
@@ -85,8 +85,11 @@ fn upload_file<I: Source, T: Cutter, U: Uploader, R: ShardStore, W: Wait>(
     now: u64,
 ) -> Result<XetFileInfo, DataError>
     ensures call { UploadsAlone now (told_by U.told R.told session.old) (told_by U.told R.told session.new)
-        (file_told I.told file.old) (I.told file.new.source) result }
-    ensures same { file_told I.told file.new ≡ record (file_told I.told file.old) { source = I.told file.new.source } }
+        (file_told I.told T.told file.old) (I.told file.new.source) result }
+    ensures same { file_told I.told T.told file.new ≡ record (file_told I.told T.told file.old) {
+      source = I.told file.new.source;
+      tell = T.told file.new.cutter;
+    } }
     ensures tells { HasListed (told_by U.told R.told session.old) → TellsOf IsUploadCall
         (IsFileError (told_by U.told R.told session.old) (told_by U.told R.told session.new) session.old.ids)
         session.old.files.tracker session.new.files.tracker result }
@@ -142,7 +145,7 @@ pub fn upload_files<I: Source, T: Cutter, U: Uploader, R: ShardStore, W: Wait>(
     now: u64,
 ) -> Result<List<XetFileInfo>, DataError>
     ensures call { UploadsFiles now (told_by U.told R.told session.old) (told_by U.told R.told session.new)
-        (map (file_told I.told) files.old) (map (file_told I.told) files.new) result }
+        (map (file_told I.told T.told) files.old) (map (file_told I.told T.told) files.new) result }
     ensures tells { TellsOf IsUploadCall (IsUploadError (told_by U.told R.told session.old)
         (told_by U.told R.told session.new) session.old.ids (length files.old))
         session.old.files.tracker session.new.files.tracker result }
@@ -151,7 +154,7 @@ pub fn upload_files<I: Source, T: Cutter, U: Uploader, R: ShardStore, W: Wait>(
     ensures group { session.new.progress ≡ session.old.progress }
     ensures ids { OnOk result (session.new.ids ≡ session.old.ids + length files.old) }
     ensures begun { OnOk result (sizes session.new.files.tracker
-        ≡ sizes session.old.files.tracker ++ fixed_sizes (map (file_told I.told) files.old)) }
+        ≡ sizes session.old.files.tracker ++ fixed_sizes (map (file_told I.told T.told) files.old)) }
 {
     if session.is_finalized() {
         return Err(DataError::InvalidOperation(Invalid::Finalized));

@@ -4,6 +4,7 @@ use Rattle.xet_session.specs.Telling.{told_by}
 use Rattle.xet_base.proofs.CallerLemmas.{err-of}
 use Rattle.xet_clean_parts.proofs.Cleaning.{chunk-later, found-adds, leaves-both, new-adds}
 use Rattle.xet_clean_parts.proofs.SessionCalls.{calls-both, group-both}
+use Rattle.xet_clean_parts.proofs.Puts.{so-any, so-behind, so-err, so-quiet}
 use Rattle.xet_clean_parts.proofs.FileCalls.{tells-both, tells-err, tells-late, tells-ok}
 use Rattle.xet_clean_parts.proofs.deduper.add_chunk.Goals as goal
 
@@ -15,6 +16,9 @@ returns-in_err-add_new-in-None g c =
     rw e (record {
       leaves = leaves-both _ _ _ c.find_chunk.ensures.leaves c.add_new.ensures.leaves;
       cleans = tt;
+      puts = so-err _ _ _ _ _ (so-behind _ _ _ _ _ _ c.find_chunk.ensures.leaves.keeps c.find_chunk.ensures.found.log
+          c.find_chunk.ensures.found.repeated c.find_chunk.ensures.found.failed
+          (rw c.in_err-add_new-in-None.was at c.add_new.ensures.puts));
       why = chunk-later _ _ (told_by g.U.Uploader.told g.R.ShardStore.told c.add_new.new.session) _
           c.find_chunk.ensures.leaves (rw c.in_err-add_new-in-None.was at c.add_new.ensures.why);
       tells = tells-both _ _ _ _ _ _ (rw was at c.find_chunk.ensures.tells) _
@@ -38,6 +42,9 @@ returns-in_ok-add_new-in-None g c =
       cleans = new-adds _ _ _ _ _ _ _ (rw c.as_slice.ensures at c.chunk_info-info.ensures)
           c.find_chunk.ensures.leaves c.add_new.ensures.leaves (rw (was, c.in-None.is) at c.find_chunk.ensures.found)
           c.in_ok-add_new-in-None.ensures.cleans;
+      puts = so-behind _ _ _ _ _ _ c.find_chunk.ensures.leaves.keeps c.find_chunk.ensures.found.log
+          c.find_chunk.ensures.found.repeated c.find_chunk.ensures.found.failed
+          (so-any _ _ _ _ _ _ c.in_ok-add_new-in-None.ensures.cleans.failed c.add_new.ensures.puts);
       why = tt;
       tells = tells-both _ _ _ _ _ _ (rw was at c.find_chunk.ensures.tells) _
           (tells-late _ _ _ _ _ _ c.find_chunk.ensures.leaves.keeps.finalized
@@ -45,6 +52,18 @@ returns-in_ok-add_new-in-None g c =
       calls = calls-both _ _ _ _ (c.find_chunk.ensures.calls _) c.add_new.ensures.calls;
       group = group-both c.find_chunk.ensures.group c.add_new.ensures.group;
     }
+
+pub returns-in_err-entry-clause-puts : goal.returns-in_err-entry-clause-puts
+returns-in_err-entry-clause-puts g c = so-quiet _ _ _ _ _ c.find_chunk.ensures.found.log
+    c.find_chunk.ensures.found.repeated c.find_chunk.ensures.found.failed
+
+pub returns-in_err-add_found-in-Some-clause-puts : goal.returns-in_err-add_found-in-Some-clause-puts
+returns-in_err-add_found-in-Some-clause-puts g c = so-quiet _ _ _ _ _ c.find_chunk.ensures.found.log
+    c.find_chunk.ensures.found.repeated c.find_chunk.ensures.found.failed
+
+pub returns-in_ok-add_found-in-Some-clause-puts : goal.returns-in_ok-add_found-in-Some-clause-puts
+returns-in_ok-add_found-in-Some-clause-puts g c = so-quiet _ _ _ _ _ c.find_chunk.ensures.found.log
+    c.find_chunk.ensures.found.repeated c.find_chunk.ensures.found.failed
 
 pub returns-in_err-entry-clause-calls : goal.returns-in_err-entry-clause-calls
 returns-in_err-entry-clause-calls g c = c.find_chunk.ensures.calls c.args.now

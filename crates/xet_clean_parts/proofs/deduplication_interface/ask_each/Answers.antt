@@ -13,7 +13,7 @@ pub returns-in_err-ask : goal.returns-in_err-ask
 returns-in_err-ask g c =
     let e : c.from_residual.result ≡ Err c.in_err-ask.field-0.0 = err-of _ _ c.from_residual.ensures in
     let call = loop-stopped _ _ _ c.args.chunks.now c.loop-chunk.chunk-index _ _ c.loop-chunk-test.true refl _ c.loop-chunk.invariant.0 _ (rw c.in_err-ask.was at c.ask.ensures.call) in
-    rw e (record { learns = call; backs = backs-learned _ _ _ _ call (has-listed _ c.args.session.now.lists); untold = c.ask.ensures.untold ∙ c.loop-chunk.invariant.1; group = (c.ask.ensures.group.0 ∙ c.loop-chunk.invariant.2.0, c.ask.ensures.group.1 ∙ c.loop-chunk.invariant.2.1) })
+    rw e (record { learns = call; backs = backs-learned _ _ _ _ call (has-listed _ c.args.session.now.lists c.args.session.now.waits); untold = c.ask.ensures.untold ∙ c.loop-chunk.invariant.1; group = (c.ask.ensures.group.0 ∙ c.loop-chunk.invariant.2.0, c.ask.ensures.group.1 ∙ c.loop-chunk.invariant.2.1) })
 
 pub loop-chunk-preserved : goal.loop-chunk-preserved
 loop-chunk-preserved g c =
@@ -27,4 +27,4 @@ loop-chunk-preserved g c =
 pub returns : goal.returns
 returns g c =
     let call = learned-all _ _ c.args.chunks.now c.loop-chunk.chunk-index _ c.loop-chunk-test.false c.loop-chunk.auto.chunk-index-end c.loop-chunk.invariant.0 in
-    record { learns = call; backs = backs-learned _ _ _ _ call (has-listed _ c.args.session.now.lists); untold = c.loop-chunk.invariant.1; group = c.loop-chunk.invariant.2 }
+    record { learns = call; backs = backs-learned _ _ _ _ call (has-listed _ c.args.session.now.lists c.args.session.now.waits); untold = c.loop-chunk.invariant.1; group = c.loop-chunk.invariant.2 }

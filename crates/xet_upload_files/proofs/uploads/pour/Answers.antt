@@ -83,7 +83,7 @@ returns-in_err-add_data g c =
           c.pieces.left _ c.pieces.invariant.count most c.in_ok-count.ensures c.in_err-add_data.ensures.adds;
       tells = tells-both _ _ _ _ _ tt c.pieces.invariant.tells _ (piece-refused _ _ c.args.total _
           (size-kept _ _ _ _ _ _ _ _ poured c.requires.size) _ _ _ _ _
-          (own-late _ _ (cleaner_of c.pieces.cleaner) _ _ poured.leaves.keeps.finalized poured.unfailed
+          (own-late _ _ (cleaner_of g.T.Cutter.told c.pieces.cleaner) _ _ poured.leaves.keeps.finalized poured.unfailed
           (piece-fits _ _ _ _ _ _ _ xs poured
           c.requires.size c.requires.fed _ into _ _ c.pieces.left c.pieces.invariant.count most
           c.in_ok-count.ensures))

@@ -12,7 +12,7 @@ invariant-pieces g l = record {
   bytes : List ℕ;
   poured : Poured (told_by g.U.Uploader.told g.R.ShardStore.told l.initial.session)
       (told_by g.U.Uploader.told g.R.ShardStore.told l.session) (g.I.Source.told l.initial.source)
-      (g.I.Source.told l.source) (cleaner_of l.initial.cleaner) (cleaner_of l.cleaner) bytes;
+      (g.I.Source.told l.source) (cleaner_of g.T.Cutter.told l.initial.cleaner) (cleaner_of g.T.Cutter.told l.cleaner) bytes;
   count : l.left + length bytes ≡ l.total;
   tells : TellsOf {A = Unit {0}} IsXorbCall (IsLate l.initial.session.finalized) l.initial.session.files.tracker
       l.session.files.tracker (Ok tt);

@@ -20,7 +20,7 @@ returns-in_err-pour-clause-call g c =
     let e : c.from_residual-in_err-pour.result ≡ Err c.in_err-pour.field-0.0 =
     err-of _ _ c.from_residual-in_err-pour.ensures in
     rw e (alone-from _ _ _ _ _ _ _ c.start_clean.ensures.same (alone-stopped _ _ _ _ _ _
-    (file-unfed _ _ _ _ _ _ _ c.in_err-pour.ensures.call) c.pour.ensures.calls))
+    (file-unfed _ _ _ _ _ _ _ c.in_ok-_id.ensures.cleaner c.in_err-pour.ensures.call) c.pour.ensures.calls))
 
 pub returns-in_err-info-clause-call : goal.returns-in_err-info-clause-call
 returns-in_err-info-clause-call g c =

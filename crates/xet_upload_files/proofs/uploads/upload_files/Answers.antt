@@ -58,7 +58,7 @@ loop-file-init g c = record {
 
 pub loop-file-preserved : goal.loop-file-preserved
 loop-file-preserved g c =
-    let told : UploadFile g.row.I.Denot g.row.T.Denot → FileTold = file_told g.I.Source.told in
+    let told : UploadFile g.row.I.Denot g.row.T.Denot → FileTold = file_told g.I.Source.told g.T.Cutter.told in
     let one = c.in_ok-upload_file.ensures.call in
     let x = one.file in
     let files = c.loop-file.files in
@@ -68,17 +68,18 @@ loop-file-preserved g c =
     let u : Upload = record {
       file = told item;
       source = g.I.Source.told c.upload_file.new.file.source;
+      later = g.T.Cutter.told c.upload_file.new.file.cutter;
       bytes = x.bytes;
       chunks = x.cut;
       hash = x.hash;
     } in
     record {
       done = c.loop-file.invariant.done ++ u ∷ [];
-      has = uploads-more _ _ _ _ _ _ _ c.loop-file.invariant.has x;
+      has = uploads-more _ _ _ _ _ _ _ _ c.loop-file.invariant.has x;
       ended = ends-more _ _ _ _ _ u c.loop-file.invariant.ended one.ended;
-      progress = step-more told _ _ _ _ c.loop-file.invariant.progress item c.upload_file.new.file _ lt
+      progress = step-more told _ _ _ _ c.loop-file.invariant.progress item c.upload_file.new.file _ _ lt
           (read-again files i c.file-item.result lt) c.upload_file.ensures.same x.bytes x.cut x.hash;
-      answers = answers-more _ _ _ _ _ x _ _ _ c.loop-file.invariant.answers c.push_reserved.ensures.items;
+      answers = answers-more _ _ _ _ _ _ x _ _ _ c.loop-file.invariant.answers c.push_reserved.ensures.items;
       count = search rules;
       tells =
           let told = c.upload_file.ensures.tells c.loop-file.invariant.has.backs.listed in
@@ -101,7 +102,7 @@ loop-file-preserved g c =
 
 pub returns-in_err-upload_file : goal.returns-in_err-upload_file
 returns-in_err-upload_file g c =
-    let told : UploadFile g.row.I.Denot g.row.T.Denot → FileTold = file_told g.I.Source.told in
+    let told : UploadFile g.row.I.Denot g.row.T.Denot → FileTold = file_told g.I.Source.told g.T.Cutter.told in
     let w = err_from_is_err_and c.from_residual.result c.from_residual.ensures.1 in
     let e : c.from_residual.result ≡ Err c.in_err-upload_file.field-0.0 =
     first_of (cc (w.1, w.2), search (rules, w.1, w.2), grind (arith, w.1, w.2)) in
@@ -112,9 +113,9 @@ returns-in_err-upload_file g c =
     let old = c.loop-file.invariant in
     let listed = c.upload_file.ensures.tells old.has.backs.listed in
     rw e (record {
-      call = step-stopped told _ _ _ _ old.progress item c.upload_file.new.file _ lt
+      call = step-stopped told _ _ _ _ old.progress item c.upload_file.new.file _ _ lt
           (read-again files i c.file-item.result lt) c.upload_file.ensures.same _ _ _ _ _ (sym c.is_finalized.ensures.is
-          ∙ c.if-is_finalized.false) old.has old.ended
+          ∙ c.if-is_finalized.false) old.has old.counts old.failed old.ended
           c.in_err-upload_file.ensures.call;
       tells = tells-both _ _ _ _ _ tt (tells-any {B = Unit {0}} _ _ _ _ _ tt tt old.tells) _
           (tells-err _ _ _ _ _ (file-errors
@@ -131,7 +132,7 @@ returns-in_err-upload_file g c =
 
 pub returns : goal.returns
 returns g c =
-    let told : UploadFile g.row.I.Denot g.row.T.Denot → FileTold = file_told g.I.Source.told in
+    let told : UploadFile g.row.I.Denot g.row.T.Denot → FileTold = file_told g.I.Source.told g.T.Cutter.told in
     let size = length-map c.loop-file.files told in
     let all : length (map told c.loop-file.files) ≤ c.loop-file.file-index = omega (arith, size) in
     let old = c.loop-file.invariant in

@@ -16,7 +16,7 @@ invariant-loop-file g l = record {
       (told_by g.U.Uploader.told g.R.ShardStore.told l.session) (all_chunks done) done;
   ended : EndsUploads l.fn.now done (told_by g.U.Uploader.told g.R.ShardStore.told l.fn.session)
       (told_by g.U.Uploader.told g.R.ShardStore.told l.session);
-  progress : Progress (map (file_told g.I.Source.told) l.fn.files) (map (file_told g.I.Source.told) l.files) done
+  progress : Progress (map (file_told g.I.Source.told g.T.Cutter.told) l.fn.files) (map (file_told g.I.Source.told g.T.Cutter.told) l.files) done
       l.file-index;
   answers : l.infos.items ≡ map upload_pointer done;
   count : vec_len l.infos ≡ l.file-index;

@@ -44,7 +44,7 @@ returns-in_err-register_single_file_clean_completion g c =
           _ _ (rw was at c.register_single_file_clean_completion.ensures.call)
           c.register_single_file_clean_completion.ensures.backs;
       ok = tt;
-      err = inr (took-err _ _ (cleaner_of c.args.self) _ _ _ c.requires.ended
+      err = inr (took-err _ _ (cleaner_of g.T.Cutter.told c.args.self) _ _ _ c.requires.ended
           (c.file_hash-hash.ensures ∙ ap file_hash_of c.infos.ensures) c.recorded_sha256-sha256.ensures
           c.in_ok-file_data.ensures.waiting
           c.into_waiting.ensures.no_files _ _ _ _
@@ -63,9 +63,9 @@ returns g c =
           c.register_single_file_clean_completion.ensures.backs
           _ c.in_ok-info.ensures refl _ c.merge_file_metrics.ensures.counted c.merge_file_metrics.ensures.keeps
           c.merge_file_metrics.ensures.backs;
-      ok = took-ok _ _ (cleaner_of c.args.self) _ _ _ c.requires.ended
+      ok = took-ok _ _ (cleaner_of g.T.Cutter.told c.args.self) _ _ _ c.requires.ended
           (c.file_hash-hash.ensures ∙ ap file_hash_of c.infos.ensures) c.recorded_sha256-sha256.ensures
-          c.in_ok-file_data.ensures.waiting c.into_waiting.ensures.no_files _ _ _ _ _ _ _
+          c.in_ok-file_data.ensures.waiting c.into_waiting.ensures.no_files _ _ _ _ _ _
           (rw was at c.register_single_file_clean_completion.ensures.call)
           (rw was at c.register_single_file_clean_completion.ensures.tracks) c.merge_file_metrics.ensures.counted
           c.merge_file_metrics.ensures.untold;

@@ -5,8 +5,8 @@ use Rattle.xet_clean.specs.Cleaners.{Cleaner}
 use Rattle.xet_base.proofs.CallerLemmas.{err-of}
 use Rattle.xet_clean_parts.proofs.CallerLemmas.{leaves-refl}
 use Rattle.xet_clean_parts.proofs.CallerLemmas.{calls-none}
-use Rattle.xet_clean.proofs.Feeding.{cuts-ended, cuts-one, ended-pending}
-use Rattle.xet_clean_parts.proofs.CallerLemmas.{tells-err, tells-memory, tells-none, tells-ok}
+use Rattle.xet_clean.proofs.Feeding.{cleaned-puts, cuts-ended, cuts-one, ended-pending, ended-up}
+use Rattle.xet_clean_parts.proofs.CallerLemmas.{some-any, some-err, some-still, tells-err, tells-memory, tells-none, tells-ok}
 use Rattle.xet_clean.proofs.cleaner.SingleFileCleaner.cut_chunk.Goals as goal
 
 pub returns-in_err-next_chunk : goal.returns-in_err-next_chunk
@@ -15,7 +15,9 @@ returns-in_err-next_chunk g c =
     rw e (record {
       leaves = leaves-refl _ _ refl;
       cuts = tt;
+      puts = some-still _ _ _ _ _ refl;
       shorter = tt;
+      up = tt;
       none = tt;
       failed = c.next_chunk.ensures.failed;
       why = inr (inl refl);
@@ -31,6 +33,14 @@ pub returns-in-None-clause-cuts : goal.returns-in-None-clause-cuts
 returns-in-None-clause-cuts g c =
     let was : c.next_chunk.result ≡ Ok c.in_ok-next_chunk.field-0 = c.in_ok-next_chunk.was in
     cuts-ended _ _ _ _ _ refl (rw (was, c.in-None.is) at c.next_chunk.ensures.next)
+
+pub returns-in-None-clause-puts : goal.returns-in-None-clause-puts
+returns-in-None-clause-puts g c = some-still _ _ _ _ _ refl
+
+pub returns-in-None-clause-up : goal.returns-in-None-clause-up
+returns-in-None-clause-up g c =
+    let was : c.next_chunk.result ≡ Ok c.in_ok-next_chunk.field-0 = c.in_ok-next_chunk.was in
+    λ _. ended-up _ _ _ (rw (was, c.in-None.is) at c.next_chunk.ensures.next)
 
 pub returns-in-None-clause-none : goal.returns-in-None-clause-none
 returns-in-None-clause-none g c =
@@ -59,7 +69,9 @@ returns-in_err-clean-in-Some g c =
     rw e (record {
       leaves = c.clean.ensures.leaves;
       cuts = tt;
+      puts = some-err _ _ _ _ _ (cleaned-puts _ _ _ _ _ _ _ next (rw c.in_err-clean-in-Some.was at c.clean.ensures.puts));
       shorter = tt;
+      up = tt;
       none = tt;
       failed = c.clean.ensures.failed ∙ c.next_chunk.ensures.failed;
       why = rw c.in_err-clean-in-Some.was at c.clean.ensures.why;
@@ -74,8 +86,16 @@ returns-in_ok-clean-in-Some-clause-leaves g c = c.clean.ensures.leaves
 pub returns-in_ok-clean-in-Some-clause-cuts : goal.returns-in_ok-clean-in-Some-clause-cuts
 returns-in_ok-clean-in-Some-clause-cuts g c =
     let was : c.next_chunk.result ≡ Ok c.in_ok-next_chunk.field-0 = c.in_ok-next_chunk.was in
-    cuts-one _ _ _ _ _ _ _ (rw (was, c.in-Some.is) at c.next_chunk.ensures.next)
-    c.in_ok-clean-in-Some.ensures.cleans c.in_ok-clean-in-Some.ensures.same c.in_ok-clean-in-Some.ensures.counts
+    cuts-one _ _ _ _ _ _ _ (rw (was, c.in-Some.is) at c.next_chunk.ensures.some)
+    (rw (was, c.in-Some.is) at c.next_chunk.ensures.next) c.in_ok-clean-in-Some.ensures.cleans
+    (rw c.in_ok-clean-in-Some.was at c.clean.ensures.puts) c.in_ok-clean-in-Some.ensures.same c.in_ok-clean-in-Some.ensures.counts
+
+pub returns-in_ok-clean-in-Some-clause-puts : goal.returns-in_ok-clean-in-Some-clause-puts
+returns-in_ok-clean-in-Some-clause-puts g c =
+    let was : c.next_chunk.result ≡ Ok c.in_ok-next_chunk.field-0 = c.in_ok-next_chunk.was in
+    let next = rw (was, c.in-Some.is) at c.next_chunk.ensures.next in
+    some-any _ _ _ _ _ _ c.in_ok-clean-in-Some.ensures.cleans.failed
+    (cleaned-puts _ _ _ _ _ _ _ next c.clean.ensures.puts)
 
 pub returns-in_ok-clean-in-Some-clause-tells : goal.returns-in_ok-clean-in-Some-clause-tells
 returns-in_ok-clean-in-Some-clause-tells g c =

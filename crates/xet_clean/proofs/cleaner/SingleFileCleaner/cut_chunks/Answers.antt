@@ -5,13 +5,13 @@ use Rattle.xet_clean.specs.Cleaners.{Cleaner}
 use Rattle.xet_clean_parts.proofs.CallerLemmas.{chunk-later, leaves-both, leaves-refl}
 use Rattle.xet_clean_parts.proofs.CallerLemmas.{calls-both, calls-none, group-both}
 use Rattle.xet_clean_parts.proofs.CallerLemmas.{tells-both, tells-err, tells-late, tells-none, tells-ok}
-use Rattle.xet_clean.proofs.Feeding.{cuts-both, cuts-none}
+use Rattle.xet_clean.proofs.Feeding.{chunks-done, chunks-stopped, cuts-both, cuts-none, up-before}
 use Rattle.xet_clean.proofs.cleaner.SingleFileCleaner.cut_chunks.Goals as goal
 
 pub chunks-init : goal.chunks-init
 chunks-init g c = record {
   leaves = leaves-refl _ _ refl;
-  cuts = cuts-none _ _ _ _ refl refl;
+  cuts = cuts-none _ _ _ _ _ refl refl;
   failed = refl;
   tells = tells-none _ _ _ _ _ refl tt;
   calls = calls-none _ _ _ refl;
@@ -24,7 +24,7 @@ chunks-preserved g c =
     let old = c.chunks.invariant in
     record {
       leaves = leaves-both _ _ _ old.leaves c.cut_chunk.ensures.leaves;
-      cuts = cuts-both _ _ _ _ _ _ old.leaves c.cut_chunk.ensures.leaves old.cuts (rw is at c.cut_chunk.ensures.cuts);
+      cuts = cuts-both _ _ _ _ _ _ _ old.leaves c.cut_chunk.ensures.leaves old.cuts (rw is at c.cut_chunk.ensures.cuts);
       failed = c.cut_chunk.ensures.failed ∙ old.failed;
       tells =
           let file = ap (λ (z : Cleaner). z.file_id) old.cuts.same in
@@ -39,9 +39,13 @@ returns-in-Ok-false g c =
     let is : c.cut_chunk.result ≡ Ok false = search rules in
     let old = c.chunks.invariant in
     let file = ap (λ (z : Cleaner). z.file_id) old.cuts.same in
+    let cuts = cuts-both _ _ _ _ _ _ _ old.leaves c.cut_chunk.ensures.leaves old.cuts
+    (rw is at c.cut_chunk.ensures.cuts) in
     record {
       leaves = leaves-both _ _ _ old.leaves c.cut_chunk.ensures.leaves;
-      cuts = cuts-both _ _ _ _ _ _ old.leaves c.cut_chunk.ensures.leaves old.cuts (rw is at c.cut_chunk.ensures.cuts);
+      cuts = cuts;
+      puts = chunks-done _ _ _ _ _ _ cuts;
+      up = up-before _ _ _ _ _ old.cuts _ (rw is at c.cut_chunk.ensures.up refl);
       none = rw is at c.cut_chunk.ensures.none refl;
       failed = c.cut_chunk.ensures.failed ∙ old.failed;
       why = tt;
@@ -58,6 +62,8 @@ returns-in-Err g c =
     record {
       leaves = leaves-both _ _ _ old.leaves c.cut_chunk.ensures.leaves;
       cuts = tt;
+      puts = chunks-stopped _ _ _ _ _ _ _ old.leaves old.cuts (rw c.in-Err.is at c.cut_chunk.ensures.puts);
+      up = tt;
       none = tt;
       failed = c.cut_chunk.ensures.failed ∙ old.failed;
       why = chunk-later _ _ (told_by g.U.Uploader.told g.R.ShardStore.told c.cut_chunk.new.session) _ old.leaves

@@ -13,8 +13,8 @@ abbrev pub invariant-chunks : goal.invariant-chunks
 invariant-chunks g l = record {
   leaves : Leaves (told_by g.U.Uploader.told g.R.ShardStore.told l.initial.session)
       (told_by g.U.Uploader.told g.R.ShardStore.told l.session);
-  cuts : CutsChunks (told_by g.U.Uploader.told g.R.ShardStore.told l.initial.session)
-      (told_by g.U.Uploader.told g.R.ShardStore.told l.session) (cleaner_of l.initial.self) (cleaner_of l.self);
+  cuts : CutsChunks l.last (told_by g.U.Uploader.told g.R.ShardStore.told l.initial.session)
+      (told_by g.U.Uploader.told g.R.ShardStore.told l.session) (cleaner_of g.T.Cutter.told l.initial.self) (cleaner_of g.T.Cutter.told l.self);
   failed : l.self.failed ≡ l.initial.self.failed;
   tells : TellsOf {A = Unit {0}} (IsPartOf l.initial.self.file_id) (IsLate l.initial.session.finalized)
       l.initial.session.files.tracker

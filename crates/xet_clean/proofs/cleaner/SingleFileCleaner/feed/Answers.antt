@@ -5,7 +5,7 @@ use Rattle.xet_session.specs.Sessions.{SessionTold}
 use Rattle.xet_session.specs.Telling.{told_by}
 use Rattle.xet_clean.specs.Cleaners.{Cleaner}
 use Rattle.xet_base.proofs.CallerLemmas.{err-of}
-use Rattle.xet_clean_parts.proofs.CallerLemmas.{chunk-memory, chunk-tracks, leaves-refl}
+use Rattle.xet_clean_parts.proofs.CallerLemmas.{chunk-memory, chunk-tracks, leaves-refl, some-still}
 use Rattle.xet_clean_parts.proofs.CallerLemmas.{calls-moved, calls-none, group-both}
 use Rattle.xet_clean_parts.proofs.CallerLemmas.{grows-first, part-for, tells-both, tells-err, tells-late, tells-memory, tells-none, tells-own, tells-wider}
 use Rattle.xet_clean.proofs.Feeding.{feeds-failed, feeds-finalized, feeds-grown, feeds-kept, feeds-past}
@@ -27,7 +27,8 @@ pub returns-in_err-grow : goal.returns-in_err-grow
 returns-in_err-grow g c =
     let e : c.from_residual.result ≡ Err c.in_err-grow.field-0.0 = err-of _ _ c.from_residual.ensures in
     rw e (record {
-      feeds = feeds-failed _ _ _ _ _ _ (leaves-refl _ _ c.grow.ensures.same) refl
+      feeds = feeds-failed _ _ _ _ _ _ (leaves-refl _ _ c.grow.ensures.same)
+          (some-still _ _ _ _ _ c.grow.ensures.same) refl
           (sym c.is_finalized.ensures.is ∙ c.if-is_finalized.false) c.in_default.is
           (c.past_total.ensures.none c.in_default-past_total.is)
           (chunk-tracks (told_by g.U.Uploader.told g.R.ShardStore.told c.args.session.now)
@@ -46,7 +47,7 @@ returns-in_err-take_in g c =
     err-of _ _ c.from_residual-in_err-take_in.ensures in
     rw e (record {
       feeds = feeds-failed _ _ _ _ _ _ (leaves-refl _ _ c.grow.ensures.same)
-          (ap (λ (z : Cleaner). z.failed) c.in_err-take_in.ensures.err)
+          (some-still _ _ _ _ _ c.grow.ensures.same) (ap (λ (z : Cleaner). z.failed) c.in_err-take_in.ensures.err)
           (sym c.is_finalized.ensures.is ∙ c.if-is_finalized.false) c.in_default.is
           (c.past_total.ensures.none c.in_default-past_total.is)
           (chunk-memory (told_by g.U.Uploader.told g.R.ShardStore.told c.args.session.now)
@@ -61,7 +62,7 @@ returns-in_err-take_in g c =
 pub returns : goal.returns
 returns g c = record {
   feeds = feeds-grown _ _ _ _ _ _ _ c.cut_chunks.result c.grow.ensures.same c.cut_chunks.ensures.leaves
-      c.in_ok-take_in.ensures.ok c.cut_chunks.ensures.cuts
+      c.in_ok-take_in.ensures.ok c.cut_chunks.ensures.cuts c.cut_chunks.ensures.up c.cut_chunks.ensures.puts
       (c.cut_chunks.ensures.failed ∙ ap (λ (z : Cleaner). z.failed) c.in_ok-take_in.ensures.ok.same)
       (sym c.is_finalized.ensures.is ∙ c.if-is_finalized.false) c.in_default.is
       (c.past_total.ensures.none c.in_default-past_total.is) c.cut_chunks.ensures.why;

@@ -7,6 +7,7 @@ returns g c = record {
   cleaner = record {
     size_is = refl;
     policy_is = refl;
+    tell_is = refl;
     parts = c.new.ensures;
     pending = c.new-2.ensures;
     fed = refl;

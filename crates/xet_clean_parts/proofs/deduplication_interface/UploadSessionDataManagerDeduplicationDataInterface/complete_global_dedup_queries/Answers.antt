@@ -6,7 +6,7 @@ use Rattle.xet_clean_parts.proofs.deduplication_interface.UploadSessionDataManag
 
 pub returns-then-not-asks_queries-clause-call : goal.returns-then-not-asks_queries-clause-call
 returns-then-not-asks_queries-clause-call g c =
-    completes-off _ _ _ _ refl refl (sym c.asks_queries.ensures ∙ c.if-not-asks_queries.true) (has-listed _ c.args.self.now.session.now.lists)
+    completes-off _ _ _ _ refl refl (sym c.asks_queries.ensures ∙ c.if-not-asks_queries.true) (has-listed _ c.args.self.now.session.now.lists c.args.self.now.session.now.waits)
 
 pub returns-clause-call : goal.returns-clause-call
 returns-clause-call g c =
