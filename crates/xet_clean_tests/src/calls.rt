@@ -1,12 +1,14 @@
 //! The calls of a session.
-use crate::answers::{decided, done, refuse, say_each};
+use crate::answers::{decided, done, refuse, say, say_each};
 use crate::sessions::Session;
 use crate::settings::number;
 use crate::xorbs::{part, raw};
 use std::alloc::Global;
 use std::sync::Wait;
 use xet_base::{List, MDBFileInfo, OutOfMemory, UniqueID};
-use xet_progress::{FileXorbDependency, GroupProgressReport, ItemProgressReport};
+use xet_progress::{
+    FileXorbDependency, GroupProgress, GroupProgressReport, ItemProgress, ItemProgressReport,
+};
 use xet_upload::{DataError, DeduplicationMetrics};
 
 /// Writes the item's id and the file's number.
@@ -33,7 +35,7 @@ fn grow<W: Wait>(rt: &W, session: &mut Session, out: &mut String, words: &str) {
 /// put before.
 fn give<W: Wait>(rt: &W, alloc: Global, session: &mut Session, out: &mut String, words: &str) {
     let (bytes, text) = words.split_once(' ').unwrap_or((words, ""));
-    let parts = [part(0, number(bytes).unwrap_or(0), false)];
+    let parts = [part(text, 0, number(bytes).unwrap_or(0), false)];
     if bytes == "0" {
         give_parts(rt, alloc, session, out, text, &[]);
     } else {
@@ -128,6 +130,21 @@ fn item<W: Wait>(rt: &W, session: &Session, out: &mut String, id: &str) {
     );
 }
 
+/// Writes 1 where the size of an item is final, and else 0.
+fn say_final(out: &mut String, answer: Result<ItemProgress, OutOfMemory>) {
+    if let Ok(item) = answer {
+        say(out, u64::from(item.size_finalized()));
+    }
+}
+
+/// `final 1`: whether the size of an item is final.
+fn is_final<W: Wait>(rt: &W, alloc: Global, session: &Session, out: &mut String, id: &str) {
+    let id = UniqueID(number(id).unwrap_or(0));
+    if let Ok(item) = GroupProgress::updater(session.progress(), id) {
+        say_final(out, item.item(rt, alloc));
+    }
+}
+
 /// How many items there are.
 fn items<W: Wait>(rt: &W, alloc: Global, session: &Session) -> u64 {
     match session.item_reports(rt, alloc) {
@@ -170,6 +187,7 @@ pub fn called<W: Wait>(
         "end" => say_end(out, session.finalize_with_report(rt, alloc, 0)),
         "list" => say_list(out, session.finalize_with_file_info(rt, alloc, 0)),
         "item" => item(rt, session, out, rest),
+        "final" => is_final(rt, alloc, session, out, rest),
         "group" => group(rt, alloc, session, out),
         _ => {}
     }

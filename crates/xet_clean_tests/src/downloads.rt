@@ -54,7 +54,12 @@ fn fetch<W: Threads + Wait + Sync>(
 }
 
 /// `9c1d.. 5 8`: the bytes of a file from the first number up to the second, or up to its end.
-fn fetched<W: Threads + Wait + Sync>(rt: &W, alloc: Global, store: &MemStore, row: &str) -> String {
+pub fn fetched<W: Threads + Wait + Sync>(
+    rt: &W,
+    alloc: Global,
+    store: &MemStore,
+    row: &str,
+) -> String {
     let (file, range) = row.split_once(' ').unwrap_or((row, ""));
     let (start, end) = range.split_once(' ').unwrap_or((range, ""));
     let start = number(start).unwrap_or(0);

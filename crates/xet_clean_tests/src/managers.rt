@@ -26,12 +26,21 @@ fn say_found(out: &mut String, answer: Result<Found, DataError>) {
     }
 }
 
-/// `find Hello`: how many chunks are found in the records of the session and its stores.
-fn find(alloc: Global, manager: &mut Manager<'_>, out: &mut String, text: &str) {
-    let hash = MerkleHash::chunk_hash(text.as_bytes());
+/// The hashes of the chunks of these texts.
+fn hashes(alloc: Global, texts: &str) -> Vec<MerkleHash> {
+    let mut hashes = Vec::new(alloc);
+    for text in texts.split('/') {
+        let _ = hashes.push(MerkleHash::chunk_hash(text.as_bytes()));
+    }
+    hashes
+}
+
+/// `find Hello/world`: how many of these chunks are found in a row in the records of the session and its stores.
+fn find(alloc: Global, manager: &mut Manager<'_>, out: &mut String, texts: &str) {
+    let hashes = hashes(alloc, texts);
     say_found(
         out,
-        manager.chunk_hash_dedup_query(alloc, [hash].as_slice()),
+        manager.chunk_hash_dedup_query(alloc, hashes.as_slice()),
     );
 }
 
@@ -50,16 +59,17 @@ fn ask(alloc: Global, manager: &mut Manager<'_>, out: &mut String, texts: &str) 
     decided(out, manager.complete_global_dedup_queries(alloc), 1, 0);
 }
 
-/// `depend 3`, `external 1`: the second file has so many bytes in the xorb of `Hello`.
+/// `depend 3 Hello`, `external 1 Hello`: the second file has so many bytes in the xorb of a text.
 fn depend<W: Wait>(
     rt: &W,
     alloc: Global,
     manager: &mut Manager<'_>,
     out: &mut String,
-    bytes: &str,
+    words: &str,
     is_external: bool,
 ) {
-    let parts = [part(1, number(bytes).unwrap_or(0), is_external)];
+    let (bytes, text) = words.split_once(' ').unwrap_or((words, ""));
+    let parts = [part(text, 1, number(bytes).unwrap_or(0), is_external)];
     done(
         out,
         manager.register_xorb_dependencies(rt, alloc, parts.as_slice()),

@@ -43,19 +43,19 @@ fn record(alloc: Global) -> ShardRecord {
     }
 }
 
-/// A store that has this record, if it is to have it.
-fn records(alloc: Global, is_known: bool) -> ScriptShards {
-    let mut shards = shards(alloc, None);
+/// A store that has this record, if it is to have it, and of whose calls the one with this number fails.
+fn records(alloc: Global, is_known: bool, call: Option<u64>) -> ScriptShards {
+    let mut shards = MemShards::new(alloc);
     if is_known {
         let _ = shards.add(alloc, &record(alloc));
     }
-    shards
+    ScriptShards::new(shards, fails(alloc, call))
 }
 
 /// The resumed records of a session, if it has some.
 fn resumed(alloc: Global, words: &str) -> Option<ScriptShards> {
     if has(words, "old") {
-        return Some(records(alloc, true));
+        return Some(records(alloc, true, setting(words, "resumed")));
     }
     None
 }
@@ -67,8 +67,8 @@ pub fn stores(alloc: Global, words: &str) -> SessionStores<ScriptShards> {
     SessionStores {
         resumed: resumed(alloc, words),
         session: shards(alloc, call),
-        cache: records(alloc, is_known),
-        staging: shards(alloc, None),
+        cache: records(alloc, is_known, setting(words, "cached")),
+        staging: shards(alloc, setting(words, "staged")),
     }
 }
 

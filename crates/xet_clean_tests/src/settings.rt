@@ -8,6 +8,7 @@
 //! | `first` | the id of the first item |
 //! | `put` | which put fails, counted from 0 |
 //! | `call` | which call of the session's own records fails, counted from 0 |
+//! | `staged`, `cached`, `resumed` | which call of the staging store, the cache or the resumed records fails |
 //! | `dry` | it is a dry run |
 //! | `asks` | the uploader may be asked for records |
 //! | `old` | there are resumed records, which have the xorb of `Hello` |

@@ -42,16 +42,22 @@ fn files(rt: HostRuntime) {
 }
 
 const SESSIONS: &str = "\
-- | begin 10; begin -; grow 1 4; grow 2 4; depend 3; external 1; group => \
+- | begin 10; begin -; grow 1 4; grow 2 4; depend 3 Hello; external 1 Hello; group => \
 1 0; 2 1; 0; InvalidOperation(UnknownFile { id: 2 }); 0; 0; 2 1 14 0 0;
-- | begin 10; begin 4; depend 3; external 1; give 11 Hello; give 5 Hello; give 2 Hello; group; item 1; item 2 => \
+- | begin 10; begin 4; depend 3 Hello; external 1 Hello; give 11 Hello; give 5 Hello; give 2 Hello; group; item 1; \
+item 2 => \
 1 0; 2 1; 0; 0; InvalidOperation(PastTotal { total: 10, counted: 0, increment: 11 }); 0 x; 9 x; 2 11 14 5 5 x; \
 7 10 x; 4 4 x;
 asks | find Hello; hand Hello; find Hello; ask world Hello world; ask world => 0; 0 x; 1 x; 1 x; 0 x;
 old | find Hello; give 0 world; end; find Hello => 1; 0 x; 0 0 5 72 0 0 5 5 xs; 0 xs;
 - | give 0 Hello; give 0 world; list; end; give 0 more => \
 0 x; 0 xx; 10 144 154 0 xxs; InvalidOperation(Finalized) xxs; InvalidOperation(Finalized) xxs;
-dry | give 0 Hello; end => 0 x; 0 0 5 72 0 0 5 5 x;";
+dry | give 0 Hello; end => 0 x; 0 0 5 72 0 0 5 5 x;
+- | begin 10; begin 10; give 3; depend 2; give 4; item 1; item 2 => 1 0; 2 1; 0; 0; 0; 7 10; 2 10;
+- | begin 10; begin -; final 1; final 2 => 1 0; 2 1; 1; 0;
+- | feed - 5 Helloworld; cut; find Hello/world; find world/Hello; find other/Hello => 0 0; 0 x; 2 x; 1 x; 0 x;
+put=0 | give 0 Hello; group => ClientError; 0 0 0 0 5;
+put=0 | feed 5 32 Hello; end; end => 0 0; ClientError; InvalidOperation(Finalized);";
 
 #[test]
 fn sessions(rt: HostRuntime) {
@@ -73,6 +79,25 @@ cut=4 put=0 | upload 13 skip 99 Hello, world!+3 skip 2,2 abc; end => ClientError
 #[test]
 fn uploads(rt: HostRuntime) {
     play_each(&rt, rt.alloc(), "", UPLOADS);
+}
+
+const FAILED_STORES: &str = "\
+call=0 | give 0 Hello; give 0 Hello => IOError x; 9 x;
+call=1 | give 0 Hello; end; end => 0 x; IOError x; InvalidOperation(Finalized) x;
+call=2 | give 0 Hello; end; end => 0 x; IOError x; InvalidOperation(Finalized) x;
+stage=1 staged=0 | give 0 one; give 0 one; give 0 two; end => IOError x; 9 x; 0 xx; 0 0 6 144 0 0 6 6 xxs;
+stage=2 staged=0 | give 0 one; give 0 two; give 0 three; end => 0 x; IOError xx; 0 xxx; 0 0 11 216 0 0 11 11 xxxs;
+cut=4 stage=1 staged=0 | feed - 5 Hello/, world!; end => 0 0 IOError x; 0 0 13 220 13 13 13 13 xs;
+stage=1 staged=0 | feed 5 32 Hello; end; end => 0 0; IOError x; InvalidOperation(Finalized) x;
+cached=0 | find Hello; feed 5 32 Hello; end => IOError; 0 0; 1 0 5 148 5 5 5 5 xs;
+known cached=0 | find Hello; find Hello => IOError; 1;
+cached=0 | give 0 Hello; end; end => 0 x; IOError xs; InvalidOperation(Finalized) xs;
+old resumed=0 | find Hello; find Hello; give 0 world; end => IOError; 1; 0 x; 0 0 5 72 0 0 5 5 xs;
+old resumed=0 | give 0 world; end; find Hello => 0 x; 0 0 5 72 0 0 5 5 xs; 1 xs;";
+
+#[test]
+fn a_failed_store_is_told(rt: HostRuntime) {
+    play_each(&rt, rt.alloc(), "", FAILED_STORES);
 }
 
 /// Three xorbs, the first of them twice, one without chunks, a cut, the end and a cut after it.

@@ -33,15 +33,23 @@ pub fn raw(alloc: Global, text: &str) -> Result<RawXorbData, OutOfMemory>
     Ok(raw)
 }
 
-/// Bytes of a file in the xorb of `Hello`.
-pub fn part(file_id: u64, n_bytes: u64, is_external: bool) -> FileXorbDependency {
+/// The hash of the xorb of a text.
+fn xorb_of(text: &str) -> MerkleHash {
+    if text.is_empty() {
+        return MerkleHash::xorb_hash(&[]);
+    }
     let chunk = ChunkInfo {
-        hash: MerkleHash::chunk_hash(b"Hello"),
-        length: 5,
+        hash: MerkleHash::chunk_hash(text.as_bytes()),
+        length: text.len() as u32,
     };
+    MerkleHash::xorb_hash([chunk].as_slice())
+}
+
+/// Bytes of a file in the xorb of a text.
+pub fn part(text: &str, file_id: u64, n_bytes: u64, is_external: bool) -> FileXorbDependency {
     FileXorbDependency {
         file_id,
-        xorb_hash: MerkleHash::xorb_hash([chunk].as_slice()),
+        xorb_hash: xorb_of(text),
         n_bytes,
         is_external,
     }

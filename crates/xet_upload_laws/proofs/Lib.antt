@@ -1,0 +1,11 @@
+mod Cuts
+mod Downloads
+mod Ends
+mod FileCounts
+mod Records
+mod SentContents
+mod Standing
+mod Steps
+mod Stores
+mod Takes
+mod Uploads

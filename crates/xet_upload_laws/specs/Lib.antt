@@ -1,0 +1,6 @@
+pub mod AllStand
+pub mod Downloads
+pub mod Laws
+pub mod RecordsStand
+pub mod Sending
+pub mod StoreAfter
