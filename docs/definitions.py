@@ -1,9 +1,9 @@
 #!/usr/bin/env python3
 """Prints docs/DEFINITIONS.md from the comments in specs: docs/definitions.py >docs/DEFINITIONS.md
 
-A section a crate in the order of crates.txt, a row a word. The meaning of a word is the comment above its definition;
-where a definition follows another one without a comment of its own, the comment of that one is about both, and where
-it is the first of a part of the file, the title of that part stands for it.
+A section a crate in the order of crates.txt. The meaning of a word is the comment above its definition; definitions
+that follow without a comment of their own share it, and its row. Where they are the first of a part of the file, the
+title of that part stands for it.
 Words of `specs/steps` are the crate's own and have none.
 """
 import re
@@ -13,9 +13,10 @@ TOP = Path(__file__).resolve().parent.parent
 DEFINES = re.compile(r"(?:(?:abbrev|unfoldable|opaque) pub|pub record) ([\w'-]+)")
 HEAD = """# Definitions
 
-The words that contracts cite, each with the file that defines it and the comment that stands above it there. The page
-is what `docs/definitions.py` prints, so a meaning is changed in specs. A section is a crate, in the order of the list
-of crates. Numbers in definitions have no upper bound; `a - b` is 0 where b is greater.
+The words that contracts cite, each with the file that defines it and the comment that stands above it there; words
+that share a comment have one row. The page is what `docs/definitions.py` prints, so a meaning is changed in specs. A
+section is a crate, in the order of the list of crates. Numbers in definitions have no upper bound; `a - b` is 0 where
+b is greater.
 """
 
 
@@ -25,20 +26,22 @@ def crates():
 
 
 def words(path):
-    """Each word that a file defines, with the word whose comment it shares, if any, and the comment."""
-    comment, owner, fresh = [], "", False
+    """The words that a file defines, those that share a comment together, with the comment."""
+    shared, comment, fresh = [], [], False
     for line in path.read_text().splitlines():
         if line.startswith("-- ---- "):
-            comment, owner, fresh = [f'under "{line[8:]}"'], "", False
+            yield shared, " ".join(comment)
+            shared, comment, fresh = [], [f'under "{line[8:]}"'], False
         elif line.startswith("-- "):
-            comment = comment + [line[3:]] if fresh else [line[3:]]
+            if not fresh:
+                yield shared, " ".join(comment)
+                shared, comment = [], []
+            comment.append(line[3:])
             fresh = True
-        elif found := DEFINES.match(line):
-            owner = found[1] if fresh else owner
-            yield found[1], owner if not fresh else "", " ".join(comment)
-            fresh = False
         elif line.strip():
+            shared += DEFINES.findall(line)
             fresh = False
+    yield shared, " ".join(comment)
 
 
 def rows(crate):
@@ -47,9 +50,11 @@ def rows(crate):
         file = path.relative_to(folder).with_suffix("").as_posix()
         if file.startswith("steps/"):
             continue
-        for word, owner, text in words(path):
-            text = (f"with `{owner}`: " if owner else "") + text.replace("|", "\\|")
-            yield f"| `{word}` | {file} | {text} |"
+        for shared, text in words(path):
+            if shared:
+                names = ", ".join(f"`{word}`" for word in shared)
+                text = text.replace("|", "\\|")
+                yield f"| {names} | {file} | {text} |"
 
 
 def main() -> None:
