@@ -40,7 +40,7 @@ fn xorb_of(text: &str) -> MerkleHash {
     }
     let chunk = ChunkInfo {
         hash: MerkleHash::chunk_hash(text.as_bytes()),
-        length: text.len() as u32,
+        length: text.len().min(u32::MAX as usize) as u32,
     };
     MerkleHash::xorb_hash([chunk].as_slice())
 }
