@@ -172,8 +172,9 @@ fn answered(
 /// in a session, which then ends. It answers the pointer record of the content, and the store after the session's log,
 /// which gives the content in each range.
 ///
-/// `Clash` only where two different contents have one hash, and never where the chunks fit one xorb. Each other error
-/// is one of `upload_files` or of `finalize`, or want of memory.
+/// Of chunks that don't fit one xorb it says of the store only what holds where equal hashes mean equal contents, of any
+/// choice of these chunks. `Clash` never comes where the chunks fit one xorb. Each other error has its cause in
+/// `upload_files` or `finalize`, which no clause says.
 ///
 /// It has no source in the Rust crates.
 pub fn send<I: Source + Drop, W: Wait>(
