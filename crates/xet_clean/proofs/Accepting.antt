@@ -26,8 +26,8 @@ use Rattle.xet_upload.specs.Waitings.{Waiting, no_waiting}
 use Rattle.xet_upload.specs.declared.data_error.DataError.{DataError}
 use Rattle.xet_upload.proofs.CallerLemmas.{later_resolved, resolved, same_bytes, stand-grown}
 use Rattle.xet_uploader.specs.Uploads.{xorbs_in}
-use Rattle.xet_session.specs.Calls.{Cut, EndsCut, EndsSo, EndsUncut, Finalizes, IsPut, as_finalized, finalized_error}
-use Rattle.xet_session.specs.Sessions.{SessionTold, Tells, log_of}
+use Rattle.xet_upload_session.specs.Calls.{Cut, EndsCut, EndsSo, EndsUncut, Finalizes, IsPut, as_finalized, finalized_error}
+use Rattle.xet_upload_session.specs.Sessions.{SessionTold, Tells, log_of}
 use Rattle.xet_clean_parts.specs.Learnings.{Learns}
 use Rattle.xet_clean_parts.proofs.CallerLemmas.{learns-sound, learns-tells}
 use Rattle.xet_clean.specs.Cleaners.{Cleaner, CleanerStands}

@@ -17,10 +17,10 @@ use Rattle.xet_upload.specs.declared.metrics.DeduplicationMetrics.{Deduplication
 use Rattle.xet_upload.specs.declared.sha256_policy.Sha256Policy.{Sha256Policy}
 use Rattle.xet_upload.specs.declared.sha256_policy.Sha256Policy.TheVariants.{Compute}
 use Rattle.xet_waiting.specs.declared.waiting.WaitingFile.{WaitingFile}
-use Rattle.xet_session.specs.Calls.{Backs, CountsSent, CutStopped, Keeps, finalized_error}
-use Rattle.xet_session.specs.Completions.{CutsFile, CutsWaiting, Joins, TakesFile, with_file_counts}
-use Rattle.xet_session.specs.Sessions.{HasListed, SessionTold, Tells, known_of, log_of, waiting_names}
-use Rattle.xet_session.proofs.CallerLemmas.{keeps-both, keeps-refl, ordered-grown}
+use Rattle.xet_upload_session.specs.Calls.{Backs, CountsSent, CutStopped, Keeps, finalized_error}
+use Rattle.xet_upload_session.specs.Completions.{CutsFile, CutsWaiting, Joins, TakesFile, with_file_counts}
+use Rattle.xet_upload_session.specs.Sessions.{HasListed, SessionTold, Tells, known_of, log_of, waiting_names}
+use Rattle.xet_upload_session.proofs.CallerLemmas.{keeps-both, keeps-refl, ordered-grown}
 use Rattle.xet_clean.specs.Cleaners.{Cleaner, CleanerStands, Completes, Counts, CountsChunks, CutsChunks, EndRefused, Finishes, IsFed, cleaned_file, unknown_xorb}
 use Rattle.xet_clean_parts.specs.Cleanings.{IsFirstUnlisted}
 use Rattle.xet_clean_parts.specs.Pointers.{pointer_to, recorded_sha256}

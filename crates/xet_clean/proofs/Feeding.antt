@@ -17,8 +17,8 @@ use Rattle.xet_upload.specs.declared.metrics.DeduplicationMetrics.{Deduplication
 use Rattle.xet_upload.specs.declared.data_error.DataError.{DataError}
 use Rattle.xet_upload.specs.declared.sha256_policy.Sha256Policy.TheVariants.{Compute}
 use Rattle.xet_upload.proofs.CallerLemmas.{parts-nil}
-use Rattle.xet_session.specs.Calls.{finalized_error}
-use Rattle.xet_session.specs.Sessions.{SessionTold, log_of}
+use Rattle.xet_upload_session.specs.Calls.{finalized_error}
+use Rattle.xet_upload_session.specs.Sessions.{SessionTold, log_of}
 use Rattle.xet_clean.specs.Cleaners.{AddsData, Cleaner, CleanerStands, CountsChunks, CutsChunks, Feeds, FeedsOnce, FeedsSo, IsFed, NextChunk, PassesTotal, TakesIn, chunk_counts, past_total}
 use Rattle.xet_clean_parts.specs.Cleanings.{AreNamed, ChunkFails, Cleans, Leaves}
 use Rattle.xet_clean_parts.specs.Made.{PutsMade, PutsSo, PutsSome}

@@ -15,9 +15,9 @@ use Rattle.xet_upload.specs.declared.data_error.DataError.{DataError}
 use Rattle.xet_upload.specs.declared.data_error.DataError.TheVariants as data_error
 use Rattle.xet_upload.specs.declared.sha256_policy.Sha256Policy.TheVariants.{Compute}
 use Rattle.xet_waiting.specs.declared.waiting.WaitingFile.{WaitingFile}
-use Rattle.xet_session.specs.Completions.{TakesFile}
-use Rattle.xet_session.specs.Sessions.{SessionTold}
-use Rattle.xet_session.specs.Trackings.{TracksFile}
+use Rattle.xet_upload_session.specs.Completions.{TakesFile}
+use Rattle.xet_upload_session.specs.Sessions.{SessionTold}
+use Rattle.xet_upload_session.specs.Trackings.{TracksFile}
 use Rattle.xet_clean.specs.Cleaners.{Cleaner, CleanerStands, CutsChunks, EndRefused, IsEndError, cleaned_file}
 use Rattle.xet_clean_parts.specs.Pointers.{recorded_sha256}
 use Rattle.xet_clean_parts.specs.Cleanings.{CleanFails}

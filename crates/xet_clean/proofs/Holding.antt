@@ -17,10 +17,10 @@ use Rattle.xet_upload.specs.declared.data_error.DataError.{DataError}
 use Rattle.xet_waiting.specs.declared.waiting.WaitingFile.{WaitingFile}
 use Rattle.xet_waiting.specs.declared.waiting.WaitingTerm.{WaitingTerm}
 use Rattle.xet_upload.proofs.CallerLemmas.{cut_stands, stand-before, stand-behind, stand-grown, stand-named}
-use Rattle.xet_session.specs.Calls.{Cut, CutPut, CutRepeated, CutStill, CutStopped, Keeps, waiting_hash, waiting_records}
-use Rattle.xet_session.specs.Completions.{CutsFile, CutsWaiting, Joins, TakesFile, with_waiting}
-use Rattle.xet_session.specs.Sessions.{SessionTold, Stands, Tells, log_of}
-use Rattle.xet_session.specs.Sounds.{IsSound}
+use Rattle.xet_upload_session.specs.Calls.{Cut, CutPut, CutRepeated, CutStill, CutStopped, Keeps, waiting_hash, waiting_records}
+use Rattle.xet_upload_session.specs.Completions.{CutsFile, CutsWaiting, Joins, TakesFile, with_waiting}
+use Rattle.xet_upload_session.specs.Sessions.{SessionTold, Stands, Tells, log_of}
+use Rattle.xet_upload_session.specs.Sounds.{IsSound}
 use Rattle.xet_clean_parts.specs.Premises.{HashesAgree, IsOpen, IsSteady, waiting_xorb}
 use Rattle.xet_clean.specs.Records.{CleanedFile, HasRecord, IsRecorded, WaitsFor}
 use Rattle.xet_clean_parts.proofs.CallerLemmas.{Contains-map, agree-again, agree-put, found-agrees, listed-stored, opened, world-grew}

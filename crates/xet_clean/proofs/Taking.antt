@@ -6,11 +6,11 @@ use Rattle.std.proofs.lemmas.List.{length-append}
 use Rattle.std.proofs.lemmas.List.Folds.{concat-append}
 use Rattle.xet_upload.specs.Waitings.{Waiting}
 use Rattle.xet_upload.specs.declared.data_error.DataError.{DataError}
-use Rattle.xet_session_parts.specs.Thresholds.{FitTogether}
-use Rattle.xet_session_parts.specs.declared.cut_thresholds.CutThresholds.{CutThresholds}
-use Rattle.xet_session.specs.Calls.{Cut, CutPut, CutStill, CutStopped}
-use Rattle.xet_session.specs.Completions.{CutsFile, CutsWaiting, Joins, TakesFile, with_waiting}
-use Rattle.xet_session.specs.Sessions.{SessionTold, Tells, log_of}
+use Rattle.xet_upload_parts.specs.Thresholds.{FitTogether}
+use Rattle.xet_upload_parts.specs.declared.cut_thresholds.CutThresholds.{CutThresholds}
+use Rattle.xet_upload_session.specs.Calls.{Cut, CutPut, CutStill, CutStopped}
+use Rattle.xet_upload_session.specs.Completions.{CutsFile, CutsWaiting, Joins, TakesFile, with_waiting}
+use Rattle.xet_upload_session.specs.Sessions.{SessionTold, Tells, log_of}
 use Rattle.xet_clean_parts.specs.Made.{IsPickedFrom, PutsMade, PutsNone, StayOne}
 use Rattle.xet_clean_parts.proofs.CallerLemmas.{made-cut, made-more, made-moved, made-still, picked-all, picked-behind, picked-bytes, picked-count, picked-front, picked-within}
 

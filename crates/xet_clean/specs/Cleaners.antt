@@ -19,9 +19,9 @@ use Rattle.xet_upload.specs.declared.data_error.DataError.TheVariants as data_er
 use Rattle.xet_upload.specs.declared.metrics.DeduplicationMetrics.{DeduplicationMetrics}
 use Rattle.xet_upload.specs.declared.sha256_policy.Sha256Policy.{Sha256Policy}
 use Rattle.xet_upload.specs.declared.sha256_policy.Sha256Policy.TheVariants.{Compute}
-use Rattle.xet_session.specs.Calls.{Backs, CountsSent, Keeps, Says, finalized_error}
-use Rattle.xet_session.specs.Completions.{with_file_counts}
-use Rattle.xet_session.specs.Sessions.{HasListed, SessionTold, Tells, log_of}
+use Rattle.xet_upload_session.specs.Calls.{Backs, CountsSent, Keeps, Says, finalized_error}
+use Rattle.xet_upload_session.specs.Completions.{with_file_counts}
+use Rattle.xet_upload_session.specs.Sessions.{HasListed, SessionTold, Tells, log_of}
 use Rattle.xet_clean_parts.specs.Cleanings.{AreNamed, ChunkFails, CleanFails, Cleans, Leaves, NoFault}
 use Rattle.xet_clean_parts.specs.FileCalls.{IsLate}
 use Rattle.xet_clean_parts.specs.Made.{CutInto, IsPickedFrom, PutsMade, PutsNone, PutsSo, PutsSome, StayOne}

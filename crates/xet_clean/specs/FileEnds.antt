@@ -6,10 +6,10 @@ use Rattle.xet_progress_state.specs.declared.step.TrackerStep.{TrackerStep}
 use Rattle.xet_upload.specs.Waitings.{Waiting}
 use Rattle.xet_upload.specs.declared.data_error.DataError.{DataError}
 use Rattle.xet_waiting.specs.declared.waiting.WaitingFile.{WaitingFile}
-use Rattle.xet_session.specs.Completions.{TakesFile}
+use Rattle.xet_upload_session.specs.Completions.{TakesFile}
 use Rattle.xet_clean_parts.specs.SessionCalls.{with_counts}
-use Rattle.xet_session.specs.Sessions.{SessionTold}
-use Rattle.xet_session.specs.Trackings.{TracksFile}
+use Rattle.xet_upload_session.specs.Sessions.{SessionTold}
+use Rattle.xet_upload_session.specs.Trackings.{TracksFile}
 use Rattle.xet_clean_parts.specs.FileCalls.{IsPartOf}
 use Rattle.xet_clean_parts.specs.Pointers.{recorded_sha256}
 use Rattle.xet_clean_parts.specs.SessionCalls.{Calls}

@@ -17,11 +17,11 @@ use Rattle.xet_progress_state.specs.declared.item.GroupProgressReport.{GroupProg
 use Rattle.xet_upload.specs.Standing.{ChunksAgree, IsRecordIn, world}
 use Rattle.xet_upload.specs.Waitings.{Waiting}
 use Rattle.xet_upload.specs.declared.metrics.DeduplicationMetrics.{DeduplicationMetrics}
-use Rattle.xet_session.specs.Calls.{Backs, Cut, Finalizes, Keeps, Queries, Registers}
-use Rattle.xet_session.specs.Completions.{TakesFile}
+use Rattle.xet_upload_session.specs.Calls.{Backs, Cut, Finalizes, Keeps, Queries, Registers}
+use Rattle.xet_upload_session.specs.Completions.{TakesFile}
 use Rattle.xet_clean_parts.specs.Learnings.{Learns, found_among}
-use Rattle.xet_session.specs.Sessions.{SessionTold, log_of}
-use Rattle.xet_session.specs.Sounds.{XorbsAgree}
+use Rattle.xet_upload_session.specs.Sessions.{SessionTold, log_of}
+use Rattle.xet_upload_session.specs.Sounds.{XorbsAgree}
 use Rattle.xet_upload.specs.declared.data_error.DataError.{DataError}
 use Rattle.xet_clean.specs.Cleaners.{Cleaner, CleanerStands}
 use Rattle.xet_clean_parts.specs.Cleanings.{Leaves}

@@ -11,7 +11,7 @@ use Rattle.xet_uploader.specs.declared.uploader.Put.TheVariants as put
 use Rattle.xet_upload.specs.Standing.{Stand, term_of, world}
 use Rattle.xet_upload.specs.Waitings.{Waiting}
 use Rattle.xet_waiting.specs.declared.waiting.WaitingFile.{WaitingFile}
-use Rattle.xet_session.specs.Sessions.{SessionTold, log_of}
+use Rattle.xet_upload_session.specs.Sessions.{SessionTold, log_of}
 
 -- a file that was cleaned: its hash, the SHA-256 that is recorded of it, and its bytes
 pub record CleanedFile : Type 0 where

@@ -3,9 +3,9 @@ ghost use Rattle.std.specs.Prelude.{◌≡◌, ◌+◌, ◌++◌, ◌∷◌, ◌
 ghost use Rattle.std.specs.Prelude.{OnErr, OnOk, false, length, true};
 ghost use Rattle.sha2.specs.Hashers.{Holds256};
 ghost use Rattle.xet_upload.specs.declared.sha256_policy.Sha256Policy.TheVariants.{Compute};
-ghost use Rattle.xet_session.specs.Sessions.{HasListed};
-ghost use Rattle.xet_session.specs.Telling.{KeepsGroup, told_by};
-ghost use Rattle.xet_session.specs.Trackings.{StartsFile};
+ghost use Rattle.xet_upload_session.specs.Sessions.{HasListed};
+ghost use Rattle.xet_upload_session.specs.Telling.{KeepsGroup, told_by};
+ghost use Rattle.xet_upload_session.specs.Trackings.{StartsFile};
 ghost use Rattle.xet_clean.specs.Cleaners.{AddsData, Completes, CountsChunks, CutsChunks, EndPasses, EndRefused};
 ghost use Rattle.xet_clean.specs.Cleaners.{FeedsSo, Finishes};
 ghost use Rattle.xet_clean.specs.Cleaners.{IsEndError, IsNewCleaner, IsOwnError, NextChunk, PassesTotal, TakesIn};
@@ -27,9 +27,9 @@ use std::sync::Wait;
 use xet_base::{Invalid, MerkleHash, OutOfMemory, UniqueID};
 use xet_clean_parts::{PendingBytes, add_chunk, first_unlisted, pointer_to, recorded_sha256};
 use xet_pointer::XetFileInfo;
-use xet_session::FileUploadSession;
 use xet_shards::ShardStore;
 use xet_upload::{Cutter, DataError, DeduplicationMetrics, FileParts, Sha256Policy, next_cut};
+use xet_upload_session::FileUploadSession;
 use xet_uploader::Uploader;
 
 /// A file on its way into a session: what was cut of it, and the bytes that wait to be cut.

@@ -26,10 +26,10 @@ use Rattle.xet_waiting.specs.declared.waiting.TermXorb.TheVariants.{Own, Stored}
 use Rattle.xet_waiting.specs.declared.waiting.WaitingFile.{WaitingFile}
 use Rattle.xet_waiting.specs.declared.waiting.WaitingTerm.{WaitingTerm}
 use Rattle.xet_upload.proofs.CallerLemmas.{parts-found, parts-own, parts_cut, stand-named}
-use Rattle.xet_session.specs.Calls.{Backs, CountsSent, Keeps, PutsFail, Refuses, Registers, WasPut, finalized_error, with_repeated}
-use Rattle.xet_session.specs.Sessions.{SessionTold, known_of, log_of, named_by}
-use Rattle.xet_session.specs.Sounds.{XorbsAgree, searched}
-use Rattle.xet_session.proofs.CallerLemmas.{backs-same, keeps-both, keeps-refl, ordered-grown, stores-later}
+use Rattle.xet_upload_session.specs.Calls.{Backs, CountsSent, Keeps, PutsFail, Refuses, Registers, WasPut, finalized_error, with_repeated}
+use Rattle.xet_upload_session.specs.Sessions.{SessionTold, known_of, log_of, named_by}
+use Rattle.xet_upload_session.specs.Sounds.{XorbsAgree, searched}
+use Rattle.xet_upload_session.proofs.CallerLemmas.{backs-same, keeps-both, keeps-refl, ordered-grown, stores-later}
 use Rattle.xet_clean_parts.specs.Cleanings.{AreNamed, ChunkFails, CleanFails, Cleans, FoundChunk, Leaves, TrackFails, term_names}
 use Rattle.xet_clean_parts.specs.Premises.{IsSteady}
 use Rattle.xet_clean_parts.proofs.Worlds.{opened}

@@ -16,10 +16,10 @@ use Rattle.xet_shard_interface.specs.Interfaces.{InterfaceTold, StoreFails, resu
 use Rattle.xet_upload.specs.DataErrors.{of_client_error}
 use Rattle.xet_upload.specs.declared.data_error.DataError.{DataError}
 use Rattle.xet_upload.specs.declared.data_error.DataError.TheVariants as data_error
-use Rattle.xet_session.specs.Calls.{PutsFail, Refuses, RegisterStopped, StoresFail, finalized_error, xorb_bytes}
-use Rattle.xet_session.specs.Sessions.{SessionTold}
-use Rattle.xet_session.specs.Trackings.{CountsPut, IsRefusal, Tracks, TracksXorb, all_xorb_calls, first_refusal, xorb_calls}
-use Rattle.xet_session_parts.specs.HashLists.{has}
+use Rattle.xet_upload_session.specs.Calls.{PutsFail, Refuses, RegisterStopped, StoresFail, finalized_error, xorb_bytes}
+use Rattle.xet_upload_session.specs.Sessions.{SessionTold}
+use Rattle.xet_upload_session.specs.Trackings.{CountsPut, IsRefusal, Tracks, TracksXorb, all_xorb_calls, first_refusal, xorb_calls}
+use Rattle.xet_upload_parts.specs.HashLists.{has}
 use Rattle.xet_clean_parts.specs.Cleanings.{CleanFails, TrackFails}
 use Rattle.xet_clean_parts.specs.FileCalls.{AreGiven, GrowsFirst, IsFor, IsLate, IsPartOf, RefusedOf, RefusesFor, TellsOf, growth}
 

@@ -13,9 +13,9 @@ use Rattle.xet_shards.proofs.CallerLemmas.{FoundAt, find_in-at}
 use Rattle.xet_shard_interface.specs.Interfaces.{InterfaceTold, SearchFails, SearchTells, StoreFails, found_in, noted, records_of, resumed_faults, resumed_records, resumed_xorbs, searched_resumed}
 use Rattle.xet_upload.specs.declared.data_error.DataError.{DataError}
 use Rattle.xet_upload.specs.declared.data_error.DataError.TheVariants as data_error
-use Rattle.xet_session.specs.Calls.{Backs, IsOnList, Queries}
-use Rattle.xet_session.specs.Sessions.{SessionTold, Tells, log_of}
-use Rattle.xet_session.specs.Sounds.{searched}
+use Rattle.xet_upload_session.specs.Calls.{Backs, IsOnList, Queries}
+use Rattle.xet_upload_session.specs.Sessions.{SessionTold, Tells, log_of}
+use Rattle.xet_upload_session.specs.Sounds.{searched}
 use Rattle.xet_clean_parts.specs.Cleanings.{ChunkFails, FoundChunk, IsAt, Leaves}
 use Rattle.xet_clean_parts.proofs.Cleaning.{counts-none}
 

@@ -20,20 +20,20 @@ use Rattle.xet_shard_interface.specs.Interfaces.{InterfaceTold, StoreFails, Stor
 use Rattle.xet_shard_interface.specs.Puts.{Answered, Learned, LearnedNothing, Unanswered, all_with_shards, with_shards}
 use Rattle.xet_shard_interface.proofs.CallerLemmas.{All-append_left, All-append_right}
 use Rattle.xet_base.specs.Store.{Store}
-use Rattle.xet_session_parts.specs.Storable.{IsStorable}
+use Rattle.xet_upload_parts.specs.Storable.{IsStorable}
 use Rattle.xet_upload.specs.Orders.{IsOrdered}
 use Rattle.xet_upload.specs.Waitings.{Waiting}
 use Rattle.xet_upload.specs.Standing.{IsRecordIn, world}
 use Rattle.xet_upload.specs.declared.data_error.DataError.{DataError}
 use Rattle.xet_upload.proofs.CallerLemmas.{backed-known, ordered-none}
-use Rattle.xet_session.specs.Calls.{Backs}
+use Rattle.xet_upload_session.specs.Calls.{Backs}
 use Rattle.xet_clean_parts.specs.Learnings.{AskedSome, Completes, Learns, Queried, QueriedAll, found_among}
-use Rattle.xet_session.specs.Sessions.{HasListed, SessionTold, Stands, Tells, known_of, log_of}
-use Rattle.xet_session.specs.Sounds.{IsSound, searched}
-use Rattle.xet_session.specs.Calls.{AsksFor}
-use Rattle.xet_session.proofs.CallerLemmas.{stands-at}
-use Rattle.xet_session.proofs.CallerLemmas.{backs-same}
-use Rattle.xet_session.proofs.CallerLemmas.{listed-more}
+use Rattle.xet_upload_session.specs.Sessions.{HasListed, SessionTold, Stands, Tells, known_of, log_of}
+use Rattle.xet_upload_session.specs.Sounds.{IsSound, searched}
+use Rattle.xet_upload_session.specs.Calls.{AsksFor}
+use Rattle.xet_upload_session.proofs.CallerLemmas.{stands-at}
+use Rattle.xet_upload_session.proofs.CallerLemmas.{backs-same}
+use Rattle.xet_upload_session.proofs.CallerLemmas.{listed-more}
 
 -- ---- one more
 

@@ -9,7 +9,7 @@ use Rattle.xet_base.specs.declared.merklehash.MerkleHash.{MerkleHash}
 use Rattle.xet_waiting.specs.declared.waiting.TermXorb.{TermXorb}
 use Rattle.xet_waiting.specs.declared.waiting.TermXorb.TheVariants.{Own, Stored}
 use Rattle.xet_waiting.specs.declared.waiting.WaitingTerm.{WaitingTerm}
-use Rattle.xet_session.specs.Sessions.{named_by}
+use Rattle.xet_upload_session.specs.Sessions.{named_by}
 use Rattle.xet_clean_parts.specs.Cleanings.{IsFirstUnlisted}
 use Rattle.xet_clean_parts.specs.Cleanings.{AreNamed, term_names}
 

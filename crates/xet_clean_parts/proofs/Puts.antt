@@ -12,11 +12,11 @@ use Rattle.xet_uploader.specs.declared.uploader.Put.TheVariants as put
 use Rattle.xet_upload.specs.DataErrors.{of_client_error}
 use Rattle.xet_upload.specs.Waitings.{IsWithin, xorb_of_chunks}
 use Rattle.xet_upload.specs.declared.data_error.DataError.{DataError}
-use Rattle.xet_session_parts.specs.Storable.{IsStorable}
-use Rattle.xet_session.specs.Calls.{Cut, Keeps, Registers, Says}
-use Rattle.xet_session.specs.Puts.{Puts, made_of}
-use Rattle.xet_session.specs.Sessions.{SessionTold, Tells, log_of}
-use Rattle.xet_session.proofs.CallerLemmas.{puts-cut, puts-registered}
+use Rattle.xet_upload_parts.specs.Storable.{IsStorable}
+use Rattle.xet_upload_session.specs.Calls.{Cut, Keeps, Registers, Says}
+use Rattle.xet_upload_session.specs.Puts.{Puts, made_of}
+use Rattle.xet_upload_session.specs.Sessions.{SessionTold, Tells, log_of}
+use Rattle.xet_upload_session.proofs.CallerLemmas.{puts-cut, puts-registered}
 use Rattle.xet_clean_parts.specs.Made.{IsMadeOf, IsPickedFrom, PutsMade, PutsNone, PutsSo, PutsSome}
 use Rattle.xet_clean_parts.proofs.Picked.{bytes-later, made-wider, picked-all, picked-both, picked-front, picked-later, picked-within}
 

@@ -5,9 +5,9 @@ use Rattle.xet_base.specs.declared.merklehash.MerkleHash.{MerkleHash}
 use Rattle.xet_base.specs.declared.mdb_shard.FileDataSequenceEntry.{FileDataSequenceEntry}
 use Rattle.xet_base.specs.declared.mdb_shard.Xorb.{Xorb}
 use Rattle.xet_upload.specs.declared.data_error.DataError.{DataError}
-use Rattle.xet_session.specs.Calls.{Keeps, Queries, Registers}
-use Rattle.xet_session.specs.Sessions.{SessionTold}
-use Rattle.xet_session.proofs.CallerLemmas.{keeps-both, keeps-refl}
+use Rattle.xet_upload_session.specs.Calls.{Keeps, Queries, Registers}
+use Rattle.xet_upload_session.specs.Sessions.{SessionTold}
+use Rattle.xet_upload_session.proofs.CallerLemmas.{keeps-both, keeps-refl}
 use Rattle.xet_clean_parts.specs.SessionCalls.{Calls, CallsAll, CallsOf, CallsOnce}
 
 module _ (Once : SessionTold → SessionTold → Type 0) where

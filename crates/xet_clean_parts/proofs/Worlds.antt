@@ -17,10 +17,10 @@ use Rattle.xet_uploader.proofs.CallerLemmas.{xorbs_in-append}
 use Rattle.xet_shard_interface.specs.Interfaces.{known_told, known_xorbs, records_of}
 use Rattle.xet_upload.specs.Orders.{IsThere}
 use Rattle.xet_upload.specs.Standing.{AgreeOn, AgreesWith, IsRecordIn, world}
-use Rattle.xet_session.specs.Calls.{Keeps}
-use Rattle.xet_session.specs.Sessions.{SessionTold, Stands, Tells, known_of, log_of}
-use Rattle.xet_session.specs.Sounds.{IsSound, XorbsAgree, searched}
-use Rattle.xet_session.proofs.CallerLemmas.{stored-of, unfailed}
+use Rattle.xet_upload_session.specs.Calls.{Keeps}
+use Rattle.xet_upload_session.specs.Sessions.{SessionTold, Stands, Tells, known_of, log_of}
+use Rattle.xet_upload_session.specs.Sounds.{IsSound, XorbsAgree, searched}
+use Rattle.xet_upload_session.proofs.CallerLemmas.{stored-of, unfailed}
 use Rattle.xet_clean_parts.specs.Premises.{HashesAgree, IsOpen, NoClash, with_xorbs}
 
 -- an answer is not both

@@ -13,9 +13,9 @@ use Rattle.xet_upload.specs.Standing.{world}
 use Rattle.xet_upload.specs.declared.data_error.DataError.{DataError}
 use Rattle.xet_upload.specs.declared.data_error.DataError.TheVariants as data_error
 use Rattle.xet_waiting.specs.declared.waiting.WaitingTerm.{WaitingTerm}
-use Rattle.xet_session.specs.Calls.{Backs, CountsSent, Keeps, PutsFail, finalized_error}
-use Rattle.xet_session.specs.Sessions.{HasListed, SessionTold, Tells, log_of, named_by}
-use Rattle.xet_session.specs.Sounds.{searched}
+use Rattle.xet_upload_session.specs.Calls.{Backs, CountsSent, Keeps, PutsFail, finalized_error}
+use Rattle.xet_upload_session.specs.Sessions.{HasListed, SessionTold, Tells, log_of, named_by}
+use Rattle.xet_upload_session.specs.Sounds.{searched}
 use Rattle.xet_clean_parts.specs.Made.{CutInto}
 use Rattle.xet_clean_parts.specs.Premises.{IsOpen, IsSteady, NoClash}
 

@@ -8,8 +8,8 @@ use Rattle.xet_progress_state.specs.declared.step.TrackerStep.TheVariants.{Regis
 use Rattle.xet_progress_state.specs.declared.step.TrackerStep.TheVariants.{RegisterXorbUploadCompletion}
 use Rattle.xet_upload.specs.declared.data_error.DataError.{DataError}
 use Rattle.xet_upload.specs.declared.data_error.DataError.TheVariants as data_error
-use Rattle.xet_session.specs.Calls.{finalized_error}
-use Rattle.xet_session.specs.Trackings.{first_refusal}
+use Rattle.xet_upload_session.specs.Calls.{finalized_error}
+use Rattle.xet_upload_session.specs.Trackings.{first_refusal}
 
 -- a call that tells what the file of this number has in xorbs, or of a xorb
 abbrev pub IsPartOf : ℕ → TrackerStep → Type 0

@@ -11,8 +11,8 @@ use Rattle.xet_uploader.specs.Uploads.{UploaderTold}
 use Rattle.xet_shard_interface.specs.Interfaces.{StoreFails}
 use Rattle.xet_shard_interface.specs.Puts.{Answered, Unanswered, all_with_shards}
 use Rattle.xet_upload.specs.declared.data_error.DataError.{DataError}
-use Rattle.xet_session.specs.Calls.{Backs, Registers}
-use Rattle.xet_session.specs.Sessions.{SessionTold}
+use Rattle.xet_upload_session.specs.Calls.{Backs, Registers}
+use Rattle.xet_upload_session.specs.Sessions.{SessionTold}
 
 -- the uploader was asked for these chunks in order, for each at most once, and for no other
 abbrev pub AskedSome : Option (List MerkleHash) → Option (List MerkleHash) → List MerkleHash → Type 0

@@ -7,9 +7,9 @@ use Rattle.xet_uploader.specs.declared.uploader.Put.TheVariants as put
 use Rattle.xet_upload.specs.FileDatas.{Parts}
 use Rattle.xet_upload.specs.Waitings.{IsWithin, xorb_of_chunks}
 use Rattle.xet_upload.specs.declared.data_error.DataError.{DataError}
-use Rattle.xet_session_parts.specs.Storable.{IsStorable}
-use Rattle.xet_session.specs.Calls.{Says}
-use Rattle.xet_session.specs.Sessions.{SessionTold, Tells, log_of}
+use Rattle.xet_upload_parts.specs.Storable.{IsStorable}
+use Rattle.xet_upload_session.specs.Calls.{Says}
+use Rattle.xet_upload_session.specs.Sessions.{SessionTold, Tells, log_of}
 
 -- the first list is the second, of which some elements may be left out
 abbrev pub IsPickedFrom : List (List ℕ) → List (List ℕ) → Type 0

@@ -4,8 +4,8 @@ use Rattle.xet_base.specs.declared.mdb_shard.Xorb.{Xorb}
 use Rattle.xet_base.specs.Store.{Store}
 use Rattle.xet_upload.specs.Standing.{AgreesWith, world}
 use Rattle.xet_upload.specs.Waitings.{xorb_of_chunks}
-use Rattle.xet_session.specs.Sessions.{HasListed, IsBackedSession, SessionTold, Tells, log_of}
-use Rattle.xet_session.specs.Sounds.{IsSound, XorbsAgree}
+use Rattle.xet_upload_session.specs.Sessions.{HasListed, IsBackedSession, SessionTold, Tells, log_of}
+use Rattle.xet_upload_session.specs.Sounds.{IsSound, XorbsAgree}
 
 -- uploader and stores tell, the session is backed, and over the known xorbs of k each record that is searched
 -- describes a xorb that is there

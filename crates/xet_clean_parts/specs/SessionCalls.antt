@@ -6,9 +6,9 @@ use Rattle.xet_base.specs.declared.mdb_shard.Xorb.{Xorb}
 use Rattle.xet_upload.specs.Waitings.{Waiting}
 use Rattle.xet_upload.specs.declared.data_error.DataError.{DataError}
 use Rattle.xet_upload.specs.declared.metrics.DeduplicationMetrics.{DeduplicationMetrics}
-use Rattle.xet_session.specs.Calls.{Queries, Registers}
-use Rattle.xet_session.specs.Completions.{TakesFile, with_file_counts}
-use Rattle.xet_session.specs.Sessions.{SessionTold}
+use Rattle.xet_upload_session.specs.Calls.{Queries, Registers}
+use Rattle.xet_upload_session.specs.Completions.{TakesFile, with_file_counts}
+use Rattle.xet_upload_session.specs.Sessions.{SessionTold}
 
 -- a search of the stores, or a xorb that is given at this moment
 abbrev pub CallsOnce : ℕ → SessionTold → SessionTold → Type 0

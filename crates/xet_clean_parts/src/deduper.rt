@@ -2,9 +2,9 @@
 ghost use Rattle.std.specs.Prelude.{◌≡◌, ◌++◌, ◌∷◌, ◌<◌, ◌≤◌, ℕ, [], IfErr, None, OnOk, length};
 ghost use Rattle.xet_base.specs.Digests.{info_of};
 ghost use Rattle.xet_upload.specs.Waitings.{IsWithin, no_waiting};
-ghost use Rattle.xet_session.specs.Calls.{Says};
-ghost use Rattle.xet_session.specs.Sessions.{Tells};
-ghost use Rattle.xet_session.specs.Telling.{KeepsGroup, told_by};
+ghost use Rattle.xet_upload_session.specs.Calls.{Says};
+ghost use Rattle.xet_upload_session.specs.Sessions.{Tells};
+ghost use Rattle.xet_upload_session.specs.Telling.{KeepsGroup, told_by};
 ghost use Rattle.xet_clean_parts.specs.Cleanings.{ChunkFails, Cleans, FoundChunk, Leaves, TrackFails};
 ghost use Rattle.xet_clean_parts.specs.FileCalls.{IsLate, IsPartOf, TellsOf};
 ghost use Rattle.xet_clean_parts.specs.Made.{PutsMade, PutsSo};
@@ -16,9 +16,9 @@ use std::alloc::Global;
 use std::sync::Wait;
 use xet_base::{ChunkInfo, FileDataSequenceEntry, MerkleHash};
 use xet_progress::FileXorbDependency;
-use xet_session::FileUploadSession;
 use xet_shards::ShardStore;
 use xet_upload::{DataError, FileParts};
+use xet_upload_session::FileUploadSession;
 use xet_uploader::Uploader;
 
 // The chunks of a file that wait become a xorb, which the session has then, unless none wait. The tracker is told that

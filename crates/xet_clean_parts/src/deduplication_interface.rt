@@ -4,20 +4,20 @@ ghost use Rattle.xet_base.specs.declared.merklehash.MerkleHash.{MerkleHash};
 ghost use Rattle.xet_base.specs.Records.{Describes};
 ghost use Rattle.xet_progress_state.specs.declared.step.TrackerStep.{TrackerStep};
 ghost use Rattle.xet_progress_state.specs.declared.step.TrackerStep.TheVariants.{RegisterDependencies};
-ghost use Rattle.xet_session.specs.Calls.{Backs, Queries, SearchesInOrder};
+ghost use Rattle.xet_upload_session.specs.Calls.{Backs, Queries, SearchesInOrder};
 ghost use Rattle.xet_clean_parts.specs.Learnings.{Completes, Learns, RegistersSo};
-ghost use Rattle.xet_session.specs.Sessions.{SessionTold};
-ghost use Rattle.xet_session.specs.Telling.{KeepsGroup, told_by};
-ghost use Rattle.xet_session.specs.Trackings.{Tracks, TracksXorb};
+ghost use Rattle.xet_upload_session.specs.Sessions.{SessionTold};
+ghost use Rattle.xet_upload_session.specs.Telling.{KeepsGroup, told_by};
+ghost use Rattle.xet_upload_session.specs.Trackings.{Tracks, TracksXorb};
 
 use std::alloc::Global;
 use std::mem;
 use std::sync::Wait;
 use xet_base::{FileDataSequenceEntry, MerkleHash};
 use xet_progress::FileXorbDependency;
-use xet_session::FileUploadSession;
 use xet_shards::ShardStore;
 use xet_upload::{DataError, RawXorbData};
+use xet_upload_session::FileUploadSession;
 use xet_uploader::Uploader;
 
 /// What the deduplication of a file asks for: searches for chunks, queries that are made later, and puts of xorbs.

@@ -1,13 +1,13 @@
 //! Whether a session knows the xorbs that the terms of a file name.
 ghost use Rattle.std.specs.Prelude.{◌≡◌, ◌∷◌, [], All, Contains, IfSome, None};
-ghost use Rattle.xet_session.specs.Sessions.{named_by};
+ghost use Rattle.xet_upload_session.specs.Sessions.{named_by};
 ghost use Rattle.xet_clean_parts.specs.Cleanings.{IsFirstUnlisted};
 ghost use Rattle.xet_clean_parts.specs.Cleanings.{AreNamed};
 
 use xet_base::MerkleHash;
-use xet_session::FileUploadSession;
 use xet_shards::ShardStore;
 use xet_upload::{FileParts, TermXorb, WaitingTerm};
+use xet_upload_session::FileUploadSession;
 use xet_uploader::Uploader;
 
 // The stored xorb that a term names, where it is not on the session's list.

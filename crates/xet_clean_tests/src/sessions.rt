@@ -4,9 +4,9 @@ use crate::xorbs::raw;
 use std::alloc::Global;
 use xet_base::{IdSource, List, OutOfMemory, ShardRecord};
 use xet_pointer::TranslatorConfig;
-use xet_session::{FileUploadSession, SessionStores};
 use xet_shards::{MemShards, ScriptShards, ShardStore};
 use xet_store::MemStore;
+use xet_upload_session::{FileUploadSession, SessionStores};
 use xet_uploader::MemUploader;
 
 /// A session over these.

@@ -4,8 +4,8 @@ use crate::settings::config;
 use std::alloc::Global;
 use std::test::Fail;
 use xet_base::{FileDataSequenceEntry, List, MDBFileInfo, MerkleHash, OutOfMemory};
-use xet_session::SessionShardInterface;
 use xet_shards::ScriptShards;
+use xet_upload_session::SessionShardInterface;
 use xet_uploader::MemUploader;
 
 /// The stores of such a session.

@@ -8,11 +8,11 @@ use Rattle.xet_progress_state.specs.Accepted.{refusal_of}
 use Rattle.xet_progress_state.specs.declared.step.TrackerStep.{TrackerStep}
 use Rattle.xet_progress_state.specs.declared.step.TrackerStep.TheVariants.{AssertComplete, IncrementFileSize, IsComplete, RegisterDependencies, RegisterNewFile, RegisterNewXorb, RegisterXorbUploadCompletion, RegisterXorbUploadProgress, RegisterXorbUploadProgressBackground, Status}
 use Rattle.xet_upload.specs.declared.data_error.DataError.{DataError}
-use Rattle.xet_session.specs.Calls.{Cut, CutPut, CutStill, CutStopped, waiting_hash}
-use Rattle.xet_session.specs.Completions.{CutsFile, CutsWaiting, Joins, with_waiting}
-use Rattle.xet_session.specs.Sessions.{SessionTold}
-use Rattle.xet_session_parts.specs.TrackerCalls.{CalledSome}
-use Rattle.xet_session.specs.Trackings.{CountsPut, TracksCut, cut_calls, own_parts}
+use Rattle.xet_upload_session.specs.Calls.{Cut, CutPut, CutStill, CutStopped, waiting_hash}
+use Rattle.xet_upload_session.specs.Completions.{CutsFile, CutsWaiting, Joins, with_waiting}
+use Rattle.xet_upload_session.specs.Sessions.{SessionTold}
+use Rattle.xet_upload_parts.specs.TrackerCalls.{CalledSome}
+use Rattle.xet_upload_session.specs.Trackings.{CountsPut, TracksCut, cut_calls, own_parts}
 use Rattle.xet_clean.specs.Cleaners.{Cleaner}
 use Rattle.xet_clean_parts.specs.FileCalls.{IsPartOf, IsXorbCall, RefusedOf, TellsOf}
 use Rattle.xet_clean.specs.FileEnds.{CutsAndTakes, EndsFile, IsSame, TookFile, unit_of}

@@ -6,8 +6,8 @@ use Rattle.xet_pointer.specs.declared.xet_file_info.XetFileInfo.{XetFileInfo}
 use Rattle.xet_progress_state.specs.declared.step.TrackerStep.{TrackerStep}
 use Rattle.xet_upload.specs.declared.data_error.DataError.{DataError}
 use Rattle.xet_upload.specs.declared.metrics.DeduplicationMetrics.{DeduplicationMetrics}
-use Rattle.xet_session.specs.Calls.{Backs, Keeps}
-use Rattle.xet_session.specs.Sessions.{HasListed, SessionTold}
+use Rattle.xet_upload_session.specs.Calls.{Backs, Keeps}
+use Rattle.xet_upload_session.specs.Sessions.{HasListed, SessionTold}
 use Rattle.xet_clean.specs.Cleaners.{Cleaner, Finishes, IsNewCleaner}
 use Rattle.xet_clean_parts.specs.SessionCalls.{Calls}
 use Rattle.xet_clean.specs.FileEnds.{CutsAndTakes, EndsFile, IsSame, TookFile, unit_of}

@@ -17,9 +17,9 @@ use Rattle.xet_outside.specs.Told.{SourceTold}
 use Rattle.xet_upload.specs.declared.data_error.DataError.{DataError}
 use Rattle.xet_upload.specs.declared.data_error.DataError.TheVariants as data_error
 use Rattle.xet_upload.specs.declared.metrics.DeduplicationMetrics.{DeduplicationMetrics}
-use Rattle.xet_session.specs.Calls.{finalized_error}
-use Rattle.xet_session.specs.Sessions.{HasListed, SessionTold}
-use Rattle.xet_session.specs.Trackings.{StartsFile, ids_used_up}
+use Rattle.xet_upload_session.specs.Calls.{finalized_error}
+use Rattle.xet_upload_session.specs.Sessions.{HasListed, SessionTold}
+use Rattle.xet_upload_session.specs.Trackings.{StartsFile, ids_used_up}
 use Rattle.xet_upload.specs.declared.sha256_policy.Sha256Policy.{Sha256Policy}
 use Rattle.xet_clean.specs.Cleaners.{Cleaner, Finishes, IsEndError, IsNewCleaner, IsOwnError, PassesTotal}
 use Rattle.xet_clean_parts.specs.Cleanings.{IsFirstUnlisted}

@@ -16,10 +16,10 @@ use Rattle.xet_upload.specs.Metrics.{no_counts}
 use Rattle.xet_upload.specs.Standing.{world}
 use Rattle.xet_upload.specs.declared.metrics.DeduplicationMetrics.{DeduplicationMetrics}
 use Rattle.xet_upload.specs.declared.data_error.DataError.{DataError}
-use Rattle.xet_session.specs.Calls.{Backs, Keeps, Says, finalized_error}
-use Rattle.xet_session.specs.Completions.{with_file_counts}
-use Rattle.xet_session.specs.Sessions.{HasListed, SessionTold, Tells, log_of}
-use Rattle.xet_session.proofs.CallerLemmas.{keeps-both, keeps-refl}
+use Rattle.xet_upload_session.specs.Calls.{Backs, Keeps, Says, finalized_error}
+use Rattle.xet_upload_session.specs.Completions.{with_file_counts}
+use Rattle.xet_upload_session.specs.Sessions.{HasListed, SessionTold, Tells, log_of}
+use Rattle.xet_upload_session.proofs.CallerLemmas.{keeps-both, keeps-refl}
 use Rattle.xet_clean_parts.specs.Made.{IsPickedFrom, PutsMade, PutsNone, StayOne}
 use Rattle.xet_clean_parts.specs.Places.{CutFile, Telling}
 use Rattle.xet_clean_parts.specs.Premises.{HashesAgree, IsOpen, IsSteady, NoClash}

@@ -26,11 +26,11 @@ use Rattle.xet_upload.specs.declared.data_error.DataError.{DataError}
 use Rattle.xet_upload.specs.declared.data_error.DataError.TheVariants as data_error
 use Rattle.xet_upload.specs.declared.metrics.DeduplicationMetrics.{DeduplicationMetrics}
 use Rattle.xet_upload.specs.declared.sha256_policy.Sha256Policy.{Sha256Policy}
-use Rattle.xet_session.specs.Calls.{CountsSent, Keeps, Says, finalized_error}
-use Rattle.xet_session.specs.Completions.{with_file_counts}
-use Rattle.xet_session.specs.Sessions.{HasListed, SessionTold, Tells, log_of}
-use Rattle.xet_session.specs.Trackings.{IsRefusal, StartsFile, first_refusal, ids_used_up}
-use Rattle.xet_session.proofs.CallerLemmas.{keeps-both, keeps-refl, stores-later}
+use Rattle.xet_upload_session.specs.Calls.{CountsSent, Keeps, Says, finalized_error}
+use Rattle.xet_upload_session.specs.Completions.{with_file_counts}
+use Rattle.xet_upload_session.specs.Sessions.{HasListed, SessionTold, Tells, log_of}
+use Rattle.xet_upload_session.specs.Trackings.{IsRefusal, StartsFile, first_refusal, ids_used_up}
+use Rattle.xet_upload_session.proofs.CallerLemmas.{keeps-both, keeps-refl, stores-later}
 use Rattle.xet_clean.specs.Cleaners.{Counts, CountsChunks, AddFails, AddsData, Cleaner, CleanerStands, Finishes, IsFed, IsNewCleaner, PassesTotal, total_of, unknown_xorb}
 use Rattle.xet_clean_parts.specs.Cleanings.{IsFirstUnlisted}
 use Rattle.xet_clean_parts.specs.Pointers.{pointer_to, recorded_sha256}

@@ -13,10 +13,10 @@ use Rattle.xet_upload.specs.declared.data_error.DataError.{DataError}
 use Rattle.xet_upload.specs.declared.data_error.DataError.TheVariants as data_error
 use Rattle.xet_upload.specs.declared.metrics.DeduplicationMetrics.{DeduplicationMetrics}
 use Rattle.xet_upload.specs.declared.sha256_policy.Sha256Policy.{Sha256Policy}
-use Rattle.xet_session.specs.Calls.{Backs, Keeps, Says, finalized_error}
-use Rattle.xet_session.specs.Completions.{with_file_counts}
-use Rattle.xet_session.specs.Sessions.{HasListed, SessionTold, Tells}
-use Rattle.xet_session.specs.Trackings.{ids_used_up}
+use Rattle.xet_upload_session.specs.Calls.{Backs, Keeps, Says, finalized_error}
+use Rattle.xet_upload_session.specs.Completions.{with_file_counts}
+use Rattle.xet_upload_session.specs.Sessions.{HasListed, SessionTold, Tells}
+use Rattle.xet_upload_session.specs.Trackings.{ids_used_up}
 use Rattle.xet_clean.specs.Cleaners.{Cleaner, CountsChunks, Feeds, IsNewCleaner}
 use Rattle.xet_clean_parts.specs.Pointers.{pointer_to, recorded_sha256}
 use Rattle.xet_clean.specs.Cleaners.{unknown_xorb}

@@ -1,8 +1,8 @@
 //! Files that are uploaded from their sources, one after another.
 ghost use Rattle.std.specs.Prelude.{◌≡◌, ◌+◌, ◌++◌, ◌∷◌, ◌<◌, [], None, OnOk, Some, length, map};
 ghost use Rattle.xet_progress_state.specs.Counts.{sizes};
-ghost use Rattle.xet_session.specs.Sessions.{HasListed};
-ghost use Rattle.xet_session.specs.Telling.{KeepsGroup, told_by};
+ghost use Rattle.xet_upload_session.specs.Sessions.{HasListed};
+ghost use Rattle.xet_upload_session.specs.Telling.{KeepsGroup, told_by};
 ghost use Rattle.xet_clean_parts.specs.FileCalls.{IsLate, IsUploadCall, IsXorbCall, TellsOf};
 ghost use Rattle.xet_clean_parts.specs.SessionCalls.{Calls, CallsOf, UploadsOnce};
 ghost use Rattle.xet_clean.specs.Showing.{cleaner_of};
@@ -16,9 +16,9 @@ use xet_base::{Invalid, List, Text};
 use xet_clean::{SingleFileCleaner, start_clean};
 use xet_outside::Source;
 use xet_pointer::XetFileInfo;
-use xet_session::FileUploadSession;
 use xet_shards::ShardStore;
 use xet_upload::{Cutter, DataError, Sha256Policy};
+use xet_upload_session::FileUploadSession;
 use xet_uploader::Uploader;
 
 /// A file to upload.

@@ -15,10 +15,10 @@ use Rattle.xet_shard_interface.specs.Interfaces.{records_of}
 use Rattle.xet_upload.specs.Standing.{AgreeOn, world}
 use Rattle.xet_upload.specs.Waitings.{Waiting, no_waiting, xorb_of_chunks}
 use Rattle.xet_upload.specs.declared.data_error.DataError.{DataError}
-use Rattle.xet_session_parts.specs.Storable.{IsStorable}
-use Rattle.xet_session.specs.Calls.{Cut, CutPut, CutRepeated, CutStill, CutStopped, Keeps, waiting_hash, waiting_records}
-use Rattle.xet_session.specs.Sessions.{SessionTold, Stands, Tells, log_of}
-use Rattle.xet_session.specs.Sounds.{IsSound}
+use Rattle.xet_upload_parts.specs.Storable.{IsStorable}
+use Rattle.xet_upload_session.specs.Calls.{Cut, CutPut, CutRepeated, CutStill, CutStopped, Keeps, waiting_hash, waiting_records}
+use Rattle.xet_upload_session.specs.Sessions.{SessionTold, Stands, Tells, log_of}
+use Rattle.xet_upload_session.specs.Sounds.{IsSound}
 use Rattle.xet_clean_parts.specs.Premises.{HashesAgree, waiting_xorb}
 use Rattle.xet_clean_parts.proofs.CallerLemmas.{found-agrees, listed-stored, world-grew, world-has}
 use Rattle.xet_upload_laws.specs.AllStand.{HoldsRecords}

@@ -22,7 +22,7 @@ use Rattle.xet_uploader.specs.Uploads.{xorbs_in}
 use Rattle.xet_uploader.proofs.CallerLemmas.{after_finds_files, after_finds_xorbs}
 use Rattle.xet_upload.specs.Standing.{StandsFor, world}
 use Rattle.xet_upload.proofs.CallerLemmas.{resolved}
-use Rattle.xet_session.specs.Sessions.{log_of}
+use Rattle.xet_upload_session.specs.Sessions.{log_of}
 use Rattle.xet_clean_parts.proofs.CallerLemmas.{Contains-cons, Contains-head, Contains-map}
 use Rattle.xet_clean.specs.Records.{CleanedFile, IsAccepted}
 use Rattle.xet_clean.proofs.CallerLemmas.{end-accepts}

@@ -17,8 +17,8 @@ use Rattle.xet_shard_interface.specs.Puts.{shards_of}
 use Rattle.xet_shard_interface.proofs.CallerLemmas.{All-append_left, All-append_right, files-in, files_of}
 use Rattle.xet_upload.specs.Standing.{world}
 use Rattle.xet_upload.specs.declared.data_error.DataError.{DataError}
-use Rattle.xet_session.specs.Calls.{Cut, EndsCut, EndsSo, EndsUncut, Finalizes, SomePut, Unadded, as_finalized, finished_records}
-use Rattle.xet_session.specs.Sessions.{SessionTold, Tells, log_of}
+use Rattle.xet_upload_session.specs.Calls.{Cut, EndsCut, EndsSo, EndsUncut, Finalizes, SomePut, Unadded, as_finalized, finished_records}
+use Rattle.xet_upload_session.specs.Sessions.{SessionTold, Tells, log_of}
 use Rattle.xet_clean_parts.specs.Premises.{HashesAgree, IsOpen, IsSteady, waiting_xorb}
 use Rattle.xet_upload_laws.specs.AllStand.{AllStand, HoldsRecords}
 use Rattle.xet_upload_laws.specs.RecordsStand.{AreRecords, IsRecord}

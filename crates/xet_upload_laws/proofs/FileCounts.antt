@@ -4,9 +4,9 @@ use Rattle.std.specs.Prelude.{Ok}
 use Rattle.std.proofs.lemmas.List.{length-append, length-map}
 use Rattle.xet_progress_state.specs.declared.step.TrackerStep.{TrackerStep}
 use Rattle.xet_upload.specs.Waitings.{Waiting, file_shifted, record_of_file}
-use Rattle.xet_session.specs.Calls.{waiting_hash}
-use Rattle.xet_session.specs.Completions.{CutsFile, CutsWaiting, Joins, TakesFile, with_waiting}
-use Rattle.xet_session.specs.Sessions.{SessionTold}
+use Rattle.xet_upload_session.specs.Calls.{waiting_hash}
+use Rattle.xet_upload_session.specs.Completions.{CutsFile, CutsWaiting, Joins, TakesFile, with_waiting}
+use Rattle.xet_upload_session.specs.Sessions.{SessionTold}
 use Rattle.xet_clean_parts.specs.SessionCalls.{Calls}
 use Rattle.xet_clean.specs.Cleaners.{Cleaner}
 use Rattle.xet_clean.specs.FileEnds.{EndsFile}

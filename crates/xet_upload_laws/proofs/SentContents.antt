@@ -31,9 +31,9 @@ use Rattle.xet_upload.specs.Standing.{IsRecordIn, world}
 use Rattle.xet_upload.specs.Waitings.{IsWithin, record_of_file}
 use Rattle.xet_upload.specs.declared.metrics.DeduplicationMetrics.{DeduplicationMetrics}
 use Rattle.xet_waiting.specs.Limits.{most_chunk_bytes}
-use Rattle.xet_session.specs.Calls.{Cut, CutPut, CutRepeated, CutStill, EndsSo, EndsUncut, Finalizes, as_finalized, finalized_error, waiting_hash, waiting_records}
-use Rattle.xet_session.specs.Sessions.{HasListed, SessionTold, Tells, log_of}
-use Rattle.xet_session.proofs.CallerLemmas.{new-backed}
+use Rattle.xet_upload_session.specs.Calls.{Cut, CutPut, CutRepeated, CutStill, EndsSo, EndsUncut, Finalizes, as_finalized, finalized_error, waiting_hash, waiting_records}
+use Rattle.xet_upload_session.specs.Sessions.{HasListed, SessionTold, Tells, log_of}
+use Rattle.xet_upload_session.proofs.CallerLemmas.{new-backed}
 use Rattle.xet_clean_parts.specs.Made.{IsMadeOf, IsPickedFrom, PutsMade}
 use Rattle.xet_clean_parts.specs.Places.{CutFile, Telling}
 use Rattle.xet_clean_parts.specs.Pointers.{pointer_to, recorded_sha256}

@@ -8,8 +8,8 @@ use Rattle.xet_uploader.specs.declared.uploader.Put.{Put}
 use Rattle.xet_shard_interface.proofs.CallerLemmas.{All-append_left, All-append_right}
 use Rattle.xet_upload.specs.Standing.{world}
 use Rattle.xet_upload.specs.declared.data_error.DataError.{DataError}
-use Rattle.xet_session.specs.Calls.{Keeps}
-use Rattle.xet_session.specs.Sessions.{SessionTold, log_of}
+use Rattle.xet_upload_session.specs.Calls.{Keeps}
+use Rattle.xet_upload_session.specs.Sessions.{SessionTold, log_of}
 use Rattle.xet_clean_parts.specs.Made.{PutsMade}
 use Rattle.xet_clean_parts.specs.Premises.{HashesAgree, IsOpen, IsSteady}
 use Rattle.xet_clean_parts.proofs.CallerLemmas.{opened}

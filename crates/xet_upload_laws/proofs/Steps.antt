@@ -13,8 +13,8 @@ use Rattle.xet_shard_interface.specs.Puts.{puts_of}
 use Rattle.xet_upload.specs.Standing.{world}
 use Rattle.xet_upload.specs.Waitings.{xorb_of_chunks}
 use Rattle.xet_upload.specs.declared.data_error.DataError.{DataError}
-use Rattle.xet_session.specs.Calls.{Keeps, RegisterStopped, Registers, WasPut}
-use Rattle.xet_session.specs.Sessions.{SessionTold, Tells, log_of}
+use Rattle.xet_upload_session.specs.Calls.{Keeps, RegisterStopped, Registers, WasPut}
+use Rattle.xet_upload_session.specs.Sessions.{SessionTold, Tells, log_of}
 use Rattle.xet_clean_parts.specs.Made.{IsMadeOf}
 use Rattle.xet_clean_parts.specs.Premises.{IsOpen, waiting_xorb}
 use Rattle.xet_clean_parts.proofs.CallerLemmas.{opened}

@@ -8,10 +8,10 @@ use Rattle.xet_uploader.specs.declared.uploader.Put.TheVariants as put
 use Rattle.xet_upload.specs.Standing.{world}
 use Rattle.xet_upload.specs.Waitings.{Waiting, merged, xorb_of_chunks}
 use Rattle.xet_upload.specs.declared.data_error.DataError.{DataError}
-use Rattle.xet_session_parts.specs.Storable.{IsStorable}
-use Rattle.xet_session.specs.Completions.{CutsFile, CutsWaiting, Joins, TakesFile, with_waiting}
-use Rattle.xet_session.specs.Sessions.{SessionTold, Stands, Tells, log_of}
-use Rattle.xet_session.specs.Sounds.{IsSound}
+use Rattle.xet_upload_parts.specs.Storable.{IsStorable}
+use Rattle.xet_upload_session.specs.Completions.{CutsFile, CutsWaiting, Joins, TakesFile, with_waiting}
+use Rattle.xet_upload_session.specs.Sessions.{SessionTold, Stands, Tells, log_of}
+use Rattle.xet_upload_session.specs.Sounds.{IsSound}
 use Rattle.xet_clean_parts.specs.Premises.{HashesAgree}
 use Rattle.xet_upload_laws.specs.AllStand.{HoldsRecords}
 use Rattle.xet_upload_laws.specs.RecordsStand.{AreWaiting}

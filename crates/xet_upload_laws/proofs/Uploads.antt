@@ -11,10 +11,10 @@ use Rattle.xet_upload.specs.Standing.{world}
 use Rattle.xet_upload.specs.Waitings.{Waiting}
 use Rattle.xet_upload.specs.declared.data_error.DataError.{DataError}
 use Rattle.xet_waiting.specs.declared.waiting.WaitingFile.{WaitingFile}
-use Rattle.xet_session_parts.specs.Storable.{IsStorable}
-use Rattle.xet_session.specs.Calls.{Backs, Keeps}
-use Rattle.xet_session.specs.Sessions.{IsListed, SessionTold, Tells, log_of}
-use Rattle.xet_session.proofs.CallerLemmas.{keeps-both, keeps-refl, unfailed}
+use Rattle.xet_upload_parts.specs.Storable.{IsStorable}
+use Rattle.xet_upload_session.specs.Calls.{Backs, Keeps}
+use Rattle.xet_upload_session.specs.Sessions.{IsListed, SessionTold, Tells, log_of}
+use Rattle.xet_upload_session.proofs.CallerLemmas.{keeps-both, keeps-refl, unfailed}
 use Rattle.xet_clean_parts.specs.Premises.{HashesAgree, IsOpen, IsSteady, NoClash}
 use Rattle.xet_clean_parts.specs.SessionCalls.{Calls, CallsAll, CallsOnce, with_counts}
 use Rattle.xet_clean_parts.proofs.CallerLemmas.{agree-alone, opened, world-has}

@@ -4,7 +4,7 @@ use Rattle.xet_base.specs.Store.{Store}
 use Rattle.xet_uploader.specs.StoresAfter.{files_in}
 use Rattle.xet_shard_interface.specs.Interfaces.{records_of}
 use Rattle.xet_upload.specs.Standing.{world}
-use Rattle.xet_session.specs.Sessions.{SessionTold, log_of}
+use Rattle.xet_upload_session.specs.Sessions.{SessionTold, log_of}
 use Rattle.xet_clean_parts.specs.Premises.{IsOpen}
 use Rattle.xet_upload_laws.specs.RecordsStand.{AreRecords, AreWaiting}
 use Rattle.xet_upload_laws.specs.StoreAfter.{HasStore}

@@ -10,8 +10,8 @@ use Rattle.xet_uploader.specs.declared.uploader.Put.{Put}
 use Rattle.xet_uploader.specs.StoresAfter.{files_in, store_after}
 use Rattle.xet_upload.specs.Standing.{chunks_at, term_of, world}
 use Rattle.xet_upload.specs.declared.metrics.DeduplicationMetrics.{DeduplicationMetrics}
-use Rattle.xet_session.specs.Calls.{Finalizes}
-use Rattle.xet_session.specs.Sessions.{SessionTold, log_of}
+use Rattle.xet_upload_session.specs.Calls.{Finalizes}
+use Rattle.xet_upload_session.specs.Sessions.{SessionTold, log_of}
 use Rattle.xet_clean_parts.specs.Premises.{HashesAgree, IsSteady}
 use Rattle.xet_clean.specs.Records.{CleanedFile, HasRecord}
 use Rattle.xet_upload_laws.specs.AllStand.{AllStand}

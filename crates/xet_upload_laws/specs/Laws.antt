@@ -18,10 +18,10 @@ use Rattle.xet_upload.specs.Standing.{AgreesWith, world}
 use Rattle.xet_upload.specs.Waitings.{Waiting}
 use Rattle.xet_upload.specs.declared.data_error.DataError.{DataError}
 use Rattle.xet_upload.specs.declared.metrics.DeduplicationMetrics.{DeduplicationMetrics}
-use Rattle.xet_session_parts.specs.declared.cut_thresholds.CutThresholds.{CutThresholds}
-use Rattle.xet_session.specs.Calls.{Cut, Finalizes, Queries, Registers, new_session}
-use Rattle.xet_session.specs.Completions.{TakesFile}
-use Rattle.xet_session.specs.Sessions.{SessionTold, log_of}
+use Rattle.xet_upload_parts.specs.declared.cut_thresholds.CutThresholds.{CutThresholds}
+use Rattle.xet_upload_session.specs.Calls.{Cut, Finalizes, Queries, Registers, new_session}
+use Rattle.xet_upload_session.specs.Completions.{TakesFile}
+use Rattle.xet_upload_session.specs.Sessions.{SessionTold, log_of}
 use Rattle.xet_clean_parts.specs.Learnings.{Learns}
 use Rattle.xet_clean_parts.specs.Premises.{HashesAgree, IsSteady}
 use Rattle.xet_clean.specs.Cleaners.{AddsData, Cleaner, CleanerStands, Finishes}

@@ -15,9 +15,9 @@ use Rattle.xet_upload.specs.Waitings.{IsWithin, xorb_of_chunks}
 use Rattle.xet_upload.specs.declared.metrics.DeduplicationMetrics.{DeduplicationMetrics}
 use Rattle.xet_upload.specs.declared.sha256_policy.Sha256Policy.TheVariants.{Skip}
 use Rattle.xet_waiting.specs.Limits.{most_xorb_bytes, most_xorb_chunks}
-use Rattle.xet_session.specs.Calls.{Finalizes, new_session}
-use Rattle.xet_session.specs.Sessions.{SessionTold, log_of}
-use Rattle.xet_session.specs.Sounds.{XorbsAgree}
+use Rattle.xet_upload_session.specs.Calls.{Finalizes, new_session}
+use Rattle.xet_upload_session.specs.Sessions.{SessionTold, log_of}
+use Rattle.xet_upload_session.specs.Sounds.{XorbsAgree}
 use Rattle.xet_clean_parts.specs.Made.{IsPickedFrom}
 use Rattle.xet_clean_parts.specs.Places.{IsInChunks, fixed_telling}
 use Rattle.xet_clean_parts.specs.Pointers.{pointer_to}

@@ -1,6 +1,6 @@
 //! One content is sent to a store in memory.
 ghost use Rattle.std.specs.Prelude.{◌≡◌, ◌<◌, ◌≤◌, [], ◌∷◌, Err, IfOk, None, Ok, Some, length, map};
-ghost use Rattle.xet_session.specs.Telling.{told_by};
+ghost use Rattle.xet_upload_session.specs.Telling.{told_by};
 ghost use Rattle.xet_pointer.specs.declared.xet_file_info.XetFileInfo.{XetFileInfo};
 ghost use Rattle.xet_upload_files.specs.UploadTelling.{file_told};
 ghost use Rattle.xet_upload_laws.specs.Sending.{Clashes, HasAfter, Sends, UploadsAll, UploadsOne, content_file};
@@ -13,11 +13,11 @@ use std::sync::Wait;
 use xet_base::{IdSource, List, OutOfMemory, Text};
 use xet_outside::Source;
 use xet_pointer::{SessionContext, TranslatorConfig, XetFileInfo};
-use xet_session::{FileUploadSession, SessionStores};
 use xet_shards::{MemShards, ShardStore};
 use xet_store::MemStore;
 use xet_upload::{Cutter, DataError, FixedCutter, Sha256Policy};
 use xet_upload_files::{UploadFile, upload_files};
+use xet_upload_session::{FileUploadSession, SessionStores};
 use xet_uploader::{MemUploader, Uploader};
 
 /// A content that was sent.

@@ -10,8 +10,8 @@ use Rattle.xet_pointer.specs.declared.xet_file_info.XetFileInfo.{XetFileInfo}
 use Rattle.xet_upload.specs.Metrics.{no_counts}
 use Rattle.xet_upload.specs.declared.data_error.DataError.{DataError}
 use Rattle.xet_upload.specs.declared.metrics.DeduplicationMetrics.{DeduplicationMetrics}
-use Rattle.xet_session.specs.Calls.{Backs, CountsSent, Keeps, Says}
-use Rattle.xet_session.specs.Sessions.{HasListed, SessionTold, Tells}
+use Rattle.xet_upload_session.specs.Calls.{Backs, CountsSent, Keeps, Says}
+use Rattle.xet_upload_session.specs.Sessions.{HasListed, SessionTold, Tells}
 use Rattle.xet_clean.specs.Cleaners.{Cleaner, Counts, CountsChunks, Feeds}
 use Rattle.xet_clean_parts.specs.Cleanings.{ChunkFails, Leaves}
 use Rattle.xet_clean_parts.specs.Made.{IsPickedFrom, PutsMade, PutsNone, PutsSome, StayOne}

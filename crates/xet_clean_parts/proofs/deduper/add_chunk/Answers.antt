@@ -1,6 +1,6 @@
 use Rattle.std.proofs.Common.{false, ◌≡◌}
 use Rattle.std.specs.Prelude.{Err, Ok}
-use Rattle.xet_session.specs.Telling.{told_by}
+use Rattle.xet_upload_session.specs.Telling.{told_by}
 use Rattle.xet_base.proofs.CallerLemmas.{err-of}
 use Rattle.xet_clean_parts.proofs.Cleaning.{chunk-later, found-adds, leaves-both, new-adds}
 use Rattle.xet_clean_parts.proofs.SessionCalls.{calls-both, group-both}

@@ -1,7 +1,7 @@
 use Rattle.std.proofs.Common.{refl, ◌≡◌}
 use Rattle.std.specs.Prelude.{Err}
 use Rattle.xet_upload.specs.declared.data_error.DataError.TheVariants as data_error
-use Rattle.xet_session.specs.Telling.{told_by}
+use Rattle.xet_upload_session.specs.Telling.{told_by}
 use Rattle.xet_base.proofs.CallerLemmas.{err-of}
 use Rattle.xet_clean_parts.proofs.Cleaning.{chunk-memory, more-cleans}
 use Rattle.xet_clean_parts.proofs.Puts.{so-any}

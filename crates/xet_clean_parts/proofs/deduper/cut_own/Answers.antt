@@ -2,7 +2,7 @@ use Rattle.std.proofs.Common.{refl, ap, ◌≡◌}
 use Rattle.std.specs.Prelude.{Err}
 use Rattle.xet_upload.specs.FileDatas.{Parts}
 use Rattle.xet_upload.specs.declared.data_error.DataError.TheVariants as data_error
-use Rattle.xet_session.specs.Telling.{told_by}
+use Rattle.xet_upload_session.specs.Telling.{told_by}
 use Rattle.xet_base.proofs.CallerLemmas.{err-of}
 use Rattle.xet_clean_parts.proofs.Cleaning.{chunk-memory, cut-cleans, leaves-refl, no-own, registers-fails, registers-leaves, some-own, still-cleans}
 use Rattle.xet_clean_parts.proofs.Puts.{made-registered, made-still, says-err, says-none}

@@ -1,6 +1,6 @@
 use Rattle.std.proofs.Common.{◌≡◌}
 use Rattle.std.specs.Prelude.{Err, Ok}
-use Rattle.xet_session.specs.Telling.{told_by}
+use Rattle.xet_upload_session.specs.Telling.{told_by}
 use Rattle.xet_base.proofs.CallerLemmas.{err-of}
 use Rattle.xet_clean_parts.proofs.Cleaning.{chunk-tracks, leaves-both, leaves-refl}
 use Rattle.xet_clean_parts.proofs.SessionCalls.{calls-search, calls-told, group-both}

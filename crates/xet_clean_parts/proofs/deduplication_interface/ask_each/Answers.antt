@@ -2,7 +2,7 @@ use Rattle.std.proofs.Common.{refl, ◌≡◌, ◌∙◌}
 use Rattle.std.specs.Prelude.{Err, Ok}
 use Rattle.xet_base.proofs.CallerLemmas.{err-of}
 use Rattle.xet_clean_parts.proofs.Learned.{backs-learned, learn-none, learned-all, loop-no, loop-stopped, loop-yes}
-use Rattle.xet_session.proofs.CallerLemmas.{has-listed}
+use Rattle.xet_upload_session.proofs.CallerLemmas.{has-listed}
 use Rattle.xet_clean_parts.proofs.deduplication_interface.ask_each.Goals as goal
 use Rattle.xet_clean_parts.proofs.deduplication_interface.ask_each.Goals.{else-branch, then-branch}
 

@@ -1,6 +1,6 @@
 use Rattle.std.proofs.Common.{◌≡◌, ◌+◌, ℕ, List, length}
 use Rattle.std.specs.Prelude.{Ok}
-use Rattle.xet_session.specs.Telling.{KeepsGroup, told_by}
+use Rattle.xet_upload_session.specs.Telling.{KeepsGroup, told_by}
 use Rattle.xet_clean_parts.specs.FileCalls.{IsLate, IsXorbCall, TellsOf}
 use Rattle.xet_clean_parts.specs.SessionCalls.{Calls}
 use Rattle.xet_clean.specs.Showing.{cleaner_of}

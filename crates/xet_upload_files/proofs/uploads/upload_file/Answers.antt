@@ -1,6 +1,6 @@
 use Rattle.std.proofs.Common.{refl, ap, inl, inr, sym, ◌≡◌, ◌∙◌}
 use Rattle.std.specs.Prelude.{Err, Ok}
-use Rattle.xet_session.specs.Sessions.{SessionTold}
+use Rattle.xet_upload_session.specs.Sessions.{SessionTold}
 use Rattle.xet_base.proofs.CallerLemmas.{err-of}
 use Rattle.xet_clean_parts.proofs.CallerLemmas.{tells-both, tells-err, tells-ok, tells-own, tells-wider}
 use Rattle.xet_upload_files.proofs.UploadAlone.{alone-ended, alone-from, alone-stopped}

@@ -3,7 +3,7 @@ use Rattle.std.specs.Prelude.{Err}
 use Rattle.std.proofs.lemmas.List.{length-map}
 use Rattle.std.proofs.lemmas.Result.{err_from_is_err_and}
 use Rattle.xet_progress_state.specs.Counts.{sizes}
-use Rattle.xet_session.specs.Telling.{told_by}
+use Rattle.xet_upload_session.specs.Telling.{told_by}
 use Rattle.xet_upload_files.specs.UploadTelling.{file_told}
 use Rattle.xet_upload_files.specs.Uploads.{FileTold, Upload, fixed_sizes}
 use Rattle.xet_upload_files.specs.declared.uploads.UploadFile.{UploadFile}

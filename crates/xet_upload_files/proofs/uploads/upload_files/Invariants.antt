@@ -1,7 +1,7 @@
 use Rattle.std.proofs.Common.{◌≡◌, ◌+◌, ◌++◌, ◌≤◌, List, length, map}
 use Rattle.std.specs.Prelude.{Ok, vec_capacity, vec_len}
 use Rattle.xet_progress_state.specs.Counts.{sizes}
-use Rattle.xet_session.specs.Telling.{told_by}
+use Rattle.xet_upload_session.specs.Telling.{told_by}
 use Rattle.xet_clean_parts.specs.FileCalls.{IsUploadCall, TellsOf}
 use Rattle.xet_clean_parts.specs.SessionCalls.{CallsOf, UploadsOnce}
 use Rattle.xet_upload_files.specs.UploadTelling.{file_told}

@@ -1,6 +1,6 @@
 use Rattle.std.proofs.Common.{refl, rules, ap, true, false, ◌≡◌, ◌∙◌}
 use Rattle.std.specs.Prelude.{Ok}
-use Rattle.xet_session.specs.Telling.{told_by}
+use Rattle.xet_upload_session.specs.Telling.{told_by}
 use Rattle.xet_clean.specs.Cleaners.{Cleaner}
 use Rattle.xet_clean_parts.proofs.CallerLemmas.{chunk-later, leaves-both, leaves-refl}
 use Rattle.xet_clean_parts.proofs.CallerLemmas.{calls-both, calls-none, group-both}

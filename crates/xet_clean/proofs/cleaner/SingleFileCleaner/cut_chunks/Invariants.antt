@@ -1,6 +1,6 @@
 use Rattle.std.proofs.Common.{◌≡◌, length}
 use Rattle.std.specs.Prelude.{Ok}
-use Rattle.xet_session.specs.Telling.{KeepsGroup, told_by}
+use Rattle.xet_upload_session.specs.Telling.{KeepsGroup, told_by}
 use Rattle.xet_clean.specs.Cleaners.{CutsChunks}
 use Rattle.xet_clean_parts.specs.Cleanings.{Leaves}
 use Rattle.xet_clean_parts.specs.FileCalls.{IsLate, IsPartOf, TellsOf}

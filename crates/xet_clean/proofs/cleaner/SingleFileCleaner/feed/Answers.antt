@@ -1,8 +1,8 @@
 use Rattle.std.proofs.Common.{refl, ap, inl, inr, sym, ◌≡◌, ◌∙◌}
 use Rattle.std.specs.Prelude.{Err}
 use Rattle.xet_upload.specs.declared.data_error.DataError.TheVariants as data_error
-use Rattle.xet_session.specs.Sessions.{SessionTold}
-use Rattle.xet_session.specs.Telling.{told_by}
+use Rattle.xet_upload_session.specs.Sessions.{SessionTold}
+use Rattle.xet_upload_session.specs.Telling.{told_by}
 use Rattle.xet_clean.specs.Cleaners.{Cleaner}
 use Rattle.xet_base.proofs.CallerLemmas.{err-of}
 use Rattle.xet_clean_parts.proofs.CallerLemmas.{chunk-memory, chunk-tracks, leaves-refl, some-still}

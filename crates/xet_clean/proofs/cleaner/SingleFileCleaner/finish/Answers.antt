@@ -1,6 +1,6 @@
 use Rattle.std.proofs.Common.{refl, inl, ◌≡◌}
 use Rattle.std.specs.Prelude.{Err}
-use Rattle.xet_session.specs.Telling.{told_by}
+use Rattle.xet_upload_session.specs.Telling.{told_by}
 use Rattle.xet_clean.specs.Showing.{cleaner_of}
 use Rattle.xet_base.proofs.CallerLemmas.{err-of}
 use Rattle.xet_clean.proofs.Completing.{finishes-complete, finishes-refused, finishes-uncut}

@@ -1,7 +1,7 @@
 use Rattle.std.proofs.Common.{refl, rules, sym, ◌∙◌, ◌≡◌}
 use Rattle.std.specs.Prelude.{[]}
 use Rattle.xet_clean_parts.proofs.Learned.{completes-off, completes-on}
-use Rattle.xet_session.proofs.CallerLemmas.{has-listed}
+use Rattle.xet_upload_session.proofs.CallerLemmas.{has-listed}
 use Rattle.xet_clean_parts.proofs.deduplication_interface.UploadSessionDataManagerDeduplicationDataInterface.complete_global_dedup_queries.Goals as goal
 
 pub returns-then-not-asks_queries-clause-call : goal.returns-then-not-asks_queries-clause-call

@@ -1,4 +1,4 @@
-use Rattle.xet_session.proofs.CallerLemmas.{told-err, told-ok}
+use Rattle.xet_upload_session.proofs.CallerLemmas.{told-err, told-ok}
 use Rattle.xet_clean_parts.proofs.deduplication_interface.UploadSessionDataManagerDeduplicationDataInterface.register_new_xorb.Goals as goal
 
 pub returns-in-Ok-clause-tracks : goal.returns-in-Ok-clause-tracks

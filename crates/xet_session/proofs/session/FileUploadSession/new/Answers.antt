@@ -1,6 +1,0 @@
-use Rattle.xet_session.specs.Telling.{told_by}
-use Rattle.xet_session.proofs.Ends.{made-backed}
-use Rattle.xet_session.proofs.session.FileUploadSession.new.Goals as goal
-
-pub returns-clause-backed : goal.returns-clause-backed
-returns-clause-backed g c = made-backed (told_by g.U.Uploader.told g.R.ShardStore.told) _ _ _ _ _ _ c.new-shards.ensures c.over.ensures.told

@@ -1,9 +1,0 @@
-//! An upload session: what waits, what was put, and the records of both.
-#![tactic(auto)]
-
-mod file_completion;
-pub mod session;
-
-pub use session::FileUploadSession;
-pub use xet_session_parts::CutThresholds;
-pub use xet_shard_interface::{SessionShardInterface, SessionStores};

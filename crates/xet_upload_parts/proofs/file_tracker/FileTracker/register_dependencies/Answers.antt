@@ -1,0 +1,8 @@
+use Rattle.xet_upload_parts.proofs.Tracked.{tracks-none, tracks-one}
+use Rattle.xet_upload_parts.proofs.file_tracker.FileTracker.register_dependencies.Goals as goal
+
+pub returns-in-Ok : goal.returns-in-Ok
+returns-in-Ok g c = tracks-one _ _ _ _ _ _ (rw c.in-Ok.is at c.depend.ensures)
+
+pub returns-in-Err : goal.returns-in-Err
+returns-in-Err g c = rw c.from.ensures (tracks-none _ _ _ _ _ (rw c.in-Err.is at c.depend.ensures))
