@@ -1,37 +1,29 @@
 -- Records of a session that ended are in its log, and a download gives their files.
-use Rattle.std.proofs.Common.{◌≡◌, ℕ, zero, suc, ◌<◌, ◌⊎◌, inl, inr, Bool, true, false, cond, List, [], ◌∷◌, ◌++◌, map, refl, sym, ◌∙◌, ap, subst, arith}
-use Rattle.std.specs.Prelude.{All, Contains, IsSome, None, Some, Result, Ok, find, is_some, Option, option_map, slice_index_or, slice_range, unwrap_or}
-use Rattle.std.specs.List.{concat, flat_map}
-use Rattle.std.specs.Option.{option_or}
-use Rattle.std.proofs.lemmas.Bool.{false≢true}
-use Rattle.std.proofs.lemmas.List.Elements.{All-head, All-tail, Contains-append_cases, Contains-append_left, Contains-append_right}
+use Rattle.std.proofs.Common.{◌≡◌, ℕ, ◌⊎◌, inl, inr, Bool, true, false, List, [], ◌++◌, map, refl, sym, ◌∙◌, ap, subst}
+use Rattle.std.specs.Prelude.{Contains, None, Some, Result, Ok, Option, slice_range, unwrap_or}
+use Rattle.std.proofs.lemmas.List.Elements.{Contains-append_cases, Contains-append_left, Contains-append_right}
 use Rattle.xet_base.specs.declared.mdb_shard.MDBFileInfo.{MDBFileInfo}
 use Rattle.xet_base.specs.declared.mdb_shard.Xorb.{Xorb}
 use Rattle.xet_base.specs.declared.merklehash.MerkleHash.{MerkleHash}
-use Rattle.xet_base.specs.Hashes.{hash_eq}
-use Rattle.xet_base.specs.declared.stored.StoredFile.{StoredFile}
-use Rattle.xet_base.specs.declared.stored.StoredTerm.{StoredTerm}
-use Rattle.xet_base.specs.Store.{IsTermIn, Store, bytes_of, chunks_of_file, chunks_of_term, file_of, terms_of_file, xorb_of}
-use Rattle.xet_base.proofs.CallerLemmas.{hash_eq-true}
+use Rattle.xet_base.specs.Store.{Store, bytes_of, file_of}
 use Rattle.xet_outside.specs.declared.client.ClientError.{ClientError}
 use Rattle.xet_upload.specs.DataErrors.{of_client_error}
 use Rattle.xet_uploader.specs.declared.uploader.Put.{Put}
 use Rattle.xet_uploader.specs.declared.uploader.Put.TheVariants as put
-use Rattle.xet_uploader.specs.StoresAfter.{file_of_record, files_in, store_after}
-use Rattle.xet_uploader.proofs.CallerLemmas.{after_finds_files, after_finds_xorbs}
+use Rattle.xet_uploader.specs.StoresAfter.{file_of_record}
 use Rattle.xet_shard_interface.specs.declared.shard_interface.ShardRules.{ShardRules}
 use Rattle.xet_shard_interface.specs.Puts.{shards_of}
-use Rattle.xet_upload.specs.Standing.{Stand, StandsFor, term_of, world}
+use Rattle.xet_upload.specs.Standing.{StandsFor, world}
 use Rattle.xet_upload.specs.Waitings.{Waiting, no_waiting}
 use Rattle.xet_upload.specs.declared.data_error.DataError.{DataError}
-use Rattle.xet_upload.proofs.CallerLemmas.{later_resolved, resolved, same_bytes, stand-grown}
+use Rattle.xet_upload.proofs.CallerLemmas.{resolved, stand-grown}
 use Rattle.xet_uploader.specs.Uploads.{xorbs_in}
 use Rattle.xet_upload_session.specs.Calls.{Cut, EndsCut, EndsSo, EndsUncut, Finalizes, IsPut, as_finalized, finalized_error}
 use Rattle.xet_upload_session.specs.Sessions.{SessionTold, Tells, log_of}
 use Rattle.xet_clean_parts.specs.Learnings.{Learns}
 use Rattle.xet_clean_parts.proofs.CallerLemmas.{learns-sound, learns-tells}
 use Rattle.xet_clean.specs.Cleaners.{Cleaner, CleanerStands}
-use Rattle.xet_clean.specs.Laws.{AcceptedReads, AcceptedResolves, CallsKeepSteady, CountsKeepRecords, CutKeepsRecords, EndAccepts, FileKeepsRecords, KeepsCleaners, LearningKeepsCleaners, LearningKeepsRecords, LearningKeepsSteady, LeavesRecords, RegisterKeepsRecords, SearchKeepsRecords, StoredResolves}
+use Rattle.xet_clean.specs.Laws.{AcceptedReads, CallsKeepSteady, CountsKeepRecords, CutKeepsRecords, EndAccepts, FileKeepsRecords, KeepsCleaners, LearningKeepsCleaners, LearningKeepsRecords, LearningKeepsSteady, LeavesRecords, RegisterKeepsRecords, SearchKeepsRecords}
 use Rattle.xet_clean_parts.specs.Premises.{HashesAgree, IsSteady}
 use Rattle.xet_clean.specs.Records.{CleanedFile, HasRecord, IsAccepted, IsRecorded, WaitsFor}
 use Rattle.xet_clean.proofs.Holding.{cut-holds, cut-recorded, cut-waited, left-holds, recorded-grown, takes-holds}
@@ -235,83 +227,3 @@ accepted-reads k s log f range has accepted file =
     (sym a.hash) file) in
     let Q : MerkleHash → Type 0 = λ h. bytes_of s h ≡ f.bytes in
     ap (λ (bs : List ℕ). slice_range bs range.start range.end) (subst Q a.hash bytes)
-
--- what was found of a hash has it
-find-hash : (fs : List MDBFileInfo) (h : MerkleHash) (r : MDBFileInfo) → find (λ
-    (g : MDBFileInfo). hash_eq g.hash h) fs ≡ Some r → r.hash ≡ h
-find-hash [] h r e = absurd (false≢true (ap (λ (o : Option MDBFileInfo). is_some o) e))
-find-hash (f ∷ fs) h r e = go (hash_eq f.hash h) refl e (λ q. find-hash fs h r q)
-  where
-    go : (b : Bool) → hash_eq f.hash h ≡ b → cond b (Some f) (find (λ
-        (g : MDBFileInfo). hash_eq g.hash h) fs) ≡ Some r → (find (λ (g : MDBFileInfo). hash_eq g.hash h) fs ≡ Some r
-        → r.hash ≡ h) → r.hash ≡ h
-    go true t q next = let same : f ≡ r = cc in sym (ap (λ (g : MDBFileInfo). g.hash) same) ∙ hash_eq-true f.hash h t
-    go false t q next = next q
-
-pub accepted-resolves : AcceptedResolves
-accepted-resolves k s log f g info range after none accepted found first agree = ap (λ
-    (bs : List ℕ). slice_range bs range.start range.end) bytes
-  where
-    -- the record of the first is the one that was found
-    is : first.info ≡ info
-    is = only first.is_there.0 first.is_there.1 first.is_there.2
-      where
-        only : (i : ℕ) → i < 1 → slice_index_or (info ∷ []) i first.info ≡ first.info → first.info ≡ info
-        only zero lt e = sym e
-        only (suc i) lt e = absurd (omega (arith, lt))
-
-    stand : Stand (world k log) [] (map term_of info.entries) first.chunks
-    stand = subst (λ (r : MDBFileInfo). Stand (world k log) [] (map term_of r.entries) first.chunks) is first.stand
-
-    found_hash : info.hash ≡ f.hash
-    found_hash = find-hash (files_in log) f.hash info found
-
-    bytes : bytes_of s f.hash ≡ f.bytes
-    bytes =
-        let P : MerkleHash → Type 0 = λ h. bytes_of s h ≡ concat accepted.recorded.chunks in
-        subst P found_hash (later_resolved k s log info accepted.recorded.chunks first.chunks after stand (subst (λ
-        (h : MerkleHash). file_of k h ≡ None) (sym found_hash) none)
-        (subst (λ (h : MerkleHash). find (λ r. hash_eq r.hash h) (files_in log) ≡ Some info) (sym found_hash) found)
-        (sym (ap (λ (r : MDBFileInfo). r.hash) is) ∙ first.hash ∙ first.has.hash) (found_hash
-        ∙ accepted.recorded.has.hash) agree.lists agree.chunks)
-        ∙ sym accepted.recorded.has.bytes
-
--- a store that had a file of the hash before
-module _ (k s : Store) (log : List Put) (after : store_after k log ≡ Some s) where
-  or-some : {A : Type 0} (o p : Option A) → IsSome o → option_or o p ≡ o
-  or-some None p t = absurd (false≢true t)
-  or-some (Some x) p t = refl
-
-  -- a term names the same chunks as before
-  term-still : (t : StoredTerm) → IsTermIn k t → chunks_of_term s t ≡ chunks_of_term k t
-  term-still t inside =
-      let found = find (λ (x : Xorb). hash_eq x.hash t.xorb) (xorbs_in log) in
-      let same = after_finds_xorbs k s log t.xorb after ∙ or-some (xorb_of k t.xorb) found inside.stored in
-      ap (λ (o : Option Xorb). slice_range (unwrap_or (option_map (λ (x : Xorb). x.chunks) o) []) t.from t.to) same
-
-  terms-still : (ts : List StoredTerm) → All (IsTermIn k) ts
-      → flat_map (chunks_of_term s) ts ≡ flat_map (chunks_of_term k) ts
-  terms-still [] a = refl
-  terms-still (t ∷ ts) a =
-      let one = term-still t (All-head (IsTermIn k) t ts a) in
-      let more = terms-still ts (All-tail (IsTermIn k) t ts a) in
-      ap (λ (cs : List (List ℕ)). cs ++ flat_map (chunks_of_term s) ts) one
-      ∙ ap (λ (cs : List (List ℕ)). chunks_of_term k t ++ cs) more
-
-  -- so does the file
-  file-still : (h : MerkleHash) → IsSome (file_of k h) → All (IsTermIn k) (terms_of_file k h)
-      → chunks_of_file s h ≡ chunks_of_file k h
-  file-still h there a =
-      let found = option_map file_of_record (find (λ (r : MDBFileInfo). hash_eq r.hash h) (files_in log)) in
-      let same = after_finds_files k s log h after ∙ or-some (file_of k h) found there in
-      ap (λ (o : Option StoredFile). flat_map (chunks_of_term s) (unwrap_or (option_map (λ (x : StoredFile). x.terms) o)
-      [])) same ∙ terms-still (terms_of_file k h) a
-
-pub stored-resolves : StoredResolves
-stored-resolves k s log f range after there terms hash accepted agree =
-    let cs = accepted.recorded.chunks in
-    let ds = chunks_of_file k f.hash in
-    let bytes : bytes_of s f.hash ≡ f.bytes = ap concat (file-still k s log after f.hash there terms)
-    ∙ sym (same_bytes cs ds (sym accepted.recorded.has.hash ∙ hash) agree.lists agree.chunks)
-    ∙ sym accepted.recorded.has.bytes in
-    ap (λ (bs : List ℕ). slice_range bs range.start range.end) bytes

@@ -1,5 +1,5 @@
 -- Laws of what sessions and cleaners stand for.
-use Rattle.std.specs.Prelude.{ℕ, ◌≡◌, Bool, false, List, [], ◌∷◌, ◌++◌, All, find, take, IsSome, Option, None, Some}
+use Rattle.std.specs.Prelude.{ℕ, ◌≡◌, Bool, false, List, All, take, IsSome, Option, Some}
 use Rattle.std.specs.Prelude.{Result, Ok, slice_range}
 use Rattle.std.specs.List.{flat_map}
 use Rattle.xet_base.specs.declared.cas_types.FileRange.{FileRange}
@@ -8,13 +8,11 @@ use Rattle.xet_base.specs.declared.mdb_shard.MDBFileInfo.{MDBFileInfo}
 use Rattle.xet_base.specs.declared.mdb_shard.MDBXorbInfo.{MDBXorbInfo}
 use Rattle.xet_base.specs.declared.mdb_shard.Xorb.{Xorb}
 use Rattle.xet_base.specs.declared.merklehash.MerkleHash.{MerkleHash}
-use Rattle.xet_base.specs.Digests.{file_hash_of, infos_of}
-use Rattle.xet_base.specs.Hashes.{hash_eq}
-use Rattle.xet_base.specs.Store.{IsTermIn, Store, chunks_of_file, file_of, terms_of_file, window, xorb_of}
+use Rattle.xet_base.specs.Store.{Store, file_of, window, xorb_of}
 use Rattle.xet_uploader.specs.declared.uploader.Put.{Put}
-use Rattle.xet_uploader.specs.StoresAfter.{file_of_record, files_in, store_after}
+use Rattle.xet_uploader.specs.StoresAfter.{file_of_record}
 use Rattle.xet_progress_state.specs.declared.item.GroupProgressReport.{GroupProgressReport}
-use Rattle.xet_upload.specs.Standing.{ChunksAgree, IsRecordIn, world}
+use Rattle.xet_upload.specs.Standing.{IsRecordIn, world}
 use Rattle.xet_upload.specs.Waitings.{Waiting}
 use Rattle.xet_upload.specs.declared.metrics.DeduplicationMetrics.{DeduplicationMetrics}
 use Rattle.xet_upload_session.specs.Calls.{Backs, Cut, Finalizes, Keeps, Queries, Registers}
@@ -26,7 +24,7 @@ use Rattle.xet_upload.specs.declared.data_error.DataError.{DataError}
 use Rattle.xet_clean.specs.Cleaners.{Cleaner, CleanerStands}
 use Rattle.xet_clean_parts.specs.Cleanings.{Leaves}
 use Rattle.xet_clean_parts.specs.Premises.{HashesAgree, IsOpen, IsSteady}
-use Rattle.xet_clean.specs.Records.{CleanedFile, HasRecord, IsAccepted, IsRecorded}
+use Rattle.xet_clean.specs.Records.{CleanedFile, HasRecord, IsAccepted}
 
 -- ---- other calls
 
@@ -122,27 +120,4 @@ HasXorbs s world = (h : MerkleHash) → IsSome (xorb_of world h) → xorb_of s h
 abbrev pub AcceptedReads : Type 0
 AcceptedReads = (k s : Store) (log : List Put) (f : CleanedFile) (range : FileRange) → HasXorbs s (world k log)
     → (accepted : IsAccepted k log f) → file_of s f.hash ≡ Some (file_of_record accepted.recorded.info)
-    → window s f.hash range ≡ slice_range f.bytes range.start range.end
-
--- among files of these chunks equal hashes mean equal chunks
-pub record FilesAgree (cs ds : List (List ℕ)) : Type 0 where
-  pub lists : file_hash_of (infos_of cs) ≡ file_hash_of (infos_of ds) → infos_of cs ≡ infos_of ds
-  pub chunks : ChunksAgree (cs ++ ds)
-
--- so does the store after the log of an uploader to a store without the file, where the first record of the hash in
--- the log stands for chunks that don't clash with those of the accepted one
-abbrev pub AcceptedResolves : Type 0
-AcceptedResolves = (k s : Store) (log : List Put) (f g : CleanedFile) (info : MDBFileInfo) (range : FileRange)
-    → store_after k log ≡ Some s → file_of k f.hash ≡ None → (accepted : IsAccepted k log f)
-    → find (λ r. hash_eq r.hash f.hash) (files_in log) ≡ Some info
-    → (first : IsRecorded (world k log) (info ∷ []) g) → FilesAgree accepted.recorded.chunks first.chunks
-    → window s f.hash range ≡ slice_range f.bytes range.start range.end
-
--- and the store after the log to one that had a file of the hash before, each of whose terms names chunks of a stored
--- xorb, and whose hash is that of its chunks, where these don't clash with those of the accepted one
-abbrev pub StoredResolves : Type 0
-StoredResolves = (k s : Store) (log : List Put) (f : CleanedFile) (range : FileRange) → store_after k log ≡ Some s
-    → IsSome (file_of k f.hash) → All (IsTermIn k) (terms_of_file k f.hash)
-    → f.hash ≡ file_hash_of (infos_of (chunks_of_file k f.hash)) → (accepted : IsAccepted k log f)
-    → FilesAgree accepted.recorded.chunks (chunks_of_file k f.hash)
     → window s f.hash range ≡ slice_range f.bytes range.start range.end

@@ -1,9 +1,9 @@
 //! Laws of what sessions and cleaners stand for, as functions whose contracts state them.
-ghost use Rattle.xet_clean.specs.Laws.{AcceptedReads, AcceptedResolves, CallsKeepSteady, CountsKeepRecords};
+ghost use Rattle.xet_clean.specs.Laws.{AcceptedReads, CallsKeepSteady, CountsKeepRecords};
 ghost use Rattle.xet_clean.specs.Laws.{CutKeepsRecords, FileKeepsRecords, FinalizeAccepts, FinalizeWithFilesAccepts};
 ghost use Rattle.xet_clean.specs.Laws.{FinalizeWithReportAccepts, KeepsCleaners, LearningKeepsCleaners};
 ghost use Rattle.xet_clean.specs.Laws.{LearningKeepsRecords, LearningKeepsSteady, LeavesRecords, RegisterKeepsRecords};
-ghost use Rattle.xet_clean.specs.Laws.{SearchKeepsRecords, StoredResolves};
+ghost use Rattle.xet_clean.specs.Laws.{SearchKeepsRecords};
 ghost use Rattle.xet_clean_parts.specs.Places.{FixedCutsFile};
 
 /// Each call of a session keeps what its records and its cleaners stand for, at each exit at which the session keeps
@@ -29,15 +29,12 @@ pub fn sessions_stay_steady()
 {}
 
 /// After an end that answered Ok, by each of the calls that make one, each record of a cleaned file is in an accepted
-/// shard. So a store with the accepted xorbs and records gives the file's bytes in each range, and the store after the
-/// uploader's log is one, also where it had a file of the hash before.
-pub fn accepted_files_download()
+/// shard. So a store with the accepted xorbs and records gives the file's bytes in each range.
+pub fn records_are_accepted()
     ensures accepts { FinalizeAccepts }
     ensures accepts_files { FinalizeWithFilesAccepts }
     ensures accepts_report { FinalizeWithReportAccepts }
     ensures reads { AcceptedReads }
-    ensures resolves { AcceptedResolves }
-    ensures stored { StoredResolves }
 {}
 
 /// A cutter of one size cuts a file into chunks of that size, of which the last may be shorter, in whatever pieces its

@@ -47,10 +47,11 @@ PutsNone b n = Tells b → (log_of n ≡ log_of b) × (n.repeated ≡ b.repeated
 
 -- what a call puts is made of a file's own chunks and of those that were cut, and nothing where all these fit one
 -- xorb; a put that failed in the call is told as the uploader answered it
-pub record PutsSo {A : Type 0} (b n : SessionTold) (own cut : List (List ℕ)) (answer : Result A DataError) : Type 0 where
-  pub puts : Tells b → PutsMade b n (own ++ cut)
-  pub full : IsWithin (own ++ cut) → PutsNone b n
-  pub said : b.failed ≡ None → Says n answer
+pub record PutsSo {A : Type 0} (b n : SessionTold) (own cut : List (List ℕ)) (answer : Result A DataError) : Type 0
+  where
+    pub puts : Tells b → PutsMade b n (own ++ cut)
+    pub full : IsWithin (own ++ cut) → PutsNone b n
+    pub said : b.failed ≡ None → Says n answer
 
 -- the same of chunks that came off the front of these bytes
 pub record PutsSome {A : Type 0} (b n : SessionTold) (own : List (List ℕ)) (bytes : List ℕ)

@@ -54,7 +54,8 @@ fn pour<I: Source, T: Cutter, U: Uploader, R: ShardStore, W: Wait>(
     requires unfailed { cleaner.old.failed ≡ None }
     requires room { 0 < length buffer.old }
     ensures call { Pours (told_by U.told R.told session.old) (told_by U.told R.told session.new)
-        (I.told source.old) (I.told source.new) (cleaner_of T.told cleaner.old) (cleaner_of T.told cleaner.new) total result }
+        (I.told source.old) (I.told source.new) (cleaner_of T.told cleaner.old) (cleaner_of T.told cleaner.new)
+        total result }
     ensures tells { TellsOf IsXorbCall (IsLate session.old.finalized) session.old.files.tracker
         session.new.files.tracker result }
     ensures calls { Calls now (told_by U.told R.told session.old) (told_by U.told R.told session.new) }

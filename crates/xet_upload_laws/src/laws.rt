@@ -11,8 +11,8 @@ ghost use Rattle.xet_upload_laws.specs.StoreAfter.{StoreAfterShards, StoreAfterX
 /// range.
 ///
 /// It asks that equal hashes mean equal contents, of the xorbs and files of the store and of the session
-/// (`HasNoClash`), and that all records of the session stand, which a new one has and each call keeps under the premises
-/// of the law `records_stand_after_calls`.
+/// (`HasNoClash`), and that all records of the session stand, which a new one has and each call keeps under the
+/// premises of the law `records_stand_after_calls`.
 pub fn accepted_files_download()
     ensures finalize { DownloadsAfterFinalize }
     ensures files { DownloadsAfterFiles }

@@ -172,8 +172,8 @@ fn answered(
 /// in a session, which then ends. It answers the pointer record of the content, and the store after the session's log,
 /// which gives the content in each range.
 ///
-/// Of chunks that don't fit one xorb it says of the store only what holds where equal hashes mean equal contents, of any
-/// choice of these chunks. `Clash` never comes where the chunks fit one xorb. Each other error has its cause in
+/// Of chunks that don't fit one xorb it says of the store only what holds where equal hashes mean equal contents, of
+/// any choice of these chunks. `Clash` never comes where the chunks fit one xorb. Each other error has its cause in
 /// `upload_files` or `finalize`, which no clause says.
 ///
 /// It has no source in the Rust crates.

@@ -36,8 +36,8 @@ use Rattle.xet_upload.specs.declared.metrics.DeduplicationMetrics.{Deduplication
 use Rattle.xet_upload_parts.specs.Storable.{IsStorable}
 use Rattle.xet_upload_parts.specs.declared.cut_thresholds.CutThresholds.{CutThresholds}
 use Rattle.xet_upload_session.specs.Sounds.{IsSound, XorbsAgree}
-use Rattle.xet_upload_session.specs.Sessions.{HasListed, IsBackedSession, IsListed, SessionTold, Stands, Tells, known_of}
-use Rattle.xet_upload_session.specs.Sessions.{log_of}
+use Rattle.xet_upload_session.specs.Sessions.{HasListed, IsBackedSession, IsListed, SessionTold, Stands, Tells}
+use Rattle.xet_upload_session.specs.Sessions.{known_of, log_of}
 use Rattle.xet_shard_interface.specs.Puts.{Asks}
 
 -- a session in which nothing waits and nothing was put

@@ -1,5 +1,6 @@
 -- What a reader of tokens reads, in the words of the grammar.
-use Rattle.std.specs.Prelude.{ℕ, ◌≡◌, ⊤, Bool, List, [], ◌∷◌, codes, false, length, map, true, None, Option, Some, MatchOption}
+use Rattle.std.specs.Prelude.{ℕ, ◌≡◌, ⊤, Bool, List, [], ◌∷◌, codes, false, length, map, true}
+use Rattle.std.specs.Prelude.{None, Option, Some, MatchOption}
 use Rattle.std.specs.BTreeMap.{BTreeMap}
 use Rattle.json.specs.Token.{Token}
 use Rattle.json.specs.Json as json
