@@ -20,7 +20,8 @@ use Rattle.xet_upload.specs.declared.metrics.DeduplicationMetrics.{Deduplication
 use Rattle.xet_waiting.specs.declared.raw_xorb.PendingFile.{PendingFile}
 use Rattle.xet_waiting.specs.declared.raw_xorb.RawXorbData.{RawXorbData}
 use Rattle.xet_upload_session.specs.Calls.{CountsSent, Keeps, NoQueries, PutsFail, Recorded, RegisterStopped, Says}
-use Rattle.xet_upload_session.specs.Calls.{StoresFail, WasPut, WasRefused, finished_records, one_xorb, waiting_hash, xorb_bytes}
+use Rattle.xet_upload_session.specs.Calls.{StoresFail, WasPut, WasRefused, finished_records, one_xorb, waiting_hash}
+use Rattle.xet_upload_session.specs.Calls.{xorb_bytes}
 use Rattle.xet_upload_session.specs.Sessions.{IsListed, SessionTold, Tells, log_of}
 use Rattle.xet_upload_session.specs.Trackings.{CountsPut, own_part}
 use Rattle.xet_upload_parts.specs.TrackerCalls.{with_call}
