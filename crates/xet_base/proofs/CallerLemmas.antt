@@ -4,7 +4,7 @@
 pub use Rattle.xet_base.proofs.Finds.{hash_eq-true, eq-hash_eq, hash_eq-own, hash_eq-chain}
 -- what `find`, `position` and the place of an element answer
 pub use Rattle.xet_base.proofs.Finds.{find_some, position_some, position_no, place_none, place_within}
-pub use Rattle.xet_base.proofs.Lookups.{find_is, find_none-position, position_none-find, looked_up, position-found}
+pub use Rattle.xet_base.proofs.Lookups.{find_none-position}
 -- the first of elements that are the same, and a walk that keeps them with each element's place
 pub use Rattle.xet_base.proofs.Finds.{firsts-push, firsts_keeps, place, AllFound, IsWalked, walked_found, walked_new}
 -- parts of lists, joined lists, windows

@@ -1,5 +1,5 @@
 -- The table of the numbers of blocks.
-use Rattle.std.proofs.Common.{◌≡◌, ℕ, zero, suc, ◌<◌, Bool, true, false, cond, ◌&&◌, List, [], ◌∷◌, ◌++◌, length, map, get_or, set, eqb, refl, sym, ◌∙◌, ap, subst, arith, Some, None}
+use Rattle.std.proofs.Common.{◌≡◌, ℕ, ◌<◌, Bool, true, false, cond, ◌&&◌, List, [], ◌∷◌, ◌++◌, length, map, get_or, set, eqb, refl, sym, ◌∙◌, ap, subst, arith, Some, None}
 use Rattle.std.specs.Prelude.{Err, Ok, OnErr, OnOk, Option, Result, Vec, not, position}
 use Rattle.std.specs.declared.alloc.Global.{Global}
 use Rattle.std.proofs.lemmas.Bool.{and_parts, eqb-true, eq-eqb, false≢true}
@@ -10,13 +10,6 @@ use Rattle.std.proofs.lemmas.List.Sums.{prefix_len-le-length}
 use Rattle.xet_blocks.specs.declared.reconstruction_terms.block_list.BlockKey.{BlockKey}
 use Rattle.xet_blocks.specs.declared.reconstruction_terms.block_list.OfferedBlock.{OfferedBlock}
 use Rattle.xet_blocks.specs.steps.BlockKeys.{HasNumbers, key_of, number_at, place_of_key, row_at, rows_of, same_key}
-
--- one more blank at the end changes no place
-pub blank_pushed : {A : Type 0} (d : A) (xs : List A) (k : ℕ) → get_or (xs ++ d ∷ []) k d ≡ get_or xs k d
-blank_pushed d [] zero = refl
-blank_pushed d [] (suc k) = refl
-blank_pushed d (x ∷ xs) zero = refl
-blank_pushed d (x ∷ xs) (suc k) = blank_pushed d xs k
 
 -- a place that was written, and the others
 pub written : {A : Type 0} (d : A) (xs : List A) (at k : ℕ) (x : A) → at < length xs → get_or (set xs at x) k d ≡ cond (eqb at k) x (get_or xs k d)

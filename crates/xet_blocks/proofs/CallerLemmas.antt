@@ -7,6 +7,6 @@ pub use Rattle.xet_blocks.proofs.JoinedPieces.{pieces_join, pieces_sized}
 -- the sizes that its terms tell of its blocks
 pub use Rattle.xet_blocks.proofs.KnownSizes.{known_sizes, length_passes, sized_passes}
 -- its chunks, where its blocks were served
-pub use Rattle.xet_blocks.proofs.ServedChunks.{none_wanted, served_chunks}
+pub use Rattle.xet_blocks.proofs.ServedChunks.{served_chunks}
 -- the tests that an accepted plan passes
-pub use Rattle.xet_blocks.proofs.TrimmedTerms.{IsTested, tested}
+pub use Rattle.xet_blocks.proofs.TrimmedTerms.{tested}

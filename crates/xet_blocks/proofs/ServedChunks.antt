@@ -11,8 +11,7 @@ use Rattle.xet_base.specs.declared.merklehash.MerkleHash.{MerkleHash}
 use Rattle.xet_base.specs.declared.stored.StoredTerm.{StoredTerm}
 use Rattle.xet_base.specs.Lists.{placed}
 use Rattle.xet_base.specs.Ranges.{Covers}
-use Rattle.xet_base.specs.Store.{Store, IsValid, bytes_of, chunks_of, chunks_of_term, terms_of_file, window}
-use Rattle.xet_base.proofs.CallerLemmas.{length-slice_range}
+use Rattle.xet_base.specs.Store.{Store, IsValid, bytes_of, chunks_of, chunks_of_term, terms_of_file}
 use Rattle.xet_outside.specs.declared.plan.PlanTerm.{PlanTerm}
 use Rattle.xet_outside.specs.Plan.{Shape, cut_term, ends_before, lengths, placed_terms, plan_of, plan_terms, touches}
 use Rattle.xet_outside.specs.declared.served.Served.{Served}
@@ -21,7 +20,7 @@ use Rattle.xet_offers.specs.Blocks.{PlanBlock, block_ranges, blocks_of, same_blo
 use Rattle.xet_blocks.specs.Laws.{IsServedBlock, IsServedTerm, ServedChunks}
 use Rattle.xet_blocks.specs.Terms.{terms_from, terms_of}
 use Rattle.xet_blocks.specs.declared.reconstruction_terms.file_term.FileTerm.{FileTerm}
-use Rattle.xet_blocks.specs.ServedChunks.{AllServed, FileChunk, IsServedIn, chunks_from, file_chunks, part_of}
+use Rattle.xet_blocks.specs.ServedChunks.{AllServed, FileChunk, IsServedIn, chunks_from, part_of}
 use Rattle.xet_blocks.proofs.HonestBlocks.{block_listed}
 use Rattle.xet_blocks.proofs.HonestBlockTests.{length-placed}
 
@@ -127,15 +126,6 @@ covers_part u v a b (r ∷ rs) l m (inr d) = inr (covers_part u v a b rs l m d)
 -- a range with a nearer end touches no more
 wider : (q : FileRange) (n : ℕ) (c : ℕ × ℕ) → touches (record { start = q.start; end = min q.end n }) c ≡ true → touches q c ≡ true
 wider q n c h = lt-ltb (max c.0 q.start) (min (c.0 + c.1) q.end) (omega (arith, ltb-true (max c.0 q.start) (min (c.0 + c.1) (min q.end n)) h))
-
--- a window without bytes has no chunks
-pub none_wanted : (s : Store) (f : MerkleHash) (q : FileRange) (es : List Served) → window s f q ≡ [] → AllServed s f q es
-none_wanted s f q es none k d l h =
-    let c = get_or (file_chunks s f) k d in
-    let n = length (bytes_of s f) in
-    let inside : max c.2 q.start < min (c.2 + c.3) (min q.end n) = ltb-true (max c.2 q.start) (min (c.2 + c.3) (min q.end n)) h in
-    let size = length-slice_range (bytes_of s f) q.start q.end in
-    absurd (omega (arith, inside, size, ap length none))
 
 module _ (s : Store) (valid : IsValid s) (f : MerkleHash) (q : FileRange) (multi : Bool) (es : List Served) (served : All (IsServedTerm (plan_of s f q) multi es) (terms_of (plan_of s f q) q multi)) where
   -- each chunk of a plan's term is served

@@ -50,11 +50,6 @@ module _ (vs : List Value) (i : ℕ) (front : List StoredTerm) (whole : Option (
         let split : drop i vs ≡ v ∷ drop (i + 1) vs = drop_more vs i v within ∙ ap (λ (x : Value). x ∷ drop (i + 1) vs) (sym is) in
         left ∙ ap (λ (xs : List Value). option_map (λ rest. front ++ rest) (terms_of_items (items_view xs))) split
 
-    -- one is no term
-    pub terms_stop : None ≡ option_and_then term_of_items (as_array (view v)) → whole ≡ None
-    terms_stop none =
-        next ∙ ap (λ (o : Option StoredTerm). option_map (λ rest. front ++ rest) (option_and_then (λ t. option_map (λ ts. t ∷ ts) rest_of) o)) (sym none)
-
     -- one is this term
     pub terms_more : (t : StoredTerm) → Some t ≡ option_and_then term_of_items (as_array (view v)) → whole ≡ option_map (λ rest. (front ++ t ∷ []) ++ rest) rest_of
     terms_more t some =

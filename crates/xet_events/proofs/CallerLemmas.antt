@@ -4,8 +4,7 @@
 pub use Rattle.xet_events.proofs.Push.{count_by-push, any-push, flat-push, planned-push, written-push, error-push, stale-push, end-push}
 pub use Rattle.xet_events.proofs.Push.{first_some-push, last_of-append}
 -- inductions over allowed histories
-pub use Rattle.xet_events.proofs.Histories.{kept_from, kept_along, allowed_parts, allowed_join, allowed_push}
+pub use Rattle.xet_events.proofs.Histories.{kept_along, allowed_push}
 -- what holds of every allowed history: its admissions, writes and places
-pub use Rattle.xet_events.proofs.Facts.{Facts, facts, first_of, ends, adjoin_sums, admitted-same, admitted-more, next_in, may_write}
-pub use Rattle.xet_events.proofs.Kept.{kept_once, none_expires_after, first_error_stays, same_numbers}
-pub use Rattle.xet_events.proofs.Bounds.{within_limit}
+pub use Rattle.xet_events.proofs.Facts.{facts, ends, adjoin_sums, admitted-same, admitted-more, next_in, may_write}
+pub use Rattle.xet_events.proofs.Kept.{same_numbers}

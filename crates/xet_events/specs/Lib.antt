@@ -1,9 +1,9 @@
+pub mod Limits
 pub mod Allowed
 pub mod BlockTables
 pub mod Books
 pub mod Events
 pub mod Indexes
 pub mod Laws
-pub mod Limits
 pub mod RunBooks
 pub mod RunReplay

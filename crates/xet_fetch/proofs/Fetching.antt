@@ -42,10 +42,9 @@ use Rattle.xet_offers.specs.Refusals.{IsRefusal}
 use Rattle.xet_blocks.specs.TermBlockCalls.{AskedAtMostOnce, QueryAnswered}
 use Rattle.xet_requests.specs.declared.fetched_block.Fetched.{Fetched}
 use Rattle.xet_fetch.specs.declared.fetch_settings.FetchSettings.{FetchSettings}
-use Rattle.xet_fetch.specs.CachedBlocks.{FoundIn, IsOffered, LookCall, LookedFor}
 use Rattle.xet_fetch.specs.Fetches.{FetchesCall, FetchesFail, FetchesKeep, GaveBad, GaveBytes, GaveData, IsDishonest, Lapsed, PassesRefresh, Refused, Replied, RoseBy, TableKeeps, Tried, Unrefreshed, own_entry, refresh_queries, refresh_query, refreshed, renewed, renewed_by}
 use Rattle.xet_requests.specs.Refreshes.{Extent, Refresh, RefreshCall, IsRefused, blocks_test, extent_of, failed_refresh, first_difference, next_id, plan_extents, range_test, refresh_of, refusal_of, same_extent}
-use Rattle.xet_fetch.specs.RetrieveData.{DataCall, FetchTold, FromCache, RetrieveCall}
+use Rattle.xet_fetch.specs.RetrieveData.{DataCall, FetchTold, RetrieveCall}
 use Rattle.xet_requests.specs.Asks.{AskCall, AskFails, Requested}
 use Rattle.xet_fetch.specs.steps.Tries.{TryCall}
 
@@ -579,35 +578,6 @@ fetch_none r x t u b n k tries is h = record { keeps = is.tried.keeps; table = i
     first : (k ≡ 0) ⊎ (k < tries) → k ≡ 0
     first (inl e) = e
     first (inr l) = absurd (omega arith)
-
--- ---- data
-
-module _ (r : Refresh) (x : XorbBlock) (tries : ℕ) (t u : TermBlockRetrievalURLs) (b n : ClientTold) (c m : CacheTold) where
-  pub data_found : (d : XorbBlockData) → LookCall x c m (Ok (Some d)) → DataCall r x tries t t (record { client = b; cache = c }) (record { client = b; cache = m }) (Ok d)
-  data_found d look = inl (go look.looked.given look.looked.looked look.looked.found_in)
-    where
-      go : (o : Option BlockBytes) → LookedFor x x.chunk_ranges c m o → FoundIn x o (Some d) → FromCache x t t (record { client = b; cache = c }) (record { client = b; cache = m }) d
-      go None looked h = absurd (cc)
-      go (Some e) looked h = record { entry = e; looked = looked; passes = h.0; made = h.1; unasked = refl; table = refl }
-
-  pub data_unlooked : (e : FileReconstructionError) → LookCall x c m (Err e) → DataCall r x tries t t (record { client = b; cache = c }) (record { client = b; cache = m }) (Err e)
-  data_unlooked e look = inl (record { keeps = look.keeps; unlooked = look.unlooked; memory = look.error; unasked = refl; table = refl })
-
-  pub data_failed : (e : FileReconstructionError) → LookCall x c m (Ok None) → FetchesCall r x tries t u b n (Err e) → DataCall r x tries t u (record { client = b; cache = c }) (record { client = n; cache = m }) (Err e)
-  data_failed e look call = inr (record { given = look.looked.given; looked = look.looked.looked; missed = look.looked.found_in; call = call })
-
-  pub data_fetched : (g : Fetched) (l : CacheTold) → LookCall x c m (Ok None) → FetchesCall r x tries t u b n (Ok g) → IsOffered x x.chunk_ranges m l g.bytes
-      → DataCall r x tries t u (record { client = b; cache = c }) (record { client = n; cache = l }) (Ok g.found)
-  data_fetched g l look call offered = inr (record {
-    given = look.looked.given;
-    middle = m;
-    looked = look.looked.looked;
-    missed = look.looked.found_in;
-    fetched = g;
-    call = call;
-    made = refl;
-    offered = offered;
-  })
 
 -- ---- a block of a list
 

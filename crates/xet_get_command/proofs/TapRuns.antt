@@ -29,7 +29,7 @@ use Rattle.xet_error.specs.declared.error.Setting.TheVariants.{NoConnection}
 use Rattle.xet_error.specs.Errors.{corruption_number}
 use Rattle.xet_offers.specs.declared.reconstruction_terms.xorb_block.XorbBlock.{XorbBlock}
 use Rattle.xet_reconstruct.specs.Laws.{AreHonest, HonestAnswersPass}
-use Rattle.xet_ties.specs.Causes.{Cause, LaneFails, NoneAtEnd, NothingElse, PlanFails, RefreshFails, LowestRose, SomeFailed, expired_answers, refused_setting, total_expiries}
+use Rattle.xet_ties.specs.Causes.{Cause, LaneFails, NoneAtEnd, NothingElse, LowestRose, SomeFailed, expired_answers, refused_setting, total_expiries}
 use Rattle.xet_ties.specs.Cuts.{AskedCut, IsSaidPiece, SaidTerm, some_said}
 use Rattle.xet_ties.specs.InCall.{Exchange, Look, SomeOne, all_exchanges, expired_said}
 use Rattle.xet_ties.specs.Legal.{Legal}

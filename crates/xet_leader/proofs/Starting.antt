@@ -4,7 +4,6 @@ use Rattle.std.specs.Prelude.{length, nat_eq, Option}
 use Rattle.std.proofs.lemmas.List.Elements.{All-nil}
 use Rattle.xet_base.specs.declared.cas_types.FileRange.{FileRange}
 use Rattle.xet_base.specs.declared.item_id.UniqueID.{UniqueID}
-use Rattle.xet_error.specs.declared.error.Setting.{Setting}
 use Rattle.xet_error.specs.declared.error.Setting.TheVariants.{NoConnection, NoTries}
 use Rattle.xet_outside.specs.Told.{ClientTold}
 use Rattle.xet_terms.specs.Managers.{IsManager, Manager, begun}

@@ -2,8 +2,8 @@
 
 -- an answer belongs to its own request: what one call adds to the lists that are told, and what calls in a row add
 pub use Rattle.xet_outside.proofs.RequestAnswers.{added_both, added_none, bytes_both, plans_both}
-pub use Rattle.xet_outside.proofs.RequestAnswers.{block_paired, plan_paired, paired_both, answer_before, answer_after}
-pub use Rattle.xet_outside.proofs.RequestAnswers.{query_answered, block_unasked, answered_both, query_before, query_after}
+pub use Rattle.xet_outside.proofs.RequestAnswers.{paired_both, answer_before, answer_after}
+pub use Rattle.xet_outside.proofs.RequestAnswers.{query_after}
 -- what several writes took together
 pub use Rattle.xet_outside.proofs.TakenBytes.{prefix_after, prefix_front, prefix_more, rest_is, took_both, took_more}
 pub use Rattle.xet_outside.proofs.TakenBytes.{whole_prefix}

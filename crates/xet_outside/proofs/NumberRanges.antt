@@ -4,7 +4,7 @@ use Rattle.std.specs.Prelude.{filter}
 use Rattle.std.specs.List.{range_with_len}
 use Rattle.std.proofs.lemmas.Bool.{eq-eqb, cases_lt, false≢true}
 use Rattle.xet_base.specs.declared.cas_types.ChunkRange.{ChunkRange}
-pub use Rattle.xet_base.specs.Ranges.{Ascend, Covers}
+use Rattle.xet_base.specs.Ranges.{Ascend, Covers}
 use Rattle.xet_outside.specs.Plan.{with_number, ranges_of}
 
 pub Ascend-lower : (k low high : ℕ) (rs : List ChunkRange) → k ≤ low → Ascend low high rs → Ascend k high rs

@@ -3,9 +3,6 @@ use Rattle.std.proofs.Common.{◌≡◌, ℕ, ◌+◌, ◌-◌, List, [], ◌∷
 use Rattle.std.proofs.lemmas.List.{append-nil, length-take, length-replicate, take_at, drop_at, drop-drop}
 use Rattle.xet_outside.specs.Places.{put_at}
 
-abbrev front : List ℕ → ℕ → List ℕ
-front c p = take p c ++ replicate (p - length c) 0
-
 abbrev pub full : List ℕ → ℕ → List ℕ → List ℕ
 full c p xs = take p c ++ replicate (p - length c) 0 ++ xs ++ drop (p + length xs) c
 

@@ -1,9 +1,9 @@
 -- The chunks of a plan's terms are the touched chunks of the file.
-use Rattle.std.proofs.Common.{◌≡◌, ℕ, suc, ◌+◌, ◌-◌, ◌≤◌, ◌<◌, Bool, true, false, cond, List, [], ◌∷◌, length, take, drop, min, max, refl, sym, ◌∙◌, ap, arith, subst, ⊎_elim}
+use Rattle.std.proofs.Common.{◌≡◌, ℕ, suc, ◌+◌, ◌-◌, ◌≤◌, ◌<◌, Bool, true, false, cond, List, [], ◌∷◌, length, take, drop, min, max, refl, sym, ◌∙◌, ap, arith, ⊎_elim}
 use Rattle.std.specs.Prelude.{count_by, sum, All, slice_range}
 use Rattle.std.specs.List.{concat}
 use Rattle.std.proofs.lemmas.Bool.{ltb-true, ltb-false, leb-true, lt-ltb, le-ltb, le-leb, lt-leb, cases_lt}
-use Rattle.std.proofs.lemmas.List.{drop_all, length-append, length-take, take-take, drop-take, drop-drop}
+use Rattle.std.proofs.lemmas.List.{length-append, length-take, take-take, drop-take, drop-drop}
 use Rattle.std.proofs.lemmas.List.Sums.{sum_by-cons}
 use Rattle.std.proofs.lemmas.List.Elements.{All-head, All-tail}
 use Rattle.xet_base.specs.declared.cas_types.FileRange.{FileRange}
@@ -11,7 +11,7 @@ use Rattle.xet_base.specs.declared.stored.StoredTerm.{StoredTerm}
 use Rattle.xet_base.specs.Lists.{placed}
 use Rattle.xet_base.specs.Store.{Store, chunks_of, chunks_of_term}
 use Rattle.xet_outside.specs.declared.plan.PlanTerm.{PlanTerm}
-use Rattle.xet_outside.specs.Plan.{touches, ends_before, lengths, cut_of, cut_term}
+use Rattle.xet_outside.specs.Plan.{touches, ends_before, lengths, cut_term}
 use Rattle.xet_outside.proofs.TouchedWindows.{touched}
 
 -- each chunk has a byte
@@ -150,25 +150,3 @@ cut_slice xs q p from to f =
 pub cut_chunks : (s : Store) (q : FileRange) (p : ℕ) (t : StoredTerm) → Full (chunks_of_term s t)
     → term_bytes s (cut_term s q (p, t)) ≡ concat (touched q p (chunks_of_term s t))
 cut_chunks s q p t f = ap concat (cut_slice (chunks_of s t.xorb) q p t.from t.to f)
-
--- a walk over a term's chunks that has come to the end has the cut term
-pub cut_of_walk : (xs : List (List ℕ)) (q : FileRange) (p : ℕ) (t : StoredTerm) (at first count size i : ℕ)
-    → Full (slice_range xs t.from t.to) → length (slice_range xs t.from t.to) ≤ i
-    → first + skips q at (drop i (slice_range xs t.from t.to)) ≡ t.from + skips q p (slice_range xs t.from t.to)
-    → count + keeps q at (drop i (slice_range xs t.from t.to)) ≡ keeps q p (slice_range xs t.from t.to)
-    → size + length (concat (touched q at (drop i (slice_range xs t.from t.to)))) ≡ length (concat (touched q p (slice_range xs t.from t.to)))
-    → cut_of xs q p t ≡ record { xorb = t.xorb; unpacked_length = size; range = record { start = first; end = first + count } }
-cut_of_walk xs q p t at first count size i f done e1 e2 e3 =
-    let cs = slice_range xs t.from t.to in
-    let over : drop i cs ≡ [] = drop_all i cs done in
-    let s1 : first + 0 ≡ t.from + skips q p cs = subst (λ (r : List (List ℕ)). first + skips q at r ≡ t.from + skips q p cs) over e1 in
-    let s2 : count + 0 ≡ keeps q p cs = subst (λ (r : List (List ℕ)). count + keeps q at r ≡ keeps q p cs) over e2 in
-    let s3 : size + 0 ≡ length (concat (touched q p cs)) = subst (λ (r : List (List ℕ)). size + length (concat (touched q at r)) ≡ length (concat (touched q p cs))) over e3 in
-    let a : t.from + skips q p cs ≡ first = omega arith in
-    let b : t.from + skips q p cs + keeps q p cs ≡ first + count = omega arith in
-    let n : sum (lengths (slice_range xs (t.from + skips q p cs) (t.from + skips q p cs + keeps q p cs))) ≡ size =
-    sum_lengths (slice_range xs (t.from + skips q p cs) (t.from + skips q p cs + keeps q p cs)) ∙ ap (λ (r : List (List ℕ)). length (concat r)) (cut_slice xs q p t.from t.to f) ∙ done_size size (length (concat (touched q p cs))) s3 in
-    λ j. record { xorb = t.xorb; unpacked_length = n j; range = record { start = a j; end = b j } }
-  where
-    done_size : (x y : ℕ) → x + 0 ≡ y → y ≡ x
-    done_size x y e = omega arith

@@ -1,8 +1,8 @@
+pub mod Plan
+pub mod Told
 pub mod Answers
 pub mod Laws
 pub mod Offsets
 pub mod Places
-pub mod Plan
-pub mod Told
 pub mod Worked
 pub mod Written

@@ -50,9 +50,6 @@ module _ (fs : List TrackedFile) (ps : List Part) (sent size : ℕ) (can : CanCr
       omega (arith, e, room, part))
 
   module _ (gs : List TrackedFile) (i : ℕ) (d : Part) (len : length gs ≡ length fs) (at : i < length ps) (done : Credited fs gs (take i ps) sent size) where
-    p : Part
-    p = get_or ps i d
-
     known : (get_or ps i d).file < length fs
     known = can.known i d at
 
@@ -68,9 +65,6 @@ module _ (fs : List TrackedFile) (ps : List Part) (sent size : ℕ) (can : CanCr
         let all = get_or-le-sum_by (λ (f : TrackedFile). f.total) fs f blank known in
         let fits = can.fits in
         omega (arith, e, more, room, all, fits, own)
-
-    abbrev pub after : List TrackedFile
-    after = set gs (get_or ps i d).file (with_more (gain sent size (get_or ps i d)) (get_or gs (get_or ps i d).file blank))
 
     pub credited_more : Credited fs (set gs (get_or ps i d).file (with_more (gain sent size (get_or ps i d)) (get_or gs (get_or ps i d).file blank))) (take (i + 1) ps) sent size
     credited_more f c h =

@@ -26,9 +26,6 @@ use Rattle.xet_progress_state.proofs.Moved.{entries_set, stands_at, is_listed, f
 use Rattle.xet_progress_state.proofs.Looked.{own_at}
 
 module _ (cs : List TrackerStep) (d : FileXorbDependency) where
-  abbrev next : List TrackerStep
-  next = cs ++ RegisterDependencies (d ∷ []) ∷ []
-
   deps : dependencies (cs ++ RegisterDependencies (d ∷ []) ∷ []) ≡ dependencies cs ++ d ∷ []
   deps = flat_push new_dependencies cs (RegisterDependencies (d ∷ []))
 
@@ -62,10 +59,6 @@ module _ (cs : List TrackerStep) (d : FileXorbDependency) where
       go : (b : Bool) (x n s : ℕ) → cond b (x + n) s ≡ cond b x s + cond b n 0
       go true x n s = refl
       go false x n s = omega arith
-
-  -- whether the bytes count at once
-  abbrev pub counts_now : Bool
-  counts_now = d.is_external || is_completed cs d.xorb_hash
 
   no_part_apart : (f : ℕ) (h : MerkleHash) → hash_eq d.xorb_hash h ≡ false → part_of f h d ≡ 0
   no_part_apart f h e = go (nat_eq d.file_id f) d.is_external
@@ -192,12 +185,6 @@ module _ (cs : List TrackerStep) (d : FileXorbDependency) where
 
     counts : dep.counts ≡ (d.is_external || is_completed cs d.xorb_hash)
     counts = counts_is d.is_external refl
-
-    more : ℕ → TrackedFile → TrackedFile
-    more f x = record x { registered = x.registered + of_file f d; completed = x.completed + cond dep.counts (of_file f d) 0 }
-
-    abbrev blank : TrackedFile
-    blank = record { fixed = false; total = 0; registered = 0; completed = 0 }
 
     file_after : (f : ℕ) (e : TrackedFile) → f < length fs → get_or gs f e ≡ record (get_or fs f e) { registered = (get_or fs f e).registered + of_file f d; completed = (get_or fs f e).completed + cond dep.counts (of_file f d) 0 }
     file_after f e l = ap (λ (l : List TrackedFile). get_or l f e) dep.files_are ∙ go (nat_eq d.file_id f) refl

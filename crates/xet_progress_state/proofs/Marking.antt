@@ -3,9 +3,8 @@ use Rattle.std.proofs.Common.{◌≡◌, ℕ, ◌+◌, ◌<◌, ◌≤◌, Bool,
 use Rattle.std.specs.Prelude.{Option, Some, None, All, nat_eq}
 use Rattle.std.specs.List.{enumerate_from, list_any}
 use Rattle.std.specs.Ordering.{nat_cmp, is_eq, is_gt}
-use Rattle.std.specs.Cmp.{unsigned_tied}
 use Rattle.std.specs.BTreeSet.{contains}
-use Rattle.std.proofs.lemmas.Bool.{true≢false, eq-eqb, eqb-true, eqb-false}
+use Rattle.std.proofs.lemmas.Bool.{eq-eqb, eqb-true, eqb-false}
 use Rattle.std.proofs.lemmas.List.{get_or_append_left, get_or-set_same, get_or-set_other, get_or_default, length-append, length-set}
 use Rattle.std.proofs.lemmas.Map.Keys.{le_from_not_gt}
 use Rattle.xet_base.specs.Lists.{first_some}
@@ -23,59 +22,6 @@ use Rattle.xet_progress_state.specs.steps.Depends.{with_dependency}
 use Rattle.xet_progress_state.proofs.Bounds.{completed_le}
 use Rattle.xet_progress_state.proofs.Moved.{kept_at, file_at}
 use Rattle.xet_progress_state.proofs.NewFile.{kept_count}
-
--- a number at a place of the order, and past it
-at_other : (id f : ℕ) → is_eq (nat_cmp id f) ≡ false → f ≡ id → ⊥
-at_other id f e s = eqb-false id f (sym (unsigned_tied id f) ∙ e) (sym s)
-
-at_same : (id f : ℕ) → is_eq (nat_cmp id f) ≡ true → f ≡ id
-at_same id f e = sym (eqb-true id f (sym (unsigned_tied id f) ∙ e))
-
--- a file above the mark changes
-pub marked_above : (fs gs : List TrackedFile) (m : Marks) (id : ℕ) → m.mark ≤ id → Marked fs m → SameBut id fs gs → Marked gs m
-marked_above fs gs m id above k same = record {
-  complete = λ f d l off.
-      let e = same.1 f d (λ s. omega (arith, s, l, above)) in
-      let p = k.complete f d l off in
-      let t = ap (λ (x : TrackedFile). x.total) e in
-      let c = ap (λ (x : TrackedFile). x.completed) e in
-      omega (arith, p, t, c);
-  below = k.below;
-  within = let w = k.within in let e = same.0 in omega (arith, w, e);
-}
-
--- and one below it, which is among the reopened ones then
-pub marked_below : (fs gs : List TrackedFile) (m n : Marks) (id : ℕ) → id < m.mark → n.mark ≡ m.mark → ((q : ℕ) → contains nat_cmp n.reopened q ≡ cond (is_eq (nat_cmp id q)) true (contains nat_cmp m.reopened q))
-    → Marked fs m → SameBut id fs gs → Marked gs n
-marked_below fs gs m n id inside mark adds k same = record {
-  complete = λ f d l off. shut f d (omega (arith, l, mark)) (is_eq (nat_cmp id f)) refl (sym (adds f) ∙ off);
-  below = λ f on. let b = under f (is_eq (nat_cmp id f)) refl (sym (adds f) ∙ on) in omega (arith, b, mark);
-  within = let w = k.within in let e = same.0 in omega (arith, w, e, mark);
-}
-  where
-    shut : (f : ℕ) (d : TrackedFile) → f < m.mark → (b : Bool) → is_eq (nat_cmp id f) ≡ b → cond b true (contains nat_cmp m.reopened f) ≡ false → (get_or gs f d).total ≤ (get_or gs f d).completed
-    shut f d l true e off = absurd (true≢false off)
-    shut f d l false e off =
-        let q = same.1 f d (at_other id f e) in
-        let p = k.complete f d l off in
-        let t = ap (λ (x : TrackedFile). x.total) q in
-        let c = ap (λ (x : TrackedFile). x.completed) q in
-        omega (arith, p, t, c)
-
-    under : (f : ℕ) (b : Bool) → is_eq (nat_cmp id f) ≡ b → cond b true (contains nat_cmp m.reopened f) ≡ true → f < m.mark
-    under f true e on = let s = at_same id f e in omega (arith, s, inside)
-    under f false e on = k.below f on
-
--- the same marks
-pub marked_same : (fs : List TrackedFile) (m n : Marks) → n.mark ≡ m.mark → n.reopened.keys ≡ m.reopened.keys → Marked fs m → Marked fs n
-marked_same fs m n mark keys k = record {
-  complete = λ f d l off. k.complete f d (omega (arith, l, mark)) (has f ∙ off);
-  below = λ f on. let b = k.below f (has f ∙ on) in omega (arith, b, mark);
-  within = let w = k.within in omega (arith, w, mark);
-}
-  where
-    has : (f : ℕ) → contains nat_cmp m.reopened f ≡ contains nat_cmp n.reopened f
-    has f = ap (λ (l : List ℕ). list_any (λ q. is_eq (nat_cmp f q)) l) (sym keys)
 
 pub marked_to : {fs gs : List TrackedFile} {m : Marks} → Marked fs m → gs ≡ fs → Marked gs m
 marked_to {fs} {gs} {m} k e = subst (λ (l : List TrackedFile). Marked l m) (sym e) k
@@ -110,9 +56,6 @@ marked_risen fs gs m r k = record {
   below = k.below;
   within = let w = k.within in let e = r.count in omega (arith, w, e);
 }
-
-pub risen_same : (fs : List TrackedFile) → Risen fs fs
-risen_same fs = record { count = refl; same_total = λ f d l. refl; no_less = λ f d l. omega arith }
 
 pub risen_on : (fs gs hs : List TrackedFile) → Risen fs gs → Risen gs hs → Risen fs hs
 risen_on fs gs hs r q = record {
@@ -152,14 +95,6 @@ risen_depended counts n id e fs gs inside is = record {
 -- a complete file is not open
 pub shut : (i : ℕ) (f : TrackedFile) → f.completed ≤ f.total → f.total ≤ f.completed → open_in (i, f) ≡ None
 shut i f a b = ap (λ c. cond c None (Some (File i f.completed f.total))) (eq-eqb f.completed f.total (omega (arith, a, b)))
-
--- and one that is not open is complete
-pub complete_at : (i : ℕ) (f : TrackedFile) → open_in (i, f) ≡ None → f.total ≤ f.completed
-complete_at i f e = go (nat_eq f.completed f.total) refl e
-  where
-    go : (b : Bool) → nat_eq f.completed f.total ≡ b → cond b None (Some (File i f.completed f.total)) ≡ None → f.total ≤ f.completed
-    go true k n = let s = eqb-true f.completed f.total k in omega (arith, s)
-    go false k n = absurd (cc)
 
 -- files before the least of the reopened ones are complete
 pub before_least : (fs : List TrackedFile) (m : Marks) (id : ℕ) → Marked fs m → contains nat_cmp m.reopened id ≡ true → ((q : ℕ) → contains nat_cmp m.reopened q ≡ true → is_gt (nat_cmp id q) ≡ false)

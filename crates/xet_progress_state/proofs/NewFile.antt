@@ -53,9 +53,6 @@ pub sizes_same : (cs ds : List TrackerStep) → SameCounts cs ds → all_sizes d
 sizes_same cs ds s = ap (λ (l : List MerkleHash). sum_by (size_or_zero ds) l) s.same_xorbs ∙ sum_ext (size_or_zero ds) (size_or_zero cs) (xorbs cs) (λ h. ap (λ (o : Option ℕ). unwrap_or o 0) (s.same_size h))
 
 module _ (n : Option ℕ) where
-  call : TrackerStep
-  call = RegisterNewFile n
-
   quiet : IsQuiet (RegisterNewFile n)
   quiet = record { no_xorb = refl; no_dependency = refl; no_completion = λ h. refl; no_progress = λ h. refl; no_bytes = λ h. refl }
 

@@ -184,9 +184,6 @@ pub no_room : (xs : List TrackedXorb) (d : FileXorbDependency) → position (λ 
 no_room xs d n o r =
     false≢true (sym (let f = find_nothing (λ (x : TrackedXorb). hash_eq x.hash d.xorb_hash) xs n in ap (λ b. b || has_part d.file_id (find (λ (x : TrackedXorb). hash_eq x.hash d.xorb_hash) xs)) o ∙ ap (λ (o : Option TrackedXorb). has_part d.file_id o) f) ∙ r)
 
-abbrev nothing : Part
-nothing = record { file = 0; waiting = 0; credited = 0 }
-
 pub waited : (xs : List TrackedXorb) (d : FileXorbDependency) (i : ℕ) (x y : TrackedXorb) → position (λ (x : TrackedXorb). hash_eq x.hash d.xorb_hash) xs ≡ Some i → x ≡ get_or xs i x → d.is_external ≡ false → has_room xs d ≡ true
     → y.hash ≡ x.hash → y.size ≡ x.size → y.sent ≡ x.sent → y.completed ≡ x.completed
     → MatchOption (position (λ (p : Part). nat_eq p.file d.file_id) x.parts) (y.parts ≡ x.parts) (λ k. y.parts ≡ set x.parts k (with_waiting x.completed d.n_bytes (get_or x.parts k (record { file = 0; waiting = 0; credited = 0 }))))

@@ -24,7 +24,7 @@ use Rattle.xet_progress_state.specs.declared.xorb.TrackedXorb.{TrackedXorb}
 use Rattle.xet_progress_state.specs.declared.marks.Marks.{Marks}
 use Rattle.xet_progress_state.specs.Counts.{named, sizes, files, is_completed, size_of}
 use Rattle.xet_progress_state.specs.steps.Kept.{IsState, XorbIs, tracked}
-use Rattle.xet_progress_state.specs.steps.Open.{NamesStand, open_in, done_in, has}
+use Rattle.xet_progress_state.specs.steps.Open.{open_in, done_in, has}
 use Rattle.xet_progress_state.specs.Accepted.{or_else}
 use Rattle.xet_progress_state.specs.Replies.{open_file, open_xorb, hash_lt, lesser, least, incomplete_of}
 
@@ -208,10 +208,6 @@ module _ (cs : List TrackerStep) (fs : List TrackedFile) (xs : List TrackedXorb)
 
   stand : (h : MerkleHash) → is_completed cs h ≡ false → has ms h ≡ has (flat_map named cs) h
   stand h w = same h (done_at h ∙ w) ∙ k.names h w
-
-  -- the names still stand after a look that drops completed ones
-  pub names_looked : NamesStand cs ms
-  names_looked = stand
 
   -- the first open name
   first_named : (h : MerkleHash) → done_in xs h ≡ false → has ms h ≡ true → ((g : MerkleHash) → has ms g ≡ true → hash_lt g h ≡ false) → least (filter (λ h. not (is_completed cs h)) (flat_map named cs)) ≡ Some h

@@ -10,7 +10,7 @@ use Rattle.xet_error.specs.declared.error.WriterFault.{WriterFault}
 use Rattle.xet_error.specs.declared.error.WriterFault.TheVariants as fault
 use Rattle.xet_queue.specs.declared.completed_term.WantedTerm.{WantedTerm}
 use Rattle.xet_queue.specs.Calls.{FinishCall, SetSums, closed_by, finish_fault, length_fault, supply_fault, wanted_without}
-use Rattle.xet_queue.specs.Unordered.{Unordered, complete, completed_with, range_of, start_of, sums_of, told_of, total_length}
+use Rattle.xet_queue.specs.Unordered.{Unordered, complete, range_of, start_of, sums_of, told_of, total_length}
 use Rattle.xet_queue.specs.Waits.{first_with, without_first}
 use Rattle.xet_queue.specs.steps.UnorderedSteps.{CompletedFirst}
 use Rattle.xet_queue.proofs.Terms.{no_fault, none_wanted}
@@ -82,11 +82,6 @@ pub sums_waiting : (w : Unordered) (t : WantedTerm) → sums_of (record w { want
 sums_waiting w t =
     let a = total_more w.wanted t in
     let e : min (w.total + total_length (w.wanted ++ t ∷ [])) (2 ^ 64 - 1) ≡ min (min (w.total + total_length w.wanted) (2 ^ 64 - 1) + length_of t) (2 ^ 64 - 1) = omega arith in
-    ap (λ n. record { bytes = n; faults = 0 }) e
-
-pub sums_complete : (w : Unordered) (r : FileRange) (bytes : List ℕ) (a : Option Admission) → length bytes ≡ r.end - r.start → sums_of (completed_with w r bytes a) ≡ record (sums_of w) { bytes = min ((sums_of w).bytes + (r.end - r.start)) (2 ^ 64 - 1) }
-sums_complete w r bytes a h =
-    let e : min (min (w.total + length bytes) (2 ^ 64 - 1) + total_length w.wanted) (2 ^ 64 - 1) ≡ min (min (w.total + total_length w.wanted) (2 ^ 64 - 1) + (r.end - r.start)) (2 ^ 64 - 1) = omega arith in
     ap (λ n. record { bytes = n; faults = 0 }) e
 
 -- bytes that pass their test leave the sums

@@ -150,9 +150,6 @@ pieces_more at ts n h =
 
 -- ---- lending
 
-pub lends_none : (at : ℕ) (ts : List QueuedTerm) (ps : List (List ℕ)) → at ≤ length (ready ts) → ps ≡ [] → Lends at at ts ts ps
-lends_none at ts ps h e = record { count = 0; end_is = omega arith; within = h; queue = refl; pieces_are = e }
-
 -- one more
 pub lends_more : (at end : ℕ) (ts qs us : List QueuedTerm) (ps rs : List (List ℕ)) (d : QueuedTerm) → Lends at end ts qs ps → end < length qs → is_some (get_or qs end d).bytes ≡ true → us ≡ lent_at qs end → rs ≡ ps ++ nonempty (bytes_then (get_or qs end d).bytes []) → Lends at (end + 1) ts us rs
 lends_more at end ts qs us ps rs d l h s e f =

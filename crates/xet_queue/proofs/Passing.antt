@@ -21,16 +21,6 @@ pub record PassedSo {S : Type 0} (b m : Sequential S) (left count : ℕ) : Type 
   pub sink : m.sink ≡ b.sink
   pub kept : m.kept ≡ b.kept
 
-pub passed_none : {S : Type 0} (b : Sequential S) (count : ℕ) → PassedSo b b count count
-passed_none b count = record {
-  terms = 0;
-  passed = record { within = omega arith; queue = refl; released = sym (append-nil b.released); delivered = omega arith; expected = refl; finished = refl; vectored = refl };
-  used = omega arith;
-  rest = refl;
-  sink = refl;
-  kept = refl;
-}
-
 admissions_more : (ts us : List QueuedTerm) → admissions (ts ++ us) ≡ admissions ts ++ admissions us
 admissions_more [] us = refl
 admissions_more (t ∷ ts) us = ap (λ l. option_to_list t.admission ++ l) (admissions_more ts us) ∙ sym (append_assoc (option_to_list t.admission) (admissions ts) (admissions us))

@@ -150,10 +150,6 @@ not_at start i bytes t ts true true eb ec e r = let f : ◌≡◌ {A = Option �
 not_at start i bytes t ts true false eb ec e r = rw (eb, ec) (r (rw (eb, ec) at e))
 not_at start i bytes t ts false c eb ec e r = rw eb (r (rw eb at e))
 
-wanted_at : (u : QueuedTerm) (ts : List QueuedTerm) (t : QueuedTerm) (b : Bool) → is_none u.bytes ≡ b → wanted (ts ++ t ∷ []) ≡ wanted ts ++ wanted (t ∷ []) → wanted (u ∷ ts ++ t ∷ []) ≡ wanted (u ∷ ts) ++ wanted (t ∷ [])
-wanted_at u ts t true e r = rw e (ap (λ l. u.byte_range ∷ l) r)
-wanted_at u ts t false e r = rw e r
-
 supplied_at : (start : ℕ) (bytes : List ℕ) (t : QueuedTerm) (ts : List QueuedTerm) (b c : Bool) → is_none t.bytes ≡ b → (t.byte_range.start == start) ≡ c → wanted (supplied start bytes ts) ≡ wanted_without start (wanted ts) → wanted (supplied start bytes (t ∷ ts)) ≡ wanted_without start (wanted (t ∷ ts))
 supplied_at start bytes t ts true true eb ec r = rw (eb, ec) refl
 supplied_at start bytes t ts true false eb ec r = rw (eb, ec, eb) (ap (λ l. t.byte_range ∷ l) r)
@@ -232,11 +228,6 @@ found_term start i bytes (t ∷ ts) k d e = found_at start i bytes t ts k d (is_
 pub not_found : (start i : ℕ) (bytes : List ℕ) (ts : List QueuedTerm) → position_from (is_wanted_at start) i ts ≡ None → supply_fault (wanted ts) start bytes ≡ Some (fault.NotWanted start)
 not_found start i bytes [] e = refl
 not_found start i bytes (t ∷ ts) e = not_at start i bytes t ts (is_none t.bytes) (t.byte_range.start == start) refl refl e (λ f. not_found start (i + 1) bytes ts f)
-
--- what a new term leaves to wait
-pub wanted_more : (ts : List QueuedTerm) (t : QueuedTerm) → wanted (ts ++ t ∷ []) ≡ wanted ts ++ wanted (t ∷ [])
-wanted_more [] t = refl
-wanted_more (u ∷ ts) t = wanted_at u ts t (is_none u.bytes) refl (wanted_more ts t)
 
 -- what a supplied term leaves to wait
 pub wanted_supplied : (start : ℕ) (bytes : List ℕ) (ts : List QueuedTerm) → wanted (supplied start bytes ts) ≡ wanted_without start (wanted ts)

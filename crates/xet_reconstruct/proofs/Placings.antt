@@ -1,5 +1,5 @@
 -- Files that were made ready.
-use Rattle.std.proofs.Common.{◌≡◌, ℕ, Bool, List, Option, None, Some, Ok, ◌≤◌, refl, ◌∙◌, ap, arith}
+use Rattle.std.proofs.Common.{◌≡◌, ℕ, Bool, List, Option, None, Some, Ok, refl, ◌∙◌, ap, arith}
 use Rattle.std.specs.Prelude.{option_map}
 use Rattle.xet_outside.specs.Places.{PlaceCall, Placed, at_place, placed_of, written}
 use Rattle.xet_outside.specs.Told.{SinkTold}

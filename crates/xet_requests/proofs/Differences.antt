@@ -1,5 +1,5 @@
 -- The first index at which two lists of blocks differ.
-use Rattle.std.proofs.Common.{◌≡◌, ℕ, zero, suc, ◌+◌, ◌<◌, ◌≤◌, true, false, cond, List, [], ◌∷◌, length, map, drop, get_or, Some, None, Option, refl, sym, ◌∙◌, ap, arith, drop-cons}
+use Rattle.std.proofs.Common.{◌≡◌, ℕ, zero, suc, ◌+◌, ◌<◌, true, cond, List, [], ◌∷◌, length, map, drop, get_or, Some, None, Option, refl, sym, ◌∙◌, ap, arith, drop-cons}
 use Rattle.std.specs.Prelude.{option_map}
 use Rattle.std.proofs.lemmas.List.{drop_all}
 use Rattle.xet_offers.specs.declared.reconstruction_terms.xorb_block.XorbBlock.{XorbBlock}
@@ -12,28 +12,8 @@ difference_from xs ys k = option_map (λ (j : ℕ). k + j) (first_difference (ma
 drop_at : (xs : List XorbBlock) (k : ℕ) (x : XorbBlock) → k < length xs → get_or xs k x ≡ x → drop k xs ≡ x ∷ drop (k + 1) xs
 drop_at xs k x h e = drop-cons xs k x h ∙ ap (λ y. y ∷ drop (suc k) xs) e ∙ ap (λ (j : ℕ). x ∷ drop j xs) (let n : suc k ≡ k + 1 = omega arith in n)
 
-first_other : (xs ys : List Extent) (x y : Extent) → same_extent x y ≡ false → first_difference (x ∷ xs) (y ∷ ys) ≡ Some 0
-first_other xs ys x y e = ap (λ b. cond b (option_map (λ k. suc k) (first_difference xs ys)) (Some 0)) e
-
 first_same : (xs ys : List Extent) (x y : Extent) → same_extent x y ≡ true → first_difference (x ∷ xs) (y ∷ ys) ≡ option_map (λ k. suc k) (first_difference xs ys)
 first_same xs ys x y e = ap (λ b. cond b (option_map (λ k. suc k) (first_difference xs ys)) (Some 0)) e
-
-pub difference_here : (xs ys : List XorbBlock) (k : ℕ) (x y : XorbBlock) → k < length xs → get_or xs k x ≡ x → k < length ys → get_or ys k y ≡ y → same_extent (extent_of x) (extent_of y) ≡ false → difference_from xs ys k ≡ Some k
-difference_here xs ys k x y h at i e other =
-    let dx = drop_at xs k x h at in
-    let dy = drop_at ys k y i e in
-    ap (λ l. option_map (λ (j : ℕ). k + j) (first_difference (map extent_of l) (map extent_of (drop k ys)))) dx
-    ∙ ap (λ l. option_map (λ (j : ℕ). k + j) (first_difference (map extent_of (x ∷ drop (k + 1) xs)) (map extent_of l))) dy
-    ∙ ap (option_map (λ (j : ℕ). k + j)) (first_other (map extent_of (drop (k + 1) xs)) (map extent_of (drop (k + 1) ys)) (extent_of x) (extent_of y) other)
-    ∙ ap Some (let n : k + 0 ≡ k = omega arith in n)
-
-pub difference_short : (xs ys : List XorbBlock) (k : ℕ) (x : XorbBlock) → k < length xs → get_or xs k x ≡ x → length ys ≤ k → difference_from xs ys k ≡ Some k
-difference_short xs ys k x h at e =
-    let dx = drop_at xs k x h at in
-    let dy = drop_all k ys e in
-    ap (λ l. option_map (λ (j : ℕ). k + j) (first_difference (map extent_of l) (map extent_of (drop k ys)))) dx
-    ∙ ap (λ l. option_map (λ (j : ℕ). k + j) (first_difference (map extent_of (x ∷ drop (k + 1) xs)) (map extent_of l))) dy
-    ∙ ap Some (let n : k + 0 ≡ k = omega arith in n)
 
 later : (k : ℕ) (o : Option ℕ) → option_map (λ (j : ℕ). k + j) (option_map (λ j. suc j) o) ≡ option_map (λ (j : ℕ). k + 1 + j) o
 later k None = refl

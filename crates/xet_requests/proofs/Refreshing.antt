@@ -13,7 +13,6 @@ use Rattle.xet_outside.specs.declared.plan.PlanTerm.{PlanTerm}
 use Rattle.xet_outside.specs.Plan.{Shape, shape}
 use Rattle.xet_outside.specs.Told.{ClientTold}
 use Rattle.xet_error.specs.declared.error.Corruption.{Corruption}
-use Rattle.xet_error.specs.declared.error.Corruption.TheVariants.{RefreshPastEnd}
 use Rattle.xet_error.specs.declared.error.FileReconstructionError.{FileReconstructionError}
 use Rattle.xet_error.specs.declared.error.FileReconstructionError.TheVariants as error
 use Rattle.xet_blocks.specs.declared.reconstruction_terms.file_term.TermBlock.{TermBlock}
@@ -48,9 +47,6 @@ refused_after q multi bs p some passes = rw (not_empty p some, passes)
 refused_first : (q : FileRange) (multi : Bool) (bs : List Extent) (p : Plan) (k : Corruption) → 0 < length p.terms → failed_test (shape p) q multi ≡ Some k
     → refusal_of q multi bs (Found p) ≡ Some (error.CorruptedReconstruction k)
 refused_first q multi bs p k some fails = rw (not_empty p some, fails)
-
-refused_empty : (q : FileRange) (multi : Bool) (bs : List Extent) (p : Plan) → p.terms ≡ [] → refusal_of q multi bs (Found p) ≡ Some (error.CorruptedReconstruction RefreshPastEnd)
-refused_empty q multi bs p none = rw none
 
 module _ (b n : ClientTold) (r : Refresh) (id : UniqueId) where
   -- the query of the refresh
@@ -93,28 +89,6 @@ module _ (b n : ClientTold) (r : Refresh) (id : UniqueId) where
 
   pub fresh_err : (e : FileReconstructionError) → TermBlockCall b n Q (Err e) → FreshCall r b n (Err e)
   fresh_err e c = record { may = may_ask (Err e) c; unsaid = λ h. let same : e ≡ error.ClientError = cc in c.unsaid (ap (λ (e : FileReconstructionError). Err e) same); refreshed = tt; cause = cause_of e c.cause }
-
-  -- no terms
-  refused_none : (a : PlanAnswer) → FromAnswer Q a (Ok None) → refusal_of r.range r.multirange r.blocks a ≡ Some (error.CorruptedReconstruction RefreshPastEnd)
-  refused_none NoFile h = absurd (cc)
-  refused_none PastEnd h = refl
-  refused_none (Found p) h = terms p.terms refl h
-    where
-      tested : (o : Option Corruption) → FromTested p Q o (Ok None) → refusal_of r.range r.multirange r.blocks (Found p) ≡ Some (error.CorruptedReconstruction RefreshPastEnd)
-      tested None (c, h, is) = absurd (cc)
-      tested (Some k) h = absurd (cc)
-
-      terms : (ts : List PlanTerm) → p.terms ≡ ts → FromTerms p Q ts (Ok None) → refusal_of r.range r.multirange r.blocks (Found p) ≡ Some (error.CorruptedReconstruction RefreshPastEnd)
-      terms [] same h = refused_empty r.range r.multirange r.blocks p same
-      terms (t ∷ ts) same h = tested (failed_test (shape p) r.range r.multirange) h
-
-  pub fresh_none : TermBlockCall b n Q (Ok None) → FreshCall r b n (Err (error.CorruptedReconstruction RefreshPastEnd))
-  fresh_none c = record {
-    may = may_ask (Ok None) c;
-    unsaid = λ h. absurd (cc);
-    refreshed = tt;
-    cause = record { answer = c.made.plan; answered = answered_by (Ok None) c.made; refused = refused_none c.made.plan c.made.from };
-  }
 
   -- terms
   record IsAsked (tb : TermBlock) : Type 0 where

@@ -18,13 +18,6 @@ front_of f (suc n) (x ∷ xs) = front_of f n xs
 pub waiting_front : (es : List Event) (i : Index) → IsIndexed es i → slice_get i.waiting.items 0 ≡ option_map waiting_of (slice_get (planned es) (count_by is_admit es))
 waiting_front es i x = ap (λ (l : List WaitingTerm). slice_get l 0) x.waiting_are ∙ front_of waiting_of (count_by is_admit es) (planned es)
 
-pub none_may_admit : (limit : ℕ) (es : List Event) → option_map waiting_of (slice_get (planned es) (count_by is_admit es)) ≡ None → MayAdmit limit es → ⊥
-none_may_admit limit es h m = go (slice_get (planned es) (count_by is_admit es)) h m
-  where
-    go : (o : Option Task) → option_map waiting_of o ≡ None → MatchOption o ⊥ (λ t. (unwritten es ≡ 0) ⊎ (unwritten es + size t ≤ limit)) → ⊥
-    go None h m = m
-    go (Some t) h m = cc
-
 pub may_admit : (limit : ℕ) (es : List Event) (w : WaitingTerm) → option_map waiting_of (slice_get (planned es) (count_by is_admit es)) ≡ Some w
     → (unwritten es ≡ 0) ⊎ (unwritten es + w.length ≤ limit) → MayAdmit limit es
 may_admit limit es w h m = go (slice_get (planned es) (count_by is_admit es)) h

@@ -1,10 +1,7 @@
 -- One more call at the end of a history.
 use Rattle.std.proofs.Common.{◌≡◌, List, [], ◌∷◌, ◌++◌, refl, sym, ap, ◌∙◌}
-use Rattle.std.specs.Prelude.{Option, Some, None}
-use Rattle.std.specs.Result.{result_err}
 use Rattle.xet_events.specs.declared.run_book.RunBook.{RunBook}
 use Rattle.xet_events.specs.declared.run_call.RunCall.{RunCall}
-use Rattle.xet_events.specs.RunBooks.{answer_of}
 use Rattle.xet_events.specs.RunReplay.{book_after, book_after_all, all_replied, replied}
 
 after_last : (b : RunBook) (cs : List RunCall) (c : RunCall) → book_after_all b (cs ++ c ∷ []) ≡ book_after (book_after_all b cs) c
@@ -23,8 +20,3 @@ pub kept_legal : (b now : RunBook) (cs ds : List RunCall) (c : RunCall) → now 
 kept_legal b now cs ds c e h r g =
     let here : replied (book_after_all b cs) c ≡ c = ap (λ (s : RunBook). replied s c) (sym e) ∙ r in
     ap (all_replied b) g ∙ (replied_last b cs c ∙ (ap (λ l. l ++ replied (book_after_all b cs) c ∷ []) h ∙ (ap (λ x. cs ++ x ∷ []) here ∙ sym g)))
-
--- the error in an answer
-pub err_of_answer : {E : Type 0} (o : Option E) → result_err (answer_of o) ≡ o
-err_of_answer None = refl
-err_of_answer (Some e) = refl

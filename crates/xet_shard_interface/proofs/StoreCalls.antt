@@ -30,10 +30,6 @@ of-told (Some r) P s h = h
 -- ---- records that are added to those of the session
 
 module _ (b : InterfaceTold) (r : ShardRecord) where
-  -- memory was wanting before
-  pub adds-memory : AddsRecords b b r (Err data_error.OutOfMemory)
-  adds-memory = record { same = refl; added = tt; kept = refl; faults = omega arith; why = inl refl }
-
   module _ (s : ShardsTold) where
     pub adds-failed : (e : ShardError) → AddCall b.session s r (Err e) → AddsRecords b (record b { session = s }) r (Err (of_shard_error e))
     adds-failed e h = record { same = refl; added = tt; kept = h.kept; faults = h.faults; why = store-fails b.session.faults s.faults e h.failed }

@@ -1,3 +1,3 @@
-pub mod Fillings
 pub mod Interfaces
+pub mod Fillings
 pub mod Puts

@@ -49,18 +49,6 @@ run_of-end hs cs i h = go (cases_lt i (length hs))
 pub run_past : (hs : List MerkleHash) (cs : List ChunkInfo) (place : ℕ) → length cs ≤ place → run_of hs (drop place cs) ≡ 0
 run_past hs cs place h = ap (run_of hs) (drop_all place cs h) ∙ run_of-nil hs
 
--- a run starts inside the chunks that a term can name
-run-inside : (x : MDBXorbInfo) (hs : List MerkleHash) (p : ℕ) → 0 < run_of hs (drop p (counted x)) → p < length (counted x)
-run-inside x hs p h = go (cases_lt p (length (counted x)))
-  where
-    go : (p < length (counted x)) ⊎ (length (counted x) ≤ p) → p < length (counted x)
-    go (inl k) = k
-    go (inr k) = absurd (omega (arith, h, run_past hs (counted x) p k))
-
-counted-le : (x : MDBXorbInfo) → length (counted x) ≤ length x.chunks
-unfolding counted
-counted-le x = omega (arith, length-take (2 ^ 32 - 1) x.chunks)
-
 -- ---- the search
 
 -- a record has the hash where a run was found

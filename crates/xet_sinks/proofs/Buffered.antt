@@ -1,13 +1,12 @@
 -- What a buffer holds, and what the sink below it took of it.
 use Rattle.std.proofs.Common.{◌≡◌, ℕ, ◌+◌, ◌<◌, ◌≤◌, Bool, true, false, List, [], ◌++◌, take, drop, length, Option}
-use Rattle.std.proofs.Common.{Some, None, Ok, Result, refl, sym, ap, ◌∙◌, arith, append_assoc, append-nil}
+use Rattle.std.proofs.Common.{Some, None, Ok, refl, sym, ap, ◌∙◌, arith, append_assoc, append-nil}
 use Rattle.std.proofs.Common.{length-append, length-drop}
 use Rattle.std.specs.Prelude.{option_map}
 use Rattle.std.proofs.Math.Seq.{take-length}
 use Rattle.std.proofs.lemmas.List.{length-take-le, take-append-drop, take-append-le}
-use Rattle.xet_outside.specs.declared.sink.SinkError.{SinkError}
 use Rattle.xet_outside.specs.Told.{SinkTold, Took, TookPrefix, WriteCall}
-use Rattle.xet_outside.proofs.CallerLemmas.{took_both, took_more, prefix_more}
+use Rattle.xet_outside.proofs.CallerLemmas.{took_more, prefix_more}
 use Rattle.xet_sinks.specs.Buffers.{Lacks, buffered_told}
 use Rattle.xet_sinks.specs.HexText.{steps}
 use Rattle.xet_sinks.specs.steps.Held.{Held}
@@ -40,10 +39,6 @@ held_at k n bs out stopped i e =
     let f = front_of k n bs out i e in
     record { within = i; wrote = λ _. e; short = f.0; front = f.1 }
 
--- nothing is held
-pub held_none : (m : Option (List ℕ)) (stopped : Bool) → Held m m [] 0 stopped
-held_none m stopped = held_at m m [] 0 stopped (omega arith) (sym (with_nothing m))
-
 -- memory ran out after so many bytes more
 pub held_part : (k n m : Option (List ℕ)) (bs : List ℕ) (out count : ℕ) → Held k n bs out false
     → count < length (drop out bs) → Took n m (take count (drop out bs)) → Held k m bs (out + count) false
@@ -59,13 +54,6 @@ held_failed k n m bs out h p =
     let q = prefix_more k n m bs out h.within (h.wrote refl) p in
     let f = front_of k m bs q.count q.within q.took in
     record { within = h.within; wrote = λ z. absurd (let e : true ≡ false = z in cc); short = f.0; front = f.1 }
-
--- all of the buffer went out
-pub held_all : (k n m : Option (List ℕ)) (bs : List ℕ) (out : ℕ) → Held k n bs out false → Took n m (drop out bs)
-    → m ≡ option_map (λ (xs : List ℕ). xs ++ bs) k
-held_all k n m bs out h e =
-    let t : Took k m (take out bs ++ drop out bs) = took_both k n m (take out bs) (drop out bs) (h.wrote refl) e in
-    rw (take-append-drop out bs) at t
 
 -- a piece is put behind the buffer
 pub held_more : (k n : Option (List ℕ)) (bs ps : List ℕ) (out : ℕ) (stopped : Bool) → Held k n bs out stopped
@@ -90,26 +78,6 @@ held_lacks k n bs out stopped h = record {
       ap (λ (l : List ℕ). option_map (λ (xs : List ℕ). xs ++ l) k) (sym d) ∙ c ∙ ap
       (λ (o : Option (List ℕ)). option_map (λ (xs : List ℕ). xs ++ drop (steps k n) bs) o) (sym f);
 }
-
--- a write past the empty buffer
-pub passed : (s k n m : SinkTold) (piece : List ℕ) (answer : Result ℕ SinkError) → Held k.took n.took [] 0 false
-    → WriteCall n m piece answer → WriteCall (buffered_told s k n []) (buffered_told s m m []) piece answer
-passed s k n m piece answer h w =
-    let e : n.took ≡ option_map (λ (xs : List ℕ). xs ++ []) k.took = h.wrote refl in
-    let f = with_nothing m.took in
-    record {
-      count = w.count;
-      some = w.some;
-      took = rw (f, ← e) w.took;
-      prefix = rw (f, ← e) w.prefix;
-      memory = rw (f, ← e) w.memory;
-      flushed = w.flushed;
-      link = rw w.link refl;
-      faults = w.faults;
-      failed = w.failed;
-      unfailed = w.unfailed;
-      short = w.short;
-    }
 
 -- a piece that is held
 pub held_write : (s k n : SinkTold) (bs ps : List ℕ)

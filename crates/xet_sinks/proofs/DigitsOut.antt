@@ -49,10 +49,6 @@ began_more (Some zs) xs ys e =
     ap Some (ap (λ (us : List ℕ). us ++ ys) f ∙ append_assoc zs (drop (length zs) xs) ys ∙ ap
     (λ (us : List ℕ). zs ++ us) (sym m))
 
-steps_more : (k xs ys : List ℕ) → length k ≤ length xs → steps (Some k) (Some (xs ++ ys)) ≡ steps (Some k)
-    (Some xs) + length ys
-steps_more k xs ys l = grind (arith, common_steps)
-
 -- ---- the digit that was missing
 
 -- it went out

@@ -100,11 +100,6 @@ even_owed d [] h = absurd (false≢true (sym h))
 even_owed d (x ∷ []) h = refl
 even_owed d (x ∷ y ∷ xs) h = even_owed d xs h
 
-pub even-encode : (bs : List ℕ) → even (encode_lower bs) ≡ true
-unfolding encode_with
-even-encode [] = refl
-even-encode (b ∷ bs) = even-encode bs
-
 -- a front of the digits is even as its length is
 pub even-take : (k : ℕ) (bs : List ℕ) → k ≤ 2 * length bs → (k % 2 ≡ 0 → even (take k (encode_lower bs)) ≡ true)
     × (k % 2 ≡ 1 → even (take k (encode_lower bs)) ≡ false)

@@ -1,5 +1,5 @@
 -- The parts of bytes between places in order.
-use Rattle.std.proofs.Common.{◌≡◌, ◌≢◌, ℕ, zero, suc, ◌+◌, ◌-◌, ◌<◌, ◌≤◌, ◌==◌, ◌^◌, ◌||◌, Bool, true, false, List, [], ◌∷◌, ◌++◌, length, drop, get_or, refl, sym, ◌∙◌, ap, subst, arith}
+use Rattle.std.proofs.Common.{◌≡◌, ◌≢◌, ℕ, zero, suc, ◌+◌, ◌-◌, ◌<◌, ◌≤◌, ◌==◌, ◌^◌, ◌||◌, Bool, false, List, [], ◌∷◌, ◌++◌, length, drop, get_or, refl, sym, ◌∙◌, ap, subst, arith}
 use Rattle.std.specs.Prelude.{slice_range}
 use Rattle.std.specs.List.{concat, list_any}
 use Rattle.std.proofs.lemmas.List.{drop_all, drop_more, drop-drop, length-drop, length-take-le, take-append-drop}
@@ -68,12 +68,6 @@ module _ (bytes es : List ℕ) (i start : ℕ) (within : i < length es) (h : Are
 
   one : list_any is_empty (parts bytes start (drop i es)) ≡ ((length (slice_range bytes start e) == 0) || list_any is_empty (parts bytes e (drop (i + 1) es)))
   one = ap (λ (xs : List ℕ). list_any is_empty (parts bytes start xs)) split
-
-  -- a part that ends where it starts is empty
-  pub part-empty : get_or es i 0 ≡ start → list_any is_empty (parts bytes start (drop i es)) ≡ true
-  part-empty same =
-      let none : (length (slice_range bytes start e) == 0) ≡ true = grind (arith, nat_tests, size, same) in
-      one ∙ ap (λ b. b || list_any is_empty (parts bytes e (drop (i + 1) es))) none
 
   -- and no other is
   pub part-some : get_or es i 0 ≢ start → list_any is_empty (parts bytes start (drop i es)) ≡ list_any is_empty (parts bytes (get_or es i 0) (drop (i + 1) es))

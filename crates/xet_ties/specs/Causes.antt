@@ -1,5 +1,5 @@
 -- What each error of a run shows of what its arguments tell.
-use Rattle.std.specs.Prelude.{ℕ, ◌≡◌, ◌⊎◌, ◌+◌, ◌-◌, ◌^◌, ◌<◌, ◌≤◌, true, List, [], ◌∷◌, cond, nat_eq, nat_lt, Option}
+use Rattle.std.specs.Prelude.{ℕ, ◌≡◌, ◌⊎◌, ◌+◌, ◌-◌, ◌^◌, ◌<◌, ◌≤◌, true, List, [], ◌∷◌, Option}
 use Rattle.std.specs.Prelude.{Some, None, IsNone, IfSome, All, slice_get, length, count_by}
 use Rattle.xet_base.specs.declared.cas_types.FileRange.{FileRange}
 use Rattle.xet_base.specs.Store.{Store, file_of}

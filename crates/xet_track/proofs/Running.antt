@@ -53,9 +53,6 @@ abbrev pub all_read : List (List ℕ) → Bool
 all_read ls = list_all (λ x. is_some (step_of_line x)) ls
 
 module _ (cs ds : List TrackerStep) (rest line out now : List ℕ) (read : Bool) (some : 0 < length rest) (is : line ≡ before 10 rest) (turn : LineOf cs ds line out now read) where
-  abbrev next : List (List ℕ)
-  next = lines_of (unwrap_or (behind 10 rest) [])
-
   first : lines_of rest ≡ line ∷ lines_of (unwrap_or (behind 10 rest) [])
   first = lines_first rest some ∙ ap (λ l. l ∷ lines_of (unwrap_or (behind 10 rest) [])) (sym is)
 
@@ -86,12 +83,6 @@ module _ (cs ds : List TrackerStep) (rest line out now : List ℕ) (read : Bool)
 abbrev pub Begins : List ℕ → List ℕ → Type 0
 Begins front now = (more : List ℕ) × (now ≡ front ++ more)
 
-pub begins : (out : List ℕ) → Begins out out
-begins out = ([], sym (append-nil out))
-
-pub begins_more : (front out now line : List ℕ) → Begins front out → now ≡ out ++ line → Begins front now
-begins_more front out now line b e = (b.0 ++ line, e ∙ ap (λ l. l ++ line) b.1 ∙ append_assoc front b.0 line)
-
 -- what was added is a part of the text
 pub part_of : (front out now text left : List ℕ) → Begins front out → out ++ left ≡ front ++ text → now ≡ out → PrintedPart front now text
 part_of front out now text left b e same = record {
@@ -117,8 +108,3 @@ left_within x (y ∷ xs) = go (nat_eq x 10) (left_within y xs)
 pub left_shorter : (xs : List ℕ) → 0 < length xs → length (unwrap_or (behind 10 xs) []) < length xs
 left_shorter [] h = absurd (omega (arith, h))
 left_shorter (x ∷ xs) h = let w = left_within x xs in omega (arith, w)
-
--- the last line's end is the text's end
-pub empty : (xs : List ℕ) → length xs ≡ 0 → xs ≡ []
-empty [] h = refl
-empty (x ∷ xs) h = absurd (omega (arith, h))

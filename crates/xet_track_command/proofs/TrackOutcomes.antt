@@ -1,17 +1,17 @@
 -- What the command `track` prints over an input.
-use Rattle.std.proofs.Common.{◌≡◌, ℕ, ◌<◌, List, [], ◌∷◌, ◌++◌, length, false, Option, Some, None, Err, refl, ap, sym, ◌∙◌, arith, inl, inr}
+use Rattle.std.proofs.Common.{◌≡◌, ℕ, List, [], ◌∷◌, ◌++◌, false, Err, refl, ap, sym, ◌∙◌, arith, inl, inr}
 use Rattle.std.specs.Prelude.{◌⊎◌}
-use Rattle.std.proofs.lemmas.List.{append-nil, append_assoc}
+use Rattle.std.proofs.lemmas.List.{append_assoc}
 use Rattle.xet_outside.specs.declared.sink.SinkError.{SinkError}
 use Rattle.xet_outside.specs.declared.sink.SinkError.TheVariants as sink_error
-use Rattle.xet_outside.specs.Told.{Rose, SinkTold, Took, TookPrefix}
+use Rattle.xet_outside.specs.Told.{SinkTold, Took, TookPrefix}
 use Rattle.xet_outside.specs.Written.{WroteAll}
 use Rattle.xet_outside.proofs.CallerLemmas.{prefix_after, prefix_front, took_both, whole_prefix}
 use Rattle.xet_track.specs.Lines.{lines_of}
 use Rattle.xet_track.specs.Texts.{lines_text, track_reads, track_text}
 use Rattle.xet_track.specs.Turns.{PrintsLine, ScriptLeft, reads_left, text_left}
 use Rattle.xet_room.specs.declared.status.Status.{Status}
-use Rattle.xet_room.specs.declared.status.Status.TheVariants.{Done, BadScript, ReadFault, WriteFault, NoMemory, TooLong}
+use Rattle.xet_room.specs.declared.status.Status.TheVariants.{Done, BadScript, WriteFault, NoMemory}
 use Rattle.xet_room.specs.Ends.{Told}
 use Rattle.xet_room.specs.Outcome.{Finished, status_of}
 use Rattle.xet_room.specs.Texts.{line}
@@ -26,21 +26,6 @@ pub record Printing (script : List ℕ) (run : ScriptLeft) (b n : SinkTold) : Ty
   pub text : lines ++ text_left run ≡ track_text script
   pub whole : (lines ≡ []) ⊎ ((front : List ℕ) × (lines ≡ front ++ 10 ∷ []))
   pub reads : reads_left run ≡ track_reads script
-
-took_none : (o : Option (List ℕ)) → Took o o []
-took_none None = refl
-took_none (Some xs) = ap Some (sym (append-nil xs))
-
--- nothing was printed yet
-pub printing_start : (script : List ℕ) (run : ScriptLeft) (b : SinkTold) → run ≡ record { calls = []; rest = script } → Printing script run b b
-printing_start script run b e = rw e (record {
-  lines = [];
-  took = took_none b.took;
-  unfailed = refl;
-  text = refl;
-  whole = inl refl;
-  reads = refl;
-})
 
 module _ (script : List ℕ) (run : ScriptLeft) (b m n : SinkTold) (p : Printing script run b m) where
   first : FirstLines script p.lines
@@ -103,24 +88,6 @@ module _ (script : List ℕ) (run : ScriptLeft) (b m n : SinkTold) (p : Printing
       by_case (inr (inr h)) = rw h.0 (inr (p.lines, first, h.1))
 
 -- ---- the command over an input
-
--- a line alone
-tracked_line : (limit : ℕ) (b n : Told) (whole status : Status) → Finished (line whole) whole b.sink n.sink status → (Took b.sink.took n.sink.took (line whole) → TrackStatus limit b n whole) → (TookPrefix b.sink.took n.sink.took (line whole) → IsCutTrack limit b n) → TrackStatus limit b n status
-tracked_line limit b n whole status (inl h) done cut = rw h.0 (done h.1)
-tracked_line limit b n whole status (inr (inl h)) done cut = rw h.0 (h.1, cut h.2)
-tracked_line limit b n whole status (inr (inr h)) done cut = rw h.0 (cut h.1)
-
--- want of memory before the script was there
-pub tracked_memory : (limit : ℕ) (b n : Told) (status : Status) → Finished (line NoMemory) NoMemory b.sink n.sink status → TrackStatus limit b n status
-tracked_memory limit b n status h = tracked_line limit b n NoMemory status h (λ t. inl (whole_prefix b.sink.took n.sink.took (line NoMemory) t)) (λ p. inl p)
-
--- the input failed
-pub tracked_fault : (limit : ℕ) (b n : Told) (status : Status) → Rose b.source.faults n.source.faults → Finished (line ReadFault) ReadFault b.sink n.sink status → TrackStatus limit b n status
-tracked_fault limit b n status r h = tracked_line limit b n ReadFault status h (λ t. record { rose = r; took = t }) (λ p. inr (inl (r, p)))
-
--- the input is longer than the limit
-pub tracked_long : (limit : ℕ) (b n : Told) (status : Status) → ((text : List ℕ) → b.source.left ≡ Some text → limit < length text) → Finished (line TooLong) TooLong b.sink n.sink status → TrackStatus limit b n status
-tracked_long limit b n status l h = tracked_line limit b n TooLong status h (λ t. record { too_long = l; took = t }) (λ p. inr (inr (inl (l, p))))
 
 -- a script
 pub tracked_from : (limit : ℕ) (b n : Told) (text : List ℕ) (status : Status) → IsWhole limit b.source n.source text → ScriptFrom text b.sink n.sink status → TrackStatus limit b n status

@@ -1,5 +1,5 @@
 -- What the parts of a file keep: own terms that lie within the chunks.
-use Rattle.std.proofs.Common.{◌≡◌, ℕ, ◌+◌, ◌≤◌, List, [], ◌∷◌, ◌++◌, map, sym, subst, arith, inl, inr}
+use Rattle.std.proofs.Common.{◌≡◌, ℕ, ◌+◌, List, [], ◌∷◌, ◌++◌, map, sym, subst, arith, inl, inr}
 use Rattle.std.specs.Prelude.{All}
 use Rattle.std.proofs.lemmas.List.Elements.{All-nil, All-cons, All-head, All-append}
 use Rattle.xet_base.specs.declared.merklehash.MerkleHash.{MerkleHash}
@@ -35,9 +35,6 @@ pub counted-own : (n m : ℕ) (ts us : List WaitingTerm) (t : WaitingTerm) → m
 counted-own n m ts us t e x a b added h =
     let P : TermXorb → Type 0 = λ z. LiesIn m z t.from t.to in
     counted-added m ts us t added (counted-more n m ts (omega (arith, e)) h) (subst P (sym x) (omega (arith, a, b), omega (arith, e, b)))
-
-pub counted-grown : (n m : ℕ) (ts : List WaitingTerm) → n ≤ m → All (IsCounted n) ts → All (IsCounted m) ts
-counted-grown = counted-more
 
 -- terms that name stored xorbs
 pub counted-renamed : (n : ℕ) (h : MerkleHash) (ts : List WaitingTerm) → All (IsCounted n) (map (renamed h) ts)

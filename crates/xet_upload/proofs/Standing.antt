@@ -86,9 +86,6 @@ module _ (s : Store) (own more : List (List ℕ)) where
   place-behind Own a b p h = (omega (arith, length-append own more), slice_range-more own more a b p h)
   place-behind (Stored x) a b p h = (h, refl)
 
-  stored-behind : (x : TermXorb) → IsPlace s x → IsPlace s x
-  stored-behind x h = h
-
   pub stand-behind : (ts : List WaitingTerm) (cs : List (List ℕ)) → Stand s own ts cs → Stand s (own ++ more) ts cs
   stand-behind ts cs h = stand-same s s own (own ++ more) ts cs keeps h
     where

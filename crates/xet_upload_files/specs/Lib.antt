@@ -1,3 +1,3 @@
-pub mod UploadTelling
 pub mod Uploads
+pub mod UploadTelling
 pub mod steps

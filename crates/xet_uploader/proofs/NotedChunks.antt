@@ -5,9 +5,8 @@ use Rattle.std.specs.Option.{option_or}
 use Rattle.std.specs.List.{list_any, position_from}
 use Rattle.std.specs.Ordering.{is_eq}
 use Rattle.std.specs.BTreeMap.{BTreeMap, get}
-use Rattle.std.specs.Map.{lookup}
 use Rattle.std.proofs.lemmas.Bool.{cases_lt, or_parts, true≢false, lt-ltb, le-ltb}
-use Rattle.std.proofs.lemmas.List.{length_push, length-take, drop_all, drop_more}
+use Rattle.std.proofs.lemmas.List.{length_push, length-take, drop_more}
 use Rattle.std.proofs.lemmas.Iterator.Adapters.{position_from-zero}
 use Rattle.std.proofs.lemmas.List.Quantifiers.{position-Some}
 use Rattle.std.proofs.lemmas.Option.{none-some, same_Some, slice_get_past, slice_get-get_or}
@@ -72,9 +71,6 @@ first_with-push (x ∷ xs) r h = go (chunk_with h x) (first_with xs h) (first_wi
     go None None n (Some j) e = ap (option_map one_later) e
 
 -- ---- places that have their hash
-
-hash_at-one : MDBXorbInfo → ℕ → Option MerkleHash
-hash_at-one r k = option_map (λ c. c.hash) (slice_get r.chunks k)
 
 hash_at-same : (rs ss : List MDBXorbInfo) (p : ChunkPlace) → slice_get rs p.xorb ≡ slice_get ss p.xorb → hash_at rs p ≡ hash_at ss p
 hash_at-same rs ss p e = ap (λ (o : Option MDBXorbInfo). option_and_then (λ r. option_map (λ c. c.hash) (slice_get r.chunks p.chunk)) o) e
@@ -194,10 +190,6 @@ places-push rs r before after old new h =
     ap (checked (rs ++ r ∷ []) h) is ∙ checked-push rs r h (get ghosts.cmp before h)
     ∙ ap (λ (q : Option ChunkPlace). option_or q (option_map (place_at (length rs)) (chunk_with h r))) (old h) ∙ sym (first_with-push rs r h)
 
--- and where some are noted, it stays that of the records without it
-pub places-kept : (rs : List MDBXorbInfo) (before after : BTreeMap MerkleHash ChunkPlace) → Places ghosts.cmp rs before → Kept ghosts.cmp rs before after → Places ghosts.cmp rs after
-places-kept rs before after old new h = new h ∙ old h
-
 -- ---- one chunk is noted
 
 pub noted-kept : (rs : List MDBXorbInfo) (cs : List ChunkInfo) (k : ℕ) (before after : BTreeMap MerkleHash ChunkPlace) → NotedFrom ghosts.cmp rs cs k before after → Kept ghosts.cmp rs before after
@@ -206,10 +198,6 @@ noted-kept rs cs k before after n h =
 
 pub kept-both : (rs : List MDBXorbInfo) (a b c : BTreeMap MerkleHash ChunkPlace) → Kept ghosts.cmp rs a b → Kept ghosts.cmp rs b c → Kept ghosts.cmp rs a c
 kept-both rs a b c n m h = m h ∙ n h
-
--- nothing is noted yet
-pub noted-none : (rs : List MDBXorbInfo) (cs : List ChunkInfo) (k : ℕ) (m : BTreeMap MerkleHash ChunkPlace) → length cs ≤ k → NotedFrom ghosts.cmp rs cs k m m
-noted-none rs cs k m e h = sym (ap (λ (ds : List ChunkInfo). noted rs h (get ghosts.cmp m h) (position_from (λ c. hash_eq c.hash h) k ds)) (drop_all k cs e))
 
 -- one more before those that are
 pub noted-step : (rs : List MDBXorbInfo) (cs : List ChunkInfo) (k : ℕ) (g : MerkleHash) (d : ChunkInfo) (a b c : BTreeMap MerkleHash ChunkPlace)
@@ -234,16 +222,6 @@ noted-back rs cs k j m g d a b c e f low is n o =
     let Q : ℕ → Type 0 = λ z. Noted ghosts.cmp rs g z b c in
     noted-step rs cs k g d a b c low (is ∙ ap (λ (z : ℕ). (get_or cs z d).hash) e) (subst P f n) (subst Q e o)
 
--- an index in which the hash has a place already
-pub noted-there : (rs : List MDBXorbInfo) (g : MerkleHash) (j : ℕ) (m : BTreeMap MerkleHash ChunkPlace) (p : ChunkPlace) → checked rs g (get ghosts.cmp m g) ≡ Some p → Noted ghosts.cmp rs g j m m
-noted-there rs g j m p e h = go (hash_eq g h) refl
-  where
-    go : (b : Bool) → hash_eq g h ≡ b → get ghosts.cmp m h ≡ cond b (noted rs h (get ghosts.cmp m h) (Some j)) (get ghosts.cmp m h)
-    go false k = refl
-    go true k =
-        let here : checked rs h (get ghosts.cmp m h) ≡ Some p = ap (λ (z : MerkleHash). checked rs z (get ghosts.cmp m z)) (sym (hash_eq-true g h k)) ∙ e in
-        (checked-is rs h (get ghosts.cmp m h) p here).0 ∙ sym (ap (λ (q : Option ChunkPlace). option_or q (Some (place_at (length rs) j))) here)
-
 -- and one in which it has none, after the place of the new chunk was put there
 pub noted-new : (rs : List MDBXorbInfo) (g : MerkleHash) (n j : ℕ) (before after : BTreeMap MerkleHash ChunkPlace) → n ≡ length rs → checked rs g (get ghosts.cmp before g) ≡ None
     → ((h : MerkleHash) → get ghosts.cmp after h ≡ cond (is_eq (ghosts.cmp g h)) (Some (place_at n j)) (get ghosts.cmp before h)) → Noted ghosts.cmp rs g j before after
@@ -255,9 +233,6 @@ noted-new rs g n j before after size e put h =
     go true k =
         let here : checked rs h (get ghosts.cmp before h) ≡ None = ap (λ (z : MerkleHash). checked rs z (get ghosts.cmp before z)) (sym (hash_eq-true g h k)) ∙ e in
         ap (λ (i : ℕ). Some (place_at i j)) size ∙ sym (ap (λ (q : Option ChunkPlace). option_or q (Some (place_at (length rs) j))) here)
-
-pub kept-same : (rs : List MDBXorbInfo) (before after : BTreeMap MerkleHash ChunkPlace) → after.entries ≡ before.entries → Kept ghosts.cmp rs before after
-kept-same rs before after e h = ap (λ (es : List (MerkleHash × ChunkPlace)). checked rs h (lookup (λ k. is_eq (ghosts.cmp h k)) es)) e
 
 -- ---- records are taken off
 
@@ -313,11 +288,3 @@ checked-take rs n h (Some p) = go (cases_lt p.xorb n) (is_hash h (hash_at rs p))
 
 pub places-take : (rs : List MDBXorbInfo) (n : ℕ) (m : BTreeMap MerkleHash ChunkPlace) → Places ghosts.cmp rs m → Places ghosts.cmp (take n rs) m
 places-take rs n m old h = checked-take rs n h (get ghosts.cmp m h) ∙ ap (below n) (old h) ∙ sym (first_with-take rs n h)
-
--- no records have no places
-pub places-none : (m : BTreeMap MerkleHash ChunkPlace) → Places ghosts.cmp [] m
-places-none m h = go (get ghosts.cmp m h)
-  where
-    go : (o : Option ChunkPlace) → checked [] h o ≡ None
-    go None = refl
-    go (Some p) = refl

@@ -1,4 +1,4 @@
-pub mod StoresAfter
 pub mod Uploads
+pub mod StoresAfter
 pub mod XorbRecords
 pub mod steps

@@ -1,5 +1,5 @@
 -- What an aggregator keeps: limits, and own terms that lie within the chunks.
-use Rattle.std.proofs.Common.{◌≡◌, ℕ, ◌+◌, ◌<◌, ◌≤◌, ◌^◌, List, [], ◌∷◌, ◌++◌, length, map, take, drop, refl, sym, ◌∙◌, ap, subst, arith}
+use Rattle.std.proofs.Common.{◌≡◌, ℕ, ◌+◌, ◌<◌, ◌≤◌, ◌^◌, List, [], ◌∷◌, ◌++◌, length, map, take, drop, sym, ◌∙◌, ap, subst, arith}
 use Rattle.std.specs.Prelude.{All}
 use Rattle.std.specs.List.{concat}
 use Rattle.std.proofs.lemmas.List.{map-append, append-nil, drop_all, length-append, length-map, take_all}
@@ -41,19 +41,6 @@ files-shifted n m fs h all =
     (All-weaker (λ (f : WaitingFile). All (IsCounted m) f.terms) (λ f. All (IsCounted (n + m)) (file_shifted n f).terms) (λ f k. counted-shifted n m f.terms h k) fs all)
 
 -- ---- what an aggregator keeps
-
-pub kept-none : IsKept [] [] 0 []
-kept-none = record { infos_are = refl; bytes_are = refl; within = (omega arith, omega arith); some = All-nil (λ (c : List ℕ). 0 < length c); counted = All-nil (λ (f : WaitingFile). All (IsCounted 0) f.terms) }
-
--- one file more
-pub kept-file : (cs : List (List ℕ)) (infos : List ChunkInfo) (n : ℕ) (fs : List WaitingFile) (f : WaitingFile) → IsKept cs infos n fs → All (IsCounted (length cs)) f.terms → IsKept cs infos n (fs ++ f ∷ [])
-kept-file cs infos n fs f h k = record {
-  infos_are = h.infos_are;
-  bytes_are = h.bytes_are;
-  within = h.within;
-  some = h.some;
-  counted = All-append (λ (f : WaitingFile). All (IsCounted (length cs)) f.terms) fs (f ∷ []) h.counted (All-cons (λ (f : WaitingFile). All (IsCounted (length cs)) f.terms) f [] k (All-nil (λ (f : WaitingFile). All (IsCounted (length cs)) f.terms)));
-}
 
 -- one chunk more
 pub kept-more : (cs : List (List ℕ)) (infos : List ChunkInfo) (n : ℕ) (fs : List WaitingFile) (c : List ℕ) → IsKept cs infos n fs → IsWithin (cs ++ c ∷ []) → 0 < length c → IsKept (cs ++ c ∷ []) (infos ++ info_of c ∷ []) (n + length c) fs

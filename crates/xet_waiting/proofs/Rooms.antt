@@ -14,9 +14,6 @@ module _ (cs ds : List (List ℕ)) where
   pub within-both : length cs + length ds ≤ 8192 → length (concat cs) + length (concat ds) ≤ 67108864 → IsWithin (cs ++ ds)
   within-both h k = (omega (arith, h, sizes.0), omega (arith, k, sizes.1))
 
-  pub both-few : IsWithin (cs ++ ds) → length cs + length ds ≤ 8192
-  both-few w = omega (arith, w.0, sizes.0)
-
   pub both-short : IsWithin (cs ++ ds) → length (concat cs) + length (concat ds) ≤ 67108864
   both-short w = omega (arith, w.1, sizes.1)
 
@@ -26,9 +23,6 @@ module _ (cs : List (List ℕ)) (c : List ℕ) where
 
   pub within-more : length cs + 1 ≤ 8192 → length (concat cs) + length c ≤ 67108864 → IsWithin (cs ++ c ∷ [])
   within-more h k = within-both cs (c ∷ []) (omega (arith, h)) (omega (arith, k, one))
-
-  pub more-few : IsWithin (cs ++ c ∷ []) → length cs + 1 ≤ 8192
-  more-few w = both-few cs (c ∷ []) w
 
   pub more-short : IsWithin (cs ++ c ∷ []) → length (concat cs) + length c ≤ 67108864
   more-short w = omega (arith, both-short cs (c ∷ []) w, one)

@@ -2,5 +2,5 @@
 
 -- a queue whose terms are all ready, with one more
 pub use Rattle.xet_writers.proofs.Ready.{ready_more}
--- the tests of a term that starts where the writer expects it and brings its bytes, and of an open writer
-pub use Rattle.xet_writers.proofs.Ready.{fits_place, open_writer}
+-- the test of an open writer
+pub use Rattle.xet_writers.proofs.Ready.{open_writer}

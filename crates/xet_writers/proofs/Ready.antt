@@ -1,9 +1,7 @@
 -- A queue whose terms are all ready.
 use Rattle.std.proofs.Common.{◌≡◌, ℕ, suc, ◌+◌, ◌-◌, false, List, [], ◌∷◌, ◌++◌, length, Option, Some, None, ap, refl, arith}
-use Rattle.std.proofs.lemmas.Bool.{eq-eqb, le-ltb}
-use Rattle.xet_blocks.specs.declared.reconstruction_terms.file_term.DataSource.TheVariants.{Ready}
 use Rattle.xet_queue.specs.declared.queued_term.QueuedTerm.{QueuedTerm}
-use Rattle.xet_queue.specs.Calls.{closed_by, set_fault}
+use Rattle.xet_queue.specs.Calls.{closed_by}
 use Rattle.xet_queue.specs.Queues.{bytes_then, ready}
 use Rattle.xet_writers.specs.Sequential.{Sequential, told_of}
 
@@ -17,15 +15,6 @@ more_at ts t bytes (Some bs) h r = let q = r (omega arith) in (ap (λ l. bs ∷ 
 pub ready_more : (ts : List QueuedTerm) (t : QueuedTerm) (bytes : List ℕ) → length (ready ts) ≡ length ts → t.bytes ≡ Some bytes → More ts t bytes
 ready_more [] t bytes h e = (ap (λ o. bytes_then o []) e, ap (λ o. length (bytes_then o [])) e)
 ready_more (u ∷ ts) t bytes h e = more_at ts t bytes u.bytes h (λ v. ready_more ts t bytes v e)
-
--- a term that starts at the place, and whose bytes are as many as its range has, fails no test
-pub fits_place : (place : ℕ) (bytes : List ℕ) → set_fault (Some place) (record { start = place; end = place + length bytes }) (Ready bytes) ≡ None
-fits_place place bytes =
-    let a = le-ltb (place + length bytes) place (omega arith) in
-    let b = eq-eqb place place refl in
-    let n : length bytes ≡ place + length bytes - place = omega arith in
-    let c = eq-eqb (length bytes) (place + length bytes - place) n in
-    rw (a, b, c) refl
 
 -- a writer that keeps no error and was not finished refuses no call for that
 pub open_writer : {S : Type 0} (w : Sequential S) → w.kept ≡ None → w.finished ≡ false → closed_by (told_of w) ≡ None
