@@ -1,6 +1,6 @@
 -- A run after its terms were admitted.
 use Rattle.std.proofs.Common.{◌≡◌, ℕ, ◌+◌, ◌-◌, ◌<◌, List, [], ◌∷◌, ◌++◌, length, take, refl, sym, subst, ◌∙◌, ap, arith, append_assoc, Some, Ok, Err}
-use Rattle.std.specs.Prelude.{Result, count_by}
+use Rattle.std.specs.Prelude.{Result, count_by, min}
 use Rattle.std.specs.List.{sum_by}
 use Rattle.std.proofs.Math.Nat.{min-le_left}
 use Rattle.std.proofs.lemmas.List.{append-nil}
@@ -81,13 +81,13 @@ under_after g es (n ∷ ls) a p k =
     subst (λ (x : List Event). count_by (expires p k) x < g.tries) (append_assoc es (Admit n ∷ []) (admits ls))
     (under_after g (es ++ Admit n ∷ []) ls (quiet_under g es (Admit n) (λ q j. refl) a) p k)
 
--- the leader, where so many are left
-led_after : (g : Setup) (b : RunTold) (es : List Event) (ls : List ℕ) (sl : Slack) (stale : List ℕ) (l : Led)
-    (left : ℕ) → length ls + left ≡ at_once (l.planned - l.admitted) → IsLed g b es sl stale l
+-- the leader after so many of its waiting terms were admitted, where so many are left
+pub led_admits : (g : Setup) (b : RunTold) (es : List Event) (ls : List ℕ) (sl : Slack) (stale : List ℕ) (l : Led)
+    (most left : ℕ) → length ls + left ≡ min (l.planned - l.admitted) most → IsLed g b es sl stale l
     → IsLed g b (es ++ admits ls) sl stale
-    (record l { admitted = l.admitted + (at_once (l.planned - l.admitted) - left) })
-led_after g b es ls sl stale l left n a =
-    let most = min-le_left (l.planned - l.admitted) most_at_once in
+    (record l { admitted = l.admitted + (min (l.planned - l.admitted) most - left) })
+led_admits g b es ls sl stale l most left n a =
+    let within = min-le_left (l.planned - l.admitted) most in
     let counted = admits_counted es ls in
     let same = ap length (admits_planned es ls) in
     let c = a.counted in
@@ -109,11 +109,18 @@ led_after g b es ls sl stale l left n a =
         planned_fits = c.planned_fits;
         admitted_are = omega (arith, counted, n, q, w);
         finished_within = omega (arith, n, f, w);
-        admitted_within = omega (arith, n, w, most);
+        admitted_within = omega (arith, n, w, within);
         written_are = written_after es ls ∙ c.written_are
             ∙ ap (λ (ts : List Task). sum_by size (take l.finished ts)) (sym (admits_planned es ls));
       };
     }
+
+-- so many at once
+led_after : (g : Setup) (b : RunTold) (es : List Event) (ls : List ℕ) (sl : Slack) (stale : List ℕ) (l : Led)
+    (left : ℕ) → length ls + left ≡ at_once (l.planned - l.admitted) → IsLed g b es sl stale l
+    → IsLed g b (es ++ admits ls) sl stale
+    (record l { admitted = l.admitted + (at_once (l.planned - l.admitted) - left) })
+led_after g b es ls sl stale l left n a = led_admits g b es ls sl stale l most_at_once left n a
 
 -- a run that goes on goes on after it
 going : (g : Setup) (b : RunTold) (m : Moment) (o : Loose) (l k : Led) (before after : LimitTold) (fs : List Event)

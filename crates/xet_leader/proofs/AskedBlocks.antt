@@ -101,7 +101,7 @@ request_parts x t r h = go (slice_get t.retrieval_urls x.xorb_block_index) h
       ap (λ (q : BlockRequest). q.chunks) h,
     )
 
-own_request : (ls : List LedPlan) (c : BlockAt) (n : ℕ) (f : Fetch) → IsFetch ls c n f → IsFor (ask_of f)
+pub own_request : (ls : List LedPlan) (c : BlockAt) (n : ℕ) (f : Fetch) → IsFetch ls c n f → IsFor (ask_of f)
 own_request ls c n f is = let r = request_parts f.block.now is.plan.block.urls (ask_of f).request is.request_is in
     record { xorb = r.2; chunks = r.3; index = r.1 }
 

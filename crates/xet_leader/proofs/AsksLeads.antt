@@ -42,7 +42,7 @@ use Rattle.xet_leader.proofs.Halts.{calm_halted}
 -- ---- none was due
 
 -- the leader's manager looked ahead
-looked_led : (g : Setup) (b : RunTold) (es : List Event) (sl : Slack) (l : Led) (now : Manager) (x y : SignalTold)
+pub looked_led : (g : Setup) (b : RunTold) (es : List Event) (sl : Slack) (l : Led) (now : Manager) (x y : SignalTold)
     → NoneDue l.manager now x y → IsLed g b es sl [] l → IsLed g b es sl [] (record l { manager = now })
 looked_led g b es sl l now x y d a =
     let same : now ≡ record l.manager { queries = now.queries } = looked_same l.manager now d.policy d.is in

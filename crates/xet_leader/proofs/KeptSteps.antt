@@ -13,6 +13,7 @@ use Rattle.xet_lane.specs.declared.joined.LaneEnd.{LaneEnd}
 use Rattle.xet_leader.specs.ByNumber.{change_at, only, plan_index}
 use Rattle.xet_leader.specs.declared.keeping.RoundPlaces.{RoundPlaces}
 use Rattle.xet_leader.specs.declared.leader.LedPlan.{LedPlan}
+use Rattle.xet_leader.specs.KeptBlocks.{kept_in_plan, kept_in_plans, with_data}
 use Rattle.xet_leader.specs.Keeping.{Given, KeptSteps, all_steps, given_in, given_of, keep_data, keep_in, kept, kept_one, places_at}
 use Rattle.xet_leader.proofs.ChangedPlans.{change_is_set, change_none, change_same, only_is, only_not, put_same}
 
@@ -65,6 +66,21 @@ plan_there c ls i l k is h on to =
     (ap (λ (j : ℕ). slice_get ls j) (sym is) ∙ h))
 
 -- ---- steps one after another
+
+-- the plans of which a block without data keeps it
+pub kept_here : (ls : List LedPlan) (l : LedPlan) (i p k : ℕ) (x : XorbBlock) (found : XorbBlockData)
+    → plan_index ls p ≡ i → slice_get ls i ≡ Some l → l.number ≡ p → slice_get l.block.blocks k ≡ Some x
+    → is_some x.kept ≡ false → kept_one (p, k, found) ls ≡ kept_in_plans ls i l k x found
+kept_here ls l i p k x found place at number in_plan none =
+    let f : LedPlan → LedPlan = only p (keep_in k found) in
+    let data_of : keep_data found x ≡ with_data x found =
+    ap (λ (v : Bool). cond v x (record x { kept = Some found })) none in
+    let blocks : change_at k (keep_data found) l.block.blocks ≡ slice_set l.block.blocks k (with_data x found) =
+    change_is_set (keep_data found) k l.block.blocks x in_plan
+    ∙ ap (λ (y : XorbBlock). slice_set l.block.blocks k y) data_of in
+    let to : f l ≡ kept_in_plan l k x found = only_is p (keep_in k found) l number
+    ∙ ap (λ (bs : List XorbBlock). record l { block = record l.block { blocks = bs } }) blocks in
+    ap (λ (n : ℕ). change_at n f ls) place ∙ change_is_set f i ls l at ∙ ap (λ (y : LedPlan). slice_set ls i y) to
 
 pub kept-append : (xs ys : List Given) (ls : List LedPlan) → kept (xs ++ ys) ls ≡ kept ys (kept xs ls)
 kept-append [] ys ls = refl

@@ -8,9 +8,12 @@ mod AwaitedBlocks
 pub mod CallerLemmas
 mod ChangedPlans
 mod Counting
+mod ExpiredEvents
 mod FetchFacts
+mod Finishing
 mod FoundBlocks
 mod Halts
+mod HonestBlocks
 mod KeptEvents
 mod KeptSteps
 mod LackedBlocks
@@ -23,6 +26,7 @@ mod LookTies
 mod MoreTold
 mod NewPlans
 mod NextQueries
+mod NextTerms
 mod OfferLeads
 mod Offered
 mod OpenTerms
@@ -33,10 +37,15 @@ mod PlanPlaces
 mod PlanTerms
 mod PlannedEvents
 mod QuietEvents
+mod Reaching
 mod RefreshLeads
 mod RefreshTables
 mod Refreshed
 mod RefreshedEvents
 mod SettleLeads
 mod Starting
+mod TermPlaces
+mod WindowPieces
+mod WindowTasks
 mod WriterFaults
+mod WroteEvents

@@ -1,4 +1,5 @@
 pub mod Admission
+pub mod Advances
 pub mod Asking
 pub mod ByNumber
 pub mod Expiries
@@ -8,6 +9,7 @@ pub mod Keeping
 pub mod KeptBlocks
 pub mod Lacking
 pub mod Led
+pub mod LedTerms
 pub mod Listings
 pub mod Looks
 pub mod Offering
@@ -17,3 +19,4 @@ pub mod Refreshing
 pub mod Settling
 pub mod Starts
 pub mod Steady
+pub mod Stepping

@@ -75,7 +75,7 @@ fn count_all(
 }
 
 /// Counts one block.
-fn count_one(plans: &mut VecDeque<LedPlan>, at: BlockAt, tries: u32) -> Result<()>
+pub(crate) fn count_one(plans: &mut VecDeque<LedPlan>, at: BlockAt, tries: u32) -> Result<()>
     ensures { CountOne tries (place_at at) plans.old.items plans.new.items result }
 {
     let place = plan_index(plans, at.plan);

@@ -82,7 +82,7 @@ fn add_fetch<'a>(
 }
 
 /// The fetch of a block, with this number.
-fn fetch_of<'a>(plans: &'a VecDeque<LedPlan>, number: u64, place: BlockAt) -> Fetch<'a>
+pub(crate) fn fetch_of<'a>(plans: &'a VecDeque<LedPlan>, number: u64, place: BlockAt) -> Fetch<'a>
     requires { CanRequest plans.now.items place }
     ensures { IsFetch plans.now.items place number result }
 {

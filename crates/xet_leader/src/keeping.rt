@@ -102,7 +102,12 @@ fn keep_step(
 }
 
 /// The block keeps the data.
-fn keep_one(alloc: Global, plans: &mut VecDeque<LedPlan>, at: BlockAt, found: XorbBlockData)
+pub(crate) fn keep_one(
+    alloc: Global,
+    plans: &mut VecDeque<LedPlan>,
+    at: BlockAt,
+    found: XorbBlockData,
+)
     ensures { plans.new.items ≡ kept_one (at.plan, at.block, found) plans.old.items }
 {
     let place = plan_index(plans, at.plan);

@@ -3,6 +3,8 @@
 #![tactic(auto)]
 
 pub mod admission;
+pub mod advancing;
+pub mod ahead;
 pub mod asking;
 pub mod by_number;
 pub mod expiries;
@@ -16,8 +18,11 @@ mod place_list;
 pub mod places;
 pub mod refreshing;
 pub mod settling;
+pub mod stepping;
 
 pub use admission::admit;
+pub use advancing::advance;
+pub use ahead::{NextTerm, bytes_of, next_of};
 pub use asking::ask;
 pub use expiries::count_expired;
 pub use fetching::{count_fetches, fetches};
@@ -28,3 +33,4 @@ pub use missing_blocks::{BlockAt, missing};
 pub use offering::offer_served;
 pub use refreshing::refresh_stale;
 pub use settling::settle;
+pub use stepping::{admit_some, count_at, fetch_at, keep_at, look_up_at, offer_at, refresh_at};

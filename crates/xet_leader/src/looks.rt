@@ -65,7 +65,7 @@ fn look_for_all<R: Wait, P: FetchPolicy, K: ChunkCache, E: EventLog>(
 }
 
 /// Looks for each of these blocks, and answers those that are missing still.
-fn look_up_places<R: Wait, K: ChunkCache, E: EventLog>(
+pub(crate) fn look_up_places<R: Wait, K: ChunkCache, E: EventLog>(
     rt: &R,
     alloc: Global,
     core: &mut RunCore<E>,
@@ -107,7 +107,7 @@ fn add_left(left: &mut List<BlockAt>, place: BlockAt, found: bool) -> Result<()>
 }
 
 /// Looks for a block, by its plan's number and its own. Whether it is kept now.
-fn look_up_place<R: Wait, K: ChunkCache, E: EventLog>(
+pub(crate) fn look_up_place<R: Wait, K: ChunkCache, E: EventLog>(
     rt: &R,
     alloc: Global,
     core: &mut RunCore<E>,

@@ -101,7 +101,7 @@ fn refresh_one<C: Client, E: EventLog>(
 }
 
 /// Asks for the URLs of the plan at this place again, under this number.
-fn refresh_at<C: Client, E: EventLog>(
+pub(crate) fn refresh_at<C: Client, E: EventLog>(
     alloc: Global,
     plans: &mut VecDeque<LedPlan>,
     core: &mut RunCore<E>,

@@ -11,7 +11,7 @@ use Rattle.xet_ties.specs.Recordings.{Place, Recorded, places_in, places_of}
 use Rattle.xet_ties.specs.Rounds.{got_in}
 use Rattle.xet_lane.specs.declared.joined.Joined.{Joined}
 use Rattle.xet_lane.specs.declared.joined.LaneEnd.{LaneEnd}
-use Rattle.xet_stages.specs.Advances.{advanced}
+use Rattle.xet_leader.specs.Advances.{advanced}
 use Rattle.xet_leader.specs.declared.keeping.RoundPlaces.{RoundPlaces}
 use Rattle.xet_stages.specs.declared.outcomes.Outcome.{Outcome}
 use Rattle.xet_leader.specs.declared.missing_blocks.BlockAt.{BlockAt}

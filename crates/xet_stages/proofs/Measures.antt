@@ -25,7 +25,7 @@ use Rattle.xet_parts.specs.Admissions.{admits}
 use Rattle.xet_parts.proofs.CallerLemmas.{admits_counted, admits_planned}
 use Rattle.xet_leader.specs.Led.{IsCounted, Led}
 use Rattle.xet_stages.specs.Measures.{digits, left_bytes, measure, place_of, places, unfinished_terms, waiting}
-use Rattle.xet_leader.proofs.CallerLemmas.{any_filter, any_take, cut_last}
+use Rattle.xet_leader.proofs.CallerLemmas.{any_filter, any_take, cut_last, ends_are}
 
 -- ---- digits
 
@@ -109,10 +109,6 @@ counted_small g es l few c =
     record { second = omega (arith, planned_are, fits); third = omega (arith, third); last = omega (arith, fits) }
 
 -- ---- a plan
-
-pub ends_are : (place : ℕ) (qs : List FileRange) → last_of place (map (λ q. q.end) qs) ≡ end_from place qs
-ends_are place [] = refl
-ends_are place (q ∷ qs) = ends_are q.end qs
 
 -- a query that was asked leaves fewer bytes
 bytes_fall : (g : Setup) (es : List Event) (n : ℕ) (q : FileRange) (ts : List PlannedTerm) (bs : List PlannedBlock)

@@ -28,7 +28,7 @@ use Rattle.xet_stages.specs.Measures.{measure}
 use Rattle.xet_leader.specs.Steady.{IsFailing, IsGoing, Moment, no_loose}
 use Rattle.xet_stages.specs.TurnStarts.{LeavesWork, NothingAsked, StartLeads, all_done}
 use Rattle.xet_stages.proofs.PartMeasures.{admitted_falls, none_asked_stays, one_asked_falls}
-use Rattle.xet_stages.proofs.Reaching.{covered_reaches}
+use Rattle.xet_leader.proofs.CallerLemmas.{covered_reaches}
 
 -- ---- no byte is written
 

@@ -16,11 +16,13 @@ use Rattle.xet_ties.specs.Setup.{RunTold, Setup}
 use Rattle.xet_ties.specs.Ties.{MayLeave, NoneLate, all_of}
 use Rattle.xet_ties.proofs.CallerLemmas.{corrupted as is_corrupted, none_hidden, none_late, steady_leaves, term_fails}
 use Rattle.xet_leader.specs.Led.{Led}
-use Rattle.xet_stages.specs.RunWindows.{WindowGoes, WindowLeads, task_of}
+use Rattle.xet_leader.specs.LedTerms.{task_of}
+use Rattle.xet_stages.specs.RunWindows.{WindowGoes, WindowLeads}
 use Rattle.xet_leader.specs.Steady.{IsFailing, IsGoing, Loose, Moment}
-use Rattle.xet_stages.specs.Windows.{OneFails, PlanTerm, WindowFails, WindowMade, WindowTurn, open_led, some_in}
-use Rattle.xet_stages.proofs.WindowPieces.{each_filter, fails_said, of_a_plan, pieces_honest, pieces_kept, pieces_tested, sound_passes, term_at, unkept_there}
-use Rattle.xet_stages.proofs.WindowTasks.{IsLedTerm, led_each, length_tasks, next_tasks, next_terms, sizes_are, some_tasks}
+use Rattle.xet_leader.specs.LedTerms.{OneFails, PlanTerm, open_led, some_in}
+use Rattle.xet_stages.specs.Windows.{WindowFails, WindowMade, WindowTurn}
+use Rattle.xet_leader.proofs.CallerLemmas.{each_filter, fails_said, of_a_plan, pieces_honest, pieces_kept, pieces_tested, sound_passes, term_at, unkept_there}
+use Rattle.xet_leader.proofs.CallerLemmas.{IsLedTerm, led_each, length_tasks, next_tasks, next_terms, sizes_are, some_tasks}
 use Rattle.xet_leader.proofs.CallerLemmas.{any_unfailed, calm_halted, memory_halted}
 
 -- ---- lists

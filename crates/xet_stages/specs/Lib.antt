@@ -1,4 +1,3 @@
-pub mod Advances
 pub mod Measures
 pub mod Outcomes
 pub mod RoundRecords

@@ -11,7 +11,7 @@ use Rattle.xet_lane.specs.declared.joined.Joined.{Joined}
 use Rattle.xet_lane.specs.declared.joined.LaneEnd.{LaneEnd}
 use Rattle.xet_lane.specs.JoinErrors.{first_error}
 use Rattle.xet_lane.specs.Ends.{ended}
-use Rattle.xet_stages.specs.Advances.{advanced}
+use Rattle.xet_leader.specs.Advances.{advanced}
 use Rattle.xet_leader.specs.declared.leader.LedPlan.{LedPlan}
 use Rattle.xet_stages.specs.declared.outcomes.Outcome.{Outcome}
 use Rattle.xet_leader.specs.Expiries.{counted, spends, stale_after}

@@ -6,24 +6,16 @@ use Rattle.xet_base.specs.Store.{Store}
 use Rattle.xet_error.specs.declared.error.FileReconstructionError.{FileReconstructionError}
 use Rattle.xet_events.specs.declared.event.Event.{Event}
 use Rattle.xet_events.specs.Events.{Task, is_kept, planned, size}
-use Rattle.xet_history.specs.TrueHistory.{planned_term, task_piece}
+use Rattle.xet_history.specs.TrueHistory.{task_piece}
 use Rattle.xet_writers.specs.Calls.{closed_by}
 use Rattle.xet_writers.specs.Sequential.{Sequential, told_of}
-use Rattle.xet_ties.specs.Saids.{IsTaskPiece, has_bytes, planned_of}
+use Rattle.xet_ties.specs.Saids.{IsTaskPiece, has_bytes}
 use Rattle.xet_ties.specs.Setup.{CacheTells, IsOver, RunTold, Setup}
 use Rattle.xet_ties.specs.Ties.{Slack}
 use Rattle.xet_ties.specs.Windows.{AreKept}
 use Rattle.xet_leader.specs.Led.{Led}
 use Rattle.xet_leader.specs.Steady.{IsFailing, IsGoing, Loose, Moment}
-use Rattle.xet_stages.specs.Windows.{PlanTerm, with_pieces}
-
--- a leader's term as the history has it
-abbrev pub task_of : PlanTerm → Task
-task_of t = record {
-  plan = t.plan.number;
-  term = planned_term t.term;
-  blocks = map planned_of t.plan.block.blocks;
-}
+use Rattle.xet_stages.specs.Windows.{with_pieces}
 
 -- pieces of the next planned terms, which are admitted and whose blocks are kept where they have bytes: each is of
 -- tested data, and over one valid store it is the history's. An admitted term after them, if there is one, has bytes,

@@ -2,12 +2,12 @@
 ghost use Rattle.std.specs.Prelude.{◌≡◌, IfErr};
 ghost use Rattle.xet_error.specs.declared.error.FileReconstructionError.TheVariants as error;
 
-use crate::queueing::{Place, first_of, seek};
 use std::collections::VecDeque;
 use std::sync::Wait;
 use std::sync::ledger::Ledger;
 use xet_blocks::{FetchPolicy, FileTerm};
 use xet_error::{FileReconstructionError, Result};
+use xet_leader::ahead::{Place, first_of, seek};
 use xet_leader::leader::{Leader, LedPlan};
 use xet_run::{HeldRun, RunPass, RunState};
 

@@ -3,7 +3,6 @@
 #![tactic(auto)]
 
 pub mod accounts;
-pub mod advancing;
 pub mod lending;
 pub mod outcomes;
 pub mod queueing;
@@ -11,7 +10,6 @@ pub mod recording;
 pub mod starting;
 
 pub use accounts::record_blocks;
-pub use advancing::advance;
 pub use lending::Around;
 pub use outcomes::{Outcome, take_outcome};
 pub use queueing::window;

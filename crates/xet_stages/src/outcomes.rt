@@ -4,13 +4,13 @@ ghost use Rattle.xet_ties.specs.Setup.{most_lanes};
 ghost use Rattle.xet_stages.specs.Outcomes.{KeepFails, KeptOutcome, OutcomeFails, TookOutcome};
 ghost use Rattle.xet_stages.specs.RoundRecords.{RoundMayBe, lanes_of, window_events};
 
-use crate::advancing::advance;
 use crate::recording::record_round;
 use std::alloc::Global;
 use xet_base::List;
 use xet_blocks::FetchPolicy;
 use xet_error::{FileReconstructionError, Result};
 use xet_lane::{Joined, LaneEnd};
+use xet_leader::advance;
 use xet_leader::expiries::count_expired;
 use xet_leader::keeping::keep_served;
 use xet_leader::leader::Leader;

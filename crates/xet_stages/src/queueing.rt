@@ -1,9 +1,8 @@
 //! Gives the writer the next terms whose bytes are there.
-ghost use Rattle.std.specs.Prelude.{◌≡◌, ◌-◌, ◌<◌, drop, get_or, length, take};
-ghost use Rattle.xet_leader.specs.declared.leader.LedPlan.{LedPlan as Led};
+ghost use Rattle.std.specs.Prelude.{◌-◌, drop, take};
 ghost use Rattle.xet_stages.specs.RunWindows.{WindowLeads};
-ghost use Rattle.xet_stages.specs.Windows.{BytesOf, PieceQueued, TermTurn, WindowTurn, first_number, led_terms};
-ghost use Rattle.xet_stages.specs.Windows.{of_plan, open_led};
+ghost use Rattle.xet_leader.specs.LedTerms.{led_terms, of_plan, open_led};
+ghost use Rattle.xet_stages.specs.Windows.{PieceQueued, TermTurn, WindowTurn};
 
 use bytes::Bytes;
 use std::alloc::Global;
@@ -11,6 +10,7 @@ use std::collections::VecDeque;
 use xet_base::{FileRange, List};
 use xet_blocks::{DataSource, FetchPolicy, FileTerm};
 use xet_error::{FileReconstructionError, Result};
+use xet_leader::ahead::{Place, bytes_of, first_of, seek};
 use xet_leader::leader::{Leader, LedPlan};
 use xet_outside::Sink;
 use xet_writers::{DataWriter, SequentialWriter};
@@ -45,41 +45,6 @@ fn queue_next<P: FetchPolicy, S: Sink>(
     let most = leader.admitted.saturating_sub(leader.finished);
     let skip = leader.finished.saturating_sub(first_of(&leader.plans));
     queue_terms(alloc, &leader.plans, skip as usize, most, writer)
-}
-
-/// How many planned terms come before the first plan's own.
-pub(crate) fn first_of(plans: &VecDeque<LedPlan>) -> u64
-    ensures { result ≡ first_number plans.now.items }
-{
-    match plans.front() {
-        Some(plan) => plan.first,
-        None => 0,
-    }
-}
-
-/// A place among the terms of some plans.
-#[derive(Clone, Copy)]
-pub(crate) struct Place {
-    /// The plan, from 0.
-    pub(crate) plan: usize,
-    /// The term, from the plan's first one on.
-    pub(crate) term: usize,
-}
-
-/// Goes on to the plan that has the term of a place.
-pub(crate) fn seek(plans: &VecDeque<LedPlan>, at: Place) -> Place
-    ensures rest { drop result.term (led_terms (drop result.plan plans.now.items))
-        ≡ drop at.term (led_terms (drop at.plan plans.now.items)) }
-    ensures inside { (d : Led) → result.plan < length plans.now.items
-        → result.term < length (get_or plans.now.items result.plan d).block.terms }
-{
-    let mut plan = at.plan;
-    let mut term = at.term;
-    while plan < plans.len() && plans[plan].block.terms.len() <= term {
-        term -= plans[plan].block.terms.len();
-        plan += 1;
-    }
-    Place { plan, term }
 }
 
 /// Gives the writer terms of these plans, after so many and at most so many.
@@ -136,21 +101,6 @@ fn queue_term<S: Sink>(
             Err(error) => Err(error),
         },
         Ok(None) => Ok(None),
-        Err(error) => Err(error),
-    }
-}
-
-/// The bytes of a term, if its block keeps something.
-fn bytes_of(alloc: Global, plan: &LedPlan, term: FileTerm) -> Result<Option<Bytes>>
-    ensures { BytesOf (of_plan plan.now term) result }
-{
-    let blocks = plan.block.blocks.as_slice();
-    if term.xorb_block >= blocks.len() {
-        return Ok(None);
-    }
-    match term.get_data_task(alloc, blocks) {
-        Ok(DataSource::Ready(bytes)) => Ok(Some(bytes)),
-        Ok(DataSource::Wanted(_)) => Ok(None),
         Err(error) => Err(error),
     }
 }

@@ -32,7 +32,7 @@ use Rattle.xet_lane.specs.Ends.{End, steps_of}
 use Rattle.xet_lane.proofs.CallerLemmas.{FailedLane}
 use Rattle.xet_leader.specs.Led.{IsLed, IsLedPlan, Led, bare}
 use Rattle.xet_turns.specs.Rounds.{IsLedAsk}
-use Rattle.xet_turns.proofs.HonestBlocks.{IsHonestOf, led_honest}
+use Rattle.xet_leader.proofs.CallerLemmas.{IsHonestOf, led_honest}
 use Rattle.xet_turns.proofs.LastSteps.{LastFails, all_made, last_fails}
 use Rattle.xet_turns.proofs.ServedLed.{led_keeps, plan_at}
 use Rattle.xet_ties.specs.declared.lane_step.LaneStep.{LaneStep}

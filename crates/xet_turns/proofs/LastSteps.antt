@@ -20,7 +20,7 @@ use Rattle.xet_lane.specs.JoinErrors.{lacks_memory, wants_memory}
 use Rattle.xet_lane.specs.Ends.{End, NoneEndedBadly, steps_of}
 use Rattle.xet_lane.proofs.CallerLemmas.{NoErrorBelow}
 use Rattle.xet_ties.specs.Rounds.{EachHides, NoneBelow, calm_after}
-use Rattle.xet_turns.proofs.HonestBlocks.{IsHonestOf}
+use Rattle.xet_leader.proofs.CallerLemmas.{IsHonestOf}
 
 -- ---- the last step
 

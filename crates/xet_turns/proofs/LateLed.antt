@@ -1,8 +1,8 @@
 -- A leader after the expired answers of a round, which its plans count.
 use Rattle.std.proofs.Common.{◌≡◌, ℕ, ◌+◌, ◌<◌, ◌≤◌, Bool, true, false, List, [], ◌∷◌, ◌++◌, length, refl, sym, subst, ◌∙◌, ap, arith, append_assoc, ⊎_elim}
-use Rattle.std.specs.Prelude.{None, Option, Some, ◌&&◌, ◌==◌, ◌||◌, count_by, nat_le, nat_lt, slice_get, slice_index}
+use Rattle.std.specs.Prelude.{◌||◌, count_by}
 use Rattle.std.specs.List.{flat_map}
-use Rattle.std.proofs.lemmas.Bool.{and_from, and_parts, cases_Bool, eq-eqb, eqb-true, leb-true, ltb-true, or_parts}
+use Rattle.std.proofs.lemmas.Bool.{cases_Bool, or_parts}
 use Rattle.std.proofs.lemmas.List.{append-nil}
 use Rattle.xet_events.specs.declared.event.Event.{Event}
 use Rattle.xet_events.specs.declared.event.Event.TheVariants.{Expired}
@@ -13,14 +13,12 @@ use Rattle.xet_ties.specs.declared.lane_step.LaneStep.TheVariants as step
 use Rattle.xet_ties.specs.Setup.{RunTold, Setup}
 use Rattle.xet_ties.specs.Recordings.{Place, expired_on, lane_events, places_of}
 use Rattle.xet_ties.specs.Ties.{Slack}
-use Rattle.xet_ties.proofs.CallerLemmas.{allowed_first, allowed_rest, count-append, count-more}
+use Rattle.xet_ties.proofs.CallerLemmas.{allowed_first, allowed_rest, count-append}
 use Rattle.xet_leader.specs.declared.leader.LedPlan.{LedPlan}
-use Rattle.xet_leader.specs.ByNumber.{plan_index}
-use Rattle.xet_leader.specs.Expiries.{counted, counted_one, spends, spends_in, spends_of, spends_one, stale_after, with_stale}
+use Rattle.xet_leader.specs.Expiries.{counted, counted_one, spends, spends_one, stale_after, with_stale}
 use Rattle.xet_turns.specs.Rounds.{IsSpent}
-use Rattle.xet_leader.specs.Led.{IsLed, IsLedPlan, Led}
-use Rattle.xet_turns.proofs.ExpiredEvents.{each_count, led_expired}
-use Rattle.xet_turns.proofs.ServedLed.{plan_at}
+use Rattle.xet_leader.specs.Led.{IsLed, Led}
+use Rattle.xet_leader.proofs.CallerLemmas.{led_expired, tries_used}
 
 -- ---- places one after another
 
@@ -107,29 +105,11 @@ spent_more tries es fs h = record {
 spent_now : (g : Setup) (b : RunTold) (es : List Event) (sl : Slack) (stale : List ℕ) (lane p k : ℕ) (l : Led)
     → spends_one g.tries (p, k) l.plans ≡ true → IsLed g b es sl stale l
     → IsSpent g.tries (es ++ Expired lane p k ∷ [])
-spent_now g b es sl stale lane p k l some led = by (slice_get l.plans (plan_index l.plans p)) refl
-  where
-    by : (o : Option LedPlan) → slice_get l.plans (plan_index l.plans p) ≡ o
-        → IsSpent g.tries (es ++ Expired lane p k ∷ [])
-    by None at = absurd (let z : spends_one g.tries (p, k) l.plans ≡ false = ap
-        (λ (o : Option LedPlan). spends_of g.tries (p, k) o) at in let y : true ≡ false = sym some ∙ z in cc)
-    by (Some x) at =
-        let h = plan_at (IsLedPlan g b es sl stale) l.plans (plan_index l.plans p) x at led.plans.each in
-        let one : (x.number == p && spends_in g.tries k x) ≡ true =
-        sym (ap (λ (o : Option LedPlan). spends_of g.tries (p, k) o) at) ∙ some in
-        let here = and_parts (x.number == p) (spends_in g.tries k x) one in
-        let number : x.number ≡ p = eqb-true x.number p here.0 in
-        let parts = and_parts (nat_lt k (length x.tries.items))
-        (nat_le g.tries (slice_index x.tries.items k + 1)) here.1 in
-        let within : k < length x.tries.items = ltb-true k (length x.tries.items) parts.0 in
-        let most : g.tries ≤ slice_index x.tries.items k + 1 =
-        leb-true g.tries (slice_index x.tries.items k + 1) parts.1 in
-        let z : 0 + k ≡ k = omega arith in
-        let count = each_count b es sl x.number 0 k x.tries.items x.block.blocks within h.each
-        ∙ ap (λ (n : ℕ). count_by (expires x.number n) es) z ∙ ap (λ (n : ℕ). count_by (expires n k) es) number in
-        let more = count-more (expires p k) es (Expired lane p k)
-        (and_from (p == p) (k == k) (eq-eqb p p refl) (eq-eqb k k refl)) in
-        record { plan = p; block = k; many = omega (arith, count, more, most) }
+spent_now g b es sl stale lane p k l some led = record {
+  plan = p;
+  block = k;
+  many = tries_used g b es sl stale lane p k l some led;
+}
 
 spent_lane : (g : Setup) (b : RunTold) (es : List Event) (sl : Slack) (stale : List ℕ) (lane : ℕ) (ss : List LaneStep)
     (l : Led) → spends g.tries (places_of ss) l.plans ≡ true → AllowedAfter es (expired_on lane ss)

@@ -1,11 +1,8 @@
 mod EndTies
-mod ExpiredEvents
 mod FailedLanes
-mod Finishing
 mod FirstSettles
-mod HonestBlocks
-mod JoinedRuns
 mod JoinSteps
+mod JoinedRuns
 mod LaneEvents
 mod LastSteps
 mod LateLed
@@ -25,4 +22,3 @@ mod ServedStay
 mod TurnLeads
 mod WindowTies
 mod WindowWriters
-mod WroteEvents

@@ -30,7 +30,7 @@ use Rattle.xet_lane.specs.Fetches.{ask_of}
 use Rattle.xet_lane.specs.Ends.{ended}
 use Rattle.xet_lane.proofs.CallerLemmas.{no_error}
 use Rattle.xet_lanes.specs.Rounds.{LanesDrew, RoundTold}
-use Rattle.xet_stages.specs.Advances.{advanced}
+use Rattle.xet_leader.specs.Advances.{advanced}
 use Rattle.xet_leader.specs.declared.missing_blocks.BlockAt.{BlockAt}
 use Rattle.xet_stages.specs.declared.outcomes.Outcome.{Outcome}
 use Rattle.xet_leader.specs.Expiries.{spends}
@@ -54,7 +54,7 @@ use Rattle.xet_turns.proofs.RoundStops.{round_stops, sink_since}
 use Rattle.xet_turns.proofs.ServedStay.{IsPassed, FetchedBy, lanes_missing, round_fetched, served_places}
 use Rattle.xet_turns.proofs.WindowTies.{window_tied}
 use Rattle.xet_turns.proofs.WindowWriters.{HoldsPieces, holds_pieces}
-use Rattle.xet_turns.proofs.WroteEvents.{are_writes, planned_same, sizes_sum}
+use Rattle.xet_leader.proofs.CallerLemmas.{are_writes, planned_same, sizes_sum}
 use Rattle.xet_leader.specs.Looks.{polls_for}
 use Rattle.xet_leader.specs.Fetching.{AreFetches}
 use Rattle.xet_lane.specs.declared.lane.Fetch.{Fetch}

@@ -26,14 +26,14 @@ use Rattle.xet_ties.specs.Ties.{NoneLate, Slack, Ties, all_of, has_one}
 use Rattle.xet_ties.proofs.CallerLemmas.{grew_none, have_expired, none_hidden, none_late, short_leaves, steady_leaves, tie_written, written_short}
 use Rattle.xet_leader.specs.Expiries.{spends, stale_after}
 use Rattle.xet_leader.specs.Led.{IsLed, Led}
-use Rattle.xet_stages.specs.Advances.{advanced}
+use Rattle.xet_leader.specs.Advances.{advanced}
 use Rattle.xet_stages.specs.RoundRecords.{expired_events, fetched_events, lanes_events}
 use Rattle.xet_turns.specs.Rounds.{IsSpent, RoundLeft}
 use Rattle.xet_stages.specs.Outcomes.{plans_after, plans_kept}
 use Rattle.xet_leader.specs.Steady.{IsFailing, IsGoing, Loose}
 use Rattle.xet_turns.proofs.LateLed.{spent_more}
 use Rattle.xet_leader.proofs.CallerLemmas.{led_more, tells_more_heard, calm_halted}
-use Rattle.xet_turns.proofs.WroteEvents.{led_wrote}
+use Rattle.xet_leader.proofs.CallerLemmas.{led_wrote}
 
 -- ---- the events of lanes plan nothing
 

@@ -24,7 +24,7 @@ use Rattle.xet_lane.specs.Fetches.{NoneFailed, ask_of}
 use Rattle.xet_lane.specs.Ends.{End, NoneEndedBadly, ended, steps_of}
 use Rattle.xet_lane.proofs.CallerLemmas.{no_error}
 use Rattle.xet_lanes.specs.Rounds.{IsWhole, RoundTold}
-use Rattle.xet_stages.specs.Advances.{advanced}
+use Rattle.xet_leader.specs.Advances.{advanced}
 use Rattle.xet_leader.specs.declared.leader.LedPlan.{LedPlan}
 use Rattle.xet_leader.specs.declared.missing_blocks.BlockAt.{BlockAt}
 use Rattle.xet_stages.specs.declared.outcomes.Outcome.{Outcome}

@@ -30,7 +30,7 @@ use Rattle.xet_stages.specs.RoundRecords.{lanes_events, window_events}
 use Rattle.xet_turns.specs.Rounds.{AreLedAsks, RoundLeft}
 use Rattle.xet_leader.specs.Steady.{IsFailing}
 use Rattle.xet_turns.proofs.FailedLanes.{IsHeardJoin, honest_ask, lane_cause, never_calm, never_spent, own_asks}
-use Rattle.xet_turns.proofs.HonestBlocks.{IsHonestOf}
+use Rattle.xet_leader.proofs.CallerLemmas.{IsHonestOf}
 use Rattle.xet_turns.proofs.LastSteps.{none_upto, lanes_honest, none_below, upto_unfailed}
 use Rattle.xet_turns.proofs.RoundLeads.{memory_fails}
 use Rattle.xet_leader.proofs.CallerLemmas.{any_unfailed, sink_unfailed, calm_halted, unspent_faultless}

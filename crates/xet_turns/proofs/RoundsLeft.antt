@@ -30,7 +30,7 @@ use Rattle.xet_leader.specs.Led.{IsAnswerData, IsLed, IsLedPlan, IsReady, Led, b
 use Rattle.xet_stages.specs.RoundRecords.{expired_events, fetched_events}
 use Rattle.xet_turns.specs.Rounds.{AreLedAsks, IsLedAsk, IsLedAt, IsSpent, RoundLeft}
 use Rattle.xet_stages.specs.Outcomes.{plans_after, plans_kept}
-use Rattle.xet_turns.proofs.HonestBlocks.{led_honest}
+use Rattle.xet_leader.proofs.CallerLemmas.{led_honest}
 use Rattle.xet_turns.proofs.LateLed.{led_late, led_spent}
 use Rattle.xet_leader.proofs.CallerLemmas.{led_more, tells_more_heard}
 use Rattle.xet_turns.proofs.ServedLed.{EachGiven, IsGivenTo, each_both, led_keeps, led_served, plan_at}

@@ -20,10 +20,10 @@ use Rattle.xet_ties.proofs.CallerLemmas.{allowed_first, allowed_rest, grew_none}
 use Rattle.xet_leader.specs.declared.leader.LedPlan.{LedPlan}
 use Rattle.xet_leader.specs.ByNumber.{change_at, only, plan_index}
 use Rattle.xet_leader.specs.Keeping.{Given, given_of, keep_data, keep_in, kept, kept_one}
-use Rattle.xet_leader.specs.KeptBlocks.{kept_in_plan, kept_in_plans, with_data}
+use Rattle.xet_leader.specs.KeptBlocks.{with_data}
 use Rattle.xet_turns.specs.Rounds.{IsLedAt}
 use Rattle.xet_leader.specs.Led.{EachLedBlock, IsAnswerData, IsLed, IsLedData, IsLedPlan, Led, bare}
-use Rattle.xet_leader.proofs.CallerLemmas.{IsAlike, change_is_set, only_is, placed, IsKeeping, IsKeptData, fetched_keeps, led_kept, kept-append, tells_more_heard}
+use Rattle.xet_leader.proofs.CallerLemmas.{IsAlike, IsKeeping, IsKeptData, fetched_keeps, kept-append, kept_here, led_kept, placed, tells_more_heard}
 
 -- ---- data that belongs to a block of the plans
 
@@ -184,21 +184,6 @@ led_keeps g b es sl stale l p k x a led =
     let z : 0 + k ≡ k = omega arith in
     block_keeps b es sl a.plan.number 0 k a.plan.tries.items a.plan.block.blocks x a.in_plan h.each
     ∙ ap (λ (q : ℕ). is_kept es q (0 + k)) a.number ∙ ap (λ (m : ℕ). is_kept es p m) z
-
--- so the plans that keep it are these
-kept_here : (ls : List LedPlan) (l : LedPlan) (i p k : ℕ) (x : XorbBlock) (found : XorbBlockData)
-    → plan_index ls p ≡ i → slice_get ls i ≡ Some l → l.number ≡ p → slice_get l.block.blocks k ≡ Some x
-    → is_some x.kept ≡ false → kept_one (p, k, found) ls ≡ kept_in_plans ls i l k x found
-kept_here ls l i p k x found place at number in_plan none =
-    let f : LedPlan → LedPlan = only p (keep_in k found) in
-    let data_of : keep_data found x ≡ with_data x found =
-    ap (λ (v : Bool). cond v x (record x { kept = Some found })) none in
-    let blocks : change_at k (keep_data found) l.block.blocks ≡ slice_set l.block.blocks k (with_data x found) =
-    change_is_set (keep_data found) k l.block.blocks x in_plan
-    ∙ ap (λ (y : XorbBlock). slice_set l.block.blocks k y) data_of in
-    let to : f l ≡ kept_in_plan l k x found = only_is p (keep_in k found) l number
-    ∙ ap (λ (bs : List XorbBlock). record l { block = record l.block { blocks = bs } }) blocks in
-    ap (λ (n : ℕ). change_at n f ls) place ∙ change_is_set f i ls l at ∙ ap (λ (y : LedPlan). slice_set ls i y) to
 
 led_fetched : (g : Setup) (b : RunTold) (es : List Event) (sl : Slack) (stale : List ℕ) (lane : ℕ) (c : Given)
     (l : Led) → IsAllowed es (Fetched lane c.0 c.1) → IsGivenTo b sl l.plans c → IsLed g b es sl stale l

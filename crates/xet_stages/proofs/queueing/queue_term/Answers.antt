@@ -1,7 +1,8 @@
 use Rattle.std.proofs.Common.{rules, ◌≡◌, ◌≢◌, ◌<◌, None, arith}
 use Rattle.xet_writers.specs.Calls.{closed_by}
 use Rattle.xet_writers.specs.Sequential.{told_of}
-use Rattle.xet_stages.specs.Windows.{IsPieceIn, of_plan, size_in, with_piece}
+use Rattle.xet_leader.specs.LedTerms.{IsPieceIn, of_plan, size_in}
+use Rattle.xet_stages.specs.Windows.{with_piece}
 use Rattle.xet_stages.proofs.WindowSteps.{none_given, one_queued}
 use Rattle.xet_stages.proofs.queueing.queue_term.Goals as goal
 

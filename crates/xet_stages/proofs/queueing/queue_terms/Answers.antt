@@ -1,6 +1,8 @@
 use Rattle.std.proofs.Common.{rules, ◌≡◌, ◌<◌, ◌≤◌, ◌++◌, ◌+◌, ◌∷◌, [], ◌∙◌, ap, sym, subst, drop, get_or, length, Err, None, Some, Ok, inl, refl}
-use Rattle.xet_stages.specs.Windows.{TermTurn, led_terms, of_plan}
-use Rattle.xet_stages.proofs.WindowSteps.{WindowSo, past_all, next_there, no_file_term, so_end, so_err, so_full, so_more, so_short, so_stop}
+use Rattle.xet_leader.specs.LedTerms.{led_terms, of_plan}
+use Rattle.xet_stages.specs.Windows.{TermTurn}
+use Rattle.xet_leader.proofs.CallerLemmas.{next_there, no_file_term, past_all}
+use Rattle.xet_stages.proofs.WindowSteps.{WindowSo, so_end, so_err, so_full, so_more, so_short, so_stop}
 use Rattle.xet_stages.proofs.queueing.queue_terms.Goals as goal
 
 pub returns : goal.returns

@@ -1,5 +1,5 @@
 use Rattle.std.proofs.Common.{◌-◌, length, drop}
-use Rattle.xet_stages.specs.Windows.{led_terms}
+use Rattle.xet_leader.specs.LedTerms.{led_terms}
 use Rattle.xet_stages.proofs.WindowSteps.{WindowSo}
 use Rattle.xet_stages.proofs.queueing.queue_terms.Given as goal
 

@@ -1,6 +1,6 @@
 use Rattle.std.proofs.Common.{◌≡◌, ◌-◌, length, drop}
-use Rattle.xet_stages.specs.Windows.{led_terms}
-use Rattle.xet_stages.proofs.queueing.seek.Given as goal
+use Rattle.xet_leader.specs.LedTerms.{led_terms}
+use Rattle.xet_leader.proofs.ahead.seek.Given as goal
 
 abbrev pub invariant-loop-plan : goal.invariant-loop-plan
 invariant-loop-plan l = drop l.term (led_terms (drop l.plan l.plans.items)) ≡ drop l.fn.at.term

@@ -1,11 +1,11 @@
 -- A leader after an answer that a URL of a block had expired.
-use Rattle.std.proofs.Common.{◌≡◌, ℕ, zero, suc, ◌+◌, ◌<◌, ◌≤◌, Bool, true, false, cond, List, [], ◌∷◌, ◌++◌, length, refl, sym, subst, ◌∙◌, ap, arith, inl, inr, ⊎_elim, Option, Some}
-use Rattle.std.specs.Prelude.{Contains, ◌==◌, ◌&&◌, count_by, nat_le, nat_lt, slice_get, slice_index, slice_set, filter}
+use Rattle.std.proofs.Common.{◌≡◌, ℕ, zero, suc, ◌+◌, ◌<◌, ◌≤◌, Bool, true, false, cond, List, [], ◌∷◌, ◌++◌, length, refl, sym, subst, ◌∙◌, ap, arith, inl, inr, ⊎_elim, Option, Some, None}
+use Rattle.std.specs.Prelude.{All, Contains, ◌==◌, ◌&&◌, count_by, nat_le, nat_lt, slice_get, slice_index, slice_set, filter}
 use Rattle.std.specs.List.{list_any}
 use Rattle.std.specs.Vec.{with_item}
-use Rattle.std.proofs.lemmas.Bool.{and_from, and_left, and_parts, and_right, cases_eq, eq-eqb, eqb-true, leb-false, lt-ltb, ltb-false, ne_eqb, or_parts}
+use Rattle.std.proofs.lemmas.Bool.{and_from, and_left, and_parts, and_right, cases_eq, eq-eqb, eqb-true, leb-false, leb-true, lt-ltb, ltb-false, ltb-true, ne_eqb, or_parts}
 use Rattle.std.proofs.lemmas.List.{set_past}
-use Rattle.std.proofs.lemmas.List.Elements.{Contains-append_left, Contains-push}
+use Rattle.std.proofs.lemmas.List.Elements.{All-head, All-tail, Contains-append_left, Contains-push}
 use Rattle.std.proofs.lemmas.Map.Views.{Contains-from_any}
 use Rattle.std.proofs.lemmas.Option.{slice_get_within}
 use Rattle.xet_offers.specs.declared.reconstruction_terms.xorb_block.XorbBlock.{XorbBlock}
@@ -23,7 +23,10 @@ use Rattle.xet_leader.specs.declared.missing_blocks.BlockAt.{BlockAt}
 use Rattle.xet_leader.specs.ByNumber.{plan_index}
 use Rattle.xet_leader.specs.Expiries.{counted_one, one_more, spends_in, spends_of, spends_one, with_stale}
 use Rattle.xet_leader.specs.Led.{AreLedPlans, AreStale, EachLedBlock, IsLed, IsLedBlock, IsLedPlan, IsReady, Led}
-use Rattle.xet_leader.proofs.CallerLemmas.{IsAlike, alike_begins, alike_follow, alike_number, alike_terms, awaited, alike_changed, change_all, IsQuiet, quiet_counted, quiet_kept, quiet_manager, quiet_numbered, quiet_recorded, quiet_running}
+use Rattle.xet_leader.proofs.AlikePlans.{IsAlike, alike_begins, alike_follow, alike_number, alike_terms}
+use Rattle.xet_leader.proofs.AwaitedBlocks.{awaited}
+use Rattle.xet_leader.proofs.ChangedPlans.{alike_changed, change_all}
+use Rattle.xet_leader.proofs.QuietEvents.{IsQuiet, quiet_counted, quiet_kept, quiet_manager, quiet_numbered, quiet_recorded, quiet_running}
 
 -- ---- tests
 
@@ -369,3 +372,38 @@ led_expired g b es sl stale lane p j l some m a =
         written_are = counted.written_are;
       };
     }
+
+-- ---- a block whose tries are used up
+
+plan_in : (P : LedPlan → Type 0) (ls : List LedPlan) (i : ℕ) (l : LedPlan) → slice_get ls i ≡ Some l → All P ls → P l
+plan_in P [] i l h a = absurd (cc)
+plan_in P (k ∷ ls) zero l h a = let same : k ≡ l = cc in subst P same (All-head P k ls a)
+plan_in P (k ∷ ls) (suc i) l h a = plan_in P ls i l h (All-tail P k ls a)
+
+-- it expired as often as it may be asked for
+pub tries_used : (g : Setup) (b : RunTold) (es : List Event) (sl : Slack) (stale : List ℕ) (lane p k : ℕ) (l : Led)
+    → spends_one g.tries (p, k) l.plans ≡ true → IsLed g b es sl stale l
+    → g.tries ≤ count_by (expires p k) (es ++ Expired lane p k ∷ [])
+tries_used g b es sl stale lane p k l some led = by (slice_get l.plans (plan_index l.plans p)) refl
+  where
+    by : (o : Option LedPlan) → slice_get l.plans (plan_index l.plans p) ≡ o
+        → g.tries ≤ count_by (expires p k) (es ++ Expired lane p k ∷ [])
+    by None at = absurd (let z : spends_one g.tries (p, k) l.plans ≡ false = ap
+        (λ (o : Option LedPlan). spends_of g.tries (p, k) o) at in let y : true ≡ false = sym some ∙ z in cc)
+    by (Some x) at =
+        let h = plan_in (IsLedPlan g b es sl stale) l.plans (plan_index l.plans p) x at led.plans.each in
+        let one : (x.number == p && spends_in g.tries k x) ≡ true =
+        sym (ap (λ (o : Option LedPlan). spends_of g.tries (p, k) o) at) ∙ some in
+        let here = and_parts (x.number == p) (spends_in g.tries k x) one in
+        let number : x.number ≡ p = eqb-true x.number p here.0 in
+        let parts = and_parts (nat_lt k (length x.tries.items))
+        (nat_le g.tries (slice_index x.tries.items k + 1)) here.1 in
+        let within : k < length x.tries.items = ltb-true k (length x.tries.items) parts.0 in
+        let most : g.tries ≤ slice_index x.tries.items k + 1 =
+        leb-true g.tries (slice_index x.tries.items k + 1) parts.1 in
+        let z : 0 + k ≡ k = omega arith in
+        let count = each_count b es sl x.number 0 k x.tries.items x.block.blocks within h.each
+        ∙ ap (λ (n : ℕ). count_by (expires x.number n) es) z ∙ ap (λ (n : ℕ). count_by (expires n k) es) number in
+        let more = count-more (expires p k) es (Expired lane p k)
+        (and_from (p == p) (k == k) (eq-eqb p p refl) (eq-eqb k k refl)) in
+        omega (arith, count, more, most)

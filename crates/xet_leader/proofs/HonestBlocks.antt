@@ -17,7 +17,7 @@ use Rattle.xet_ties.specs.Setup.{IsOver, RunTold, Setup}
 use Rattle.xet_ties.specs.Ties.{Slack}
 use Rattle.xet_leader.specs.declared.leader.LedPlan.{LedPlan}
 use Rattle.xet_leader.specs.Led.{IsLedPlan, bare}
-use Rattle.xet_leader.proofs.CallerLemmas.{honest_query, is_made, made_block, made_query}
+use Rattle.xet_leader.proofs.RefreshTables.{honest_query, is_made, made_block, made_query}
 
 -- the store holds the block's chunks, and its bytes pass the block's tests
 pub record IsHonestOf (s : Store) (x : XorbBlock) : Type 0 where

@@ -12,8 +12,8 @@ use Rattle.xet_ties.specs.Setup.{RunTold, Setup}
 use Rattle.xet_ties.specs.Ties.{Slack}
 use Rattle.xet_leader.specs.declared.leader.LedPlan.{LedPlan}
 use Rattle.xet_leader.specs.Led.{AreLedPlans, BeginsWith, FollowOn, IsLedPlan, LastTermsAre, Led}
-use Rattle.xet_stages.specs.RunWindows.{task_of}
-use Rattle.xet_stages.specs.Windows.{PlanTerm, first_number, led_terms, of_plan, size_in, some_in}
+use Rattle.xet_leader.specs.LedTerms.{task_of}
+use Rattle.xet_leader.specs.LedTerms.{PlanTerm, first_number, led_terms, of_plan, size_in, some_in}
 
 -- ---- terms as tasks
 

@@ -1,10 +1,10 @@
 //! Lets the leader's written terms go.
 ghost use Rattle.std.specs.Prelude.{◌≡◌};
-ghost use Rattle.xet_stages.specs.Advances.{advanced, first_ends, unfinished_plans};
+ghost use Rattle.xet_leader.specs.Advances.{advanced, first_ends, unfinished_plans};
 
+use crate::leader::{Leader, LedPlan};
 use std::collections::VecDeque;
 use xet_blocks::FetchPolicy;
-use xet_leader::leader::{Leader, LedPlan};
 
 /// Counts so many more terms as wholly written, a count that stops at `u64::MAX`, and lets the plans go whose last term
 /// is. It takes constant time, amortized over the plans.

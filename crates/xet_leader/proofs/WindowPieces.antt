@@ -34,11 +34,12 @@ use Rattle.xet_ties.specs.Setup.{CacheTells, IsOver, RunTold, Setup}
 use Rattle.xet_ties.specs.Ties.{Slack}
 use Rattle.xet_ties.specs.Windows.{AreKept}
 use Rattle.xet_leader.specs.Led.{IsLedBlock, IsLedData, bare, true_data}
-use Rattle.xet_stages.specs.RunWindows.{task_of}
-use Rattle.xet_stages.specs.Windows.{IsPieceIn, PlanTerm, kept_in, some_in}
+use Rattle.xet_leader.specs.LedTerms.{task_of}
+use Rattle.xet_leader.specs.LedTerms.{IsPieceIn, PlanTerm, kept_in, some_in}
 use Rattle.xet_leader.specs.FetchLists.{Each}
-use Rattle.xet_leader.proofs.CallerLemmas.{none_within, block_is, led_block, terms_within}
-use Rattle.xet_stages.proofs.WindowTasks.{IsLedTerm}
+use Rattle.xet_leader.proofs.FetchFacts.{none_within}
+use Rattle.xet_leader.proofs.PlanFacts.{block_is, led_block, terms_within}
+use Rattle.xet_leader.proofs.WindowTasks.{IsLedTerm}
 
 -- ---- a term's block
 

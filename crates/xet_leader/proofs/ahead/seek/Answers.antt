@@ -1,8 +1,8 @@
 use Rattle.std.proofs.Common.{rules, ◌≡◌, ◌<◌, ◌≤◌, ◌-◌, ◌+◌, ◌∙◌, ap, sym, subst, arith, drop, get_or, length}
 use Rattle.std.proofs.lemmas.List.{get_or_default}
-use Rattle.xet_stages.specs.Windows.{led_terms}
-use Rattle.xet_stages.proofs.WindowSteps.{past_plan}
-use Rattle.xet_stages.proofs.queueing.seek.Goals as goal
+use Rattle.xet_leader.specs.LedTerms.{led_terms}
+use Rattle.xet_leader.proofs.TermPlaces.{past_plan}
+use Rattle.xet_leader.proofs.ahead.seek.Goals as goal
 
 pub loop-plan-preserved : goal.loop-plan-preserved
 loop-plan-preserved c =

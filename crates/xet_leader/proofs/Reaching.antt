@@ -1,15 +1,20 @@
 -- A leader that has asked for all of its range.
-use Rattle.std.proofs.Common.{◌≡◌, ℕ, ◌<◌, true, List, sym, subst, ◌∙◌, ap, arith, inl, inr, ⊎_elim}
+use Rattle.std.proofs.Common.{◌≡◌, ℕ, ◌<◌, true, List, [], ◌∷◌, map, refl, sym, subst, ◌∙◌, ap, arith, inl, inr, ⊎_elim}
 use Rattle.std.proofs.lemmas.List.{take_all}
 use Rattle.xet_base.specs.declared.cas_types.FileRange.{FileRange}
 use Rattle.xet_events.specs.declared.event.Event.{Event}
+use Rattle.xet_events.specs.Events.{last_of}
 use Rattle.xet_history.specs.TrueHistory.{ReachesEnd, queries, queries_end}
 use Rattle.xet_terms.specs.Managers.{IsCovered, Manager, scheduled_end}
 use Rattle.xet_terms.specs.Queries.{end_from}
 use Rattle.xet_terms.proofs.CallerLemmas.{reaches_end}
 use Rattle.xet_ties.specs.Setup.{Setup}
 use Rattle.xet_leader.specs.Led.{IsLedManager}
-use Rattle.xet_stages.proofs.Measures.{ends_are}
+
+-- the queries end where the last one does
+pub ends_are : (place : ℕ) (qs : List FileRange) → last_of place (map (λ q. q.end) qs) ≡ end_from place qs
+ends_are place [] = refl
+ends_are place (q ∷ qs) = ends_are q.end qs
 
 -- where each byte below the known end was asked for, the queries reach the range's end, or a plan ended early
 pub covered_reaches : (g : Setup) (es : List Event) (m : Manager) → g.range.start < g.range.end → IsLedManager g es m

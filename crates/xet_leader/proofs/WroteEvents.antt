@@ -15,10 +15,11 @@ use Rattle.xet_ties.specs.Setup.{RunTold, Setup}
 use Rattle.xet_ties.specs.Ties.{Slack}
 use Rattle.xet_ties.specs.Recordings.{wrote_of}
 use Rattle.xet_ties.proofs.CallerLemmas.{count-same}
-use Rattle.xet_stages.specs.Advances.{advanced, finished_at}
+use Rattle.xet_leader.specs.Advances.{advanced, finished_at}
 use Rattle.xet_leader.specs.Led.{AreLedPlans, AreStale, IsLed, IsLedManager, IsLedPlan, Led}
-use Rattle.xet_turns.proofs.Finishing.{stay_each, stay_first, stay_following, stay_last, stay_numbered}
-use Rattle.xet_leader.proofs.CallerLemmas.{IsPlain, plain_manager, plain_plans, plain_running, plain_stale, quiet_under}
+use Rattle.xet_leader.proofs.Finishing.{stay_each, stay_first, stay_following, stay_last, stay_numbered}
+use Rattle.xet_leader.proofs.PlainEvents.{IsPlain, plain_manager, plain_plans, plain_running, plain_stale}
+use Rattle.xet_leader.proofs.QuietEvents.{quiet_under}
 
 -- ---- events of written terms
 

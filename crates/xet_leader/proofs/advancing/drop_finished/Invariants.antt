@@ -1,6 +1,6 @@
 use Rattle.std.proofs.Common.{◌≡◌, length}
-use Rattle.xet_stages.specs.Advances.{unfinished_plans}
-use Rattle.xet_stages.proofs.advancing.drop_finished.Given as goal
+use Rattle.xet_leader.specs.Advances.{unfinished_plans}
+use Rattle.xet_leader.proofs.advancing.drop_finished.Given as goal
 
 abbrev pub invariant-loop-plans : goal.invariant-loop-plans
 invariant-loop-plans l = unfinished_plans l.finished l.plans.items ≡ unfinished_plans l.finished l.initial.plans.items

@@ -4,7 +4,7 @@ use Rattle.std.specs.Prelude.{All, nat_le}
 use Rattle.std.proofs.lemmas.Bool.Decides.{nat_tests}
 use Rattle.std.proofs.lemmas.List.Elements.{All-tail}
 use Rattle.xet_leader.specs.declared.leader.LedPlan.{LedPlan}
-use Rattle.xet_stages.specs.Advances.{first_ends, unfinished_plans}
+use Rattle.xet_leader.specs.Advances.{first_ends, unfinished_plans}
 use Rattle.xet_leader.specs.Led.{BeginsWith, FollowOn, LastNumberIs, LastTermsAre}
 
 -- ---- what is left
