@@ -38,18 +38,11 @@ pub fn decided(out: &mut String, answer: Result<bool, DataError>, yes: u64, no: 
     }
 }
 
-/// Writes a word.
-fn say_word(out: &mut String, word: &str) {
-    let _ = out.push_str(" ");
-    let _ = out.push_str(word);
-}
-
 /// Writes a pointer: the file's hash, its size, and its SHA-256 where one is recorded.
 pub fn point(out: &mut String, info: &XetFileInfo) {
-    say_word(out, info.hash());
-    say(out, info.file_size().unwrap_or(0));
+    let _ = write!(out, " {} {}", info.hash(), info.file_size().unwrap_or(0));
     if let Some(sha256) = info.sha256() {
-        say_word(out, sha256);
+        let _ = write!(out, " {sha256}");
     }
 }
 

@@ -5,23 +5,24 @@ use crate::settings::number;
 use crate::xorbs::{part, raw};
 use std::alloc::Global;
 use std::sync::Wait;
-use xet_base::{List, MDBFileInfo, OutOfMemory, UniqueID};
-use xet_progress::{
-    FileXorbDependency, GroupProgress, GroupProgressReport, ItemProgress, ItemProgressReport,
-};
+use xet_base::{List, MDBFileInfo, UniqueID};
+use xet_progress::{GroupProgress, GroupProgressReport};
 use xet_upload::{DataError, DeduplicationMetrics};
 
-/// Writes the item's id and the file's number.
-fn say_file(out: &mut String, file: Result<(UniqueID, u64), DataError>) {
-    match file {
+/// `begin 10`, `begin -`: a file of a fixed size, or of one that grows. It writes the item's id and the file's number.
+fn begin<W: Wait>(rt: &W, alloc: Global, session: &mut Session, out: &mut String, size: &str) {
+    match session.start_file(rt, alloc, "file", number(size)) {
         Ok((id, file_id)) => say_each(out, &[id.0, file_id]),
         Err(error) => refuse(out, error),
     }
 }
 
-/// `begin 10`, `begin -`: a file of a fixed size, or of one that grows. It writes the item's id and the file's number.
-fn begin<W: Wait>(rt: &W, alloc: Global, session: &mut Session, out: &mut String, size: &str) {
-    say_file(out, session.start_file(rt, alloc, "file", number(size)));
+/// `hold 1`: an item of this id in the session's group.
+fn hold<W: Wait>(rt: &W, alloc: Global, session: &Session, out: &mut String, id: &str) {
+    let id = UniqueID(number(id).unwrap_or(0));
+    if GroupProgress::new_item(session.progress(), rt, alloc, id, "held").is_ok() {
+        say(out, 0);
+    }
 }
 
 /// `grow 1 4`: the file with this number grows.
@@ -31,137 +32,91 @@ fn grow<W: Wait>(rt: &W, session: &mut Session, out: &mut String, words: &str) {
     done(out, session.grow_file(rt, file, bytes));
 }
 
-/// `give 5 Hello`: the xorb of a text, of which the first file has so many bytes. 0 where it is new, 9 where it was
-/// put before.
+/// `give 5 Hello`: the xorb of a text, of which the first file has so many bytes, or no file any. 0 where it is new, 9
+/// where it was put before.
 fn give<W: Wait>(rt: &W, alloc: Global, session: &mut Session, out: &mut String, words: &str) {
     let (bytes, text) = words.split_once(' ').unwrap_or((words, ""));
-    let parts = [part(text, 0, number(bytes).unwrap_or(0), false)];
-    if bytes == "0" {
-        give_parts(rt, alloc, session, out, text, &[]);
-    } else {
-        give_parts(rt, alloc, session, out, text, &parts);
+    let mut parts = Vec::new(alloc);
+    if bytes != "0" {
+        let _ = parts.push(part(text, 0, number(bytes).unwrap_or(0), false));
     }
-}
-
-/// The same with these parts of files.
-fn give_parts<W: Wait>(
-    rt: &W,
-    alloc: Global,
-    session: &mut Session,
-    out: &mut String,
-    text: &str,
-    parts: &[FileXorbDependency],
-) {
     if let Ok(raw) = raw(alloc, text) {
-        decided(
-            out,
-            session.register_new_xorb(rt, alloc, raw, parts, 0),
-            0,
-            9,
-        );
+        let put = session.register_new_xorb(rt, alloc, raw, parts.as_slice(), 0);
+        decided(out, put, 0, 9);
     }
 }
 
 /// Writes how many chunks were new and found, the bytes of xorbs and of records, and of the items and of the transfers
 /// the bytes that are completed and all.
-fn say_counts(out: &mut String, counts: &DeduplicationMetrics, report: &GroupProgressReport) {
-    say_each(
-        out,
-        &[
-            counts.new_chunks,
-            counts.deduped_chunks,
-            counts.xorb_bytes_uploaded,
-            counts.shard_bytes_uploaded,
-            report.total_bytes_completed,
-            report.total_bytes,
-            report.total_transfer_bytes_completed,
-            report.total_transfer_bytes,
-        ],
-    );
-}
-
-/// Writes the counts of an end.
 fn say_end(
     out: &mut String,
     answer: Result<(DeduplicationMetrics, GroupProgressReport), DataError>,
 ) {
     match answer {
-        Ok((counts, report)) => say_counts(out, &counts, &report),
+        Ok((counts, report)) => say_each(
+            out,
+            &[
+                counts.new_chunks,
+                counts.deduped_chunks,
+                counts.xorb_bytes_uploaded,
+                counts.shard_bytes_uploaded,
+                report.total_bytes_completed,
+                report.total_bytes,
+                report.total_transfer_bytes_completed,
+                report.total_transfer_bytes,
+            ],
+        ),
         Err(error) => refuse(out, error),
     }
 }
 
 /// Writes the bytes of xorbs, of records and of both, and how many files there are.
-fn say_files(out: &mut String, counts: &DeduplicationMetrics, files: usize) {
-    say_each(
-        out,
-        &[
-            counts.xorb_bytes_uploaded,
-            counts.shard_bytes_uploaded,
-            counts.total_bytes_uploaded,
-            files as u64,
-        ],
-    );
-}
-
-/// Writes the counts of an end with its files.
 fn say_list(
     out: &mut String,
     answer: Result<(DeduplicationMetrics, List<MDBFileInfo>), DataError>,
 ) {
     match answer {
-        Ok((counts, files)) => say_files(out, &counts, files.len()),
+        Ok((counts, files)) => say_each(
+            out,
+            &[
+                counts.xorb_bytes_uploaded,
+                counts.shard_bytes_uploaded,
+                counts.total_bytes_uploaded,
+                files.len() as u64,
+            ],
+        ),
         Err(error) => refuse(out, error),
-    }
-}
-
-/// Writes the completed and all bytes of an item.
-fn say_item(out: &mut String, answer: Result<Option<ItemProgressReport>, OutOfMemory>) {
-    if let Ok(Some(report)) = answer {
-        say_each(out, &[report.bytes_completed, report.total_bytes]);
     }
 }
 
 /// `item 1`: the completed and all bytes of an item.
 fn item<W: Wait>(rt: &W, session: &Session, out: &mut String, id: &str) {
-    say_item(
-        out,
-        session.item_report(rt, UniqueID(number(id).unwrap_or(0))),
-    );
-}
-
-/// Writes 1 where the size of an item is final, and else 0.
-fn say_final(out: &mut String, answer: Result<ItemProgress, OutOfMemory>) {
-    if let Ok(item) = answer {
-        say(out, u64::from(item.size_finalized()));
+    let id = UniqueID(number(id).unwrap_or(0));
+    if let Ok(Some(report)) = session.item_report(rt, id) {
+        say_each(out, &[report.bytes_completed, report.total_bytes]);
     }
 }
 
-/// `final 1`: whether the size of an item is final.
+/// `final 1`: 1 where the size of an item is final, and else 0.
 fn is_final<W: Wait>(rt: &W, alloc: Global, session: &Session, out: &mut String, id: &str) {
     let id = UniqueID(number(id).unwrap_or(0));
-    if let Ok(item) = GroupProgress::updater(session.progress(), id) {
-        say_final(out, item.item(rt, alloc));
-    }
-}
-
-/// How many items there are.
-fn items<W: Wait>(rt: &W, alloc: Global, session: &Session) -> u64 {
-    match session.item_reports(rt, alloc) {
-        Ok(reports) => reports.len() as u64,
-        Err(_) => 0,
+    if let Ok(updater) = GroupProgress::updater(session.progress(), id)
+        && let Ok(item) = updater.item(rt, alloc)
+    {
+        say(out, u64::from(item.size_finalized()));
     }
 }
 
 /// `group`: how many items there are, and the group's completed and all bytes, sent and to be sent.
 fn group<W: Wait>(rt: &W, alloc: Global, session: &Session, out: &mut String) {
-    let items = items(rt, alloc, session);
+    if let Ok(reports) = session.item_reports(rt, alloc) {
+        say(out, reports.len() as u64);
+    }
     let bytes = session.report(rt);
     let sent = session.progress().report(rt);
     say_each(
         out,
         &[
-            items,
             bytes.total_bytes_completed,
             bytes.total_bytes,
             sent.total_transfer_bytes_completed,
@@ -181,6 +136,7 @@ pub fn called<W: Wait>(
 ) {
     match word {
         "begin" => begin(rt, alloc, session, out, rest),
+        "hold" => hold(rt, alloc, session, out, rest),
         "grow" => grow(rt, session, out, rest),
         "give" => give(rt, alloc, session, out, rest),
         "cut" => done(out, session.checkpoint(rt, alloc, 0)),

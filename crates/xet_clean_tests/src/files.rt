@@ -1,4 +1,6 @@
 //! Files that a session cleans.
+ghost use Rattle.std.specs.Prelude.{None};
+
 use crate::answers::{done, point, refuse, say};
 use crate::sessions::Session;
 use crate::settings::number;
@@ -7,10 +9,30 @@ use std::sync::Wait;
 use xet_base::MerkleHash;
 use xet_clean::{SingleFileCleaner, start_clean};
 use xet_pointer::XetFileInfo;
-use xet_upload::{DataError, DeduplicationMetrics, FixedCutter, Sha256Policy};
+use xet_upload::{Cutter, DataError, DeduplicationMetrics, Sha256Policy};
 
-/// A file that is cut into chunks of one length.
-type Cleaner = SingleFileCleaner<FixedCutter>;
+/// Cuts chunks of which each has so many bytes more than the one before it.
+#[derive(Drop)]
+struct GrowingCutter {
+    size: usize,
+    more: usize,
+}
+
+impl Cutter for GrowingCutter {
+    ghost told = { λ _ _ _. None };
+
+    fn cut(&mut self, pending: &[u8], _last: bool) -> Option<usize> {
+        let size = self.size;
+        if pending.len() < size {
+            return None;
+        }
+        self.size = size.saturating_add(self.more);
+        Some(size)
+    }
+}
+
+/// A file that is cut so.
+type Cleaner = SingleFileCleaner<GrowingCutter>;
 
 /// The policy that a word says: `sha` computes SHA-256, `given` has one, and others have none.
 pub fn policy(word: &str) -> Sha256Policy {
@@ -19,18 +41,6 @@ pub fn policy(word: &str) -> Sha256Policy {
         "given" => Sha256Policy::Provided(MerkleHash([0xab; 32])),
         _ => Sha256Policy::Skip,
     }
-}
-
-/// Feeds bytes, and writes what is answered.
-fn feed_bytes<W: Wait>(
-    rt: &W,
-    alloc: Global,
-    session: &mut Session,
-    cleaner: &mut Cleaner,
-    out: &mut String,
-    bytes: &[u8],
-) {
-    done(out, cleaner.add_data(session, rt, alloc, bytes, 0));
 }
 
 /// Feeds pieces, and writes what each of them answers; `*` stands for 8,192 bytes.
@@ -44,10 +54,11 @@ fn feed_each<W: Wait>(
 ) {
     let many = [7u8; 8192];
     for piece in pieces.split('/') {
-        match piece {
-            "*" => feed_bytes(rt, alloc, session, cleaner, out, many.as_slice()),
-            _ => feed_bytes(rt, alloc, session, cleaner, out, piece.as_bytes()),
-        }
+        let bytes = match piece {
+            "*" => many.as_slice(),
+            _ => piece.as_bytes(),
+        };
+        done(out, cleaner.add_data(session, rt, alloc, bytes, 0));
     }
 }
 
@@ -74,21 +85,21 @@ fn clean<W: Wait>(
     pieces: &str,
     is_fed: bool,
 ) {
-    let mut fed = String::new(alloc);
-    feed_each(rt, alloc, session, &mut cleaner, &mut fed, pieces);
-    say_fed(out, fed.as_str(), is_fed);
+    feed_each(rt, alloc, session, &mut cleaner, out, pieces);
     say_end(out, cleaner.finish(session, rt, alloc, 0), is_fed);
 }
 
-/// Writes what pieces answered, where that is told.
-fn say_fed(out: &mut String, fed: &str, is_fed: bool) {
-    if is_fed {
-        let _ = out.push_str(fed);
+/// `5`, `1+1`: cuts by so many bytes, or by a byte more each time.
+fn cutter_of(words: &str) -> GrowingCutter {
+    let (size, more) = words.split_once('+').unwrap_or((words, "0"));
+    GrowingCutter {
+        size: number(size).unwrap_or(1) as usize,
+        more: number(more).unwrap_or(0) as usize,
     }
 }
 
-/// `13 5 Hello/, world!`: cleans a file of this size, none of `-`, that is cut by so many bytes and fed in these
-/// pieces. `feed` writes what each piece and the end answer, and the other words the pointer.
+/// `13 5 Hello/, world!`: cleans a file of this size, unknown at `-`, that is cut so and fed in these pieces. It
+/// writes what each piece answers, and then, but for `feed`, the pointer.
 pub fn cleaned<W: Wait>(
     rt: &W,
     alloc: Global,
@@ -100,9 +111,7 @@ pub fn cleaned<W: Wait>(
     let (size, rest) = rest.split_once(' ').unwrap_or((rest, ""));
     let (chunk, pieces) = rest.split_once(' ').unwrap_or((rest, ""));
     let (size, sha256) = (number(size), policy(word));
-    let cutter = FixedCutter {
-        size: number(chunk).unwrap_or(1) as usize,
-    };
+    let cutter = cutter_of(chunk);
     match start_clean(session, rt, alloc, Some("test"), size, sha256, cutter) {
         Ok((_id, cleaner)) => clean(rt, alloc, session, out, cleaner, pieces, word == "feed"),
         Err(error) => refuse(out, error),

@@ -6,8 +6,6 @@ mod answers;
 #[cfg(test)]
 mod calls;
 #[cfg(test)]
-mod downloads;
-#[cfg(test)]
 mod files;
 #[cfg(test)]
 mod managers;

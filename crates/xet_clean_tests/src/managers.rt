@@ -5,26 +5,13 @@ use crate::settings::number;
 use crate::xorbs::{part, raw};
 use std::alloc::Global;
 use std::sync::Wait;
-use xet_base::{FileDataSequenceEntry, MerkleHash};
+use xet_base::MerkleHash;
 use xet_clean_parts::{DeduplicationDataInterface, UploadSessionDataManager};
 use xet_shards::ScriptShards;
-use xet_upload::DataError;
 use xet_uploader::MemUploader;
 
 /// A session as the deduplication of a file sees it.
 type Manager<'a> = UploadSessionDataManager<'a, MemUploader, ScriptShards>;
-
-/// What a search finds: how many chunks, their term, and whether it is of the session.
-type Found = Option<(usize, FileDataSequenceEntry, bool)>;
-
-/// Writes how many chunks were found.
-fn say_found(out: &mut String, answer: Result<Found, DataError>) {
-    match answer {
-        Ok(Some(found)) => say(out, found.0 as u64),
-        Ok(None) => say(out, 0),
-        Err(error) => refuse(out, error),
-    }
-}
 
 /// The hashes of the chunks of these texts.
 fn hashes(alloc: Global, texts: &str) -> Vec<MerkleHash> {
@@ -38,10 +25,11 @@ fn hashes(alloc: Global, texts: &str) -> Vec<MerkleHash> {
 /// `find Hello/world`: how many of these chunks are found in a row in the records of the session and its stores.
 fn find(alloc: Global, manager: &mut Manager<'_>, out: &mut String, texts: &str) {
     let hashes = hashes(alloc, texts);
-    say_found(
-        out,
-        manager.chunk_hash_dedup_query(alloc, hashes.as_slice()),
-    );
+    match manager.chunk_hash_dedup_query(alloc, hashes.as_slice()) {
+        Ok(Some(found)) => say(out, found.0 as u64),
+        Ok(None) => say(out, 0),
+        Err(error) => refuse(out, error),
+    }
 }
 
 /// `hand Hello`: puts the xorb of a text.

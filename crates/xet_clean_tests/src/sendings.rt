@@ -1,12 +1,53 @@
 //! Contents that are sent to a store in memory.
 use crate::answers::point;
-use crate::downloads::fetched;
 use crate::scripts::comes_to;
 use std::alloc::Global;
 use std::sync::Wait;
 use std::thread::Threads;
-use xet_sinks::VecSource;
-use xet_upload_laws::send;
+use xet_base::{FileRange, MerkleHash};
+use xet_blocks::Steady;
+use xet_connections::MemClient;
+use xet_outside::{NeverCancel, NoCache};
+use xet_reconstruct::FileReconstructor;
+use xet_sinks::{VecSink, VecSource};
+use xet_store::MemStore;
+use xet_upload_laws::{Sent, send};
+
+/// Writes a range of a file.
+fn fetch<W: Threads + Wait + Sync>(
+    rt: &W,
+    alloc: Global,
+    store: &MemStore,
+    file: MerkleHash,
+    range: FileRange,
+    writer: &mut VecSink,
+) -> bool {
+    let mut clients = [MemClient::new(alloc, store)];
+    FileReconstructor::new(file, Steady { size: 0 })
+        .with_byte_range(range)
+        .reconstruct_to_writer(
+            rt,
+            alloc,
+            &mut clients,
+            &mut NoCache,
+            &mut NeverCancel,
+            writer,
+        )
+        .is_ok()
+}
+
+/// Writes the pointer of what was sent, and what the store gives for it.
+fn say_sent<W: Threads + Wait + Sync>(rt: &W, alloc: Global, out: &mut String, sent: &Sent) {
+    point(out, &sent.info);
+    let file = MerkleHash::from_hex(sent.info.hash()).unwrap_or(MerkleHash([0; 32]));
+    let mut writer = VecSink::new(alloc);
+    let range = FileRange::full();
+    if fetch(rt, alloc, &sent.store, file, range, &mut writer)
+        && let Ok(text) = str::from_utf8(writer.taken())
+    {
+        let _ = write!(out, " {text}");
+    }
+}
 
 /// Sends a text in chunks of five bytes, and writes its pointer and what the store gives for it.
 fn sent<W: Threads + Wait + Sync>(rt: &W, alloc: Global, text: &str) -> String {
@@ -15,12 +56,7 @@ fn sent<W: Threads + Wait + Sync>(rt: &W, alloc: Global, text: &str) -> String {
         return out;
     };
     match send(rt, alloc, VecSource::new(bytes), text.len() as u64, 5) {
-        Ok(sent) => {
-            point(&mut out, &sent.info);
-            let _ = out.push_str(" ");
-            let came = fetched(rt, alloc, &sent.store, sent.info.hash());
-            let _ = out.push_str(came.as_str());
-        }
+        Ok(sent) => say_sent(rt, alloc, &mut out, &sent),
         Err(error) => {
             let _ = write!(out, "{error:?}");
         }

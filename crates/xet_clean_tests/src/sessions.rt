@@ -26,11 +26,6 @@ pub fn uploader(alloc: Global, put: Option<u64>) -> MemUploader {
     MemUploader::new(alloc, MemStore::new(alloc), fails(alloc, put))
 }
 
-/// A store without records, of whose calls the one with this number fails.
-fn shards(alloc: Global, call: Option<u64>) -> ScriptShards {
-    ScriptShards::new(MemShards::new(alloc), fails(alloc, call))
-}
-
 /// The record of the xorb of `Hello`.
 fn record(alloc: Global) -> ShardRecord {
     let mut xorbs = List::new(alloc);
@@ -52,23 +47,18 @@ fn records(alloc: Global, is_known: bool, call: Option<u64>) -> ScriptShards {
     ScriptShards::new(shards, fails(alloc, call))
 }
 
-/// The resumed records of a session, if it has some.
-fn resumed(alloc: Global, words: &str) -> Option<ScriptShards> {
-    if has(words, "old") {
-        return Some(records(alloc, true, setting(words, "resumed")));
-    }
-    None
-}
-
 /// The stores of a session.
 pub fn stores(alloc: Global, words: &str) -> SessionStores<ScriptShards> {
-    let call = setting(words, "call");
-    let is_known = has(words, "known");
+    let resumed = if has(words, "old") {
+        Some(records(alloc, true, setting(words, "resumed")))
+    } else {
+        None
+    };
     SessionStores {
-        resumed: resumed(alloc, words),
-        session: shards(alloc, call),
-        cache: records(alloc, is_known, setting(words, "cached")),
-        staging: shards(alloc, setting(words, "staged")),
+        resumed,
+        session: records(alloc, false, setting(words, "call")),
+        cache: records(alloc, has(words, "known"), setting(words, "cached")),
+        staging: records(alloc, false, setting(words, "staged")),
     }
 }
 

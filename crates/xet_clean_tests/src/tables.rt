@@ -2,27 +2,29 @@
 //!
 //! Hashes were computed from the definitions. A xorb's record counts for 36 bytes and 36 for each of its chunks, a
 //! file's for 32, 44 for each of its terms, and 32 with SHA-256.
-use crate::scripts::{comes_to, play_each, played};
-use std::alloc::Global;
+use crate::scripts::play_each;
 
 const FILES: &str = "\
-- | clean 16 32 no digest wanted; end => \
+- | clean 16 32 no digest wanted; end => 0 \
 44292741a8ff7b81124630a00064655ae23e81232c20ba5ee0a17d0e68fd8cc4 16; 1 0 16 148 16 16 16 16 xs;
-- | given 16 32 no digest wanted; end => \
+- | given 16 32 no digest wanted; end => 0 \
 44292741a8ff7b81124630a00064655ae23e81232c20ba5ee0a17d0e68fd8cc4 16 \
 abababababababababababababababababababababababababababababababab; 1 0 16 180 16 16 16 16 xs;
-- | sha 17 32 Clean me, please!; end => \
+- | sha 17 32 Clean me, please!; end => 0 \
 206a003e2f6f2c5f4fe299cc26922c5f0f336f732b0095ba9e983f57f4767428 17 \
 633547741153b3af36073c27e5e93ce94b8c1b5287b8436539692002465aaf3b; 1 0 17 180 17 17 17 17 xs;
-dry | clean 5 32 Hello; end => \
+dry | clean 5 32 Hello; end => 0 \
 ceec83669ec066f3d710059e3ab01a7c2ea7daf531d75df20c81fb4044c032da 5; 1 0 5 148 5 5 5 5 x;
-known | clean - 32 Hello; end => \
+known | clean - 32 Hello; end => 0 \
 ceec83669ec066f3d710059e3ab01a7c2ea7daf531d75df20c81fb4044c032da 5; 0 1 0 76 5 5 0 0 s;
-- | clean - 5 Hello/, world!; item 1; cut; item 1; clean 13 5 Hello/, world!; item 2; end => \
-9c1d9657cd59293907594624a7d18217d2404474880ceb3df08757d4920df2df 13; 0 13; 0 x; 13 13 x; \
+- | clean - 3 /H/ello/, /w; end => 0 0 0 0 0 \
+5ceb4d9c864defaf1e8c6cc207631803a41236de2cc0c44c88929086d2f5b0d4 8; 3 0 8 220 8 8 8 8 xs;
+- | clean - 5 Hello/, world!; item 1; cut; item 1; clean 13 5 Hello/, world!; item 2; end => 0 0 \
+9c1d9657cd59293907594624a7d18217d2404474880ceb3df08757d4920df2df 13; 0 13; 0 x; 13 13 x; 0 0 \
 9c1d9657cd59293907594624a7d18217d2404474880ceb3df08757d4920df2df 13 x; 13 13 x; 3 3 13 296 26 26 13 13 xs;
 - | feed - 131072 */*/*/*/*/*/*/*/*/*/*/*/*/*/*/*/*; end => \
 0 0 0 0 0 0 0 0 0 0 0 0 0 0 0 0 0 0; 2 0 139264 184 139264 139264 139264 139264 xs;
+- | feed 6 1+1 abcdef; end => 0 0; 3 0 6 220 6 6 6 6 xs;
 first=18446744073709551613 | begin 18446744073709551615; feed 1 5 x; feed - 5 x => 18446744073709551613 0; \
 InvalidOperation(SumTooGreat { have: 18446744073709551615, add: 1 }); InvalidOperation(IdsUsedUp);
 cut=4 | feed 3 5 ab/cd; begin 18446744073709551609; feed - 5 ab/cd => \
@@ -34,7 +36,17 @@ cut=4 call=0 | feed - 5 Hello/, world! => IOError IOError IOError;
 cut=4 call=1 | feed - 5 Hello/, world! => 0 IOError IOError;
 cut=4 call=3 | feed - 5 Hello/, world! => 0 0 IOError x;
 cut=4 put=0 | feed - 5 Hello/, world! => 0 0 ClientError;
-cut=4 put=0 | feed - 1 */a => 0 ClientError ClientError;";
+cut=4 put=0 | feed - 1 */a => 0 ClientError ClientError;
+- | upload 13 sha 7,1 Hello, world! And more.+0 skip ! unread+13 given 99 Hello, world!; end => \
+9c1d9657cd59293907594624a7d18217d2404474880ceb3df08757d4920df2df 13 \
+315f5bdb76d078c43b8ac0064e4a0164612b1fce77c869345bfc94c75894edd3 \
+dbc1b4c900ffe48d575b5da5c638040125f65db0fe3e24494b76ea986457d986 0 \
+9c1d9657cd59293907594624a7d18217d2404474880ceb3df08757d4920df2df 13 \
+abababababababababababababababababababababababababababababababab; 6 0 26 500 26 26 26 26 xs;
+cut=100 | upload 13 skip 99 Hello, world!+5 skip 2,2 abc; end => \
+SourceEnded { expected: 5, actual: 3 }; 3 0 13 220 13 18 13 13 xs;
+cut=100 | upload 13 skip 99 Hello, world!+3 skip 2,! abc; end => IOError; 3 0 13 220 13 16 13 13 xs;
+cut=4 put=0 | upload 13 skip 99 Hello, world!+3 skip 2,2 abc; end => ClientError; ClientError;";
 
 #[test]
 fn files(rt: HostRuntime) {
@@ -42,6 +54,7 @@ fn files(rt: HostRuntime) {
 }
 
 const SESSIONS: &str = "\
+- | hold 1; begin 10; item 1; group => 0; 1 0; 0 10; 1 0 10 0 0;
 - | begin 10; begin -; grow 1 4; grow 2 4; depend 3 Hello; external 1 Hello; group => \
 1 0; 2 1; 0; InvalidOperation(UnknownFile { id: 2 }); 0; 0; 2 1 14 0 0;
 - | begin 10; begin 4; depend 3 Hello; external 1 Hello; give 11 Hello; give 5 Hello; give 2 Hello; group; item 1; \
@@ -62,23 +75,6 @@ put=0 | feed 5 32 Hello; end; end => 0 0; ClientError; InvalidOperation(Finalize
 #[test]
 fn sessions(rt: HostRuntime) {
     play_each(&rt, rt.alloc(), "", SESSIONS);
-}
-
-const UPLOADS: &str = "\
-- | upload 13 sha 7,1 Hello, world! And more.+0 skip ! unread+13 given 99 Hello, world!; end => \
-9c1d9657cd59293907594624a7d18217d2404474880ceb3df08757d4920df2df 13 \
-315f5bdb76d078c43b8ac0064e4a0164612b1fce77c869345bfc94c75894edd3 \
-dbc1b4c900ffe48d575b5da5c638040125f65db0fe3e24494b76ea986457d986 0 \
-9c1d9657cd59293907594624a7d18217d2404474880ceb3df08757d4920df2df 13 \
-abababababababababababababababababababababababababababababababab; 6 0 26 500 26 26 26 26 xs;
-cut=100 | upload 13 skip 99 Hello, world!+5 skip 2,2 abc; end => \
-SourceEnded { expected: 5, actual: 3 }; 3 0 13 220 13 18 13 13 xs;
-cut=100 | upload 13 skip 99 Hello, world!+3 skip 2,! abc; end => IOError; 3 0 13 220 13 16 13 13 xs;
-cut=4 put=0 | upload 13 skip 99 Hello, world!+3 skip 2,2 abc; end => ClientError; ClientError;";
-
-#[test]
-fn uploads(rt: HostRuntime) {
-    play_each(&rt, rt.alloc(), "", UPLOADS);
 }
 
 const FAILED_STORES: &str = "\
@@ -128,37 +124,4 @@ cut=4 put=4 => 0 0; 0 0 x; 0 0 xx; 0 xxx; 3 0 12 444 12 12 12 12 xxxs; InvalidOp
 fn each_put_fails_in_turn(rt: HostRuntime) {
     play_each(&rt, rt.alloc(), XORBS, FAILED_XORBS);
     play_each(&rt, rt.alloc(), TEXTS, FAILED_FILES);
-}
-
-/// `Hello, w`, cut by 3, in pieces: one begins before each letter whose bit is set.
-fn in_pieces(alloc: Global, ends: u64) -> String {
-    let mut script = String::new(alloc);
-    let size = if ends % 2 == 0 {
-        "clean 8 3 "
-    } else {
-        "clean - 3 "
-    };
-    let _ = script.push_str(size);
-    let mut ends = ends;
-    for letter in "Hello, w".chars() {
-        if ends % 2 == 1 {
-            let _ = script.push('/');
-        }
-        ends /= 2;
-        let _ = script.push(letter);
-    }
-    let _ = script.push_str("; end");
-    script
-}
-
-const HELLO_W: &str =
-    "5ceb4d9c864defaf1e8c6cc207631803a41236de2cc0c44c88929086d2f5b0d4 8; 3 0 8 220 8 8 8 8 xs;";
-
-#[test]
-fn cleans_alike_in_every_split(rt: HostRuntime) {
-    for ends in 0..256u64 {
-        let script = in_pieces(rt.alloc(), ends);
-        let told = played(&rt, rt.alloc(), "-", script.as_str());
-        comes_to(&rt, script.as_str(), told, HELLO_W);
-    }
 }

@@ -14,19 +14,15 @@ use xet_upload_files::{UploadFile, upload_files};
 /// A file from a scripted source, cut into chunks of one length.
 type Upload = UploadFile<ScriptSource, FixedCutter>;
 
-/// A read that gives so many bytes, or one that fails where the word is no number.
-fn step(word: &str) -> SourceStep {
-    match number(word) {
-        Some(count) => SourceStep::Give(count as usize),
-        None => SourceStep::Fail,
-    }
-}
-
 /// `7,1,!`: how many bytes each read gives, and one that fails.
 fn steps(alloc: Global, words: &str) -> Vec<SourceStep> {
     let mut steps = Vec::new(alloc);
     for word in words.split(',') {
-        let _ = steps.push(step(word));
+        let step = match number(word) {
+            Some(count) => SourceStep::Give(count as usize),
+            None => SourceStep::Fail,
+        };
+        let _ = steps.push(step);
     }
     steps
 }
@@ -57,17 +53,14 @@ fn files(alloc: Global, words: &str) -> Vec<Upload> {
     files
 }
 
-/// Writes pointers.
-fn point_each(out: &mut String, infos: &[XetFileInfo]) {
-    for info in infos {
-        point(out, info);
-    }
-}
-
 /// Writes the pointers of an upload.
 fn say_uploaded(out: &mut String, answer: Result<List<XetFileInfo>, DataError>) {
     match answer {
-        Ok(infos) => point_each(out, infos.as_slice()),
+        Ok(infos) => {
+            for info in infos.as_slice() {
+                point(out, info);
+            }
+        }
         Err(error) => refuse(out, error),
     }
 }

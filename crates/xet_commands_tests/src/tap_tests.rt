@@ -1,13 +1,11 @@
 //! The program over taps: what passes them, and that what they hand on is what is printed.
-ghost use Rattle.std.specs.Prelude.{◌≡◌, length};
-
 use bytes::Bytes;
 use std::alloc::Global;
 use std::fmt::Display;
 use std::process::Abort;
 use std::sync::Wait;
 use std::thread::Threads;
-use xet_base::{ChunkRange, MerkleHash, OutOfMemory};
+use xet_base::{MerkleHash, OutOfMemory};
 use xet_commands::run_tool;
 use xet_outside::Offsets;
 use xet_store::{BlockBytes, MemTap, ScriptTap, Served, Tap, VecSink, VecSource};
@@ -59,34 +57,36 @@ end
 error block 12
 end";
 
-// The words after `get` over one lane, where a file is its digit; and what they come to: the status, the text, and of
-// each block that passed the first tap the plan's number, its own and its chunk ranges. In the last two rows one range
-// is in two plans.
+// The words over one lane; and what they come to: the status, the text, and of each block that passed the first tap the
+// plan's number, its own and its chunk ranges. In the last two rows one range is in two plans.
 const GOT: &str = "\
-b 4 13
+get bbbbbbbbbbbbbbbbbbbbbbbbbbbbbbbbbbbbbbbbbbbbbbbbbbbbbbbbbbbbbbbb 4 13
 0:642148656c6c6f4865
 ok 9
 1 0 2..4;1 1 0..1;
 
-e 0 end
+get eeeeeeeeeeeeeeeeeeeeeeeeeeeeeeeeeeeeeeeeeeeeeeeeeeeeeeeeeeeeeeee 0 end
 0:48656c6c6f21
 ok 6
 1 0 0..1;1 1 3..4;
 
-e 0 end multi
+get eeeeeeeeeeeeeeeeeeeeeeeeeeeeeeeeeeeeeeeeeeeeeeeeeeeeeeeeeeeeeeee 0 end multi
 0:48656c6c6f21
 ok 6
 1 0 0..1 3..4;
 
-c 0 10 least=5 greatest=5
+get cccccccccccccccccccccccccccccccccccccccccccccccccccccccccccccccc 0 10 least=5 greatest=5
 0:48656c6c6f48656c6c6f
 ok 10
 1 0 0..1;2 0 0..1;
 
-c 0 10 least=5 greatest=5 cache
+get cccccccccccccccccccccccccccccccccccccccccccccccccccccccccccccccc 0 10 least=5 greatest=5 cache
 0:48656c6c6f48656c6c6f
 ok 10
 1 0 0..1;";
+
+// The words that each lie is printed by.
+const LIED: &str = "get aaaaaaaaaaaaaaaaaaaaaaaaaaaaaaaaaaaaaaaaaaaaaaaaaaaaaaaaaaaaaaaa 0 end";
 
 // What stands before the first of these, and what behind it: where there is none, all and nothing.
 fn cut<'a>(text: &'a str, at: &str) -> (&'a str, &'a str) {
@@ -98,51 +98,18 @@ fn put<T: Display + Drop>(text: &mut String, value: T) {
     let _ = write!(text, "{value}");
 }
 
-// Adds a word to a list.
-fn add_word(alloc: Global, words: &mut Vec<String>, word: &str) {
-    if let Ok(word) = word.to_string(alloc) {
-        let _ = words.push(word);
-    }
-}
-
-// Adds a file's hash, which has one digit, to a list.
-fn add_file(alloc: Global, words: &mut Vec<String>, digit: &str) {
-    if let Ok(word) = digit.repeat(alloc, 64) {
-        let _ = words.push(word);
-    }
-}
-
-// The words of `get`.
+// The words of a row.
 fn words(alloc: Global, row: &str) -> Vec<String> {
-    let (file, row) = cut(row, " ");
     let mut words = Vec::new(alloc);
-    add_word(alloc, &mut words, "get");
-    add_file(alloc, &mut words, file);
     for word in row.split(' ') {
-        add_word(alloc, &mut words, word);
+        if let Ok(word) = word.to_string(alloc) {
+            let _ = words.push(word);
+        }
     }
     words
 }
 
 // Runs the program over the document, and tells the status and what was printed.
-fn run<R: Threads + Wait + Sync, T: Tap + Send>(
-    rt: &R,
-    alloc: Global,
-    words: &[String],
-    document: Vec<u8>,
-    taps: &mut Vec<T>,
-    text: &mut String,
-)
-    requires { length taps.old.items ≡ 64 }
-{
-    let mut input = VecSource::new(document);
-    let mut out = VecSink::new(alloc);
-    put(text, run_tool(rt, alloc, words, &mut input, &mut out, taps));
-    put(text, ':');
-    put(text, str::from_utf8(out.taken()).unwrap_or("no text"));
-}
-
-// The status of `get` and what it printed.
 fn print<R: Threads + Wait + Sync, T: Tap + Send>(
     rt: &R,
     alloc: Global,
@@ -154,8 +121,12 @@ fn print<R: Threads + Wait + Sync, T: Tap + Send>(
         return put(text, "not 64 taps");
     }
     let words = words(alloc, row);
-    let document = DOCUMENT.to_vec(alloc).unwrap_or(Vec::new(alloc));
-    run(rt, alloc, words.as_slice(), document, taps, text);
+    let mut input = VecSource::new(DOCUMENT.to_vec(alloc).unwrap_or(Vec::new(alloc)));
+    let mut out = VecSink::new(alloc);
+    let status = run_tool(rt, alloc, words.as_slice(), &mut input, &mut out, taps);
+    put(text, status);
+    put(text, ':');
+    put(text, str::from_utf8(out.taken()).unwrap_or("no text"));
 }
 
 // The numbers of a text.
@@ -200,7 +171,7 @@ fn lying_taps(alloc: Global, row: &str) -> Vec<ScriptTap> {
 fn lied<R: Threads + Wait + Sync>(rt: &R, alloc: Global, row: &str) -> String {
     let mut text = String::new(alloc);
     let mut taps = lying_taps(alloc, row);
-    print(rt, alloc, "a 0 end", &mut taps, &mut text);
+    print(rt, alloc, LIED, &mut taps, &mut text);
     put(&mut text, "end");
     text
 }
@@ -214,17 +185,6 @@ fn mem_taps(alloc: Global) -> Vec<MemTap> {
     taps
 }
 
-// The chunk ranges of a block.
-fn write_ranges(text: &mut String, ranges: &[ChunkRange]) {
-    for range in ranges {
-        put(text, ' ');
-        put(text, range.start);
-        put(text, "..");
-        put(text, range.end);
-    }
-    put(text, ';');
-}
-
 // The plan's number, the block's number and the chunk ranges of a block, and a mark where it isn't of the xorb.
 fn write_block(text: &mut String, entry: &Served) {
     put(text, entry.plan);
@@ -233,53 +193,25 @@ fn write_block(text: &mut String, entry: &Served) {
     if entry.xorb != MerkleHash([0x11; 32]) {
         put(text, '?');
     }
-    write_ranges(text, entry.ranges.as_slice());
+    for range in entry.ranges.as_slice() {
+        put(text, ' ');
+        put(text, range.start);
+        put(text, "..");
+        put(text, range.end);
+    }
+    put(text, ';');
 }
 
-// How many blocks passed these taps.
-fn count(taps: &[MemTap]) -> usize {
-    let mut count = 0usize;
-    for tap in taps {
-        count = count.saturating_add(tap.passed().len());
-    }
-    count
-}
-
-// Each block that passed this tap, and how many passed the others, unless it is none.
-fn write_taps(text: &mut String, first: &MemTap, others: usize) {
-    for entry in first.passed() {
-        write_block(text, entry);
-    }
-    if others > 0 {
-        put(text, " and ");
-        put(text, others);
-    }
-}
-
-// What the program printed, and what passed the taps.
+// What the program printed, and what passed the first tap.
 fn got<R: Threads + Wait + Sync>(rt: &R, alloc: Global, row: &str) -> String {
     let mut text = String::new(alloc);
     let mut taps = mem_taps(alloc);
     print(rt, alloc, row, &mut taps, &mut text);
-    if let Some((first, rest)) = taps.as_slice().split_first() {
-        write_taps(&mut text, first, count(rest));
+    if let Some(first) = taps.as_slice().first() {
+        for entry in first.passed() {
+            write_block(&mut text, entry);
+        }
     }
-    text
-}
-
-// How many blocks passed the taps, and how many those past two lanes.
-fn write_counts(text: &mut String, taps: &[MemTap]) {
-    put(text, count(taps));
-    put(text, ' ');
-    put(text, count(taps.get(2..).unwrap_or(&[])));
-}
-
-// What the program printed over two lanes, and how many blocks passed.
-fn laned<R: Threads + Wait + Sync>(rt: &R, alloc: Global, row: &str) -> String {
-    let mut text = String::new(alloc);
-    let mut taps = mem_taps(alloc);
-    print(rt, alloc, row, &mut taps, &mut text);
-    write_counts(&mut text, taps.as_slice());
     text
 }
 
@@ -302,11 +234,4 @@ fn each_block_passes_the_first_tap_once(rt: HostRuntime) {
         let (row, wanted) = cut(case, "\n");
         comes_to(&rt, row, got(&rt, rt.alloc(), row), wanted);
     }
-}
-
-#[test]
-fn each_block_passes_the_tap_of_one_lane(rt: HostRuntime) {
-    let row = "b 4 13 lanes=2";
-    let wanted = "0:642148656c6c6f4865\nok 9\n2 0";
-    comes_to(&rt, row, laned(&rt, rt.alloc(), row), wanted);
 }

@@ -4,104 +4,66 @@ use bytes::Bytes;
 use std::alloc::Global;
 use xet_base::FileRange;
 use xet_blocks::DataSource;
-use xet_error::FileReconstructionError;
-use xet_run::{Admission, Budget};
+use xet_error::{FileReconstructionError, Result};
+use xet_run::Budget;
 use xet_writers::DataWriter;
 
-/// One call of a writer.
-#[derive(Clone, Copy)]
-pub(crate) enum Call {
-    /// A term whose bytes are there.
-    Ready(u64, u64, &'static [u8]),
-    /// The same with an admission of as many bytes.
-    Admitted(u64, u64, &'static [u8]),
-    /// A term whose bytes are wanted.
-    Wanted(u64, u64),
-    /// Bytes for a wanted term.
-    Supply(u64, &'static [u8]),
-    /// The end.
-    Finish,
+/// A half-open range, with a hyphen between its ends.
+fn range_of(text: &str) -> FileRange {
+    let (start, end) = cut(text, "-");
+    FileRange::new(number(start), number(end))
 }
 
-/// An admission of so many bytes.
-fn admission(length: u64) -> Option<Admission> {
-    Budget::new().admit(length, length)
+/// Gives a term whose bytes are there, with an admission of as many bytes or none.
+pub(crate) fn give<W: DataWriter>(
+    alloc: Global,
+    writer: &mut W,
+    range: FileRange,
+    is_admitted: bool,
+    bytes: &'static [u8],
+) -> Result<()> {
+    let source = DataSource::Ready(Bytes::from_static(bytes));
+    let length = bytes.len() as u64;
+    let admission = if is_admitted {
+        Budget::new().admit(length, length)
+    } else {
+        None
+    };
+    writer.set_next_term_data_source(alloc, range, admission, source)
 }
 
-/// A call that answers no number answers 0.
-fn done(answer: xet_error::Result<()>) -> xet_error::Result<u64> {
-    match answer {
-        Ok(()) => Ok(0),
-        Err(error) => Err(error),
+/// Makes one call but the end.
+fn make_term<W: DataWriter>(alloc: Global, writer: &mut W, text: &'static str) -> Result<()> {
+    if let Some((range, bytes)) = text.split_once(':') {
+        return give(alloc, writer, range_of(range), false, bytes.as_bytes());
+    }
+    if let Some((range, bytes)) = text.split_once('=') {
+        return give(alloc, writer, range_of(range), true, bytes.as_bytes());
+    }
+    match text.split_once('+') {
+        Some((start, bytes)) => {
+            writer.supply(alloc, number(start), Bytes::from_static(bytes.as_bytes()))
+        }
+        None => {
+            let source = DataSource::Wanted(0);
+            writer.set_next_term_data_source(alloc, range_of(text), None, source)
+        }
     }
 }
 
-/// Makes one call.
+/// Makes one call: `0-5:Hello` gives a term with its bytes, `0-5=Hello` one that has an admission, `0-5` a wanted one,
+/// `0+Hello` bytes for it, and `finish` is the end. A call that answers no number answers 0.
 pub(crate) fn make<W: DataWriter>(
     alloc: Global,
     writer: &mut W,
-    call: Call,
-) -> xet_error::Result<u64> {
-    match call {
-        Call::Ready(start, end, text) => {
-            let source = DataSource::Ready(Bytes::from_static(text));
-            let range = FileRange::new(start, end);
-            done(writer.set_next_term_data_source(alloc, range, None, source))
-        }
-        Call::Admitted(start, end, text) => {
-            let source = DataSource::Ready(Bytes::from_static(text));
-            let (range, length) = (FileRange::new(start, end), text.len() as u64);
-            done(writer.set_next_term_data_source(alloc, range, admission(length), source))
-        }
-        Call::Wanted(start, end) => {
-            let (range, source) = (FileRange::new(start, end), DataSource::Wanted(0));
-            done(writer.set_next_term_data_source(alloc, range, None, source))
-        }
-        Call::Supply(start, text) => done(writer.supply(alloc, start, Bytes::from_static(text))),
-        Call::Finish => writer.finish(alloc),
-    }
-}
-
-/// A half-open range, with a hyphen between its ends.
-fn range_of(text: &str) -> (u64, u64) {
-    let (start, end) = cut(text, "-");
-    (number(start), number(end))
-}
-
-fn ready(range: &str, bytes: &'static str) -> Call {
-    let (start, end) = range_of(range);
-    Call::Ready(start, end, bytes.as_bytes())
-}
-
-fn admitted(range: &str, bytes: &'static str) -> Call {
-    let (start, end) = range_of(range);
-    Call::Admitted(start, end, bytes.as_bytes())
-}
-
-fn wanted(range: &str) -> Call {
-    let (start, end) = range_of(range);
-    Call::Wanted(start, end)
-}
-
-fn supply(start: &str, bytes: &'static str) -> Call {
-    Call::Supply(number(start), bytes.as_bytes())
-}
-
-/// One call: `0-5:Hello` a term with its bytes, `0-5=Hello` one that has an admission, `0-5` a wanted one, `0+Hello`
-/// bytes for it, and `finish`.
-pub(crate) fn call_of(text: &'static str) -> Call {
+    text: &'static str,
+) -> Result<u64> {
     if text == "finish" {
-        return Call::Finish;
+        return writer.finish(alloc);
     }
-    if let Some((range, bytes)) = text.split_once(':') {
-        return ready(range, bytes);
-    }
-    if let Some((range, bytes)) = text.split_once('=') {
-        return admitted(range, bytes);
-    }
-    match text.split_once('+') {
-        Some((start, bytes)) => supply(start, bytes),
-        None => wanted(text),
+    match make_term(alloc, writer, text) {
+        Ok(()) => Ok(0),
+        Err(error) => Err(error),
     }
 }
 
@@ -114,7 +76,7 @@ pub(crate) fn show_error(told: &mut String, error: FileReconstructionError) {
 }
 
 /// Shows an answer.
-pub(crate) fn show(told: &mut String, answer: xet_error::Result<u64>) {
+pub(crate) fn show(told: &mut String, answer: Result<u64>) {
     match answer {
         Ok(count) => put(told, count),
         Err(error) => show_error(told, error),

@@ -14,38 +14,23 @@ const EVENTS: &str = "appfaawrerrffceWzwA: n.nn.nnn..n.nnnnn..
 pacxywak: .....nnn
 kpx: .nn";
 
-fn term(start: u64, end: u64) -> PlannedTerm {
-    PlannedTerm {
-        byte_range: FileRange::new(start, end),
-        block: 0,
-        start_index: 0,
-        offset: 0,
+/// Twelve bytes as two terms of one block.
+fn plan(alloc: Global) -> ListedPlan {
+    let mut terms = List::new(alloc);
+    for (start, end) in [(0, 6), (6, 12)] {
+        let _ = terms.push(PlannedTerm {
+            byte_range: FileRange::new(start, end),
+            block: 0,
+            start_index: 0,
+            offset: 0,
+        });
     }
-}
-
-fn one_block(alloc: Global) -> List<PlannedBlock> {
     let mut blocks = List::new(alloc);
     let _ = blocks.push(PlannedBlock {
         xorb: MerkleHash([1; 32]),
         ranges: ShortList::new(),
     });
-    blocks
-}
-
-fn two_terms(alloc: Global) -> List<PlannedTerm> {
-    let mut terms = List::new(alloc);
-    for (start, end) in [(0, 6), (6, 12)] {
-        let _ = terms.push(term(start, end));
-    }
-    terms
-}
-
-/// Twelve bytes as two terms of one block.
-fn plan(alloc: Global) -> ListedPlan {
-    ListedPlan {
-        terms: two_terms(alloc),
-        blocks: one_block(alloc),
-    }
+    ListedPlan { terms, blocks }
 }
 
 /// Adds the event of this letter.

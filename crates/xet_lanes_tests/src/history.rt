@@ -25,26 +25,6 @@ const HISTORY: [RunCall; 9] = [
     RunCall::CheckRunState(Some(RunError::Error(FileReconstructionError::IoError))),
 ];
 
-/// Asks by this letter.
-fn ask<L: Ledger, C: CallLog, R: Wait>(
-    rt: &R,
-    state: &RunState<L, C>,
-    pass: &mut RunPass<L>,
-    letter: char,
-) {
-    match letter {
-        'e' => {
-            let _ = state.check_error(rt, pass);
-        }
-        's' => {
-            let _ = state.total_bytes_scheduled(rt, pass);
-        }
-        _ => {
-            let _ = state.check_run_state(rt, pass);
-        }
-    }
-}
-
 /// Makes the call of this letter.
 fn make<L: Ledger, C: CallLog, R: Wait>(
     rt: &R,
@@ -59,8 +39,16 @@ fn make<L: Ledger, C: CallLog, R: Wait>(
         't' => state.record_new_term(rt, pass, 7),
         'C' => state.cancel(rt, pass),
         'B' => state.record_new_block(rt, pass),
+        'e' => {
+            let _ = state.check_error(rt, pass);
+            Ok(())
+        }
+        's' => {
+            let _ = state.total_bytes_scheduled(rt, pass);
+            Ok(())
+        }
         _ => {
-            ask(rt, state, pass, letter);
+            let _ = state.check_run_state(rt, pass);
             Ok(())
         }
     }

@@ -1,7 +1,7 @@
 //! The writer in order: worked rows.
-use crate::rows::{comes_to, cut, put};
+use crate::rows::{comes_to, cut};
 use crate::scripts::played;
-use crate::sinks::{Unflushed, Watched, sink_of};
+use crate::sinks::sink_of;
 use std::alloc::Global;
 
 /// Whether a write is handed one piece or up to 24; what the writes of the sink do; and the calls. Their answers, the
@@ -74,31 +74,19 @@ Hello- 1x5 1x1 1 0
 1|M|texts;write;write;finish;back -> ;OutOfMemory;OutOfMemory;OutOfMemory;; 1x0 0 0
 1|9 M|texts;write;write;finish;back -> ;OutOfMemory;OutOfMemory;OutOfMemory;50;Hello 1x5 1x0 0 0
 24|M|texts;write;write;finish;back -> ;OutOfMemory;OutOfMemory;OutOfMemory;; 4x0 0 0
+# all was taken, so each admission comes back though the flush fails, and it is flushed once
+1|U|texts;finish;finish;back -> ;IoError;IoError;50151;Hello-World! 1x5 1x1 1x5 1x1 1 0
+24|U|texts;finish;finish;back -> ;IoError;IoError;50151;Hello-World! 4x12 1 0
 ";
 
-/// Plays the calls over this sink, and shows what it noted.
-fn play_on(
-    alloc: Global,
-    sink: &mut Watched,
-    use_vectorized: bool,
-    script: &'static str,
-    told: &mut String,
-) {
-    played(alloc, sink, use_vectorized, script, told);
-    sink.show(told);
-}
-
-/// Plays the calls of a row.
-fn play_row(alloc: Global, row: &'static str, told: &mut String) {
+/// Plays the calls of a row, and shows what its sink noted.
+fn told(alloc: Global, row: &'static str) -> String {
+    let mut told = String::new(alloc);
     let (pieces, row) = cut(row, "|");
     let (steps, script) = cut(row, "|");
     let mut sink = sink_of(alloc, steps);
-    play_on(alloc, &mut sink, pieces == "24", script, told);
-}
-
-fn told(alloc: Global, row: &'static str) -> String {
-    let mut told = String::new(alloc);
-    play_row(alloc, row, &mut told);
+    played(alloc, &mut sink, pieces == "24", script, &mut told);
+    sink.show(&mut told);
     told
 }
 
@@ -109,28 +97,5 @@ fn rows_in_order(rt: HostRuntime) {
             Some((row, wanted)) => comes_to(&rt, row, told(rt.alloc(), row), wanted),
             None => assert!(rt; line.starts_with('#')),
         }
-    }
-}
-
-/// Plays the calls over a sink whose flush fails, and shows how often it was flushed.
-fn play_unflushed(alloc: Global, use_vectorized: bool, told: &mut String) {
-    let mut sink = Unflushed { faults: 0 };
-    let script = "texts;finish;finish;back";
-    played(alloc, &mut sink, use_vectorized, script, told);
-    put(told, sink.faults);
-}
-
-fn told_unflushed(alloc: Global, use_vectorized: bool) -> String {
-    let mut told = String::new(alloc);
-    play_unflushed(alloc, use_vectorized, &mut told);
-    told
-}
-
-/// All was taken, so each admission comes back though the flush fails, and it is flushed once.
-#[test]
-fn admissions_after_a_failed_flush(rt: HostRuntime) {
-    for use_vectorized in [false, true] {
-        let told = told_unflushed(rt.alloc(), use_vectorized);
-        comes_to(&rt, "a failed flush", told, ";IoError;IoError;50151;1");
     }
 }

@@ -1,6 +1,6 @@
 //! Tests of `xet_events`, `xet_run`, `xet_writers` and `xet_lanes`: the calls of a run, limits that follow the running
-//! downloads, both writers with both loops; that lanes run side by side, beside the writing, and stop one another, and
-//! what a gate is told and when. They stand in a crate of their own, since a crate with tests is proved twice.
+//! downloads, both writers with both loops; that a lane that fails stops the others, and what a gate is told and when.
+//! They stand in a crate of their own, since a crate with tests is proved twice.
 #![tactic(auto)]
 
 #[cfg(test)]

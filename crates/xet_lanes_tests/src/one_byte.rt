@@ -18,21 +18,12 @@ pub(crate) struct OneByte<'a> {
 }
 
 impl<'a> OneByte<'a> {
-    pub(crate) fn new(fails: bool) -> OneByte<'a> {
+    pub(crate) fn new(fails: bool, trace: Option<&'a Trace>) -> OneByte<'a> {
         OneByte {
             fails,
             calls: 0,
             faults: 0,
-            trace: None,
-        }
-    }
-
-    pub(crate) fn traced(trace: &'a Trace) -> OneByte<'a> {
-        OneByte {
-            fails: false,
-            calls: 0,
-            faults: 0,
-            trace: Some(trace),
+            trace,
         }
     }
 }

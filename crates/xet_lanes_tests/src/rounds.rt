@@ -3,9 +3,7 @@ ghost use Rattle.std.specs.Prelude.{◌^◌, ◌≡◌, ◌<◌, All, IfOk, leng
 ghost use Rattle.xet_ties.specs.Lanes.{IsFor};
 ghost use Rattle.xet_lane.specs.Fetches.{ask_of};
 
-use crate::meeting::Waiting;
 use crate::one_byte::OneByte;
-use crate::rows::put;
 use std::alloc::Global;
 use std::marker::Brand;
 use std::sync::Wait;
@@ -15,8 +13,9 @@ use xet_base::{
     ChunkRange, FileRange, List, MerkleHash, OutOfMemory, SharedText, ShortList, UniqueId,
 };
 use xet_blocks::{RetrievalUrl, TermBlockRetrievalURLs, XorbBlock};
-use xet_lanes::{Fetch, Gate, Joined, LaneStep, fetch_and_write};
+use xet_lanes::{Fetch, Gate, Joined, fetch_and_write};
 use xet_run::RunState;
+use xet_sinks::ScriptSink;
 use xet_writers::SequentialWriter;
 
 fn one_chunk() -> XorbBlock {
@@ -30,18 +29,12 @@ fn one_chunk() -> XorbBlock {
     }
 }
 
-/// A URL of no bytes.
-fn url(alloc: Global) -> Result<RetrievalUrl, OutOfMemory> {
-    let url = SharedText::from_string(alloc, String::new(alloc))?;
-    let ranges = ShortList::new();
-    Ok(RetrievalUrl { url, ranges })
-}
-
 /// A table with a URL of no bytes for the block.
 fn one_url(alloc: Global) -> TermBlockRetrievalURLs {
     let mut urls = List::new(alloc);
-    if let Ok(url) = url(alloc) {
-        let _ = urls.push(url);
+    if let Ok(url) = SharedText::from_string(alloc, String::new(alloc)) {
+        let ranges = ShortList::new();
+        let _ = urls.push(RetrievalUrl { url, ranges });
     }
     let id = UniqueId {
         plan: 1,
@@ -79,8 +72,7 @@ fn join<L: Ledger + Send + Sync, R: Threads + Wait + Sync, G: Gate + Sync>(
     gate: &G,
     fetches: &[Fetch<'_>],
     clients: &mut [OneByte<'_>],
-    beside: bool,
-    writer: &mut SequentialWriter<Waiting>,
+    writer: &mut SequentialWriter<ScriptSink>,
 ) -> Result<Joined, OutOfMemory>
     requires name { blank.name ≡ L.name }
     requires parts { (blank.parts ≡ L.parts) × (L.parts ≡ 2 ^ 32) }
@@ -89,7 +81,7 @@ fn join<L: Ledger + Send + Sync, R: Threads + Wait + Sync, G: Gate + Sync>(
 {
     let (state, mut pass) = RunState::<L>::new(alloc, blank, MerkleHash([1; 32]))?;
     fetch_and_write(
-        rt, alloc, gate, &state, &mut pass, fetches, clients, beside, writer,
+        rt, alloc, gate, &state, &mut pass, fetches, clients, false, writer,
     )
 }
 
@@ -100,14 +92,13 @@ fn own_join<R: Threads + Wait + Sync, G: Gate + Sync>(
     gate: &G,
     fetches: &[Fetch<'_>],
     clients: &mut [OneByte<'_>],
-    beside: bool,
-    writer: &mut SequentialWriter<Waiting>,
+    writer: &mut SequentialWriter<ScriptSink>,
 ) -> Result<Joined, OutOfMemory>
     requires clients { 0 < length clients.old }
     requires asks { All IsFor (map ask_of fetches.now) }
 {
     let blank = Blank::new(1 << 32);
-    join::<Brand, R, G>(rt, alloc, blank, gate, fetches, clients, beside, writer)
+    join::<Brand, R, G>(rt, alloc, blank, gate, fetches, clients, writer)
 }
 
 /// One join of the fetches of these numbers, from the first to before the end.
@@ -118,44 +109,12 @@ pub(crate) fn one_round<R: Threads + Wait + Sync, G: Gate + Sync>(
     first: u64,
     end: u64,
     clients: &mut [OneByte<'_>],
-    beside: bool,
-    writer: &mut SequentialWriter<Waiting>,
+    writer: &mut SequentialWriter<ScriptSink>,
 ) -> Result<Joined, OutOfMemory>
     requires clients { 0 < length clients.old }
 {
     let urls = one_url(alloc);
     let block = one_chunk();
     let fetches = fetches(alloc, &block, &urls, first, end)?;
-    own_join(rt, alloc, gate, fetches.as_slice(), clients, beside, writer)
-}
-
-/// The steps of each lane, `s` for a served one, and what was written.
-fn tell(told: &mut String, joined: &Joined) {
-    for end in joined.ends.as_slice() {
-        add_steps(told, end.steps.as_slice());
-    }
-    match joined.wrote {
-        Ok(count) => put(told, count),
-        Err(error) => put(told, error),
-    }
-}
-
-/// Adds a letter for each step, and a space.
-fn add_steps(told: &mut String, steps: &[LaneStep]) {
-    for step in steps {
-        match step {
-            LaneStep::Served { .. } => put(told, 's'),
-            LaneStep::Expired { .. } => put(told, 'e'),
-            LaneStep::Failed { .. } => put(told, 'f'),
-        }
-    }
-    put(told, ' ');
-}
-
-/// What a join came to.
-pub(crate) fn tell_round(told: &mut String, joined: Result<Joined, OutOfMemory>) {
-    match joined {
-        Ok(joined) => tell(told, &joined),
-        Err(error) => put(told, error),
-    }
+    own_join(rt, alloc, gate, fetches.as_slice(), clients, writer)
 }

@@ -1,7 +1,8 @@
 //! Scripts of calls of the writer in order, and what they come to.
-use crate::calls::{Call, call_of, make, show, show_error};
+use crate::calls::{give, make, show, show_error};
 use crate::rows::{number, put};
 use std::alloc::Global;
+use xet_base::FileRange;
 use xet_outside::Sink;
 use xet_writers::SequentialWriter;
 
@@ -24,32 +25,25 @@ fn digit_of(number: u64) -> &'static [u8] {
     }
 }
 
-/// Takes so many terms of one digit, each with an admission.
+/// Takes so many terms of one digit, each with an admission, and with an empty term behind it where they are pairs.
 fn take_digits<S: Sink>(
     alloc: Global,
     writer: &mut SequentialWriter<S>,
     count: u64,
+    are_pairs: bool,
 ) -> xet_error::Result<u64> {
     for number in 0..count {
-        let call = Call::Admitted(number, number + 1, digit_of(number));
-        make(alloc, writer, call)?;
-    }
-    Ok(0)
-}
-
-/// Takes so many terms of one digit, each with an empty one behind it.
-fn take_pairs<S: Sink>(
-    alloc: Global,
-    writer: &mut SequentialWriter<S>,
-    count: u64,
-) -> xet_error::Result<u64> {
-    for number in 0..count {
-        make(
+        let end = number + 1;
+        give(
             alloc,
             writer,
-            Call::Ready(number, number + 1, digit_of(number)),
+            FileRange::new(number, end),
+            true,
+            digit_of(number),
         )?;
-        make(alloc, writer, Call::Ready(number + 1, number + 1, b""))?;
+        if are_pairs {
+            give(alloc, writer, FileRange::new(end, end), false, b"")?;
+        }
     }
     Ok(0)
 }
@@ -57,7 +51,7 @@ fn take_pairs<S: Sink>(
 /// Takes the five terms, and shows which are refused.
 fn take_texts<S: Sink>(alloc: Global, writer: &mut SequentialWriter<S>, told: &mut String) {
     for word in TEXTS.split(';') {
-        if let Err(error) = make(alloc, writer, call_of(word)) {
+        if let Err(error) = make(alloc, writer, word) {
             show_error(told, error);
         }
     }
@@ -90,24 +84,12 @@ fn turn<S: Sink>(
         return take_texts(alloc, writer, told);
     }
     if let Some(count) = word.strip_prefix('*') {
-        return show(told, take_digits(alloc, writer, number(count)));
+        return show(told, take_digits(alloc, writer, number(count), false));
     }
     if let Some(count) = word.strip_prefix('~') {
-        return show(told, take_pairs(alloc, writer, number(count)));
+        return show(told, take_digits(alloc, writer, number(count), true));
     }
-    show(told, make(alloc, writer, call_of(word)));
-}
-
-fn play<S: Sink>(
-    alloc: Global,
-    writer: &mut SequentialWriter<S>,
-    script: &'static str,
-    told: &mut String,
-) {
-    for word in script.split(';') {
-        turn(alloc, writer, word, told);
-        put(told, ';');
-    }
+    show(told, make(alloc, writer, word));
 }
 
 /// Plays the calls by a writer over this sink, and shows their answers.
@@ -119,6 +101,9 @@ pub(crate) fn played<S: Sink>(
     told: &mut String,
 ) {
     let mut writer = SequentialWriter::new(alloc, sink, use_vectorized);
-    play(alloc, &mut writer, script, told);
+    for word in script.split(';') {
+        turn(alloc, &mut writer, word, told);
+        put(told, ';');
+    }
     let _sink = writer.into_inner();
 }

@@ -1,6 +1,4 @@
-//! A sink by a script that watches its calls, and one whose flush fails.
-ghost use Rattle.std.specs.Prelude.{◌≡◌};
-
+//! A sink by a script that watches its calls.
 use crate::rows::{number, put, put_two};
 use bytes::Bytes;
 use std::alloc::Global;
@@ -8,11 +6,12 @@ use xet_outside::{Sink, SinkError};
 use xet_sinks::{ScriptSink, SinkStep};
 
 /// Shows the pieces and the taken bytes of its first writes, its flushes, and the empty pieces of all writes. One write
-/// finds no memory, the one with this number.
+/// finds no memory, the one with this number; where it is unflushed, each flush fails.
 #[derive(Drop)]
 pub(crate) struct Watched {
     inner: ScriptSink,
     refused: usize,
+    unflushed: bool,
     flushes: usize,
     count: usize,
     empty: usize,
@@ -30,27 +29,23 @@ fn empty_ones(pieces: &[Bytes]) -> usize {
     count
 }
 
-/// What a write does by a word: it takes so many bytes at most, `F` fails, and `A5` fails after so many.
-fn step_of(word: &str) -> SinkStep {
-    if word == "F" {
-        return SinkStep::Fail;
-    }
-    match word.strip_prefix('A') {
-        Some(count) => SinkStep::FailAfter(number(count) as usize),
-        None => SinkStep::Take(number(word) as usize),
-    }
-}
-
-/// The steps of a text without a last word `M`.
+/// The steps of a text without a last word `M`: by a word a write takes so many bytes at most, `F` fails, and `A5` fails
+/// after so many.
 fn steps_of(alloc: Global, text: &str) -> Vec<SinkStep> {
     let mut steps = Vec::new(alloc);
     for word in text.trim_end_matches('M').split_whitespace() {
-        let _ = steps.push(step_of(word));
+        let step = match word.strip_prefix('A') {
+            Some(count) => SinkStep::FailAfter(number(count) as usize),
+            None if word == "F" => SinkStep::Fail,
+            None => SinkStep::Take(number(word) as usize),
+        };
+        let _ = steps.push(step);
     }
     steps
 }
 
-/// A sink whose writes follow these steps, and then take all. At `M`, which is the last of them, it finds no memory.
+/// A sink whose writes follow these steps, and then take all. At `M`, which is the last of them, it finds no memory. Of
+/// `U` alone its writes take all, and its flushes fail.
 pub(crate) fn sink_of(alloc: Global, text: &str) -> Watched {
     let steps = steps_of(alloc, text);
     let refused = if text.ends_with('M') {
@@ -61,6 +56,7 @@ pub(crate) fn sink_of(alloc: Global, text: &str) -> Watched {
     Watched {
         inner: ScriptSink::new(alloc, steps),
         refused,
+        unflushed: text == "U",
         flushes: 0,
         count: 0,
         empty: 0,
@@ -70,9 +66,7 @@ pub(crate) fn sink_of(alloc: Global, text: &str) -> Watched {
 
 impl Watched {
     /// Notes a write of so many pieces, of which so many are empty, and how much was taken.
-    fn note(&mut self, pieces: usize, empty: usize, taken: usize)
-        ensures { self.new.inner ≡ self.old.inner }
-    {
+    fn note(&mut self, pieces: usize, empty: usize, taken: usize) {
         if self.count < 6 {
             self.calls[self.count] = (pieces, taken);
         }
@@ -96,7 +90,10 @@ impl Watched {
 }
 
 impl Sink for Watched {
-    ghost told = { λ s. ⟦<ScriptSink as Sink>⟧.told s.inner };
+    ghost use Rattle.std.specs.Prelude.{◌-◌, ◌^◌, [], None};
+
+    // Nothing is told, and the count stands at its last value.
+    ghost told = { λ _. record { took = None; flushed = None; faults = 2 ^ 64 - 1; link = [] } };
 
     fn write(&mut self, piece: &[u8]) -> Result<usize, SinkError> {
         let empty = if piece.is_empty() { 1 } else { 0 };
@@ -111,6 +108,9 @@ impl Sink for Watched {
 
     fn flush(&mut self) -> Result<(), SinkError> {
         self.flushes = self.flushes.saturating_add(1);
+        if self.unflushed {
+            return Err(SinkError::Failed);
+        }
         self.inner.flush()
     }
 
@@ -123,27 +123,5 @@ impl Sink for Watched {
         let answer = self.inner.write_vectored(pieces);
         self.note(pieces.len(), empty, answer.unwrap_or(0));
         answer
-    }
-}
-
-/// A sink whose flush fails.
-#[derive(Drop)]
-pub(crate) struct Unflushed {
-    /// How often it was flushed.
-    pub(crate) faults: u64,
-}
-
-impl Sink for Unflushed {
-    ghost use Rattle.std.specs.Prelude.{None, []};
-
-    ghost told = { λ s. record { took = None; flushed = None; faults = s.faults; link = [] } };
-
-    fn write(&mut self, piece: &[u8]) -> Result<usize, SinkError> {
-        Ok(piece.len())
-    }
-
-    fn flush(&mut self) -> Result<(), SinkError> {
-        self.faults = self.faults.saturating_add(1);
-        Err(SinkError::Failed)
     }
 }

@@ -8,8 +8,8 @@ use xet_progress::{
     GroupProgress, GroupProgressReport, ItemProgressReport, ItemProgressUpdater, ProgressError,
 };
 
-/// Calls of a group, and of its items by their ids. Sums are the completed and all bytes, and the transferred bytes and
-/// those to be transferred.
+/// Calls of a group, and of its items by their ids; `alone` asks an item that has a group of its own. Sums are the
+/// completed and all bytes, and the transferred bytes and those to be transferred.
 const GROUPS: &str = "\
 new 1;new 2;final 1 120;completed 1 0;sums;completed 1 45;sums;completed 1 76;sums;written 1 75;sums: Ok(()) Ok(()) \
 Ok(()) Ok(()) (0, 120, 0, 0) Ok(()) (45, 120, 0, 0) Err(InvalidOperation(PastTotal { total: 120, counted: 45, \
@@ -40,13 +40,10 @@ bytes_completed: 230 })) Ok(None)
 new 1;final 1 110;add 50 20;add 1 32;add 18446744073709551615 0;sums: Ok(()) Ok(()) Ok(()) \
 Err(InvalidOperation(PastTotal { total: 51, counted: 20, increment: 32 })) Err(InvalidOperation(SumTooGreat { have: \
 50, add: 18446744073709551615 })) (0, 110, 20, 50)
-";
-
-/// What an item says that has a group of its own.
-const ALONE: &str =
-    " Ok(ItemProgress { id: UniqueID(0), name: Text { string: \"alone\" }, total_bytes: 0, bytes_completed: 0, \
+alone: Ok(ItemProgress { id: UniqueID(0), name: Text { string: \"alone\" }, total_bytes: 0, bytes_completed: 0, \
 transfer_bytes: 0, transfer_bytes_completed: 0, size_finalized: false }) Ok(ItemProgressReport { item_name: Text { \
-string: \"alone\" }, total_bytes: 0, bytes_completed: 0 }) 0";
+string: \"alone\" }, total_bytes: 0, bytes_completed: 0 }) 0
+";
 
 /// The completed and all bytes, and the transferred bytes and those to be transferred.
 pub(crate) fn sums(report: GroupProgressReport) -> (u64, u64, u64, u64) {
@@ -71,6 +68,14 @@ fn show_item<R: Wait>(rt: &R, alloc: Global, item: &ItemProgressUpdater, told: &
     show(told, &item.item(rt, alloc));
     show_report(rt, alloc, item, told);
     show(told, &item.total_bytes_completed(rt));
+}
+
+/// Shows all that an item says that has a group of its own.
+fn show_alone<R: Wait>(rt: &R, alloc: Global, told: &mut String) {
+    match ItemProgressUpdater::new_standalone(alloc, "alone") {
+        Ok(item) => show_item(rt, alloc, &item, told),
+        Err(OutOfMemory) => show(told, &OutOfMemory),
+    }
 }
 
 /// Makes a call of an item.
@@ -151,6 +156,7 @@ fn ask<R: Wait>(rt: &R, alloc: Global, group: &Arc<GroupProgress>, call: Call, t
         "items" => show_items(rt, alloc, group, told),
         "report" => show(told, &group.item_report(rt, id)),
         "add" => show(told, &group.add_transfer(rt, first, second)),
+        "alone" => show_alone(rt, alloc, told),
         _ => match updater(group, id) {
             Ok(item) => ask_item(rt, alloc, &item, call, told),
             Err(OutOfMemory) => show(told, &OutOfMemory),
@@ -170,30 +176,13 @@ fn ask_all<R: Wait>(
     }
 }
 
-fn told_of<R: Wait>(rt: &R, alloc: Global, group: &Arc<GroupProgress>, calls: &str) -> String {
-    let mut told = String::new(alloc);
-    ask_all(rt, alloc, group, calls, &mut told);
-    told
-}
-
 fn told_group<R: Wait>(rt: &R, alloc: Global, calls: &str) -> String {
-    match GroupProgress::new(alloc) {
-        Ok(group) => told_of(rt, alloc, &group, calls),
-        Err(OutOfMemory) => String::new(alloc),
-    }
-}
-
-fn told_item<R: Wait>(rt: &R, alloc: Global, item: &ItemProgressUpdater) -> String {
     let mut told = String::new(alloc);
-    show_item(rt, alloc, item, &mut told);
-    told
-}
-
-fn told_alone<R: Wait>(rt: &R, alloc: Global) -> String {
-    match ItemProgressUpdater::new_standalone(alloc, "alone") {
-        Ok(item) => told_item(rt, alloc, &item),
-        Err(OutOfMemory) => String::new(alloc),
+    match GroupProgress::new(alloc) {
+        Ok(group) => ask_all(rt, alloc, &group, calls, &mut told),
+        Err(OutOfMemory) => show(&mut told, &OutOfMemory),
     }
+    told
 }
 
 #[test]
@@ -203,5 +192,4 @@ fn groups(rt: HostRuntime) {
             comes_to(&rt, row, told_group(&rt, rt.alloc(), row), wanted);
         }
     }
-    comes_to(&rt, "alone", told_alone(&rt, rt.alloc()), ALONE);
 }

@@ -1,99 +1,72 @@
-//! Calls of the completion tracker that users share, with their replies worked out by hand.
+//! Calls of the completion tracker that users share, with their answers worked out by hand.
 ghost use Rattle.std.specs.Prelude.{◌≡◌, ◌^◌};
 
 use crate::group::sums;
 use crate::rows::{Call, call_of, comes_to, cut, number, show};
 use std::alloc::Global;
 use std::marker::Brand;
-use std::process::Abort;
 use std::sync::ledger::{Blank, Ledger};
 use std::sync::{Arc, Wait};
 use xet_base::{MerkleHash, OutOfMemory, UniqueID};
 use xet_progress::{
     CompletionTracker, FileXorbDependency, GroupProgress, ProgressError, TrackerCall, TrackerPass,
-    TrackerReply, TrackerStep,
+    TrackerStep,
 };
 
 /// How many bytes to be transferred the group has before; the calls by one pass, and those by another. `grower` is a
 /// file that grows, a xorb goes by the byte of its hash, and dependencies in one list have a `+` between them. Then the
-/// replies; the group's completed and all bytes, its transferred bytes and those to be transferred; the parts and the
-/// calls of both passes, and whether the calls and the replies were kept.
+/// answers; the group's completed and all bytes, its transferred bytes and those to be transferred; the parts and the
+/// calls of both passes, and whether the calls were kept, whose replies follow by a clause.
 const TRACKERS: &str = "\
 0|file 110;file 60;status;complete;ext 0 1 110;status;complete|dep 1 2 60;status;done 2;xorb 2 60;done \
-2;status;complete;missing: FileId(0) FileId(1) Sums { completed: 0, total: 170 } Flag(false) Done Sums { completed: \
-110, total: 170 } Flag(false) Done Sums { completed: 110, total: 170 } Refused(UnknownXorb { hash: MerkleHash([2, 2, \
-2, 2, 2, 2, 2, 2, 2, 2, 2, 2, 2, 2, 2, 2, 2, 2, 2, 2, 2, 2, 2, 2, 2, 2, 2, 2, 2, 2, 2, 2]) }) Flag(true) Done Sums { \
-completed: 170, total: 170 } Flag(true) Done (170, 170, 60, 60) (4294967296, 15, true)
-0|file 70;xorb 9 900;done 9;status|dep 0 9 70;status;complete;missing: FileId(0) Flag(true) Done Sums { completed: \
-0, total: 70 } Done Sums { completed: 70, total: 70 } Flag(true) Done (70, 70, 900, 900) (4294967296, 8, true)
+2;status;complete;missing: Ok(0) Ok(1) Ok((0, 170)) Ok(false) Ok(()) Ok((110, 170)) Ok(false) Ok(()) Ok((110, 170)) \
+Err(InvalidOperation(UnknownXorb { hash: MerkleHash([2, 2, 2, 2, 2, 2, 2, 2, 2, 2, 2, 2, 2, 2, 2, 2, 2, 2, 2, 2, 2, \
+2, 2, 2, 2, 2, 2, 2, 2, 2, 2, 2]) })) Ok(true) Ok(()) Ok((170, 170)) Ok(true) Ok(Ok(())) (170, 170, 60, 60) \
+(4294967296, 15, true)
+0|file 70;xorb 9 900;done 9;status|dep 0 9 70;status;complete;missing: Ok(0) Ok(true) Ok(()) Ok((0, 70)) Ok(()) \
+Ok((70, 70)) Ok(true) Ok(Ok(())) (70, 70, 900, 900) (4294967296, 8, true)
 0|file 220;file 310;xorb 1 900;dep 0 1 120+ext 1 1 210;status;done 1;status;xorb 2 800|ext 0 2 100;status;dep 1 2 \
-100;status;complete;missing;done 2;status;missing: FileId(0) FileId(1) Flag(true) Done Sums { completed: 210, total: \
-530 } Done Sums { completed: 330, total: 530 } Flag(true) Done Sums { completed: 430, total: 530 } Done Sums { \
-completed: 430, total: 530 } Flag(false) Unfinished(File { id: 1, completed: 210, total: 310 }) Done Sums { \
-completed: 530, total: 530 } Done (530, 530, 1700, 1700) (4294967296, 17, true)
-0|file 100;file 100;xorb 1 200|dep 0 1 100+dep 1 1 100;progress 1 50;status: FileId(0) FileId(1) Flag(true) Done \
-Done Sums { completed: 50, total: 200 } (50, 200, 50, 200) (4294967296, 6, true)
+100;status;complete;missing;done 2;status;missing: Ok(0) Ok(1) Ok(true) Ok(()) Ok((210, 530)) Ok(()) Ok((330, 530)) \
+Ok(true) Ok(()) Ok((430, 530)) Ok(()) Ok((430, 530)) Ok(false) Ok(Err(File { id: 1, completed: 210, total: 310 })) \
+Ok(()) Ok((530, 530)) Ok(Ok(())) (530, 530, 1700, 1700) (4294967296, 17, true)
+0|file 100;file 100;xorb 1 200|dep 0 1 100+dep 1 1 100;progress 1 50;status: Ok(0) Ok(1) Ok(true) Ok(()) Ok(()) \
+Ok((50, 200)) (50, 200, 50, 200) (4294967296, 6, true)
 0|file 110;xorb 5 1000;xorb 5 1000;xorb 5 900;done 5;progress 5 1|background 5 1;done 5;status;dep 0 5 \
-110;status;missing: FileId(0) Flag(true) Flag(false) Refused(OtherSize { registered: 1000, given: 900 }) Done \
-Refused(XorbCompleted { hash: MerkleHash([5, 5, 5, 5, 5, 5, 5, 5, 5, 5, 5, 5, 5, 5, 5, 5, 5, 5, 5, 5, 5, 5, 5, 5, 5, \
-5, 5, 5, 5, 5, 5, 5]) }) Done Done Sums { completed: 0, total: 110 } Done Sums { completed: 110, total: 110 } Done \
-(110, 110, 1000, 1000) (4294967296, 12, true)
+110;status;missing: Ok(0) Ok(true) Ok(false) Err(InvalidOperation(OtherSize { registered: 1000, given: 900 })) \
+Ok(()) Err(InvalidOperation(XorbCompleted { hash: MerkleHash([5, 5, 5, 5, 5, 5, 5, 5, 5, 5, 5, 5, 5, 5, 5, 5, 5, 5, \
+5, 5, 5, 5, 5, 5, 5, 5, 5, 5, 5, 5, 5, 5]) })) Ok(()) Ok(()) Ok((0, 110)) Ok(()) Ok((110, 110)) Ok(Ok(())) (110, \
+110, 1000, 1000) (4294967296, 12, true)
 0|grower;status;xorb 1 500;xorb 2 600;grow 0 210;dep 0 1 210;done 1|status;grow 0 320;dep 0 2 320;status;done \
-2;status;missing: FileId(0) Sums { completed: 0, total: 0 } Flag(true) Flag(true) Done Done Done Sums { completed: \
-210, total: 210 } Done Done Sums { completed: 210, total: 530 } Done Sums { completed: 530, total: 530 } Done (530, \
-530, 1100, 1100) (4294967296, 14, true)
+2;status;missing: Ok(0) Ok((0, 0)) Ok(true) Ok(true) Ok(()) Ok(()) Ok(()) Ok((210, 210)) Ok(()) Ok(()) Ok((210, \
+530)) Ok(()) Ok((530, 530)) Ok(Ok(())) (530, 530, 1100, 1100) (4294967296, 14, true)
 0|file 110;grow 0 777;grow 1 1;status;ext 0 1 111|ext 0 1 60+dep 0 2 51;ext 0 1 60+dep 4 2 51;status;ext 0 1 \
-110;complete;missing: FileId(0) Done Refused(UnknownFile { id: 1 }) Sums { completed: 0, total: 110 } \
-Refused(PastTotal { total: 110, counted: 0, increment: 111 }) Refused(PastTotal { total: 110, counted: 60, \
-increment: 51 }) Refused(UnknownFile { id: 4 }) Sums { completed: 0, total: 110 } Done Flag(true) Done (110, 110, 0, \
-0) (4294967296, 11, true)
+110;complete;missing: Ok(0) Ok(()) Err(InvalidOperation(UnknownFile { id: 1 })) Ok((0, 110)) \
+Err(InvalidOperation(PastTotal { total: 110, counted: 0, increment: 111 })) Err(InvalidOperation(PastTotal { total: \
+110, counted: 60, increment: 51 })) Err(InvalidOperation(UnknownFile { id: 4 })) Ok((0, 110)) Ok(()) Ok(true) \
+Ok(Ok(())) (110, 110, 0, 0) (4294967296, 11, true)
 0|grower;xorb 7 1000;grow 0 400;dep 0 7 400;progress 7 430;status|grow 0 200;ext 0 8 200;status;done \
-7;status;missing: FileId(0) Flag(true) Done Done Done Sums { completed: 172, total: 400 } Done Done Sums { \
-completed: 372, total: 600 } Done Sums { completed: 600, total: 600 } Done (600, 600, 1000, 1000) (4294967296, 12, \
-true)
-0|file 100;xorb 7 3;dep 0 7 100;progress 7 1;status|background 7 1;status;progress 7 2;done 7;status: FileId(0) \
-Flag(true) Done Done Sums { completed: 33, total: 100 } Done Sums { completed: 66, total: 100 } Refused(PastTotal { \
-total: 3, counted: 2, increment: 2 }) Done Sums { completed: 100, total: 100 } (100, 100, 3, 3) (4294967296, 10, true)
+7;status;missing: Ok(0) Ok(true) Ok(()) Ok(()) Ok(()) Ok((172, 400)) Ok(()) Ok(()) Ok((372, 600)) Ok(()) Ok((600, \
+600)) Ok(Ok(())) (600, 600, 1000, 1000) (4294967296, 12, true)
+0|file 100;xorb 7 3;dep 0 7 100;progress 7 1;status|background 7 1;status;progress 7 2;done 7;status: Ok(0) Ok(true) \
+Ok(()) Ok(()) Ok((33, 100)) Ok(()) Ok((66, 100)) Err(InvalidOperation(PastTotal { total: 3, counted: 2, increment: 2 \
+})) Ok(()) Ok((100, 100)) (100, 100, 3, 3) (4294967296, 10, true)
 0|file 18446744073709551615;file 1;grower;grow 1 1;xorb 1 18446744073709551615|xorb 2 1;dep 0 1 \
-18446744073709551615;progress 1 18446744073709551614;status;missing: FileId(0) Refused(SumTooGreat { have: \
-18446744073709551615, add: 1 }) FileId(1) Refused(SumTooGreat { have: 18446744073709551615, add: 1 }) Flag(true) \
-Refused(SumTooGreat { have: 18446744073709551615, add: 1 }) Done Done Sums { completed: 18446744073709551614, total: \
-18446744073709551615 } Unfinished(File { id: 0, completed: 18446744073709551614, total: 18446744073709551615 }) \
-(18446744073709551614, 18446744073709551615, 18446744073709551614, 18446744073709551615) (4294967296, 10, true)
-0|file 0;dep 0 6 0+dep 0 4 0;ext 0 1 0;xorb 3 0|complete;missing;progress 3 0;done 3;missing: FileId(0) Done Done \
-Flag(true) Flag(true) Unfinished(Xorb { hash: MerkleHash([3, 3, 3, 3, 3, 3, 3, 3, 3, 3, 3, 3, 3, 3, 3, 3, 3, 3, 3, \
-3, 3, 3, 3, 3, 3, 3, 3, 3, 3, 3, 3, 3]) }) Done Done Unfinished(Xorb { hash: MerkleHash([4, 4, 4, 4, 4, 4, 4, 4, 4, \
-4, 4, 4, 4, 4, 4, 4, 4, 4, 4, 4, 4, 4, 4, 4, 4, 4, 4, 4, 4, 4, 4, 4]) }) (0, 0, 0, 0) (4294967296, 9, true)
-18446744073709551608|file 9;xorb 1 8;xorb 2 7;dep 0 1 9|progress 1 4;done 2;done 1;status: FileId(0) Flag(true) \
-Flag(true) Done Done Done Done Sums { completed: 9, total: 9 } (9, 9, 7, 18446744073709551615) (4294967296, 8, true)
+18446744073709551615;progress 1 18446744073709551614;status;missing: Ok(0) Err(InvalidOperation(SumTooGreat { have: \
+18446744073709551615, add: 1 })) Ok(1) Err(InvalidOperation(SumTooGreat { have: 18446744073709551615, add: 1 })) \
+Ok(true) Err(InvalidOperation(SumTooGreat { have: 18446744073709551615, add: 1 })) Ok(()) Ok(()) \
+Ok((18446744073709551614, 18446744073709551615)) Ok(Err(File { id: 0, completed: 18446744073709551614, total: \
+18446744073709551615 })) (18446744073709551614, 18446744073709551615, 18446744073709551614, 18446744073709551615) \
+(4294967296, 10, true)
+0|file 0;dep 0 6 0+dep 0 4 0;ext 0 1 0;xorb 3 0|complete;missing;progress 3 0;done 3;missing: Ok(0) Ok(()) Ok(()) \
+Ok(true) Ok(true) Ok(Err(Xorb { hash: MerkleHash([3, 3, 3, 3, 3, 3, 3, 3, 3, 3, 3, 3, 3, 3, 3, 3, 3, 3, 3, 3, 3, 3, \
+3, 3, 3, 3, 3, 3, 3, 3, 3, 3]) })) Ok(()) Ok(()) Ok(Err(Xorb { hash: MerkleHash([4, 4, 4, 4, 4, 4, 4, 4, 4, 4, 4, 4, \
+4, 4, 4, 4, 4, 4, 4, 4, 4, 4, 4, 4, 4, 4, 4, 4, 4, 4, 4, 4]) })) (0, 0, 0, 0) (4294967296, 9, true)
+18446744073709551608|file 9;xorb 1 8;xorb 2 7;dep 0 1 9|progress 1 4;done 2;done 1;status: Ok(0) Ok(true) Ok(true) \
+Ok(()) Ok(()) Ok(()) Ok(()) Ok((9, 9)) (9, 9, 7, 18446744073709551615) (4294967296, 8, true)
 ";
 
 fn hash(xorb: u64) -> MerkleHash {
     MerkleHash([xorb.min(255) as u8; 32])
-}
-
-fn done_reply(answer: Result<(), ProgressError>) -> Result<TrackerReply, OutOfMemory> {
-    match answer {
-        Ok(()) => Ok(TrackerReply::Done),
-        Err(ProgressError::InvalidOperation(why)) => Ok(TrackerReply::Refused(why)),
-        Err(ProgressError::OutOfMemory) => Err(OutOfMemory),
-    }
-}
-
-fn id_reply(answer: Result<u64, ProgressError>) -> Result<TrackerReply, OutOfMemory> {
-    match answer {
-        Ok(id) => Ok(TrackerReply::FileId(id)),
-        Err(ProgressError::InvalidOperation(why)) => Ok(TrackerReply::Refused(why)),
-        Err(ProgressError::OutOfMemory) => Err(OutOfMemory),
-    }
-}
-
-fn flag_reply(answer: Result<bool, ProgressError>) -> Result<TrackerReply, OutOfMemory> {
-    match answer {
-        Ok(flag) => Ok(TrackerReply::Flag(flag)),
-        Err(ProgressError::InvalidOperation(why)) => Ok(TrackerReply::Refused(why)),
-        Err(ProgressError::OutOfMemory) => Err(OutOfMemory),
-    }
 }
 
 /// Registers a file, whose item is a new one of the group.
@@ -104,99 +77,25 @@ fn add_file<L: Ledger, R: Wait>(
     pass: &mut TrackerPass<L>,
     group: &Arc<GroupProgress>,
     size: Option<u64>,
-) -> Result<TrackerReply, OutOfMemory> {
+) -> Result<u64, ProgressError> {
     let id = UniqueID(pass.calls());
     match GroupProgress::new_item(group, rt, alloc, id, "file") {
-        Ok(item) => id_reply(tracker.register_new_file(rt, alloc, pass, item, size)),
-        Err(error) => id_reply(Err(error)),
-    }
-}
-
-/// Asks what is missing.
-fn look<L: Ledger, R: Wait>(
-    rt: &R,
-    alloc: Global,
-    tracker: &CompletionTracker<L>,
-    pass: &mut TrackerPass<L>,
-) -> Result<TrackerReply, OutOfMemory> {
-    match tracker.assert_complete(rt, alloc, pass) {
-        Ok(Ok(())) => Ok(TrackerReply::Done),
-        Ok(Err(what)) => Ok(TrackerReply::Unfinished(what)),
+        Ok(item) => tracker.register_new_file(rt, alloc, pass, item, size),
         Err(error) => Err(error),
-    }
-}
-
-/// Asks what is completed.
-fn status<L: Ledger, R: Wait>(
-    rt: &R,
-    alloc: Global,
-    tracker: &CompletionTracker<L>,
-    pass: &mut TrackerPass<L>,
-) -> Result<TrackerReply, OutOfMemory> {
-    match tracker.status(rt, alloc, pass) {
-        Ok((completed, total)) => Ok(TrackerReply::Sums { completed, total }),
-        Err(error) => Err(error),
-    }
-}
-
-/// Asks whether all is completed.
-fn is_complete<L: Ledger, R: Wait>(
-    rt: &R,
-    alloc: Global,
-    tracker: &CompletionTracker<L>,
-    pass: &mut TrackerPass<L>,
-) -> Result<TrackerReply, OutOfMemory> {
-    match tracker.is_complete(rt, alloc, pass) {
-        Ok(complete) => Ok(TrackerReply::Flag(complete)),
-        Err(error) => Err(error),
-    }
-}
-
-/// Makes a call that has no list.
-fn ask<L: Ledger, R: Wait>(
-    rt: &R,
-    alloc: Global,
-    tracker: &CompletionTracker<L>,
-    pass: &mut TrackerPass<L>,
-    group: &Arc<GroupProgress>,
-    call: Call,
-) -> Result<TrackerReply, OutOfMemory> {
-    let [first, bytes, _] = call.numbers;
-    let xorb = hash(first);
-    match call.word {
-        "file" => add_file(rt, alloc, tracker, pass, group, Some(first)),
-        "grower" => add_file(rt, alloc, tracker, pass, group, None),
-        "grow" => done_reply(tracker.increment_file_size(rt, alloc, pass, first, bytes)),
-        "xorb" => flag_reply(tracker.register_new_xorb(rt, alloc, pass, xorb, bytes)),
-        "done" => done_reply(tracker.register_xorb_upload_completion(rt, alloc, pass, xorb)),
-        "progress" => {
-            done_reply(tracker.register_xorb_upload_progress(rt, alloc, pass, xorb, bytes))
-        }
-        "background" => done_reply(tracker.register_xorb_upload_progress_background(
-            rt, alloc, pass, xorb, bytes,
-        )),
-        "status" => status(rt, alloc, tracker, pass),
-        "complete" => is_complete(rt, alloc, tracker, pass),
-        _ => look(rt, alloc, tracker, pass),
-    }
-}
-
-/// A dependency on a xorb.
-fn dependency(text: &str) -> FileXorbDependency {
-    let call = call_of(text);
-    let [file_id, xorb, n_bytes] = call.numbers;
-    FileXorbDependency {
-        file_id,
-        xorb_hash: hash(xorb),
-        n_bytes,
-        is_external: call.word == "ext",
     }
 }
 
 fn dependencies(alloc: Global, text: &str) -> Vec<FileXorbDependency> {
     let mut list = Vec::new(alloc);
     for part in text.split('+') {
-        let _ = list.push(dependency(part));
+        let call = call_of(part);
+        let [file_id, xorb, n_bytes] = call.numbers;
+        let _ = list.push(FileXorbDependency {
+            file_id,
+            xorb_hash: hash(xorb),
+            n_bytes,
+            is_external: call.word == "ext",
+        });
     }
     list
 }
@@ -208,21 +107,32 @@ fn depend<L: Ledger, R: Wait>(
     tracker: &CompletionTracker<L>,
     pass: &mut TrackerPass<L>,
     text: &str,
-) -> Result<TrackerReply, OutOfMemory> {
+) -> Result<(), ProgressError> {
     let list = dependencies(alloc, text);
-    done_reply(tracker.register_dependencies(rt, alloc, pass, list.as_slice()))
+    tracker.register_dependencies(rt, alloc, pass, list.as_slice())
 }
 
-/// Shows a reply, or that memory was wanting.
-fn show_reply(reply: Result<TrackerReply, OutOfMemory>, told: &mut String) {
-    match reply {
-        Ok(reply) => show(told, &reply),
-        Err(OutOfMemory) => show(told, &OutOfMemory),
-    }
+/// Makes a call on a xorb, and shows its answer.
+fn ask_xorb<L: Ledger, R: Wait>(
+    rt: &R,
+    alloc: Global,
+    tracker: &CompletionTracker<L>,
+    pass: &mut TrackerPass<L>,
+    call: Call,
+    told: &mut String,
+) {
+    let [first, bytes, _] = call.numbers;
+    let xorb = hash(first);
+    let answer = match call.word {
+        "done" => tracker.register_xorb_upload_completion(rt, alloc, pass, xorb),
+        "progress" => tracker.register_xorb_upload_progress(rt, alloc, pass, xorb, bytes),
+        _ => tracker.register_xorb_upload_progress_background(rt, alloc, pass, xorb, bytes),
+    };
+    show(told, &answer);
 }
 
-/// Makes a call, and shows its reply.
-fn ask_one<L: Ledger, R: Wait>(
+/// Makes a call, and shows its answer.
+fn ask<L: Ledger, R: Wait>(
     rt: &R,
     alloc: Global,
     tracker: &CompletionTracker<L>,
@@ -231,12 +141,28 @@ fn ask_one<L: Ledger, R: Wait>(
     text: &str,
     told: &mut String,
 ) {
-    let reply = if text.starts_with("dep") || text.starts_with("ext") {
-        depend(rt, alloc, tracker, pass, text)
-    } else {
-        ask(rt, alloc, tracker, pass, group, call_of(text))
-    };
-    show_reply(reply, told);
+    let call = call_of(text);
+    let [first, bytes, _] = call.numbers;
+    match call.word {
+        "dep" | "ext" => show(told, &depend(rt, alloc, tracker, pass, text)),
+        "file" => show(
+            told,
+            &add_file(rt, alloc, tracker, pass, group, Some(first)),
+        ),
+        "grower" => show(told, &add_file(rt, alloc, tracker, pass, group, None)),
+        "grow" => show(
+            told,
+            &tracker.increment_file_size(rt, alloc, pass, first, bytes),
+        ),
+        "xorb" => show(
+            told,
+            &tracker.register_new_xorb(rt, alloc, pass, hash(first), bytes),
+        ),
+        "status" => show(told, &tracker.status(rt, alloc, pass)),
+        "complete" => show(told, &tracker.is_complete(rt, alloc, pass)),
+        "missing" => show(told, &tracker.assert_complete(rt, alloc, pass)),
+        _ => ask_xorb(rt, alloc, tracker, pass, call, told),
+    }
 }
 
 fn ask_all<L: Ledger, R: Wait>(
@@ -249,7 +175,7 @@ fn ask_all<L: Ledger, R: Wait>(
     told: &mut String,
 ) {
     for call in calls.split(';') {
-        ask_one(rt, alloc, tracker, pass, group, call, told);
+        ask(rt, alloc, tracker, pass, group, call, told);
     }
 }
 
@@ -268,33 +194,13 @@ fn ask_both<L: Ledger, R: Wait>(
     ask_all(rt, alloc, tracker, passes.1, group, others, told);
 }
 
-fn show_replies(history: &[TrackerCall], told: &mut String) {
-    for call in history {
-        show(told, &call.reply);
-    }
-}
-
-/// Whether these are the kept replies.
-fn are_kept(alloc: Global, history: &[TrackerCall], replies: &str) -> bool {
-    let mut kept = String::new(alloc);
-    show_replies(history, &mut kept);
-    kept.as_str() == replies
-}
-
-/// Writes a dependency as a row has it.
-fn spell_dependency(out: &mut String, part: &FileXorbDependency) {
-    let word = if part.is_external { "ext" } else { "dep" };
-    let (file, xorb, bytes) = (part.file_id, xorb_number(&part.xorb_hash), part.n_bytes);
-    let _ = write!(out, "{word} {file} {xorb} {bytes}");
-}
-
 /// Writes dependencies as a row has them.
 fn spell_dependencies(out: &mut String, dependencies: &[FileXorbDependency]) {
     for (number, part) in dependencies.iter().enumerate() {
-        if number > 0 {
-            let _ = out.push_str("+");
-        }
-        spell_dependency(out, part);
+        let plus = if number > 0 { "+" } else { "" };
+        let word = if part.is_external { "ext" } else { "dep" };
+        let (file, xorb, bytes) = (part.file_id, xorb_number(&part.xorb_hash), part.n_bytes);
+        let _ = write!(out, "{plus}{word} {file} {xorb} {bytes}");
     }
 }
 
@@ -376,7 +282,7 @@ fn are_asked(alloc: Global, history: &[TrackerCall], calls: &str) -> bool {
     }
 }
 
-/// Shows the sums of the group, what the passes count, and whether the calls and the replies were kept.
+/// Shows the sums of the group, what the passes count, and whether the calls were kept.
 fn show_end<R: Wait>(
     rt: &R,
     alloc: Global,
@@ -386,9 +292,11 @@ fn show_end<R: Wait>(
     calls: &str,
     told: &mut String,
 ) {
-    let kept = are_kept(alloc, history, told.as_str()) && are_asked(alloc, history, calls);
     show(told, &sums(group.report(rt)));
-    show(told, &(counts.0, counts.1, kept));
+    show(
+        told,
+        &(counts.0, counts.1, are_asked(alloc, history, calls)),
+    );
 }
 
 /// Makes the calls by two passes, and gathers and closes these.
@@ -450,7 +358,7 @@ fn of_own_tracker<R: Wait>(
 
 /// Makes the calls on a tracker of a group that has so many bytes to transfer already, and shows where memory was
 /// wanting for the tracker.
-fn show_tracker<R: Abort + Wait>(
+fn show_tracker<R: Wait>(
     rt: &R,
     alloc: Global,
     group: &Arc<GroupProgress>,
@@ -458,20 +366,14 @@ fn show_tracker<R: Abort + Wait>(
     calls: &String,
     told: &mut String,
 ) {
-    assert!(rt; group.add_transfer(rt, before, 0).is_ok(), "{before}");
+    let _ = group.add_transfer(rt, before, 0);
     if of_own_tracker(rt, alloc, group, calls, told).is_err() {
         show(told, &OutOfMemory);
     }
 }
 
 /// Makes the calls on a tracker of a new group.
-fn show_group<R: Abort + Wait>(
-    rt: &R,
-    alloc: Global,
-    before: u64,
-    calls: &String,
-    told: &mut String,
-) {
+fn show_group<R: Wait>(rt: &R, alloc: Global, before: u64, calls: &String, told: &mut String) {
     match GroupProgress::new(alloc) {
         Ok(group) => show_tracker(rt, alloc, &group, before, calls, told),
         Err(OutOfMemory) => show(told, &OutOfMemory),
@@ -479,7 +381,7 @@ fn show_group<R: Abort + Wait>(
 }
 
 /// Makes the calls of a row.
-fn told_tracker<R: Abort + Wait>(rt: &R, alloc: Global, row: &str) -> String {
+fn told_tracker<R: Wait>(rt: &R, alloc: Global, row: &str) -> String {
     let (before, calls) = cut(row, "|");
     let mut told = String::new(alloc);
     if let Ok(calls) = String::from_str(alloc, calls) {

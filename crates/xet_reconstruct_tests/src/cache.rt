@@ -12,6 +12,7 @@ use xet_store::worked::X1;
 pub(crate) struct Cache {
     inner: MapCache,
     forgets: bool,
+    refuses: bool,
     down: u64,
     up: u64,
     pub(crate) calls: u64,
@@ -23,6 +24,7 @@ impl Cache {
         Cache {
             inner: entries(alloc, row),
             forgets: row.has("forgets"),
+            refuses: matches!(row.find("cached"), Some("no memory")),
             down: row.number("down", u64::MAX),
             up: row.number("up", 0),
             calls: 0,
@@ -63,6 +65,9 @@ impl ChunkCache for Cache {
     ) -> Result<Option<BlockBytes>, CacheError> {
         if self.fails() {
             return Err(CacheError::Failed);
+        }
+        if self.refuses {
+            return Err(CacheError::OutOfMemory);
         }
         self.inner.get(alloc, xorb, range)
     }

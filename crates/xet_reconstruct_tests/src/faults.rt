@@ -100,9 +100,17 @@ size 4; vectored; unflushed; tell flushes: IoError 'Hello, world!' 4 1
 to 0; unflushed; tell flushes: IoError '' 0 1
 to 0; vectored; unflushed; tell flushes: IoError '' 0 1";
 
+/// A setting that fails; a write and a fetch that fail in one join; of two blocks of one round the first is out of
+/// tries, and the fetch of the second fails, or doesn't.
+const FAILING: &str = "\
+tries 0: ConfigurationError(NoTries) '' 0/0
+size 4; lanes ...f; takes f; tell plans: IoError '' 2
+file e; tries 1; lanes .xf: ClientError '' 1/2
+file e; tries 1; lanes .x: UrlExpired '' 1/2";
+
 #[test]
 fn each_call_fails_in_turn(rt: HostRuntime) {
-    for lines in [CONNECTION, SIGNAL, WRITER, CACHE, FLUSH] {
+    for lines in [CONNECTION, SIGNAL, WRITER, CACHE, FLUSH, FAILING] {
         come_to(&rt, rt.alloc(), lines);
     }
 }

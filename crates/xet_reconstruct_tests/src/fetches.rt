@@ -1,302 +1,225 @@
-//! Blocks by a cache, by tries and by refreshes between them.
-use crate::fetching::{Fetching, make_fetching};
-use crate::script::number;
-use crate::told::{comes_to, cut, put, tell_answer, tell_error, tell_table};
+//! Blocks by a cache, by tries and by refreshes between them, and the URL that a provider hands out.
+ghost use Rattle.std.specs.Prelude.{IsTrue};
+ghost use Rattle.xet_fetch.specs.RetrieveData.{IsFetchable};
+
+use crate::cache::Cache;
+use crate::calls::calls_come_to;
+use crate::connection::Connection;
+use crate::row::Row;
+use crate::told::{put, put_behind, tell_answer, tell_error};
 use std::alloc::Global;
 use std::sync::Wait;
-use xet_base::OutOfMemory;
+use xet_base::{FileRange, UniqueId};
 use xet_progress::ItemProgressUpdater;
-use xet_terms::{DataSource, FetchSettings, FileTerm, XorbBlock, offer_data};
+use xet_terms::{
+    FetchSettings, FileReconstructionError, Result, RetrievalUrl, TermBlock,
+    TermBlockRetrievalURLs, URLProvider, XorbBlock, XorbURLProvider, retrieve_data,
+    retrieve_file_term_block,
+};
 
-/// How often each block is asked for at most, whether it is `each` range or all ranges of an `entry`, and the plan;
-/// what the cache has, and what the connection does. Each block is retrieved in turn, twice where that succeeds. It
-/// comes to the answer, the transferred bytes that were reported, and the bytes of the terms; the table, what the
-/// connection was asked, and what the cache was, also by an offer of the first block's data.
+/// Each block of the plan of a file's first 13 bytes is retrieved twice, in turn up to the first that fails. It comes
+/// to the answer, the transferred bytes that are reported, how many plans and how many blocks were asked for, how often
+/// the cache was called, and each request.
 const FETCHES: &str = "\
-1 each 0; 1 13 0 4; 1: a=0 4
-none / 0 5 7 12 | Hello, world!
-ok 40 Hello, world!
-1.0 a; !a 1.0 b0 0..4@0..40; get x1 0..4 put x1 0..4 offer put x1 0..4
+tries 1: ok 13 1/1 2 !mem:1 1.0 b0 0..4@0..13
+tries 2; lanes .x: ok 13 2/2 2 !mem:1 1.0 b0 0..4@0..13 !mem:2 1.1 b0 0..4@0..13
+tries 1; lanes .x: UrlExpired 0 1/1 1 !mem:1 1.0 b0 0..4@0..13
+tries 2; lanes .x.x: UrlExpired 0 2/2 1 !mem:1 1.0 b0 0..4@0..13 !mem:2 1.1 b0 0..4@0..13
+tries 0; lanes .f: ConfigurationError(NoTries) 0 1/0 1
+lanes .f: ClientError 0 1/1 1 !mem:1 1.0 b0 0..4@0..13
+lanes .s; block no memory: OutOfMemory 0 1/1 1 !mem:1 1.0 b0 0..4@0..13
+lanes .s; block 0 5 7|Hello, world!: OffsetCount { expected: 4, actual: 3 } 0 1/1 1 !mem:1 1.0 b0 0..4@0..13
+lanes .s; block 1 5 7 12|Hello, world!: OffsetOrder { place: 0 } 0 1/1 1 !mem:1 1.0 b0 0..4@0..13
+lanes .s; block 0 5 5 12|Hello, world!: OffsetOrder { place: 2 } 0 1/1 1 !mem:1 1.0 b0 0..4@0..13
+lanes .s; block 0 5 7 12|Hello, world: OffsetOrder { place: 3 } 0 1/1 1 !mem:1 1.0 b0 0..4@0..13
+lanes .s; block 0 5 7 11|Hello, world: BlockLength { expected: 13, actual: 12 } 0 1/1 1 !mem:1 1.0 b0 0..4@0..13
+lanes .xf: ClientError 0 2/1 1 !mem:1 1.0 b0 0..4@0..13
+lanes .xp; plan no memory: OutOfMemory 0 2/1 1 !mem:1 1.0 b0 0..4@0..13
+lanes .xn: FileNotFound 0 2/1 1 !mem:1 1.0 b0 0..4@0..13
+lanes .xe: RefreshPastEnd 0 2/1 1 !mem:1 1.0 b0 0..4@0..13
+lanes .xp; plan 0;;: RefreshPastEnd 0 2/1 1 !mem:1 1.0 b0 0..4@0..13
+lanes .xp; plan 7;17 6 0 1;17:0 1: Offset { offset: 7, length: 6 } 0 2/1 1 !mem:1 1.0 b0 0..4@0..13
+lanes .xp; plan 0;17 13 0 3;17:0 3: RefreshBlocks { index: 0 } 0 2/1 1 !mem:1 1.0 b0 0..4@0..13
+lanes .xp; plan 0;17 6 0 2;17:0 2: RefreshRange { returned: FileRange { start: 0, end: 6 } } 0 2/1 1 \
+!mem:1 1.0 b0 0..4@0..13
+cached 0 5 7 12|Hello, world?: ok 13 1/0 1
+cached 0 5 7|Hello, world?: ok 13 1/1 2 !mem:1 1.0 b0 0..4@0..13
+cached 0 5 7 12|Hello, world: ok 13 1/1 2 !mem:1 1.0 b0 0..4@0..13
+cached 0 5 7 11|Hello, world: ok 13 1/1 2 !mem:1 1.0 b0 0..4@0..13
+down 0; up 1: ok 13 1/1 2 !mem:1 1.0 b0 0..4@0..13
+down 1; up 2: ok 13 1/1 2 !mem:1 1.0 b0 0..4@0..13
+cached no memory: OutOfMemory 0 1/0 1
+file e; multi: ok 6 1/1 0 !mem:1 1.0 b0 0..1@0..5 3..4@12..13
+file e: ok 6 1/2 4 !mem:1 1.0 b0 0..1@0..5 !mem:1 1.0 b1 3..4@12..13
+file e; tries 1; lanes ..x: UrlExpired 5 1/2 3 !mem:1 1.0 b0 0..1@0..5 !mem:1 1.0 b1 3..4@12..13";
 
-2 each 0; 1 13 0 4; 1: a=0 4
-none / expired / 0; 1 13 0 4; 1: b=0 4 / 0 5 7 12 | Hello, world!
-ok 40 Hello, world!
-1.1 b; !a 1.0 b0 0..4@0..40 ?0..13 !b 1.1 b0 0..4@0..40; get x1 0..4 put x1 0..4 offer put x1 0..4
+/// A refresh before a provider handed out a URL, which asks nothing, and one after it, each followed by the URL.
+const PROVIDED: &str = "tell provider: ok mem:1;ok mem:2; 2/0 0";
 
-1 each 0; 1 13 0 4; 1: a=0 4
-none / expired
-UrlExpired 0 wanted 0
-1.0 a; !a 1.0 b0 0..4@0..40; get x1 0..4
-
-2 each 0; 1 13 0 4; 1: a=0 4
-none / expired / 0; 1 13 0 4; 1: b=0 4 / expired
-UrlExpired 0 wanted 0
-1.1 b; !a 1.0 b0 0..4@0..40 ?0..13 !b 1.1 b0 0..4@0..40; get x1 0..4
-
-0 each 0; 1 13 0 4; 1: a=0 4
-none / fail
-ConfigurationError(NoTries) 0 wanted 0
-1.0 a;; get x1 0..4
-
-3 each 0; 1 13 0 4; 1: a=0 4
-none / fail
-ClientError 0 wanted 0
-1.0 a; !a 1.0 b0 0..4@0..40; get x1 0..4
-
-3 each 0; 1 13 0 4; 1: a=0 4
-none / no memory
-OutOfMemory 0 wanted 0
-1.0 a; !a 1.0 b0 0..4@0..40; get x1 0..4
-
-3 each 0; 1 13 0 4; 1: a=0 4
-none / 0 5 7 | Hello, world!
-OffsetCount { expected: 4, actual: 3 } 0 wanted 0
-1.0 a; !a 1.0 b0 0..4@0..40; get x1 0..4
-
-3 each 0; 1 13 0 4; 1: a=0 4
-none / 1 5 7 12 | Hello, world!
-OffsetOrder { place: 0 } 0 wanted 0
-1.0 a; !a 1.0 b0 0..4@0..40; get x1 0..4
-
-3 each 0; 1 13 0 4; 1: a=0 4
-none / 0 5 5 12 | Hello, world!
-OffsetOrder { place: 2 } 0 wanted 0
-1.0 a; !a 1.0 b0 0..4@0..40; get x1 0..4
-
-3 each 0; 1 13 0 4; 1: a=0 4
-none / 0 5 7 12 | Hello, world
-OffsetOrder { place: 3 } 0 wanted 0
-1.0 a; !a 1.0 b0 0..4@0..40; get x1 0..4
-
-3 each 0; 1 13 0 4; 1: a=0 4
-none / 0 5 7 11 | Hello, world
-BlockLength { expected: 13, actual: 12 } 0 wanted 0
-1.0 a; !a 1.0 b0 0..4@0..40; get x1 0..4
-
-3 each 0; 1 13 0 4; 1: a=0 4
-none / expired / fail
-ClientError 0 wanted 0
-1.0 a; !a 1.0 b0 0..4@0..40 ?0..13; get x1 0..4
-
-3 each 0; 1 13 0 4; 1: a=0 4
-none / expired / no memory
-OutOfMemory 0 wanted 0
-1.0 a; !a 1.0 b0 0..4@0..40 ?0..13; get x1 0..4
-
-3 each 0; 1 13 0 4; 1: a=0 4
-none / expired / no file
-FileNotFound 0 wanted 0
-1.0 a; !a 1.0 b0 0..4@0..40 ?0..13; get x1 0..4
-
-3 each 0; 1 13 0 4; 1: a=0 4
-none / expired / past
-RefreshPastEnd 0 wanted 0
-1.0 a; !a 1.0 b0 0..4@0..40 ?0..13; get x1 0..4
-
-3 each 0; 1 13 0 4; 1: a=0 4
-none / expired / 0; 1 13 0 3; 1: b=0 3
-RefreshBlocks { index: 0 } 0 wanted 0
-1.0 a; !a 1.0 b0 0..4@0..40 ?0..13; get x1 0..4
-
-1 entry 0; 1 13 0 4; 1: a=0 4
-0 5 7 12 | Hello, world? / 0 5 7 12 | Hello, world!
-ok 40 Hello, world?
-1.0 a;; get x1 0..4 offer put x1 0..4
-
-1 entry 0; 1 13 0 4; 1: a=0 4
-fail / 0 5 7 12 | Hello, world!
-ok 40 Hello, world!
-1.0 a; !a 1.0 b0 0..4@0..40; get x1 0..4 put x1 0..4 offer put x1 0..4
-
-1 entry 0; 1 13 0 4; 1: a=0 4
-0 5 7 | Hello, world? / 0 5 7 12 | Hello, world!
-ok 40 Hello, world!
-1.0 a; !a 1.0 b0 0..4@0..40; get x1 0..4 put x1 0..4 offer put x1 0..4
-
-1 entry 0; 1 13 0 4; 1: a=0 4
-0 5 7 12 | Hello, world / 0 5 7 12 | Hello, world!
-ok 40 Hello, world!
-1.0 a; !a 1.0 b0 0..4@0..40; get x1 0..4 put x1 0..4 offer put x1 0..4
-
-1 entry 0; 1 13 0 4; 1: a=0 4
-0 5 7 11 | Hello, world / 0 5 7 12 | Hello, world!
-ok 40 Hello, world!
-1.0 a; !a 1.0 b0 0..4@0..40; get x1 0..4 put x1 0..4 offer put x1 0..4
-
-1 entry 0; 1 13 0 4; 1: a=0 4
-no memory / 0 5 7 12 | Hello, world!
-OutOfMemory 0 wanted 0
-1.0 a;; get x1 0..4
-
-1 entry 0; 1 13 1 4; 1: a=0 4
-0 1 6 8 | ?Hello, world! / 0 1 6 8 | !Hello, world?
-ok 40 Hello, world!
-1.0 a;; get x1 0..4 offer put x1 0..4
-
-1 entry 0; 1 13 1 4; 1: a=0 4
-0 5 7 12 | Hello, world! / 0 1 6 8 | !Hello, world?
-ok 40 Hello, world?
-1.0 a; !a 1.0 b0 0..4@0..40; get x1 0..4 put x1 0..4 offer put x1 0..4
-
-1 entry 0; 1 13 1 4; 1: a=0 4
-none / 0 5 7 12 | Hello, world!
-ok 40 TermPastBlock { end: 18, length: 13 }
-1.0 a; !a 1.0 b0 0..4@0..40; get x1 0..4 put x1 0..4 offer put x1 0..4
-
-1 entry 2; 1 6 0 2 1 7 4 6; 1: a=0 2 4 6
-0 5 7 12 | Hello, world? / 0 5 6 11 | Hello, world!
-ok 40 llo, world!
-1.0 a; !a 1.0 b0 0..2@0..20 4..6@40..60; offer
-
-1 each 0; 1 6 0 2 1 7 4 7; 1: a=0 2 4 7
-none / 0 5 | Hello, / 0 3 5 | _world!
-ok 50 Hello,_world!
-1.0 a; !a 1.0 b0 0..2@0..20 !a 1.0 b1 4..7@40..70; get x1 0..2 put x1 0..2 get x1 4..7 put x1 4..7 offer put x1 0..2
-
-1 each 0; 1 6 0 2 1 7 4 7; 1: a=0 2 4 7
-none / 0 5 | Hello, / expired
-UrlExpired 20 Hello,wanted 1
-1.0 a; !a 1.0 b0 0..2@0..20 !a 1.0 b1 4..7@40..70; get x1 0..2 put x1 0..2 get x1 4..7 offer put x1 0..2
-";
-
-/// A term's bytes as text, or the number of its block where that keeps nothing.
-fn tell_source(text: &mut String, source: &DataSource) {
-    match source {
-        DataSource::Ready(bytes) => put(
-            text,
-            str::from_utf8(bytes.as_slice()).unwrap_or("no text"),
-        ),
-        DataSource::Wanted(number) => {
-            put(text, "wanted ");
-            put(text, *number);
-        }
+/// Whether the blocks have this number, and the table has it.
+fn is_fetchable(blocks: &[XorbBlock], index: usize, urls: &TermBlockRetrievalURLs) -> bool
+    ensures { IsTrue result → IsFetchable blocks.now index urls.now }
+{
+    if blocks.len() <= index || urls.get_retrieval_url(index).is_none() {
+        return false;
     }
+    blocks[index].xorb_block_index == index
 }
 
-/// The same of a term, or the error.
-fn tell_piece(text: &mut String, alloc: Global, term: &FileTerm, blocks: &[XorbBlock]) {
-    if blocks.len() <= term.xorb_block {
-        return put(text, "no block");
+/// Gets the data of the block of this number; without one the answer is `Cancelled`.
+fn retrieve<R: Wait>(
+    alloc: Global,
+    rt: &R,
+    blocks: &mut [XorbBlock],
+    index: usize,
+    client: &mut Connection<'_>,
+    urls: &mut TermBlockRetrievalURLs,
+    settings: &FetchSettings,
+    item: &ItemProgressUpdater,
+    cache: &mut Cache,
+) -> Result<()> {
+    if !is_fetchable(blocks, index, urls) {
+        return Err(FileReconstructionError::Cancelled);
     }
-    match term.get_data_task(alloc, blocks) {
-        Ok(source) => tell_source(text, &source),
-        Err(error) => tell_error(text, error),
-    }
+    retrieve_data(
+        alloc,
+        rt,
+        blocks,
+        index,
+        client,
+        urls,
+        settings,
+        Some(item),
+        cache,
+    )
 }
 
-/// The bytes of all terms.
-fn tell_pieces(text: &mut String, alloc: Global, case: &Fetching) {
-    for term in case.terms.as_slice() {
-        tell_piece(text, alloc, term, case.blocks.as_slice());
-    }
-}
-
-/// Offers the data of the first block, where it keeps some.
-fn offer_first(alloc: Global, case: &mut Fetching) -> std::result::Result<(), OutOfMemory> {
-    if let Some(block) = case.blocks.as_slice().first()
-        && let Some(found) = &block.kept
-    {
-        put(&mut case.cache.log, " offer");
-        return offer_data(alloc, block, &mut case.cache, found);
+/// Gets the data of each block in turn, and once more where that succeeds, up to the first that fails.
+fn retrieve_all<R: Wait>(
+    alloc: Global,
+    rt: &R,
+    blocks: &mut [XorbBlock],
+    client: &mut Connection<'_>,
+    urls: &mut TermBlockRetrievalURLs,
+    settings: &FetchSettings,
+    item: &ItemProgressUpdater,
+    cache: &mut Cache,
+) -> Result<()> {
+    for index in 0..blocks.len() {
+        retrieve(
+            alloc, rt, blocks, index, client, urls, settings, item, cache,
+        )?;
+        retrieve(
+            alloc, rt, blocks, index, client, urls, settings, item, cache,
+        )?;
     }
     Ok(())
 }
 
-/// Retrieves all blocks, and once more where that succeeds.
-fn retrieve_twice<R: Wait>(
-    alloc: Global,
-    rt: &R,
-    case: &mut Fetching,
-    item: &ItemProgressUpdater,
-) -> xet_terms::Result<()> {
-    case.retrieve_all(alloc, rt, item)?;
-    case.retrieve_all(alloc, rt, item)
-}
-
-/// The bytes that were reported as transferred.
-fn tell_report<R: Wait>(text: &mut String, rt: &R, item: &ItemProgressUpdater) {
-    put(text, ' ');
-    put(text, item.group().report(rt).total_transfer_bytes_completed);
-    put(text, ' ');
-}
-
-/// What comes of retrieving the blocks, reported to an item of 100 bytes.
+/// Adds what comes of getting the blocks, reported to an item of 100 bytes.
 fn tell_retrieved<R: Wait>(
     text: &mut String,
     alloc: Global,
     rt: &R,
-    case: &mut Fetching,
+    row: Row<'_>,
+    blocks: &mut [XorbBlock],
+    client: &mut Connection<'_>,
+    urls: &mut TermBlockRetrievalURLs,
     item: &ItemProgressUpdater,
+    cache: &mut Cache,
 ) {
     let _ = item.update_transfer_size(rt, 100);
-    tell_answer(text, retrieve_twice(alloc, rt, case, item));
-    tell_report(text, rt, item);
+    let config = row.config();
+    let settings = FetchSettings {
+        multirange: config.enable_multirange_fetching,
+        tries: config.tries,
+    };
+    let answer = retrieve_all(alloc, rt, blocks, client, urls, &settings, item, cache);
+    tell_answer(text, answer);
+    let report = item.group().report(rt);
+    put_behind(text, ' ', report.total_transfer_bytes_completed);
 }
 
-/// What the connection was asked, and what the cache was.
-fn tell_logs(text: &mut String, case: &Fetching) {
-    put(text, ';');
-    put(text, case.client.log.as_str());
-    put(text, ';');
-    put(text, case.cache.log.as_str());
+/// The next URL that a provider hands out, or the error.
+fn tell_handed(text: &mut String, handed: Result<RetrievalUrl>) {
+    match handed {
+        Ok(handed) => put(text, handed.url.as_str()),
+        Err(error) => tell_error(text, error),
+    }
 }
 
-/// What comes of retrieving the blocks, and what is left then.
-fn tell_fetches<R: Wait>(
+/// A refresh before a URL is handed out, and one after it, each followed by the URL of the first block.
+fn tell_provider(
+    text: &mut String,
+    alloc: Global,
+    blocks: &[XorbBlock],
+    client: &mut Connection<'_>,
+    urls: &mut TermBlockRetrievalURLs,
+) {
+    if blocks.is_empty() || urls.get_retrieval_url(0).is_none() {
+        return put(text, "no block");
+    }
+    let mut provider = XorbURLProvider::new(client, urls, blocks, false, 0);
+    for _ in 0..2 {
+        tell_answer(text, provider.refresh_url(alloc));
+        put(text, ' ');
+        tell_handed(text, provider.retrieve_url(alloc));
+        put(text, ';');
+    }
+}
+
+/// What the calls of a row come to over the blocks of this plan.
+fn tell_made<R: Wait>(
     text: &mut String,
     alloc: Global,
     rt: &R,
-    case: &mut Fetching,
+    row: Row<'_>,
+    made: TermBlock,
+    client: &mut Connection<'_>,
+    item: &ItemProgressUpdater,
+    cache: &mut Cache,
+) {
+    let _terms = made.terms;
+    let mut blocks = made.blocks.into_inner();
+    let mut urls = made.urls;
+    let lent = blocks.as_mut_slice();
+    if row.has("tell") {
+        tell_provider(text, alloc, lent, client, &mut urls);
+    } else {
+        tell_retrieved(text, alloc, rt, row, lent, client, &mut urls, item, cache);
+    }
+}
+
+/// What the calls of a row come to over the plan of a file's first 13 bytes, and who was asked how often.
+pub(crate) fn tell_fetches<R: Wait>(
+    text: &mut String,
+    alloc: Global,
+    rt: &R,
+    row: Row<'_>,
+    client: &mut Connection<'_>,
     item: &ItemProgressUpdater,
 ) {
-    tell_retrieved(text, alloc, rt, case, item);
-    tell_pieces(text, alloc, case);
-    if offer_first(alloc, case).is_err() {
-        put(text, "no memory");
+    let mut cache = Cache::new(alloc, row);
+    let (range, id) = (
+        FileRange::new(0, 13),
+        UniqueId {
+            plan: 1,
+            refresh: 0,
+        },
+    );
+    match retrieve_file_term_block(alloc, client, row.file(), range, row.has("multi"), id) {
+        Ok(Some(made)) => tell_made(text, alloc, rt, row, made, client, item, &mut cache),
+        _ => put(text, "no blocks"),
     }
-    put(text, '\n');
-    tell_table(text, &case.urls);
-    tell_logs(text, case);
-}
-
-/// The settings of so many tries and this kind of blocks.
-fn settings_of(tries: &str, kind: &str) -> FetchSettings {
-    FetchSettings {
-        multirange: kind == "entry",
-        tries: u32::try_from(number(tries)).unwrap_or(u32::MAX),
-    }
-}
-
-/// The blocks of this plan over a cache and a connection that do this.
-fn fetching_of<'a>(alloc: Global, plan: &str, steps: &'a str) -> Option<Fetching<'a>> {
-    let (tries, plan) = cut(plan, " ");
-    let (kind, plan) = cut(plan, " ");
-    let (cached, script) = cut(steps, "/");
-    make_fetching(alloc, plan, settings_of(tries, kind), cached.trim(), script)
-}
-
-/// What comes of these blocks, where there is an item to report to.
-fn tell_case<R: Wait>(text: &mut String, alloc: Global, rt: &R, case: &mut Fetching) {
-    if let Ok(item) = ItemProgressUpdater::new_standalone(alloc, "file") {
-        tell_fetches(text, alloc, rt, case, &item);
-    }
-}
-
-/// What comes of the blocks of this plan by what the cache and the connection do.
-fn fetched<R: Wait>(alloc: Global, rt: &R, plan: &str, steps: &str) -> String {
-    let mut text = String::new(alloc);
-    match fetching_of(alloc, plan, steps) {
-        Some(mut case) => tell_case(&mut text, alloc, rt, &mut case),
-        None => put(&mut text, "no blocks"),
-    }
-    text
+    put_behind(text, ' ', client.plans);
+    put_behind(text, '/', client.blocks);
+    put_behind(text, ' ', cache.calls);
+    put(text, client.asked.as_str());
 }
 
 #[test]
 fn blocks_by_cache_tries_and_refreshes(rt: HostRuntime) {
-    for case in FETCHES.trim_end().split("\n\n") {
-        let (plan, rest) = cut(case, "\n");
-        let (steps, wanted) = cut(rest, "\n");
-        comes_to(&rt, case, fetched(rt.alloc(), &rt, plan, steps), wanted);
+    for lines in [FETCHES, PROVIDED] {
+        calls_come_to(&rt, rt.alloc(), lines);
     }
 }

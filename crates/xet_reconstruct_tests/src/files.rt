@@ -37,34 +37,20 @@ fn written<R: Threads + Wait + Sync>(
         )
 }
 
-fn told(alloc: Global, answer: Result<u64>, content: &[u8]) -> String {
-    let mut text = String::new(alloc);
-    tell_answer(&mut text, answer, content);
-    text
-}
-
-fn into<R: Threads + Wait + Sync>(
-    rt: &R,
-    alloc: Global,
-    file: &mut MemFile,
-    write_offset: Option<u64>,
-    truncate_file: bool,
-) -> String {
-    let store = worked_store(alloc).unwrap_or(MemStore::new(alloc));
-    let answer = written(rt, alloc, &store, file, write_offset, truncate_file);
-    told(alloc, answer, file.content())
-}
-
-/// The same of a file that held `zzzz`.
+/// What such a run into a file that held `zzzz` answers, and what the file holds then.
 fn held<R: Threads + Wait + Sync>(
     rt: &R,
     alloc: Global,
     write_offset: Option<u64>,
     truncate_file: bool,
 ) -> String {
+    let mut text = String::new(alloc);
+    let store = worked_store(alloc).unwrap_or(MemStore::new(alloc));
     let content = b"zzzz".to_vec(alloc).unwrap_or(Vec::new(alloc));
     let mut file = MemFile::new(alloc, content);
-    into(rt, alloc, &mut file, write_offset, truncate_file)
+    let answer = written(rt, alloc, &store, &mut file, write_offset, truncate_file);
+    tell_answer(&mut text, answer, file.content());
+    text
 }
 
 #[test]

@@ -1,24 +1,19 @@
-//! Tests of `xet_blocks`, `xet_fetch`, `xet_terms` and `xet_reconstruct`: what plans are made into, how blocks and
-//! plans are asked for, and what runs answer and write, row by row. They stand in a crate of their own, since a crate
-//! with tests is proved twice.
+//! Tests of `xet_blocks`, `xet_fetch`, `xet_terms` and `xet_reconstruct`: how blocks and plans are asked for, and what
+//! runs answer and write, row by row. They stand in a crate of their own, since a crate with tests is proved twice.
 #![tactic(auto)]
 
 #[cfg(test)]
 mod cache;
 #[cfg(test)]
+mod calls;
+#[cfg(test)]
 mod connection;
 #[cfg(test)]
 mod crowd;
 #[cfg(test)]
-mod fake_cache;
-#[cfg(test)]
-mod fake_client;
-#[cfg(test)]
 mod faults;
 #[cfg(test)]
 mod fetches;
-#[cfg(test)]
-mod fetching;
 #[cfg(test)]
 mod files;
 #[cfg(test)]
@@ -30,11 +25,7 @@ mod meter;
 #[cfg(test)]
 mod output;
 #[cfg(test)]
-mod plans;
-#[cfg(test)]
 mod played;
-#[cfg(test)]
-mod refreshes;
 #[cfg(test)]
 mod refused;
 #[cfg(test)]

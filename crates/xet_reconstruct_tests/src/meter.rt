@@ -35,21 +35,16 @@ impl<'a> Meter<'a> {
         self.level.load(Ordering::SeqCst)
     }
 
-    /// How many bytes the fetch of this number has.
-    fn length(&self, fetch: u64) -> u64 {
-        match self.lengths.split(' ').nth(fetch as usize) {
-            Some(word) => number(word),
-            None => 0,
-        }
-    }
-
     /// A fetch begins.
     pub(crate) fn enter(&self) {
         let fetch = self.fetches.fetch_add(1, Ordering::SeqCst);
         if self.lengths.is_empty() {
             return;
         }
-        let length = self.length(fetch);
+        let length = match self.lengths.split(' ').nth(fetch as usize) {
+            Some(word) => number(word),
+            None => 0,
+        };
         let before = self.level.fetch_add(length, Ordering::SeqCst);
         if self.most < before.saturating_add(length) {
             self.passed.store(true, Ordering::SeqCst);

@@ -8,7 +8,7 @@ use crate::meter::Meter;
 use crate::output::Output;
 use crate::row::Row;
 use crate::signal::Signal;
-use crate::told::{comes_to, cut, put, tell_error};
+use crate::told::{comes_to, cut, put, put_behind, tell_error};
 use std::alloc::Global;
 use std::process::Abort;
 use std::sync::{Arc, Wait};
@@ -135,17 +135,12 @@ fn answered<R: Threads + Wait + Sync>(
     wanted.reconstruct_to_writer(rt, alloc, clients, cache, &mut signal, output)
 }
 
-/// Adds how many bytes there are, or the error.
-fn tell_count(text: &mut String, answer: Result<u64>) {
+/// Adds `ANSWER 'BYTES'`, the answer being how many bytes there are or the error.
+pub(crate) fn tell_answer(text: &mut String, answer: Result<u64>, bytes: &[u8]) {
     match answer {
         Ok(count) => put(text, count),
         Err(error) => tell_error(text, error),
     }
-}
-
-/// Adds `ANSWER 'BYTES'`.
-pub(crate) fn tell_answer(text: &mut String, answer: Result<u64>, bytes: &[u8]) {
-    tell_count(text, answer);
     put(text, " '");
     put(text, str::from_utf8(bytes).unwrap_or("no text"));
     put(text, '\'');
@@ -164,12 +159,6 @@ fn tell_crowd(text: &mut String, crowd: &Crowd, clients: &[Connection<'_>; 3]) {
 fn tell_meter(text: &mut String, meter: &Meter<'_>) {
     put(text, if meter.passed() { " past " } else { " within " });
     put(text, meter.level());
-}
-
-/// Adds a number behind a mark.
-fn put_behind(text: &mut String, mark: char, number: u64) {
-    put(text, mark);
-    put(text, number);
 }
 
 /// Adds what a row wants told.
@@ -200,22 +189,8 @@ fn tell_usual(text: &mut String, row: Row<'_>, clients: &[Connection<'_>; 3], ou
     }
 }
 
-/// Adds ` PLANS`, where the first connection was asked for so many plans, and what else is told of the row.
-fn tell_rest(
-    text: &mut String,
-    row: Row<'_>,
-    clients: &[Connection<'_>; 3],
-    cache: &Cache,
-    output: &Output<'_>,
-) {
-    put_behind(text, ' ', clients[0].plans);
-    match row.find("tell") {
-        Some(what) => tell_wanted(text, what, clients, cache, output),
-        None => tell_usual(text, row, clients, output),
-    }
-}
-
-/// What is told of a run: its answer, the bytes that were taken, and the rest.
+/// What is told of a run: its answer, the bytes that were taken, how many plans the first connection was asked for, and
+/// what else is told of the row.
 fn told(
     alloc: Global,
     row: Row<'_>,
@@ -226,7 +201,11 @@ fn told(
 ) -> String {
     let mut text = String::new(alloc);
     tell_answer(&mut text, answer, output.taken());
-    tell_rest(&mut text, row, clients, cache, output);
+    put_behind(&mut text, ' ', clients[0].plans);
+    match row.find("tell") {
+        Some(what) => tell_wanted(&mut text, what, clients, cache, output),
+        None => tell_usual(&mut text, row, clients, output),
+    }
     text
 }
 

@@ -1,18 +1,23 @@
 //! What an updater is told.
 use crate::played::played;
 use crate::row::Row;
-use crate::told::{comes_to, put};
+use crate::told::{comes_to, put_behind};
 use std::alloc::Global;
 use std::sync::Wait;
 use std::thread::Threads;
 use xet_progress::{ItemProgress, ItemProgressUpdater};
 
-const BY_FOUR: Row<'static> = Row {
-    text: "file b; size 4",
-};
+/// Of the item's bytes those that there are and those that are written, and of the transferred ones those that there
+/// are and those that came.
+fn tell_item(text: &mut String, item: &ItemProgress) {
+    put_behind(text, ' ', item.total_bytes());
+    put_behind(text, ' ', item.bytes_completed());
+    put_behind(text, ' ', item.transfer_bytes());
+    put_behind(text, ' ', item.transfer_bytes_completed());
+}
 
-/// What a run tells that reports to an item, whose final size this is, where there is one.
-fn reported<R: Threads + Wait + Sync>(
+/// What a run tells that reports to an item, whose final size this is, where there is one; and what the item has then.
+fn item_told<R: Threads + Wait + Sync>(
     rt: &R,
     alloc: Global,
     updater: &ItemProgressUpdater,
@@ -21,29 +26,10 @@ fn reported<R: Threads + Wait + Sync>(
     if size > 0 {
         let _ = updater.update_item_size(rt, size, true);
     }
-    played(rt, alloc, BY_FOUR, Some(updater))
-}
-
-/// Of the item's bytes those that there are and those that are written, and of the transferred ones those that there
-/// are and those that came.
-fn tell_item(text: &mut String, item: &ItemProgress) {
-    put(text, ' ');
-    put(text, item.total_bytes());
-    put(text, ' ');
-    put(text, item.bytes_completed());
-    put(text, ' ');
-    put(text, item.transfer_bytes());
-    put(text, ' ');
-    put(text, item.transfer_bytes_completed());
-}
-
-fn item_told<R: Threads + Wait + Sync>(
-    rt: &R,
-    alloc: Global,
-    updater: &ItemProgressUpdater,
-    size: u64,
-) -> String {
-    let mut text = reported(rt, alloc, updater, size);
+    let row = Row {
+        text: "file b; size 4",
+    };
+    let mut text = played(rt, alloc, row, Some(updater));
     if let Ok(item) = updater.item(rt, alloc) {
         tell_item(&mut text, &item);
     }

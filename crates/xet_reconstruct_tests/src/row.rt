@@ -8,7 +8,7 @@ use xet_terms::ReconstructionConfig;
 /// What the fields are called.
 const NAMES: &str =
     "file from to least greatest size prefetch budget book vectored multi tries ahead lanes ready \
-plan block cached forgets down up yes takes unflushed lengths most meet first beside tell";
+plan block cached forgets down up yes takes unflushed lengths most meet first beside tell calls taken";
 
 /// One run. What it says nothing of is as in the run of a whole file, that of all chunks, over one honest connection.
 ///
@@ -20,14 +20,16 @@ plan block cached forgets down up yes takes unflushed lengths most meet first be
 /// `x` says that the URL has expired, `n` that there is no such file, `e` that the range is past the end, `s` serves
 /// `block` and `p` says `plan`, both as `script` reads them. With `ready` they answer at once.
 ///
-/// `cached` is what the cache has for the first xorb's chunks. It keeps nothing more where it `forgets`. Its calls from
+/// `cached` is what the cache has for the first xorb's chunks, or `no memory`, which each look then finds none of. It
+/// keeps nothing more where it `forgets`. Its calls from
 /// `down` to before `up` fail. The signal says yes at its ask `yes`. `takes` is what the writer does at each write: `1`
 /// takes one byte, `f` fails. Where it is `unflushed` it can't be flushed.
 ///
 /// The n-th fetch has so many bytes as `lengths` says, and `most` may be fetched and not yet written. The fetches from
 /// the `first` on wait until so many as `meet` have begun, as does the first write where one is `beside`.
 ///
-/// `tell` is what is told of the run besides.
+/// `tell` is what is told of the run besides. A row of a manager says how many `calls` it gets, and whether two queries
+/// are `taken` before.
 #[derive(Clone, Copy)]
 pub(crate) struct Row<'a> {
     pub(crate) text: &'a str,

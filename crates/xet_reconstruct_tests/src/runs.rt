@@ -8,20 +8,6 @@ file b; least 4; greatest 8; prefetch 0; tell plans: 23 'world!HelloHello, world
 file b; least 4; greatest 8; prefetch 1000; tell plans: 23 'world!HelloHello, world' 4
 file b; least 4; greatest 8; prefetch 0; ahead 1000; tell plans: 23 'world!HelloHello, world' 4";
 
-/// Terms without bytes in the range, one at the start and two at the end, have blocks of their own, which are never
-/// asked for.
-const EMPTY: &str = "\
-to 5; lanes p.f; plan 6;17 6 2 4 17 5 0 1;17:2 4 0 1: 5 'Hello' 1/1
-to 5; lanes p.f; plan 0;17 5 0 1 17 0 1 2 17 2 2 3;17:0 1 1 2 2 3: 5 'Hello' 1/1";
-
-/// A setting that fails; a write and a fetch that fail in one join; of two blocks of one round the first is out of
-/// tries, and the fetch of the second fails, or doesn't.
-const FAILING: &str = "\
-tries 0: ConfigurationError(NoTries) '' 0/0
-size 4; lanes ...f; takes f; tell plans: IoError '' 2
-file e; tries 1; lanes .xf: ClientError '' 1/2
-file e; tries 1; lanes .x: UrlExpired '' 1/2";
-
 /// Each request for a block: its URL, its plan and how often that was asked for again, its block's number, and its
 /// chunks with their bytes. After a refresh URLs and bytes are those of the refresh, and the last try has no refresh.
 const REQUESTS: &str = "\
@@ -72,23 +58,10 @@ fn plans_ahead_by_setting_and_policy(rt: HostRuntime) {
 }
 
 #[test]
-fn blocks_of_empty_terms_are_never_asked_for(rt: HostRuntime) {
-    come_to(&rt, rt.alloc(), EMPTY);
-}
-
-#[test]
-fn failures_of_one_join(rt: HostRuntime) {
-    come_to(&rt, rt.alloc(), FAILING);
-}
-
-#[test]
 fn requests_have_the_last_urls(rt: HostRuntime) {
-    come_to(&rt, rt.alloc(), REQUESTS);
-}
-
-#[test]
-fn tries_are_counted_for_each_block(rt: HostRuntime) {
-    come_to(&rt, rt.alloc(), TRIES);
+    for lines in [REQUESTS, TRIES] {
+        come_to(&rt, rt.alloc(), lines);
+    }
 }
 
 #[test]

@@ -57,15 +57,9 @@ fn fetch_ranges(alloc: Global, numbers: &[u32]) -> List<FetchRange> {
     made
 }
 
-/// This text as a URL.
-fn url(alloc: Global, text: &str) -> Result<SharedText, OutOfMemory> {
-    SharedText::from_string(alloc, String::from_str(alloc, text)?)
-}
-
-/// Adds one entry: its URL, an equals sign and its ranges, or the ranges alone, which are its URL too.
-fn add_entry(alloc: Global, made: &mut List<FetchEntry>, text: &str) {
-    let (name, ranges) = text.split_once('=').unwrap_or((text, text));
-    if let Ok(url) = url(alloc, name.trim()) {
+/// Adds one entry of these ranges, whose URL is empty.
+fn add_entry(alloc: Global, made: &mut List<FetchEntry>, ranges: &str) {
+    if let Ok(url) = SharedText::from_string(alloc, String::new(alloc)) {
         let ranges = fetch_ranges(alloc, numbers(alloc, ranges).as_slice());
         let _ = made.push(FetchEntry { url, ranges });
     }

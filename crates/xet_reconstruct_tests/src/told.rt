@@ -1,9 +1,9 @@
 //! What rows come to, as text. Where memory is refused a text lacks what was to be added.
 use crate::script::hash;
-use std::fmt::{Debug, Display};
+use std::fmt::Display;
 use std::process::Abort;
-use xet_base::{ChunkRange, HttpRange, MerkleHash, UniqueId};
-use xet_blocks::{Corruption, FileReconstructionError, Result, TermBlockRetrievalURLs};
+use xet_base::MerkleHash;
+use xet_blocks::{Corruption, FileReconstructionError, Result};
 use xet_outside::BlockRequest;
 
 /// What stands before the first of these, and what behind it: where there is none, all and nothing.
@@ -16,9 +16,10 @@ pub(crate) fn put<T: Display + Drop>(text: &mut String, value: T) {
     let _ = write!(text, "{value}");
 }
 
-/// Adds a value as it is debugged.
-fn put_debug<T: Debug + Drop>(text: &mut String, value: T) {
-    let _ = write!(text, "{value:?}");
+/// Adds a number behind a mark.
+pub(crate) fn put_behind(text: &mut String, mark: char, number: u64) {
+    put(text, mark);
+    put(text, number);
 }
 
 /// `0..4`: a range of these ends.
@@ -26,13 +27,6 @@ pub(crate) fn put_range<T: Display + Drop>(text: &mut String, start: T, end: T) 
     put(text, start);
     put(text, "..");
     put(text, end);
-}
-
-/// `1.0`: an acquisition.
-pub(crate) fn put_id(text: &mut String, id: UniqueId) {
-    put(text, id.plan);
-    put(text, '.');
-    put(text, id.refresh);
 }
 
 /// `Ranges 1 0`: a xorb's bad entry, with the number of the xorb's hash, and a mark where that is no number's hash.
@@ -48,13 +42,13 @@ fn tell_entry(text: &mut String, xorb: MerkleHash, entry: usize) {
 
 /// An error, a failed test with its numbers, or a xorb's bad entry.
 pub(crate) fn tell_error(text: &mut String, error: FileReconstructionError) {
-    match error {
+    let _ = match error {
         FileReconstructionError::CorruptedReconstruction(Corruption::Ranges { xorb, entry }) => {
-            tell_entry(text, xorb, entry)
+            return tell_entry(text, xorb, entry);
         }
-        FileReconstructionError::CorruptedReconstruction(fault) => put_debug(text, fault),
-        error => put_debug(text, error),
-    }
+        FileReconstructionError::CorruptedReconstruction(fault) => write!(text, "{fault:?}"),
+        error => write!(text, "{error:?}"),
+    };
 }
 
 /// `ok`, or the error.
@@ -65,32 +59,14 @@ pub(crate) fn tell_answer(text: &mut String, answer: Result<()>) {
     }
 }
 
-/// `1.0 a`: a table's id, and its first URL.
-pub(crate) fn tell_table(text: &mut String, urls: &TermBlockRetrievalURLs) {
-    match urls.get_retrieval_url(0) {
-        Some((id, found)) => {
-            put_id(text, id);
-            put(text, ' ');
-            put(text, found.url.as_str());
-        }
-        None => put(text, "no URL"),
-    }
-}
-
-/// ` 4..7@40..70`: chunks with their bytes.
-fn tell_range(text: &mut String, chunks: ChunkRange, bytes: HttpRange) {
-    put(text, ' ');
-    put_range(text, chunks.start, chunks.end);
-    put(text, '@');
-    put_range(text, bytes.start, bytes.end);
-}
-
 /// ` !a 1.0 b0`: the URL, the acquisition and the block's number of a request.
 fn tell_asked(text: &mut String, request: &BlockRequest) {
     put(text, " !");
     put(text, request.url.as_str());
     put(text, ' ');
-    put_id(text, request.acquisition);
+    put(text, request.acquisition.plan);
+    put(text, '.');
+    put(text, request.acquisition.refresh);
     put(text, " b");
     put(text, request.index);
 }
@@ -100,7 +76,10 @@ pub(crate) fn tell_request(text: &mut String, request: &BlockRequest) {
     tell_asked(text, request);
     let ranges = request.chunks.as_slice().iter();
     for (chunks, bytes) in ranges.zip(request.bytes.as_slice()) {
-        tell_range(text, *chunks, *bytes);
+        put(text, ' ');
+        put_range(text, chunks.start, chunks.end);
+        put(text, '@');
+        put_range(text, bytes.start, bytes.end);
     }
 }
 

@@ -1,20 +1,18 @@
-//! Bytes at a place of a file, in memory and of std.
+//! Bytes at a place of a file of std.
 use std::fs::{self, File};
 use std::io;
-use xet_outside::{PlaceSink, SinkError};
-use xet_sinks::{FileSink, MemFile};
-
-const PLACED: &[u8] = b"zzzlo\0\0!";
+use xet_outside::{PlaceSink, Sink, SinkError};
+use xet_sinks::FileSink;
 
 /// Writes at a place.
-fn write_at<F: PlaceSink>(file: &mut F, place: u64, bytes: &[u8]) -> Result<(), SinkError> {
+fn write_at(file: &mut FileSink, place: u64, bytes: &[u8]) -> Result<(), SinkError> {
     file.seek(place)?;
     file.write(bytes)?;
     Ok(())
 }
 
 /// Writes at three places.
-fn write_at_places<F: PlaceSink>(file: &mut F) -> Result<(), SinkError> {
+fn write_at_places(file: &mut FileSink) -> Result<(), SinkError> {
     file.write(b"zzzz")?;
     write_at(file, 3, b"lo")?;
     write_at(file, 7, b"!")?;
@@ -22,19 +20,10 @@ fn write_at_places<F: PlaceSink>(file: &mut F) -> Result<(), SinkError> {
 }
 
 /// Writes to an emptied file.
-fn write_anew<F: PlaceSink>(file: &mut F) -> Result<(), SinkError> {
+fn write_anew(file: &mut FileSink) -> Result<(), SinkError> {
     file.empty()?;
     file.write(b"wo")?;
     file.flush()
-}
-
-#[test]
-fn a_file_in_memory_takes_bytes_at_its_place(rt: HostRuntime) {
-    let mut file = MemFile::new(rt.alloc(), Vec::new(rt.alloc()));
-    assert!(rt; write_at_places(&mut &mut file) == Ok(()));
-    assert!(rt; file.content() == PLACED);
-    assert!(rt; write_anew(&mut &mut file) == Ok(()));
-    assert!(rt; file.content() == b"wo".as_slice());
 }
 
 /// Whether a file of std holds these bytes.
@@ -50,7 +39,7 @@ fn a_file_takes_bytes_at_its_place(rt: HostRuntime) -> io::Result<()> {
     let path = "file_sink_test.bytes";
     let mut sink = FileSink::new(File::create(&rt, path)?);
     assert!(rt; write_at_places(&mut sink) == Ok(()));
-    assert!(rt; holds(&rt, path, PLACED));
+    assert!(rt; holds(&rt, path, b"zzzlo\0\0!"));
     assert!(rt; write_anew(&mut sink) == Ok(()));
     assert!(rt; holds(&rt, path, b"wo"));
     fs::remove_file(&rt, path)

@@ -1,35 +1,10 @@
-//! The digits of a hash, and the hashes of some known values. These were worked out by another program's SHA-256.
-use crate::rows::comes_to;
-use std::alloc::Global;
+//! The hashes of some known values, which another program's SHA-256 worked out.
 use std::process::Abort;
 use xet_base::{ChunkInfo, MerkleHash};
-
-const HASH: MerkleHash = MerkleHash([
-    0x00, 0x11, 0x22, 0x33, 0x44, 0x55, 0x66, 0x77, 0x88, 0x99, 0xaa, 0xbb, 0xcc, 0xdd, 0xee, 0xff,
-    0x01, 0x23, 0x45, 0x67, 0x89, 0xab, 0xcd, 0xef, 0xfe, 0xdc, 0xba, 0x98, 0x76, 0x54, 0x32, 0x10,
-]);
-
-const LOWER: &str = "00112233445566778899aabbccddeeff0123456789abcdeffedcba9876543210";
-
-const UPPER: &str = "00112233445566778899AABBCCDDEEFF0123456789ABCDEFFEDCBA9876543210";
-
-fn digits(alloc: Global) -> String {
-    match HASH.hex(alloc) {
-        Ok(digits) => digits.into_inner(),
-        Err(_) => String::new(alloc),
-    }
-}
 
 /// Asserts that these digits are those of a hash.
 fn is_hash(rt: &impl Abort, hash: MerkleHash, digits: &str) {
     assert!(rt; MerkleHash::from_hex(digits) == Ok(hash), "{digits}");
-}
-
-#[test]
-fn sixty_four_digits_of_either_case(rt: HostRuntime) {
-    is_hash(&rt, HASH, LOWER);
-    is_hash(&rt, HASH, UPPER);
-    comes_to(&rt, "digits", digits(rt.alloc()), LOWER);
 }
 
 const OF_NOTHING: &str = "6e340b9cffb37a989ca544e6bb780a2c78901d3fb33738768511a30617afa01d";

@@ -1,31 +1,21 @@
-//! Tests of the crates up to `xet_upload`: what is cut of a file, put and found again; what errors print, the hashes of
-//! some known values and texts of pointer records; and calls of sinks and sources that are tried again, cut short or
-//! stopped by a fault. They stand in a crate of their own, since a crate with tests is proved twice.
+//! Tests of the crates up to `xet_upload`: what errors print, the hashes of some known values and texts of pointer
+//! records; and calls of sinks and sources that are tried again, cut short or stopped by a fault. They stand in a
+//! crate of their own, since a crate with tests is proved twice.
 #![tactic(auto)]
 
-#[cfg(test)]
-mod below;
 #[cfg(test)]
 mod files;
 #[cfg(test)]
 mod hashes;
 #[cfg(test)]
-mod made;
-#[cfg(test)]
 mod names;
 #[cfg(test)]
 mod over_std;
-#[cfg(test)]
-mod parts;
 #[cfg(test)]
 mod pointers;
 #[cfg(test)]
 mod rows;
 #[cfg(test)]
-mod shards;
-#[cfg(test)]
 mod sinks;
 #[cfg(test)]
 mod texts;
-#[cfg(test)]
-mod uploads;

@@ -1,22 +1,19 @@
-//! What errors print: a line each.
+//! What errors print: a line each. What those of sinks print is in `sinks`.
 use crate::rows::comes_to;
-use std::alloc::Global;
 use std::fmt::{Debug, Display};
 use xet_base::{DataHashHexParseError, FileRange, Invalid, MerkleHash, OutOfMemory, UniqueID};
 use xet_error::{Corruption, FileReconstructionError, Setting, WriterFault};
-use xet_outside::{CacheError, ClientError, SinkError, SourceFault};
+use xet_outside::{CacheError, ClientError, SourceFault};
 use xet_pointer::PointerError;
 use xet_shards::ShardError;
 use xet_store::StoreRefused;
 use xet_upload::DataError;
 
-/// The texts of these errors, a line each.
-fn lines<E: Display + Debug + Eq>(alloc: Global, errors: &[E]) -> String {
-    let mut text = String::new(alloc);
+/// Adds the texts of these errors, a line each.
+fn tell<E: Display + Debug + Eq>(told: &mut String, errors: &[E]) {
     for error in errors {
-        let _ = writeln!(text, "{error}");
+        let _ = writeln!(told, "{error}");
     }
-    text
 }
 
 const HASH: MerkleHash = MerkleHash([6; 32]);
@@ -56,46 +53,38 @@ fn a_reversed_range_prints_a_sentence(rt: HostRuntime) {
         Invalid::XorbCompleted { hash: HASH },
         Invalid::SumTooGreat { have: 1, add: 2 },
     ];
-    comes_to(&rt, "Invalid", lines(rt.alloc(), &all), INVALID);
+    let mut told = String::new(rt.alloc());
+    tell(&mut told, &all);
+    comes_to(&rt, "Invalid", told, INVALID);
 }
+
+const LOW: &str = "OutOfMemory
+DataHashHexParseError
+SourceFault
+OutOfMemory
+Failed
+OutOfMemory
+Failed
+OutOfMemory
+NotPointer
+OutOfMemory
+Failed
+";
 
 #[test]
 fn other_low_errors_print_their_names(rt: HostRuntime) {
-    let alloc = rt.alloc();
-    let both = "OutOfMemory\nFailed\n";
-    comes_to(&rt, "memory", lines(alloc, &[OutOfMemory]), "OutOfMemory\n");
-    comes_to(
-        &rt,
-        "digits",
-        lines(alloc, &[DataHashHexParseError]),
-        "DataHashHexParseError\n",
+    let mut told = String::new(rt.alloc());
+    tell(&mut told, &[OutOfMemory]);
+    tell(&mut told, &[DataHashHexParseError]);
+    tell(&mut told, &[SourceFault]);
+    tell(&mut told, &[ClientError::OutOfMemory, ClientError::Failed]);
+    tell(&mut told, &[CacheError::OutOfMemory, CacheError::Failed]);
+    tell(
+        &mut told,
+        &[PointerError::OutOfMemory, PointerError::NotPointer],
     );
-    comes_to(&rt, "source", lines(alloc, &[SourceFault]), "SourceFault\n");
-    comes_to(
-        &rt,
-        "sink",
-        lines(alloc, &[SinkError::OutOfMemory, SinkError::Failed]),
-        both,
-    );
-    comes_to(
-        &rt,
-        "client",
-        lines(alloc, &[ClientError::OutOfMemory, ClientError::Failed]),
-        both,
-    );
-    comes_to(
-        &rt,
-        "cache",
-        lines(alloc, &[CacheError::OutOfMemory, CacheError::Failed]),
-        both,
-    );
-    let pointer = [PointerError::OutOfMemory, PointerError::NotPointer];
-    comes_to(
-        &rt,
-        "pointer",
-        lines(alloc, &pointer),
-        "OutOfMemory\nNotPointer\n",
-    );
+    tell(&mut told, &[ShardError::OutOfMemory, ShardError::Failed]);
+    comes_to(&rt, "low errors", told, LOW);
 }
 
 const REFUSED: &str = "OutOfMemory
@@ -104,15 +93,11 @@ EmptyChunk
 TooManyChunks
 TooLong
 BadTerm
-";
-
-const SETTINGS: &str = "NoConnection
+NoConnection
 NoTries
 LeastZero
 GreatestBelowLeast
-";
-
-const FAULTS: &str = "Reversed
+Reversed
 NotSequential
 Length
 Finished
@@ -122,7 +107,6 @@ NotWanted
 
 #[test]
 fn refusals_of_stores_runs_and_writers_print_their_names(rt: HostRuntime) {
-    let alloc = rt.alloc();
     let (expected, actual) = (1, 2);
     let refused = [
         StoreRefused::OutOfMemory,
@@ -146,9 +130,11 @@ fn refusals_of_stores_runs_and_writers_print_their_names(rt: HostRuntime) {
         WriterFault::StillWanted { start: 1 },
         WriterFault::NotWanted { start: 1 },
     ];
-    comes_to(&rt, "stores", lines(alloc, &refused), REFUSED);
-    comes_to(&rt, "settings", lines(alloc, &settings), SETTINGS);
-    comes_to(&rt, "faults", lines(alloc, &faults), FAULTS);
+    let mut told = String::new(rt.alloc());
+    tell(&mut told, &refused);
+    tell(&mut told, &settings);
+    tell(&mut told, &faults);
+    comes_to(&rt, "refusals", told, REFUSED);
 }
 
 const CORRUPTIONS: &str = "Ranges
@@ -189,7 +175,9 @@ fn corruptions_print_their_names(rt: HostRuntime) {
         Corruption::TermPastBlock { end: 2, length },
         Corruption::PastKnownEnd { known: 1, start: 2 },
     ];
-    comes_to(&rt, "Corruption", lines(rt.alloc(), &all), CORRUPTIONS);
+    let mut told = String::new(rt.alloc());
+    tell(&mut told, &all);
+    comes_to(&rt, "Corruption", told, CORRUPTIONS);
 }
 
 const RECONSTRUCTIONS: &str = "OutOfMemory
@@ -216,7 +204,9 @@ fn errors_of_reconstructions_print_their_names(rt: HostRuntime) {
         FileReconstructionError::Cancelled,
         FileReconstructionError::InternalWriterError(WriterFault::Finished),
     ];
-    comes_to(&rt, "errors", lines(rt.alloc(), &all), RECONSTRUCTIONS);
+    let mut told = String::new(rt.alloc());
+    tell(&mut told, &all);
+    comes_to(&rt, "errors", told, RECONSTRUCTIONS);
 }
 
 const UPLOADS: &str = "OutOfMemory
@@ -231,7 +221,6 @@ SourceEnded
 
 #[test]
 fn errors_of_uploads_print_their_names_or_the_sizes(rt: HostRuntime) {
-    let alloc = rt.alloc();
     let (expected, actual) = (95, 8);
     let all = [
         DataError::OutOfMemory,
@@ -243,12 +232,7 @@ fn errors_of_uploads_print_their_names_or_the_sizes(rt: HostRuntime) {
         DataError::FileReconstructionError(FileReconstructionError::Cancelled),
         DataError::SourceEnded { expected, actual },
     ];
-    comes_to(&rt, "uploads", lines(alloc, &all), UPLOADS);
-    let shards = [ShardError::OutOfMemory, ShardError::Failed];
-    comes_to(
-        &rt,
-        "shards",
-        lines(alloc, &shards),
-        "OutOfMemory\nFailed\n",
-    );
+    let mut told = String::new(rt.alloc());
+    tell(&mut told, &all);
+    comes_to(&rt, "uploads", told, UPLOADS);
 }

@@ -3,7 +3,7 @@ use crate::rows::{comes_to, cut, put};
 use crate::sinks::play;
 use std::alloc::Global;
 use std::io::{self, ErrorKind, Read, Write};
-use xet_outside::{Source, SourceFault};
+use xet_outside::Source;
 use xet_sinks::{ReadSource, WriteSink};
 
 /// Does at each call what the next letter of its script says: is interrupted at an `i`, takes or gives at most so many
@@ -45,8 +45,9 @@ impl<'a> Read for Shaky<'a> {
     }
 }
 
-/// Of a sink over a writer: the writer's script and the calls of the sink; what they answer and the calls below.
-const WRITES: &str = "2 | - abc => 0 2 by 1
+/// Of a sink and a source over a writer and a reader: the script of these, and the calls of the sink, or one read into
+/// two bytes; what these answer, and the calls below.
+const CALLS: &str = "2 | - abc => 0 2 by 1
 iiiiiiiiiiiiiiii9 | abc => 3 by 17
 iiiiiiiiiiiiiiiii9 | abc => Failed by 17
 b9 | abc => Failed by 1
@@ -56,60 +57,41 @@ i | abc => Failed by 2
 iiiiiiiiiiiiiiii0 | flush => 0 by 17
 iiiiiiiiiiiiiiiii0 | flush => Failed by 17
 b0 | flush => Failed by 1
-i | flush => Failed by 2";
+i | flush => Failed by 2
+1 | read => Ok(1) by 1
+iiiiiiiiiiiiiiii1 | read => Ok(1) by 17
+iiiiiiiiiiiiiiiii1 | read => Err(SourceFault) by 17
+b1 | read => Err(SourceFault) by 1
+i | read => Err(SourceFault) by 2";
 
-/// The same of one read into two bytes.
-const READS: &str = "1 => Ok(1) x. by 1
-iiiiiiiiiiiiiiii1 => Ok(1) x. by 17
-iiiiiiiiiiiiiiiii1 => Err(SourceFault) .. by 17
-b1 => Err(SourceFault) .. by 1
-i => Err(SourceFault) .. by 2";
+/// Adds what one read answers.
+fn read(told: &mut String, below: &mut Shaky<'_>) {
+    let mut into = [b'.'; 2];
+    let answer = ReadSource::new(below).read(&mut into);
+    let _ = write!(told, "{answer:?} ");
+}
 
-fn written(alloc: Global, script: &str, calls: &str) -> String {
+fn played(alloc: Global, script: &str, calls: &str) -> String {
     let mut told = String::new(alloc);
     let mut below = Shaky {
         script: script.as_bytes(),
         calls: 0,
     };
-    play(&mut told, calls, &mut WriteSink::new(&mut below));
+    if calls == "read" {
+        read(&mut told, &mut below);
+    } else {
+        play(&mut told, calls, &mut WriteSink::new(&mut below));
+    }
     put(&mut told, "by ");
     put(&mut told, below.calls);
     told
 }
 
-/// Adds what a read answered, and its bytes.
-fn tell_read(told: &mut String, answer: Result<usize, SourceFault>, bytes: &[u8]) {
-    let _ = write!(told, "{answer:?} ");
-    put(told, str::from_utf8(bytes).unwrap_or("no text"));
-}
-
-fn read(alloc: Global, script: &str) -> String {
-    let mut told = String::new(alloc);
-    let mut below = Shaky {
-        script: script.as_bytes(),
-        calls: 0,
-    };
-    let mut into = [b'.'; 2];
-    let answer = ReadSource::new(&mut below).read(&mut into);
-    tell_read(&mut told, answer, &into);
-    put(&mut told, " by ");
-    put(&mut told, below.calls);
-    told
-}
-
 #[test]
-fn an_interrupted_write_or_flush_is_made_again(rt: HostRuntime) {
-    for line in WRITES.lines() {
+fn an_interrupted_call_is_made_again(rt: HostRuntime) {
+    for line in CALLS.lines() {
         let (row, wanted) = cut(line, " => ");
         let (script, calls) = cut(row, " | ");
-        comes_to(&rt, row, written(rt.alloc(), script, calls), wanted);
-    }
-}
-
-#[test]
-fn an_interrupted_read_is_made_again(rt: HostRuntime) {
-    for line in READS.lines() {
-        let (row, wanted) = cut(line, " => ");
-        comes_to(&rt, row, read(rt.alloc(), row), wanted);
+        comes_to(&rt, row, played(rt.alloc(), script, calls), wanted);
     }
 }

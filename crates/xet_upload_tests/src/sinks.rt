@@ -1,25 +1,71 @@
 //! Sinks over one that takes little, finds no memory or fails.
-use crate::below::Below;
 use crate::rows::{comes_to, cut, put};
 use bytes::Bytes;
 use std::alloc::Global;
 use xet_outside::{Sink, SinkError};
-use xet_sinks::{BufferedSink, HexSink, ScriptSink, VecSink};
+use xet_sinks::{BufferedSink, HexSink, VecSink};
 
-/// Of a sink of digits: the script of the sink below and the calls; what the calls answer, the digits and the writes
-/// below. Two writes below take 256 digits and the rest of a long piece.
-const DIGITS: &str = "111m | ñ! 1 flush - => 2 1 0 0 c3b131 by 6
-m | ñ! 1 flush - => OutOfMemory 1 0 0 31 by 2
-192 | long flush => 200 0 400 digits by 5
-. | pieces flush => 3 0 6c6f21 by 2
-3f | ZZ ZZ flush none => Failed OutOfMemory OutOfMemory 0 5a5 by 2";
+/// A sink that does at each write of some bytes what the next letter of its script says: takes so many bytes at most,
+/// finds no memory at an `m`, or fails at an `f`. After the script it takes all. It counts these writes.
+#[derive(Drop)]
+struct Below<'a> {
+    inner: VecSink,
+    script: &'a [u8],
+    calls: usize,
+    faults: u64,
+}
 
-/// The same of a sink with a buffer of four bytes.
-const BUFFERS: &str = ". | pieces d efg hijkl m flush - => 3 1 3 5 1 0 0 lo!defghijklm by 4
-3f | abcd flush flush - => 4 Failed OutOfMemory OutOfMemory abc by 2
-3m | abcd flush flush - => 4 OutOfMemory 0 0 abcd by 3
-f | abcde abc => Failed OutOfMemory  by 1
-m | abcde abc => OutOfMemory 3  by 1";
+impl<'a> Below<'a> {
+    fn new(alloc: Global, script: &'a str) -> Below<'a> {
+        Below {
+            inner: VecSink::new(alloc),
+            script: script.as_bytes(),
+            calls: 0,
+            faults: 0,
+        }
+    }
+}
+
+impl<'a> Sink for Below<'a> {
+    ghost told = { λ s. record (⟦<VecSink as Sink>⟧.told s.inner) { faults = s.faults } };
+
+    fn write(&mut self, piece: &[u8]) -> Result<usize, SinkError> {
+        if piece.is_empty() {
+            return Ok(0);
+        }
+        let step = self.script.get(self.calls).copied().unwrap_or(b'.');
+        self.calls = self.calls.saturating_add(1);
+        match step {
+            b'm' => Err(SinkError::OutOfMemory),
+            b'f' => {
+                self.faults = self.faults.saturating_add(1);
+                Err(SinkError::Failed)
+            }
+            b'1'..=b'9' => {
+                let most = (step - b'0') as usize;
+                self.inner.write(&piece[..most.min(piece.len())])
+            }
+            _ => self.inner.write(piece),
+        }
+    }
+
+    fn flush(&mut self) -> Result<(), SinkError> {
+        self.inner.flush()
+    }
+}
+
+/// Of a sink of digits, and of one with a buffer of four bytes: the script of the sink below and the calls; what the
+/// calls answer, the bytes and the writes below. Two writes below take 256 digits and the rest of a long piece.
+const SINKS: &str = "digits 111m | ñ! 1 flush - => 2 1 0 0 c3b131 by 6
+digits m | ñ! 1 flush - => OutOfMemory 1 0 0 31 by 2
+digits 192 | long flush => 200 0 400 digits by 5
+digits . | pieces flush => 3 0 6c6f21 by 2
+digits 3f | ZZ ZZ flush none => Failed OutOfMemory OutOfMemory 0 5a5 by 2
+buffer . | pieces d efg hijkl m flush - => 3 1 3 5 1 0 0 lo!defghijklm by 4
+buffer 3f | abcd flush flush - => 4 Failed OutOfMemory OutOfMemory abc by 2
+buffer 3m | abcd flush flush - => 4 OutOfMemory 0 0 abcd by 3
+buffer f | abcde abc => Failed OutOfMemory  by 1
+buffer m | abcde abc => OutOfMemory 3  by 1";
 
 /// Writes two pieces with an empty one between them.
 fn write_pieces<S: Sink>(sink: &mut S) -> Result<usize, SinkError> {
@@ -40,7 +86,7 @@ fn flush<S: Sink>(sink: &mut S) -> Result<usize, SinkError> {
 }
 
 /// Makes a call: a flush, a write of these bytes, of none or of many, or one of pieces or of no pieces.
-pub(crate) fn made<S: Sink>(sink: &mut S, call: &str) -> Result<usize, SinkError> {
+fn made<S: Sink>(sink: &mut S, call: &str) -> Result<usize, SinkError> {
     match call {
         "flush" => flush(sink),
         "pieces" => write_pieces(sink),
@@ -64,20 +110,22 @@ pub(crate) fn play<S: Sink>(told: &mut String, calls: &str, sink: &mut S) {
 
 /// Adds what the sink below took, and its writes.
 fn tell_below(told: &mut String, below: &Below<'_>) {
-    match below.taken().len() {
+    match below.inner.taken().len() {
         400 => put(told, "400 digits"),
-        _ => put(told, str::from_utf8(below.taken()).unwrap_or("no text")),
+        _ => put(
+            told,
+            str::from_utf8(below.inner.taken()).unwrap_or("no text"),
+        ),
     }
     put(told, " by ");
-    put(told, below.calls());
+    put(told, below.calls);
 }
 
-fn digits(alloc: Global, script: &str, calls: &str) -> String {
-    let mut told = String::new(alloc);
+/// Makes these calls of a sink of digits.
+fn play_digits(told: &mut String, alloc: Global, script: &str, calls: &str) {
     let mut sink = HexSink::new(Below::new(alloc, script));
-    play(&mut told, calls, &mut sink);
-    tell_below(&mut told, &sink.into_inner());
-    told
+    play(told, calls, &mut sink);
+    tell_below(told, &sink.into_inner());
 }
 
 /// Makes these calls of a buffer, and adds what the sink below it took.
@@ -86,41 +134,23 @@ fn play_buffer(told: &mut String, calls: &str, mut sink: BufferedSink<Below<'_>>
     tell_below(told, &sink.into_inner());
 }
 
-fn buffered(alloc: Global, script: &str, calls: &str) -> String {
+/// Makes these calls of a sink of this kind.
+fn played(alloc: Global, kind: &str, script: &str, calls: &str) -> String {
     let mut told = String::new(alloc);
-    match BufferedSink::new(alloc, Below::new(alloc, script), 4) {
-        Ok(sink) => play_buffer(&mut told, calls, sink),
-        Err(_) => put(&mut told, "no memory"),
+    if kind == "digits" {
+        play_digits(&mut told, alloc, script, calls);
+    } else if let Ok(sink) = BufferedSink::new(alloc, Below::new(alloc, script), 4) {
+        play_buffer(&mut told, calls, sink);
     }
     told
 }
 
 #[test]
-fn digits_over_a_sink_by_a_script(rt: HostRuntime) {
-    for line in DIGITS.lines() {
+fn digits_and_a_buffer_over_a_sink_by_a_script(rt: HostRuntime) {
+    for line in SINKS.lines() {
         let (row, wanted) = cut(line, " => ");
-        let (script, calls) = cut(row, " | ");
-        comes_to(&rt, row, digits(rt.alloc(), script, calls), wanted);
-    }
-}
-
-#[test]
-fn a_buffer_over_a_sink_by_a_script(rt: HostRuntime) {
-    for line in BUFFERS.lines() {
-        let (row, wanted) = cut(line, " => ");
-        let (script, calls) = cut(row, " | ");
-        comes_to(&rt, row, buffered(rt.alloc(), script, calls), wanted);
-    }
-}
-
-#[test]
-fn a_sink_in_memory_and_one_without_steps_take_all(rt: HostRuntime) {
-    let alloc = rt.alloc();
-    for call in ["abc", "pieces"] {
-        assert!(rt; made(&mut VecSink::new(alloc), call) == Ok(3), "{call}");
-        assert!(rt;
-            made(&mut ScriptSink::new(alloc, Vec::new(alloc)), call) == Ok(3),
-            "{call}"
-        );
+        let (sink, calls) = cut(row, " | ");
+        let (kind, script) = cut(sink, " ");
+        comes_to(&rt, row, played(rt.alloc(), kind, script, calls), wanted);
     }
 }
