@@ -17,63 +17,25 @@ use Rattle.xet_upload.specs.declared.metrics.DeduplicationMetrics.{Deduplication
 use Rattle.xet_upload.specs.declared.sha256_policy.Sha256Policy.{Sha256Policy}
 use Rattle.xet_upload.specs.declared.sha256_policy.Sha256Policy.TheVariants.{Compute}
 use Rattle.xet_waiting.specs.declared.waiting.WaitingFile.{WaitingFile}
-use Rattle.xet_upload_session.specs.Calls.{Backs, CountsSent, CutStopped, Keeps, finalized_error}
-use Rattle.xet_upload_session.specs.Completions.{CutsFile, CutsWaiting, Joins, TakesFile, with_file_counts}
+use Rattle.xet_upload_session.specs.Calls.{Backs, CountsSent, Keeps, finalized_error}
+use Rattle.xet_upload_session.specs.Completions.{TakesFile, with_file_counts}
 use Rattle.xet_upload_session.specs.Sessions.{HasListed, SessionTold, Tells, known_of, log_of, waiting_names}
 use Rattle.xet_upload_session.proofs.CallerLemmas.{keeps-both, keeps-refl, ordered-grown}
 use Rattle.xet_clean.specs.Cleaners.{Cleaner, CleanerStands, Completes, Counts, CountsChunks, CutsChunks, EndRefused, Finishes, IsFed, cleaned_file, unknown_xorb}
 use Rattle.xet_clean_parts.specs.Cleanings.{IsFirstUnlisted}
 use Rattle.xet_clean_parts.specs.Pointers.{pointer_to, recorded_sha256}
 use Rattle.xet_clean_parts.specs.Cleanings.{AreNamed, ChunkFails, CleanFails, Leaves, NoFault, term_names}
-use Rattle.xet_clean_parts.specs.Made.{IsPickedFrom, PutsMade, PutsNone, PutsSome, StayOne}
+use Rattle.xet_clean_parts.specs.Made.{IsPickedFrom, PutsInTurn, PutsLast, PutsMade, PutsNone, PutsSome, PutsToEnd, StayOne}
 use Rattle.xet_clean_parts.specs.Premises.{HashesAgree, IsOpen, IsSteady, NoClash}
 use Rattle.xet_clean.specs.Records.{CleanedFile, HasRecord, WaitsFor}
 use Rattle.xet_clean_parts.proofs.CallerLemmas.{fails-later, fails-memory, leaves-refl, sent-both, steady-left}
 use Rattle.xet_clean.proofs.Feeding.{cut-fed, cut-stands, never, never-failed}
 use Rattle.xet_clean.proofs.Holding.{left-holds, takes-holds, takes-taken}
 use Rattle.xet_clean_parts.proofs.CallerLemmas.{opened}
-use Rattle.xet_clean_parts.proofs.CallerLemmas.{made-both, made-more, made-moved, made-still, none-both, none-same, says-err, says-none}
-use Rattle.xet_clean_parts.proofs.CallerLemmas.{picked-all, picked-behind, picked-both, picked-front, picked-none, picked-same, picked-trans, picked-within}
+use Rattle.xet_clean_parts.proofs.CallerLemmas.{end-after, last-moved, made-before, made-less, made-moved, made-still, made-then, none-both, none-same, on-any, says-err, says-none, so-turn, turn-made}
+use Rattle.xet_clean_parts.proofs.CallerLemmas.{picked-all, picked-behind, picked-both, picked-front, picked-trans, picked-within}
 use Rattle.xet_clean_parts.proofs.CallerLemmas.{Contains-head, agree-alone, hashes-before, world-has}
-use Rattle.xet_clean.proofs.Taking.{stay-picked, takes-full, takes-puts, takes-thresholds}
-
--- ---- what waits afterwards
-
--- what waited waits on
-pub waits-still : (b n : SessionTold) (more : List (List ℕ)) → n.waiting ≡ b.waiting
-    → IsPickedFrom n.waiting.chunks (b.waiting.chunks ++ more)
-waits-still b n more e =
-    picked-same n.waiting.chunks b.waiting.chunks (b.waiting.chunks ++ more) (ap (λ (w : Waiting). w.chunks) e)
-    (picked-front b.waiting.chunks b.waiting.chunks more (picked-all b.waiting.chunks))
-
-waits-none : (b n : SessionTold) (more : List (List ℕ)) → n.waiting ≡ no_waiting
-    → IsPickedFrom n.waiting.chunks (b.waiting.chunks ++ more)
-waits-none b n more e = picked-same n.waiting.chunks [] (b.waiting.chunks ++ more)
-    (ap (λ (w : Waiting). w.chunks) e) (picked-none (b.waiting.chunks ++ more))
-
--- after the end of a file
-takes-waits : (b n : SessionTold) (w : Waiting) (now : ℕ) (answer : Result (Unit {0}) DataError)
-    → TakesFile b n w now answer → IsPickedFrom n.waiting.chunks (b.waiting.chunks ++ w.chunks)
-takes-waits b n w now answer t = go answer t.exits
-  where
-    middle-waits : (m : SessionTold) (e : DataError) → CutStopped b m now (Err e)
-        → IsPickedFrom m.waiting.chunks (b.waiting.chunks ++ w.chunks)
-    middle-waits m e (inl s) = waits-still b m w.chunks (ap (λ (z : SessionTold). z.waiting) s)
-    middle-waits m e (inr (inl s)) = waits-none b m w.chunks (ap (λ (z : SessionTold). z.waiting) s.same)
-    middle-waits m e (inr (inr p)) = waits-none b m w.chunks (ap (λ (z : SessionTold). z.waiting) p.put.same)
-
-    go : (a : Result (Unit {0}) DataError) → Joins b n w a ⊎ CutsFile b n w now a ⊎ CutsWaiting b n w now a
-        → IsPickedFrom n.waiting.chunks (b.waiting.chunks ++ w.chunks)
-    go (Ok u) (inl j) = picked-same n.waiting.chunks (b.waiting.chunks ++ w.chunks) (b.waiting.chunks ++ w.chunks)
-        (ap (λ (z : SessionTold). z.waiting.chunks) j.ok) (picked-all (b.waiting.chunks ++ w.chunks))
-    go (Err e) (inl j) = waits-still b n w.chunks (ap (λ (z : SessionTold). z.waiting) j.err)
-    go a (inr (inl c)) = waits-still b n w.chunks (ap (λ (z : SessionTold). z.waiting) c.same)
-    go (Ok u) (inr (inr c)) = picked-same n.waiting.chunks w.chunks (b.waiting.chunks ++ w.chunks)
-        (ap (λ (z : SessionTold). z.waiting.chunks) c.ok) (picked-behind b.waiting.chunks w.chunks w.chunks
-        (picked-all w.chunks))
-    go (Err e) (inr (inr c)) =
-        let P : SessionTold → Type 0 = λ z. IsPickedFrom z.waiting.chunks (b.waiting.chunks ++ w.chunks) in
-        subst P (sym c.err) (middle-waits c.middle e c.cut.err)
+use Rattle.xet_clean.proofs.Taking.{stay-picked, takes-full, takes-last, takes-puts, takes-thresholds, takes-waits, waits-still}
 
 -- ---- the data of a file
 
@@ -125,8 +87,10 @@ module _ (b : SessionTold) (c : Cleaner) (ended : c.pending ≡ []) (hash : Merk
   completes-none n e same why = record {
     keeps = keeps-refl b n same;
     backs = (leaves-refl b n same).backs;
-    puts = λ t. made-still b n (b.waiting.chunks ++ c.parts.own.chunks) (ap log_of same)
+    puts = λ t. made-still b n (b.waiting.chunks ++ c.parts.own.chunks) n.waiting.chunks
+        (waits-still b n c.parts.own.chunks (ap (λ (z : SessionTold). z.waiting) same)) (ap log_of same)
         (ap (λ (z : SessionTold). z.repeated) same);
+    last = λ t. tt;
     full = λ w. none-same b n same;
     thresholds = ap (λ (z : SessionTold). z.thresholds) same;
     waits = waits-still b n c.parts.own.chunks (ap (λ (z : SessionTold). z.waiting) same);
@@ -154,10 +118,14 @@ module _ (b : SessionTold) (c : Cleaner) (ended : c.pending ≡ []) (hash : Merk
     chunks_are = ap (λ (z : Waiting). z.chunks) data_is
 
     puts-own : (n : SessionTold) (answer : Result (Unit {0}) DataError) → TakesFile b n w now answer → Tells b
-        → PutsMade b n (b.waiting.chunks ++ c.parts.own.chunks)
+        → PutsMade b n (b.waiting.chunks ++ c.parts.own.chunks) n.waiting.chunks
     puts-own n answer t tells =
-        let P : List (List ℕ) → Type 0 = λ cs. PutsMade b n (b.waiting.chunks ++ cs) in
+        let P : List (List ℕ) → Type 0 = λ cs. PutsMade b n (b.waiting.chunks ++ cs) n.waiting.chunks in
         subst P chunks_are (takes-puts b n w now answer t tells)
+
+    last-own : (n : SessionTold) (u : Unit {0}) → TakesFile b n w now (Ok u) → Tells b
+        → PutsLast b n c.parts.own.chunks
+    last-own n u t tells = subst (PutsLast b n) chunks_are (takes-last b n w now u t tells)
 
     full-own : (n : SessionTold) (answer : Result (Unit {0}) DataError) → TakesFile b n w now answer
         → StayOne b c.parts.own.chunks → PutsNone b n
@@ -177,6 +145,7 @@ module _ (b : SessionTold) (c : Cleaner) (ended : c.pending ≡ []) (hash : Merk
       keeps = t.keeps;
       backs = λ h. k;
       puts = puts-own n (Err e) t;
+      last = λ x. tt;
       full = full-own n (Err e) t;
       thresholds = takes-thresholds b n w now (Err e) t;
       waits = waits-own n (Err e) t;
@@ -219,8 +188,9 @@ module _ (b : SessionTold) (c : Cleaner) (ended : c.pending ≡ []) (hash : Merk
           record {
             keeps = whole;
             backs = λ h. backs-both b m n' t.keeps whole one two;
-            puts = λ x. made-moved b b m n' (b.waiting.chunks ++ c.parts.own.chunks) refl refl refl refl
-                (puts-own m (Ok u) t x);
+            puts = λ x. made-moved b b m n' (b.waiting.chunks ++ c.parts.own.chunks) m.waiting.chunks refl refl refl
+                refl (puts-own m (Ok u) t x);
+            last = λ x. last-moved b m n' c.parts.own.chunks refl refl refl (last-own m u t x);
             full = λ s x. full-own m (Ok u) t s x;
             thresholds = takes-thresholds b m w now (Ok u) t;
             waits = waits-own m (Ok u) t;
@@ -248,10 +218,6 @@ module _ (b : SessionTold) (c : Cleaner) (ended : c.pending ≡ []) (hash : Merk
 
 -- ---- the exits of `finish`
 
-on-any : {A : Type 0} {P : Type 0} (answer : Result A DataError) → P → OnOk answer P
-on-any (Ok r) p = p
-on-any (Err e) p = tt
-
 kept-holds : (b n : SessionTold) → n ≡ b → (k : Store) (f : CleanedFile) → HasRecord k b f → HasRecord k n f
 kept-holds b n e k f r = subst (λ (z : SessionTold). HasRecord k z f) (sym e) r
 
@@ -266,8 +232,10 @@ module _ (b n : SessionTold) (c : Cleaner) (listed : HasListed b) where
     pending = refl;
     places = tt;
     all = tt;
-    puts = λ t. made-still b n (b.waiting.chunks ++ (c.parts.own.chunks ++ [])) (ap log_of e)
+    puts = λ t. made-still b n (b.waiting.chunks ++ (c.parts.own.chunks ++ [])) n.waiting.chunks
+        (waits-still b n (c.parts.own.chunks ++ []) (ap (λ (z : SessionTold). z.waiting) e)) (ap log_of e)
         (ap (λ (z : SessionTold). z.repeated) e);
+    turn = λ t. tt;
     full = λ w. none-same b n e;
     thresholds = ap (λ (z : SessionTold). z.thresholds) e;
     waits = waits-still b n (c.parts.own.chunks ++ []) (ap (λ (z : SessionTold). z.waiting) e);
@@ -297,8 +265,10 @@ module _ (b n : SessionTold) (c : Cleaner) (listed : HasListed b) where
     pending = refl;
     places = tt;
     all = tt;
-    puts = λ t. made-still b n (b.waiting.chunks ++ (c.parts.own.chunks ++ [])) (ap log_of same)
+    puts = λ t. made-still b n (b.waiting.chunks ++ (c.parts.own.chunks ++ [])) n.waiting.chunks
+        (waits-still b n (c.parts.own.chunks ++ []) (ap (λ (z : SessionTold). z.waiting) same)) (ap log_of same)
         (ap (λ (z : SessionTold). z.repeated) same);
+    turn = λ t. tt;
     full = λ w. none-same b n same;
     thresholds = ap (λ (z : SessionTold). z.thresholds) same;
     waits = waits-still b n (c.parts.own.chunks ++ []) (ap (λ (z : SessionTold). z.waiting) same);
@@ -349,8 +319,10 @@ module _ (b n : SessionTold) (c : Cleaner) (listed : HasListed b) where
     pending = refl;
     places = tt;
     all = tt;
-    puts = λ t. made-still b n (b.waiting.chunks ++ (c.parts.own.chunks ++ [])) (ap log_of same)
+    puts = λ t. made-still b n (b.waiting.chunks ++ (c.parts.own.chunks ++ [])) n.waiting.chunks
+        (waits-still b n (c.parts.own.chunks ++ []) (ap (λ (z : SessionTold). z.waiting) same)) (ap log_of same)
         (ap (λ (z : SessionTold). z.repeated) same);
+    turn = λ t. tt;
     full = λ w. none-same b n same;
     thresholds = ap (λ (z : SessionTold). z.thresholds) same;
     waits = waits-still b n (c.parts.own.chunks ++ []) (ap (λ (z : SessionTold). z.waiting) same);
@@ -395,11 +367,23 @@ module _ (b n : SessionTold) (c : Cleaner) (listed : HasListed b) where
   behind cut = picked-behind b.waiting.chunks (c.parts.own.chunks ++ cut) (c.parts.own.chunks ++ cut)
       (picked-all (c.parts.own.chunks ++ cut))
 
+  -- what was put of them, where what waited waits on
+  uncut-puts : (cut left : List (List ℕ)) → n.waiting ≡ b.waiting → PutsInTurn b n c.parts.own.chunks cut left
+      → PutsMade b n (b.waiting.chunks ++ (c.parts.own.chunks ++ cut)) n.waiting.chunks
+  uncut-puts cut left same p =
+      let all = b.waiting.chunks ++ (c.parts.own.chunks ++ cut) in
+      let P : Waiting → Type 0 = λ w. PutsMade b n all w.chunks in
+      subst P (sym same) (made-less b n all (b.waiting.chunks ++ left) b.waiting.chunks
+      (picked-front b.waiting.chunks b.waiting.chunks left (picked-all b.waiting.chunks))
+      (made-before b n b.waiting.chunks (c.parts.own.chunks ++ cut) left
+      (turn-made b n c.parts.own.chunks cut left p)))
+
   -- a chunk of the bytes that waited failed
   pub finishes-uncut : (e : DataError) → Leaves b n
-      → PutsSome {A = Unit {0}} b n c.parts.own.chunks c.pending (Err e) → b.finalized ≡ false → c.failed ≡ None
-      → AreNamed b.listed c.parts.terms → ChunkFails b n e → Finishes b n c (Err e)
-  finishes-uncut e l p fin none named why = record {
+      → (after : List (List ℕ)) → PutsSome {A = Unit {0}} b n c.parts.own.chunks c.pending after (Err e)
+      → b.finalized ≡ false → c.failed ≡ None → AreNamed b.listed c.parts.terms → ChunkFails b n e
+      → Finishes b n c (Err e)
+  finishes-uncut e l after p fin none named why = record {
     keeps = l.keeps;
     backs = l.backs listed;
     cut = p.cut;
@@ -407,8 +391,8 @@ module _ (b n : SessionTold) (c : Cleaner) (listed : HasListed b) where
     pending = p.bytes_are;
     places = tt;
     all = tt;
-    puts = λ t. made-more b n (c.parts.own.chunks ++ p.cut) (b.waiting.chunks ++ (c.parts.own.chunks ++ p.cut))
-        (behind p.cut) (p.so.puts t);
+    puts = λ t. uncut-puts p.cut p.so.left l.waiting (p.so.puts t);
+    turn = λ t. tt;
     full = λ w. p.so.full (picked-within (c.parts.own.chunks ++ p.cut)
         (b.waiting.chunks ++ (c.parts.own.chunks ++ p.cut)) (behind p.cut) w.within);
     thresholds = l.thresholds;
@@ -511,11 +495,23 @@ module _ (b n : SessionTold) (c : Cleaner) (listed : HasListed b) where
         subst P (sym l.waiting) (picked-both b.waiting.chunks d.parts.own.chunks b.waiting.chunks own
         (picked-all b.waiting.chunks) cuts.cleans.into.own)
 
-    finish-puts : Tells b → PutsMade b n (b.waiting.chunks ++ own)
-    finish-puts t = made-both b m n (b.waiting.chunks ++ own)
-        (made-more b m own (b.waiting.chunks ++ own) (behind cuts.cut) (cuts.so.puts t))
-        (made-more m n (m.waiting.chunks ++ d.parts.own.chunks) (b.waiting.chunks ++ own) with-own
-        (z.puts (l.keeps.tells t)))
+    cut-puts : Tells b → PutsMade b m (b.waiting.chunks ++ own) (m.waiting.chunks ++ d.parts.own.chunks)
+    cut-puts t =
+        let P : Waiting → Type 0 = λ w. PutsMade b m (b.waiting.chunks ++ own) (w.chunks ++ d.parts.own.chunks) in
+        let turn = so-turn b m c.parts.own.chunks cuts.cut d.parts.own.chunks tt cuts.so t in
+        subst P (sym l.waiting) (made-before b m b.waiting.chunks own d.parts.own.chunks
+        (turn-made b m c.parts.own.chunks cuts.cut d.parts.own.chunks turn))
+
+    finish-puts : Tells b → PutsMade b n (b.waiting.chunks ++ own) n.waiting.chunks
+    finish-puts t = made-then b m n (b.waiting.chunks ++ own) (m.waiting.chunks ++ d.parts.own.chunks)
+        n.waiting.chunks with-own (cut-puts t) (z.puts (l.keeps.tells t))
+
+    finish-turn : (x : Result (XetFileInfo × DeduplicationMetrics) DataError)
+        → (Tells m → OnOk x (PutsLast m n d.parts.own.chunks)) → Tells b
+        → OnOk x (PutsToEnd b n c.parts.own.chunks cuts.cut)
+    finish-turn (Ok r) f t = end-after b m n c.parts.own.chunks cuts.cut d.parts.own.chunks l.waiting
+        (so-turn b m c.parts.own.chunks cuts.cut d.parts.own.chunks tt cuts.so t) (f (l.keeps.tells t))
+    finish-turn (Err e) f t = tt
 
     finish-full : StayOne b own → PutsNone b n
     finish-full w = none-both b m n l.keeps
@@ -546,6 +542,7 @@ module _ (b n : SessionTold) (c : Cleaner) (listed : HasListed b) where
           places = on-any answer cuts.places;
           all = on-any answer ended;
           puts = finish-puts;
+          turn = finish-turn answer z.last;
           full = finish-full;
           thresholds = z.thresholds ∙ l.thresholds;
           waits = finish-waits;

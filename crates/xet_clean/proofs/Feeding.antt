@@ -21,14 +21,14 @@ use Rattle.xet_upload_session.specs.Calls.{finalized_error}
 use Rattle.xet_upload_session.specs.Sessions.{SessionTold, log_of}
 use Rattle.xet_clean.specs.Cleaners.{AddsData, Cleaner, CleanerStands, CountsChunks, CutsChunks, Feeds, FeedsOnce, FeedsSo, IsFed, NextChunk, PassesTotal, TakesIn, chunk_counts, past_total}
 use Rattle.xet_clean_parts.specs.Cleanings.{AreNamed, ChunkFails, Cleans, Leaves}
-use Rattle.xet_clean_parts.specs.Made.{PutsMade, PutsSo, PutsSome}
+use Rattle.xet_clean_parts.specs.Made.{PutsInTurn, PutsSo, PutsSome}
 use Rattle.xet_clean_parts.specs.Places.{CutAt, IsCutUp, IsNextCut, Telling}
 use Rattle.xet_clean_parts.specs.Premises.{IsOpen, IsSteady, NoClash}
 use Rattle.xet_clean_parts.proofs.CallerLemmas.{clash-after, clash-before, cleans-both, leaves-refl, steady-left, still-cleans}
 use Rattle.xet_clean_parts.proofs.CallerLemmas.{opened}
 use Rattle.xet_clean_parts.proofs.CallerLemmas.{into-both, into-same}
 use Rattle.xet_clean_parts.proofs.CallerLemmas.{agree-alone, ok-err}
-use Rattle.xet_clean_parts.proofs.CallerLemmas.{at-both, at-one, says-none, so-any, so-both, so-still, some-any, some-behind, some-err, some-one, some-still}
+use Rattle.xet_clean_parts.proofs.CallerLemmas.{at-both, at-one, on-any, says-none, so-any, so-both, so-still, so-turn, some-any, some-behind, some-err, some-one, some-still}
 
 -- nothing was fed
 pub new-stands : (s : Store) (c : Cleaner) → c.parts ≡ no_parts → c.pending ≡ [] → c.fed ≡ 0 → Holds256 c.hasher []
@@ -57,21 +57,21 @@ cuts-none last b n c d e f =
       cleans = still-cleans b n c.parts c.parts e refl;
       pending = refl;
       places = refl;
-      so = so-still b n c.parts.own.chunks [] (Ok tt) e;
+      so = so-still b n c.parts.own.chunks (Ok tt) e;
       counts = refl;
       same = refl;
     })
 
 pub cuts-one : (b n : SessionTold) (c m d : Cleaner) (last : Bool) (chunk : List ℕ) → 0 < length chunk
     → NextChunk c m last (Some chunk) → Cleans b n m.parts d.parts (chunk ∷ [])
-    → PutsSo {A = Unit {0}} b n m.parts.own.chunks (chunk ∷ []) (Ok tt)
+    → PutsSo {A = Unit {0}} b n m.parts.own.chunks (chunk ∷ []) d.parts.own.chunks (Ok tt)
     → d ≡ record m { parts = d.parts; counts = d.counts } → CountsChunks m.counts (chunk ∷ []) d.counts
     → CutsChunks last b n c d
 cuts-one b n c m d last chunk some next cleans so same counts =
     let parts : m.parts ≡ c.parts = ap (λ (z : Cleaner). z.parts) next.same in
     let pending : d.pending ≡ m.pending = ap (λ (z : Cleaner). z.pending) same in
     let P : Parts → Type 0 = λ p. Cleans b n p d.parts (chunk ∷ []) in
-    let Q : Parts → Type 0 = λ p. PutsSo {A = Unit {0}} b n p.own.chunks (chunk ∷ []) (Ok tt) in
+    let Q : Parts → Type 0 = λ p. PutsSo {A = Unit {0}} b n p.own.chunks (chunk ∷ []) d.parts.own.chunks (Ok tt) in
     record {
       cut = chunk ∷ [];
       cleans = subst P parts cleans;
@@ -87,12 +87,12 @@ cuts-one b n c m d last chunk some next cleans so same counts =
     }
 
 -- a chunk was cut and cleaned, or this failed
-pub cleaned-puts : {A : Type 0} (b n : SessionTold) (c m : Cleaner) (last : Bool) (chunk : List ℕ)
-    (answer : Result A DataError) → NextChunk c m last (Some chunk) → PutsSo b n m.parts.own.chunks (chunk ∷ []) answer
-    → PutsSome b n c.parts.own.chunks c.pending answer
-cleaned-puts b n c m last chunk answer next so =
-    let Q : Parts → Type 0 = λ p. PutsSo b n p.own.chunks (chunk ∷ []) answer in
-    some-one b n c.parts.own.chunks c.pending chunk m.pending answer next.pending
+pub cleaned-puts : {A : Type 0} (b n : SessionTold) (c m : Cleaner) (after : List (List ℕ)) (last : Bool)
+    (chunk : List ℕ) (answer : Result A DataError) → NextChunk c m last (Some chunk)
+    → PutsSo b n m.parts.own.chunks (chunk ∷ []) after answer → PutsSome b n c.parts.own.chunks c.pending after answer
+cleaned-puts b n c m after last chunk answer next so =
+    let Q : Parts → Type 0 = λ p. PutsSo b n p.own.chunks (chunk ∷ []) after answer in
+    some-one b n c.parts.own.chunks c.pending chunk m.pending after answer next.pending
     (subst Q (ap (λ (z : Cleaner). z.parts) next.same) so)
 
 -- what the cutter tells stays
@@ -109,8 +109,8 @@ pub cuts-both : (last : Bool) (b m n : SessionTold) (c x d : Cleaner) → Leaves
 cuts-both last b m n c x d l h one two = record {
   cut = one.cut ++ two.cut;
   cleans = cleans-both b m n c.parts x.parts d.parts one.cut two.cut l h one.cleans two.cleans;
-  so = so-both b m n c.parts.own.chunks x.parts.own.chunks one.cut two.cut (Ok tt) (Ok tt) l.keeps one.cleans.failed
-      one.cleans.into.own one.so two.so;
+  so = so-both b m n c.parts.own.chunks x.parts.own.chunks d.parts.own.chunks one.cut two.cut tt (Ok tt) l.keeps
+      one.cleans.failed one.cleans.into.own one.so two.so;
   counts = counts-both c.counts x.counts d.counts one.cut two.cut one.counts two.counts;
   places =
       let P : Telling → Type 0 = λ t. CutAt t last x.pending two.cut d.pending in
@@ -130,21 +130,23 @@ cuts-both last b m n c x d l h one two = record {
 
 -- what all chunks put
 pub chunks-done : {A : Type 0} (last : Bool) (b n : SessionTold) (c d : Cleaner) (answer : Result A DataError)
-    → CutsChunks last b n c d → PutsSome b n c.parts.own.chunks c.pending answer
+    → CutsChunks last b n c d → PutsSome b n c.parts.own.chunks c.pending d.parts.own.chunks answer
 chunks-done last b n c d answer cuts = record {
   cut = cuts.cut;
   rest = d.pending;
   bytes_are = cuts.pending;
-  so = so-any b n c.parts.own.chunks cuts.cut (Ok tt) answer cuts.cleans.failed cuts.so;
+  so = so-any b n c.parts.own.chunks cuts.cut d.parts.own.chunks d.parts.own.chunks tt answer cuts.cleans.failed refl
+      cuts.so;
 }
 
 -- and where one failed behind them
-pub chunks-stopped : {A B : Type 0} (last : Bool) (b m n : SessionTold) (c x : Cleaner) (e : DataError) → Leaves b m
-    → CutsChunks last b m c x → PutsSome {A = A} m n x.parts.own.chunks x.pending (Err e)
-    → PutsSome {A = B} b n c.parts.own.chunks c.pending (Err e)
-chunks-stopped {A = A} {B = B} last b m n c x e l cuts p =
-    some-err {A = A} {B = B} b n c.parts.own.chunks c.pending e
-    (some-behind b m n c.parts.own.chunks x.parts.own.chunks c.pending x.pending cuts.cut (Ok tt) (Err e) l.keeps
+pub chunks-stopped : {A B : Type 0} (last : Bool) (b m n : SessionTold) (c x : Cleaner) (after : List (List ℕ))
+    (e : DataError) → Leaves b m → CutsChunks last b m c x
+    → PutsSome {A = A} m n x.parts.own.chunks x.pending after (Err e)
+    → PutsSome {A = B} b n c.parts.own.chunks c.pending after (Err e)
+chunks-stopped {A = A} {B = B} last b m n c x after e l cuts p =
+    some-err {A = A} {B = B} b n c.parts.own.chunks c.pending after after e
+    (some-behind b m n c.parts.own.chunks x.parts.own.chunks after c.pending x.pending cuts.cut tt (Err e) l.keeps
     cuts.cleans.failed cuts.cleans.into.own cuts.pending cuts.so p)
 
 -- ---- bytes are fed
@@ -215,12 +217,12 @@ feeds b n c x d bytes tk cuts =
     }) tk.same in
     let hasher : d.hasher ≡ x.hasher = ap (λ (z : Cleaner). z.hasher) cuts.same in
     let parts : x.parts ≡ c.parts = ap (λ (z : Cleaner). z.parts) tk.same in
-    let M : Parts → Type 0 = λ p. PutsMade b n (p.own.chunks ++ cuts.cut) in
+    let M : Parts → Type 0 = λ p. PutsInTurn b n p.own.chunks cuts.cut d.parts.own.chunks in
     let N : Parts → Type 0 = λ p. IsWithin (p.own.chunks ++ cuts.cut) in (
       record {
         cut = cuts.cut;
         into = into-same x.parts c.parts d.parts cuts.cut parts cuts.cleans.into;
-        puts = λ t. subst M parts (cuts.so.puts t);
+        puts = λ t. subst M parts (so-turn b n x.parts.own.chunks cuts.cut d.parts.own.chunks tt cuts.so t);
         full = λ w. cuts.so.full (subst N (sym parts) w);
         pending = sym (ap (λ (z : Cleaner). z.pending) tk.same) ∙ cuts.pending;
         failed = cuts.cleans.failed;
@@ -261,14 +263,14 @@ feeds-once b n c x d bytes tk cuts up =
     }
 
 -- what was cut after bytes came in
-take-puts : {A : Type 0} (b n : SessionTold) (c x : Cleaner) (bytes : List ℕ) (answer : Result A DataError)
-    → TakesIn c bytes x → PutsSome b n x.parts.own.chunks x.pending answer
-    → PutsSome b n c.parts.own.chunks (c.pending ++ bytes) answer
-take-puts b n c x bytes answer tk p =
+take-puts : {A : Type 0} (b n : SessionTold) (c x : Cleaner) (bytes : List ℕ) (after : List (List ℕ))
+    (answer : Result A DataError) → TakesIn c bytes x → PutsSome b n x.parts.own.chunks x.pending after answer
+    → PutsSome b n c.parts.own.chunks (c.pending ++ bytes) after answer
+take-puts b n c x bytes after answer tk p =
     let parts : x.parts ≡ c.parts = ap (λ (z : Cleaner). z.parts) tk.same in
     let pending : x.pending ≡ c.pending ++ bytes = ap (λ (z : Cleaner). z.pending) tk.same in
-    let P : Parts → Type 0 = λ z. PutsSome b n z.own.chunks (c.pending ++ bytes) answer in
-    let Q : List ℕ → Type 0 = λ xs. PutsSome b n x.parts.own.chunks xs answer in
+    let P : Parts → Type 0 = λ z. PutsSome b n z.own.chunks (c.pending ++ bytes) after answer in
+    let Q : List ℕ → Type 0 = λ xs. PutsSome b n x.parts.own.chunks xs after answer in
     subst P parts (subst Q pending p)
 
 -- ---- the exits of a call that feeds
@@ -285,7 +287,7 @@ pub feeds-finalized : (b n : SessionTold) (c d : Cleaner) (bytes : List ℕ) →
 feeds-finalized b n c d bytes e f fin = record {
   leaves = leaves-refl b n e;
   ok = tt;
-  puts = some-still b n c.parts.own.chunks (c.pending ++ bytes) (Err finalized_error) e;
+  puts = some-still b n c.parts.own.chunks (c.pending ++ bytes) d.parts.own.chunks (Err finalized_error) e tt;
   failed = ap (λ (z : Cleaner). z.failed) f;
   finalized = λ g. (refl, e);
   kept = λ g. never b.finalized g fin;
@@ -299,7 +301,7 @@ pub feeds-kept : (b n : SessionTold) (c d : Cleaner) (bytes : List ℕ) (e : Dat
 feeds-kept b n c d bytes e same f fin failed = record {
   leaves = leaves-refl b n same;
   ok = tt;
-  puts = some-still b n c.parts.own.chunks (c.pending ++ bytes) (Err e) same;
+  puts = some-still b n c.parts.own.chunks (c.pending ++ bytes) d.parts.own.chunks (Err e) same tt;
   failed = ap (λ (z : Cleaner). z.failed) f;
   finalized = λ g. never b.finalized fin g;
   kept = λ g x k. (
@@ -318,7 +320,7 @@ pub feeds-past : (b n : SessionTold) (c d : Cleaner) (bytes : List ℕ) (e : Dat
 feeds-past b n c d bytes e same f fin none passes is = record {
   leaves = leaves-refl b n same;
   ok = tt;
-  puts = some-still b n c.parts.own.chunks (c.pending ++ bytes) (Err e) same;
+  puts = some-still b n c.parts.own.chunks (c.pending ++ bytes) d.parts.own.chunks (Err e) same tt;
   failed = ap (λ (z : Cleaner). z.failed) f;
   finalized = λ g. never b.finalized fin g;
   kept = λ g x k. never-failed c.failed x none k;
@@ -328,7 +330,7 @@ feeds-past b n c d bytes e same f fin none passes is = record {
 
 -- a step failed
 pub feeds-failed : (b n : SessionTold) (c d : Cleaner) (bytes : List ℕ) (e : DataError) → Leaves b n
-    → PutsSome {A = Unit {0}} b n c.parts.own.chunks (c.pending ++ bytes) (Err e)
+    → PutsSome {A = Unit {0}} b n c.parts.own.chunks (c.pending ++ bytes) d.parts.own.chunks (Err e)
     → d.failed ≡ c.failed → b.finalized ≡ false → c.failed ≡ None → (PassesTotal c bytes → ⊥) → ChunkFails b n e
     → FeedsSo b n c bytes d (Err e)
 feeds-failed b n c d bytes e l p f fin none fits why = record {
@@ -345,12 +347,12 @@ feeds-failed b n c d bytes e l p f fin none fits why = record {
 -- all was done
 pub feeds-ok : (b n : SessionTold) (c x d : Cleaner) (bytes : List ℕ) (u : Unit {0}) → Leaves b n → TakesIn c bytes x
     → CutsChunks false b n x d → IsCutUp x.tell false d.pending
-    → PutsSome {A = Unit {0}} b n x.parts.own.chunks x.pending (Ok u) → d.failed ≡ c.failed → b.finalized ≡ false
-    → c.failed ≡ None → (PassesTotal c bytes → ⊥) → FeedsSo b n c bytes d (Ok u)
+    → PutsSome {A = Unit {0}} b n x.parts.own.chunks x.pending d.parts.own.chunks (Ok u) → d.failed ≡ c.failed
+    → b.finalized ≡ false → c.failed ≡ None → (PassesTotal c bytes → ⊥) → FeedsSo b n c bytes d (Ok u)
 feeds-ok b n c x d bytes u l tk cuts up p f fin none fits = record {
   leaves = l;
   ok = feeds-once b n c x d bytes tk cuts up;
-  puts = take-puts b n c x bytes (Ok u) tk p;
+  puts = take-puts b n c x bytes d.parts.own.chunks (Ok u) tk p;
   failed = f;
   finalized = λ g. never b.finalized fin g;
   kept = λ g e k. never-failed c.failed e none k;
@@ -361,24 +363,25 @@ feeds-ok b n c x d bytes u l tk cuts up p f fin none fits = record {
 -- the last call of a cleaner that takes in bytes, with either answer
 pub feeds-cut : (b n : SessionTold) (c x d : Cleaner) (bytes : List ℕ) (answer : Result (Unit {0}) DataError)
     → Leaves b n → TakesIn c bytes x → OnOk answer (CutsChunks false b n x d)
-    → OnOk answer (IsCutUp x.tell false d.pending) → PutsSome b n x.parts.own.chunks x.pending answer
-    → d.failed ≡ c.failed → b.finalized ≡ false → c.failed ≡ None → (PassesTotal c bytes → ⊥)
+    → OnOk answer (IsCutUp x.tell false d.pending)
+    → PutsSome b n x.parts.own.chunks x.pending d.parts.own.chunks answer → d.failed ≡ c.failed → b.finalized ≡ false → c.failed ≡ None → (PassesTotal c bytes → ⊥)
     → IfErr answer (ChunkFails b n) → FeedsSo b n c bytes d answer
 feeds-cut b n c x d bytes (Ok u) l tk cuts up p f fin none fits why =
     feeds-ok b n c x d bytes u l tk cuts up p f fin none fits
 feeds-cut b n c x d bytes (Err e) l tk cuts up p f fin none fits why =
-    feeds-failed b n c d bytes e l (take-puts b n c x bytes (Err e) tk p) f fin none fits why
+    feeds-failed b n c d bytes e l (take-puts b n c x bytes d.parts.own.chunks (Err e) tk p) f fin none fits why
 
 -- the same, where the tracker was told before and the session's words are as they were
 pub feeds-grown : (b m n : SessionTold) (c x d : Cleaner) (bytes : List ℕ) (answer : Result (Unit {0}) DataError)
     → m ≡ b → Leaves m n → TakesIn c bytes x → OnOk answer (CutsChunks false m n x d)
-    → OnOk answer (IsCutUp x.tell false d.pending) → PutsSome m n x.parts.own.chunks x.pending answer
-    → d.failed ≡ c.failed → b.finalized ≡ false → c.failed ≡ None → (PassesTotal c bytes → ⊥)
+    → OnOk answer (IsCutUp x.tell false d.pending)
+    → PutsSome m n x.parts.own.chunks x.pending d.parts.own.chunks answer → d.failed ≡ c.failed → b.finalized ≡ false → c.failed ≡ None → (PassesTotal c bytes → ⊥)
     → IfErr answer (ChunkFails m n) → FeedsSo b n c bytes d answer
 feeds-grown b m n c x d bytes answer e l tk cuts up p f fin none fits why =
     feeds-cut b n c x d bytes answer (subst (λ (t : SessionTold). Leaves t n) e l) tk
     (subst (λ (t : SessionTold). OnOk answer (CutsChunks false t n x d)) e cuts) up
-    (subst (λ (t : SessionTold). PutsSome t n x.parts.own.chunks x.pending answer) e p) f fin none fits
+    (subst (λ (t : SessionTold). PutsSome t n x.parts.own.chunks x.pending d.parts.own.chunks answer) e p) f fin none
+    fits
     (subst (λ (t : SessionTold). IfErr answer (ChunkFails t n)) e why)
 
 -- the first error is kept
@@ -391,7 +394,7 @@ pub adds-ok : (b n : SessionTold) (c d : Cleaner) (bytes : List ℕ) (u v : Unit
 adds-ok b n c d bytes u v f = record {
   leaves = f.leaves;
   ok = f.ok;
-  puts = some-any b n c.parts.own.chunks (c.pending ++ bytes) (Ok u) (Ok v) f.ok.feeds.failed f.puts;
+  puts = some-any b n c.parts.own.chunks (c.pending ++ bytes) d.parts.own.chunks u (Ok v) f.ok.feeds.failed f.puts;
   failed = or-same c.failed d.failed f.failed;
   unfailed = (f.ok.feeds.failed, f.leaves.keeps.steady (inl f.ok.feeds.failed));
   finalized = λ g. let q = f.finalized g in ok-err u finalized_error q.0;
@@ -405,7 +408,7 @@ pub adds-err : (b n : SessionTold) (c m d : Cleaner) (bytes : List ℕ) (e : Dat
 adds-err b n c m d bytes e f is = record {
   leaves = f.leaves;
   ok = tt;
-  puts = f.puts;
+  puts = some-err b n c.parts.own.chunks (c.pending ++ bytes) m.parts.own.chunks d.parts.own.chunks e f.puts;
   failed = is ∙ ap (λ (o : Option DataError). Some (unwrap_or o e)) f.failed ∙ go c.failed;
   unfailed = tt;
   finalized = f.finalized;
@@ -469,8 +472,8 @@ feeds-none b n c d e f =
     let P : Cleaner → Type 0 = λ z. (f : Feeds b n c [] z) × (f.cut ≡ []) in
     subst P (sym f) (still, refl)
   where
-    so : PutsSo {A = Unit {0}} b n c.parts.own.chunks [] (Ok tt)
-    so = so-still b n c.parts.own.chunks [] (Ok tt) e
+    so : PutsSo {A = Unit {0}} b n c.parts.own.chunks [] c.parts.own.chunks (Ok tt)
+    so = so-still b n c.parts.own.chunks (Ok tt) e
 
     cleans : Cleans b n c.parts c.parts []
     cleans = still-cleans b n c.parts c.parts e refl
@@ -479,7 +482,7 @@ feeds-none b n c d e f =
     still = record {
       cut = [];
       into = cleans.into;
-      puts = so.puts;
+      puts = λ t. so-turn b n c.parts.own.chunks [] c.parts.own.chunks tt so t;
       full = so.full;
       pending = append-nil c.pending;
       failed = ap (λ (t : SessionTold). t.failed) e;
@@ -494,9 +497,14 @@ feeds-none b n c d e f =
 
 -- what a call that feeds puts, as an answer
 pub feeds-so : {A : Type 0} (b n : SessionTold) (c d : Cleaner) (bytes : List ℕ) (answer : Result A DataError)
-    → (f : Feeds b n c bytes d) → PutsSo b n c.parts.own.chunks f.cut answer
-feeds-so b n c d bytes answer f =
-    record { puts = f.puts; full = f.full; said = λ none. says-none b n answer f.failed none }
+    → (f : Feeds b n c bytes d) → PutsSo b n c.parts.own.chunks f.cut d.parts.own.chunks answer
+feeds-so b n c d bytes answer f = record {
+  left = d.parts.own.chunks;
+  left_are = on-any answer refl;
+  puts = f.puts;
+  full = f.full;
+  said = λ none. says-none b n answer f.failed none;
+}
 
 -- an answer that tells of no failure
 abbrev went : Result (Unit {0}) DataError
@@ -508,7 +516,7 @@ feeds-both b m n c x d xs ys l h one two = (
   record {
     cut = one.cut ++ two.cut;
     into = into-both c.parts x.parts d.parts one.cut two.cut one.into two.into;
-    puts = so.puts;
+    puts = λ t. so-turn b n c.parts.own.chunks (one.cut ++ two.cut) d.parts.own.chunks tt so t;
     full = so.full;
     failed = two.failed ∙ one.failed;
     counts = counts-both c.counts x.counts d.counts one.cut two.cut one.counts two.counts;
@@ -549,6 +557,6 @@ feeds-both b m n c x d xs ys l h one two = (
   refl,
 )
   where
-    so : PutsSo b n c.parts.own.chunks (one.cut ++ two.cut) went
-    so = so-both b m n c.parts.own.chunks x.parts.own.chunks one.cut two.cut went went l.keeps one.failed
+    so : PutsSo b n c.parts.own.chunks (one.cut ++ two.cut) d.parts.own.chunks went
+    so = so-both b m n c.parts.own.chunks x.parts.own.chunks d.parts.own.chunks one.cut two.cut tt went l.keeps one.failed
         one.into.own (feeds-so b m c x xs went one) (feeds-so m n x d ys went two)

@@ -79,6 +79,7 @@ module _ (b m : SessionTold) (c : Cleaner) (w : Waiting) (h : MerkleHash) (sha :
   took-err e t k = record {
     taken = w;
     one = record { file_id = c.file_id; hash = h; terms = c.parts.terms; sha256 = sha };
+    chunks = ap (λ (z : Waiting). z.chunks) is;
     files = data-alone c.parts w c.file_id h sha is alone;
     number = refl;
     hash = hash_is;
@@ -100,6 +101,7 @@ module _ (b m : SessionTold) (c : Cleaner) (w : Waiting) (h : MerkleHash) (sha :
       record {
         taken = w;
         one = record { file_id = c.file_id; hash = h; terms = c.parts.terms; sha256 = sha };
+        chunks = ap (λ (z : Waiting). z.chunks) is;
         files = data-alone c.parts w c.file_id h sha is alone;
         number = refl;
         hash = hash_is;

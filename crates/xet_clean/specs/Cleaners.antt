@@ -24,7 +24,8 @@ use Rattle.xet_upload_session.specs.Completions.{with_file_counts}
 use Rattle.xet_upload_session.specs.Sessions.{HasListed, SessionTold, Tells, log_of}
 use Rattle.xet_clean_parts.specs.Cleanings.{AreNamed, ChunkFails, CleanFails, Cleans, Leaves, NoFault}
 use Rattle.xet_clean_parts.specs.FileCalls.{IsLate}
-use Rattle.xet_clean_parts.specs.Made.{CutInto, IsPickedFrom, PutsMade, PutsNone, PutsSo, PutsSome, StayOne}
+use Rattle.xet_clean_parts.specs.Made.{CutInto, IsPickedFrom, PutsInTurn, PutsLast, PutsMade, PutsNone, PutsSo}
+use Rattle.xet_clean_parts.specs.Made.{PutsSome, PutsToEnd, StayOne}
 use Rattle.xet_clean_parts.specs.Places.{CutAt, CutBy, IsCutUp, IsNextCut, Telling}
 use Rattle.xet_clean_parts.specs.Premises.{HashesAgree, IsOpen, IsSteady, NoClash}
 use Rattle.xet_clean_parts.specs.Cleanings.{IsFirstUnlisted}
@@ -112,7 +113,7 @@ pub record CutsChunks (last : Bool) (b n : SessionTold) (c d : Cleaner) : Type 0
   pub cleans : Cleans b n c.parts d.parts cut
   pub pending : c.pending ≡ concat cut ++ d.pending
   pub places : CutAt c.tell last c.pending cut d.pending
-  pub so : PutsSo {A = Unit {0}} b n c.parts.own.chunks cut (Ok tt)
+  pub so : PutsSo {A = Unit {0}} b n c.parts.own.chunks cut d.parts.own.chunks (Ok tt)
   pub counts : CountsChunks c.counts cut d.counts
   pub same : d ≡ record c { parts = d.parts; pending = d.pending; counts = d.counts }
 
@@ -121,7 +122,7 @@ pub record Feeds (b n : SessionTold) (c : Cleaner) (bytes : List ℕ) (d : Clean
   pub cut : List (List ℕ)
   pub into : CutInto c.parts d.parts cut
   pub pending : c.pending ++ bytes ≡ concat cut ++ d.pending
-  pub puts : Tells b → PutsMade b n (c.parts.own.chunks ++ cut)
+  pub puts : Tells b → PutsInTurn b n c.parts.own.chunks cut d.parts.own.chunks
   pub full : IsWithin (c.parts.own.chunks ++ cut) → PutsNone b n
   pub failed : n.failed ≡ b.failed
   pub counts : CountsChunks c.counts cut d.counts
@@ -167,7 +168,7 @@ pub record FeedsSo (b n : SessionTold) (c : Cleaner) (bytes : List ℕ) (d : Cle
     (answer : Result (Unit {0}) DataError) : Type 0 where
   pub leaves : Leaves b n
   pub ok : OnOk answer (FeedsOnce b n c bytes d)
-  pub puts : PutsSome b n c.parts.own.chunks (c.pending ++ bytes) answer
+  pub puts : PutsSome b n c.parts.own.chunks (c.pending ++ bytes) d.parts.own.chunks answer
   pub failed : d.failed ≡ c.failed
   pub finalized : b.finalized ≡ true → (answer ≡ Err finalized_error) × (n ≡ b)
   pub kept : b.finalized ≡ false → (e : DataError) → c.failed ≡ Some e → (answer ≡ Err e) × (n ≡ b)
@@ -185,7 +186,7 @@ pub record AddsData (b n : SessionTold) (c : Cleaner) (bytes : List ℕ) (d : Cl
     (answer : Result (Unit {0}) DataError) : Type 0 where
   pub leaves : Leaves b n
   pub ok : OnOk answer (FeedsOnce b n c bytes d)
-  pub puts : PutsSome b n c.parts.own.chunks (c.pending ++ bytes) answer
+  pub puts : PutsSome b n c.parts.own.chunks (c.pending ++ bytes) d.parts.own.chunks answer
   pub failed : d.failed ≡ option_or c.failed (error_of answer)
   pub unfailed : OnOk answer (NoFault b n)
   pub finalized : b.finalized ≡ true → (answer ≡ Err finalized_error) × (n ≡ b)
@@ -232,7 +233,8 @@ pub record Completes (b n : SessionTold) (c : Cleaner)
     (answer : Result (XetFileInfo × DeduplicationMetrics) DataError) : Type 0 where
   pub keeps : Keeps b n
   pub backs : HasListed b → Backs b n
-  pub puts : Tells b → PutsMade b n (b.waiting.chunks ++ c.parts.own.chunks)
+  pub puts : Tells b → PutsMade b n (b.waiting.chunks ++ c.parts.own.chunks) n.waiting.chunks
+  pub last : Tells b → OnOk answer (PutsLast b n c.parts.own.chunks)
   pub full : StayOne b c.parts.own.chunks → PutsNone b n
   pub thresholds : n.thresholds ≡ b.thresholds
   pub waits : IsPickedFrom n.waiting.chunks (b.waiting.chunks ++ c.parts.own.chunks)
@@ -254,7 +256,7 @@ pub record Completes (b n : SessionTold) (c : Cleaner)
 
 -- a cleaner ended: what other records stand for is kept, and the session has a record that stands for what the cleaner
 -- stood for; the pending bytes were cut, and what was put is made of what waited, of the file's own chunks and of those
--- that were cut; nothing was put where all these stay one
+-- that were cut, in turn; nothing was put where all these stay one
 pub record Finishes (b n : SessionTold) (c : Cleaner)
     (answer : Result (XetFileInfo × DeduplicationMetrics) DataError) : Type 0 where
   pub keeps : Keeps b n
@@ -264,7 +266,8 @@ pub record Finishes (b n : SessionTold) (c : Cleaner)
   pub pending : c.pending ≡ concat cut ++ rest
   pub places : OnOk answer (CutAt c.tell true c.pending cut rest)
   pub all : OnOk answer (rest ≡ [])
-  pub puts : Tells b → PutsMade b n (b.waiting.chunks ++ (c.parts.own.chunks ++ cut))
+  pub puts : Tells b → PutsMade b n (b.waiting.chunks ++ (c.parts.own.chunks ++ cut)) n.waiting.chunks
+  pub turn : Tells b → OnOk answer (PutsToEnd b n c.parts.own.chunks cut)
   pub full : StayOne b (c.parts.own.chunks ++ cut) → PutsNone b n
   pub thresholds : n.thresholds ≡ b.thresholds
   pub waits : IsPickedFrom n.waiting.chunks (b.waiting.chunks ++ (c.parts.own.chunks ++ cut))

@@ -22,11 +22,12 @@ unit_of (Ok a) = Ok tt
 unit_of (Err e) = Err e
 
 -- the session took the data of one file, and then the cleaner's counts were added, or it refused them, at this moment.
--- The data have this one record, which stands for the bytes that the cleaner stood for
+-- The data are the cleaner's own chunks with this one record, which stands for the bytes that the cleaner stood for
 pub record TookFile {A : Type 0} (b n : SessionTold) (c : Cleaner) (now : ℕ) (before after : List TrackerStep)
     (answer : Result A DataError) : Type 0 where
   pub taken : Waiting
   pub one : WaitingFile
+  pub chunks : taken.chunks ≡ c.parts.own.chunks
   pub files : taken.files ≡ one ∷ []
   pub number : one.file_id ≡ c.file_id
   pub hash : one.hash ≡ file_hash_of c.parts.infos

@@ -136,7 +136,7 @@ impl<T: Cutter> SingleFileCleaner<T> {
         ensures cleans { OnOk result (Cleans (told_by U.told R.told session.old) (told_by U.told R.told session.new)
             self.old.parts self.new.parts (chunk ∷ [])) }
         ensures puts { PutsSo (told_by U.told R.told session.old) (told_by U.told R.told session.new)
-            self.old.parts.own.chunks (chunk ∷ []) result }
+            self.old.parts.own.chunks (chunk ∷ []) self.new.parts.own.chunks result }
         ensures same { OnOk result (cleaner_of T.told self.new ≡ record (cleaner_of T.told self.old) {
           parts = self.new.parts;
           counts = self.new.counts;
@@ -177,7 +177,7 @@ impl<T: Cutter> SingleFileCleaner<T> {
         ensures cuts { OnOk result (CutsChunks last (told_by U.told R.told session.old)
             (told_by U.told R.told session.new) (cleaner_of T.told self.old) (cleaner_of T.told self.new)) }
         ensures puts { PutsSome (told_by U.told R.told session.old) (told_by U.told R.told session.new)
-            self.old.parts.own.chunks (bytes_left self.old.pending) result }
+            self.old.parts.own.chunks (bytes_left self.old.pending) self.new.parts.own.chunks result }
         ensures shorter { IfOk result (λ more. more ≡ true
             → length (bytes_left self.new.pending) < length (bytes_left self.old.pending)) }
         ensures up { IfOk result (λ more. more ≡ false
@@ -213,7 +213,7 @@ impl<T: Cutter> SingleFileCleaner<T> {
         ensures cuts { OnOk result (CutsChunks last (told_by U.told R.told session.old)
             (told_by U.told R.told session.new) (cleaner_of T.told self.old) (cleaner_of T.told self.new)) }
         ensures puts { PutsSome (told_by U.told R.told session.old) (told_by U.told R.told session.new)
-            self.old.parts.own.chunks (bytes_left self.old.pending) result }
+            self.old.parts.own.chunks (bytes_left self.old.pending) self.new.parts.own.chunks result }
         ensures up { OnOk result (IsCutUp (T.told self.old.cutter) last (bytes_left self.new.pending)) }
         ensures none { OnOk result (last ≡ true → bytes_left self.new.pending ≡ []) }
         ensures failed { self.new.failed ≡ self.old.failed }

@@ -9,4 +9,5 @@ mod Picked
 mod Places
 mod Puts
 mod SessionCalls
+mod Turns
 mod Worlds

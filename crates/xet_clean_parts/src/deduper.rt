@@ -1,13 +1,11 @@
 //! What a chunk of a file becomes in a session: a place in a known xorb, or one more chunk that waits.
-ghost use Rattle.std.specs.Prelude.{◌≡◌, ◌++◌, ◌∷◌, ◌<◌, ◌≤◌, ℕ, [], IfErr, None, OnOk, length};
+ghost use Rattle.std.specs.Prelude.{◌≡◌, ◌++◌, ◌∷◌, ◌<◌, ◌≤◌, ℕ, [], IfErr, List, OnOk, length};
 ghost use Rattle.xet_base.specs.Digests.{info_of};
 ghost use Rattle.xet_upload.specs.Waitings.{IsWithin, no_waiting};
-ghost use Rattle.xet_upload_session.specs.Calls.{Says};
-ghost use Rattle.xet_upload_session.specs.Sessions.{Tells};
 ghost use Rattle.xet_upload_session.specs.Telling.{KeepsGroup, told_by};
 ghost use Rattle.xet_clean_parts.specs.Cleanings.{ChunkFails, Cleans, FoundChunk, Leaves, TrackFails};
 ghost use Rattle.xet_clean_parts.specs.FileCalls.{IsLate, IsPartOf, TellsOf};
-ghost use Rattle.xet_clean_parts.specs.Made.{PutsMade, PutsSo};
+ghost use Rattle.xet_clean_parts.specs.Made.{PutsSo};
 ghost use Rattle.xet_clean_parts.specs.SessionCalls.{Calls};
 ghost use Rattle.xet_waiting.specs.Limits.{most_chunk_bytes};
 
@@ -21,8 +19,8 @@ use xet_upload::{DataError, FileParts};
 use xet_upload_session::FileUploadSession;
 use xet_uploader::Uploader;
 
-// The chunks of a file that wait become a xorb, which the session has then, unless none wait. The tracker is told that
-// the file has them in it.
+// The chunks of a file that wait become a xorb, since the next doesn't fit beside them. The session has it then, unless
+// none wait. The tracker is told that the file has them in it.
 fn cut_own<U: Uploader, R: ShardStore, W: Wait>(
     session: &mut FileUploadSession<U, R>,
     rt: &W,
@@ -35,9 +33,9 @@ fn cut_own<U: Uploader, R: ShardStore, W: Wait>(
     ensures cleans { OnOk result (Cleans (told_by U.told R.told session.old) (told_by U.told R.told session.new)
         parts.old parts.new []) }
     ensures emptied { OnOk result (parts.new.own ≡ no_waiting) }
-    ensures puts { Tells (told_by U.told R.told session.old) → PutsMade (told_by U.told R.told session.old)
-        (told_by U.told R.told session.new) parts.old.own.chunks }
-    ensures said { session.old.failed ≡ None → Says (told_by U.told R.told session.new) result }
+    ensures puts { (next : List ℕ) → (IsWithin (parts.old.own.chunks ++ next ∷ []) → ⊥)
+        → PutsSo (told_by U.told R.told session.old) (told_by U.told R.told session.new) parts.old.own.chunks
+        (next ∷ []) (next ∷ []) result }
     ensures why { IfErr result (ChunkFails (told_by U.told R.told session.old) (told_by U.told R.told session.new)) }
     ensures tells { TellsOf (IsPartOf file_id) (IsLate session.old.finalized) session.old.files.tracker
         session.new.files.tracker result }
@@ -75,7 +73,7 @@ fn make_room<U: Uploader, R: ShardStore, W: Wait>(
         parts.old parts.new []) }
     ensures room { OnOk result (IsWithin (parts.new.own.chunks ++ chunk.now ∷ [])) }
     ensures puts { PutsSo (told_by U.told R.told session.old) (told_by U.told R.told session.new)
-        parts.old.own.chunks (chunk.now ∷ []) result }
+        parts.old.own.chunks (chunk.now ∷ []) (parts.new.own.chunks ++ chunk.now ∷ []) result }
     ensures why { IfErr result (ChunkFails (told_by U.told R.told session.old) (told_by U.told R.told session.new)) }
     ensures tells { TellsOf (IsPartOf file_id) (IsLate session.old.finalized) session.old.files.tracker
         session.new.files.tracker result }
@@ -106,7 +104,7 @@ fn add_new<U: Uploader, R: ShardStore, W: Wait>(
     ensures cleans { OnOk result (Cleans (told_by U.told R.told session.old) (told_by U.told R.told session.new)
         parts.old parts.new (chunk ∷ [])) }
     ensures puts { PutsSo (told_by U.told R.told session.old) (told_by U.told R.told session.new)
-        parts.old.own.chunks (chunk ∷ []) result }
+        parts.old.own.chunks (chunk ∷ []) parts.new.own.chunks result }
     ensures why { IfErr result (ChunkFails (told_by U.told R.told session.old) (told_by U.told R.told session.new)) }
     ensures tells { TellsOf (IsPartOf file_id) (IsLate session.old.finalized) session.old.files.tracker
         session.new.files.tracker result }
@@ -205,7 +203,7 @@ pub fn add_chunk<U: Uploader, R: ShardStore, W: Wait>(
     ensures cleans { OnOk result (Cleans (told_by U.told R.told session.old) (told_by U.told R.told session.new)
         parts.old parts.new (chunk ∷ [])) }
     ensures puts { PutsSo (told_by U.told R.told session.old) (told_by U.told R.told session.new)
-        parts.old.own.chunks (chunk ∷ []) result }
+        parts.old.own.chunks (chunk ∷ []) parts.new.own.chunks result }
     ensures why { IfErr result (ChunkFails (told_by U.told R.told session.old) (told_by U.told R.told session.new)) }
     ensures tells { TellsOf (IsPartOf file_id) (IsLate session.old.finalized) session.old.files.tracker
         session.new.files.tracker result }

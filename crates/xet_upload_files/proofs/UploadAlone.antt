@@ -23,6 +23,7 @@ module _ {A : Type 0} (b n : SessionTold) (now : ℕ) (before after : List Track
   took-unit c x t = record {
     taken = t.taken;
     one = t.one;
+    chunks = t.chunks;
     files = t.files;
     number = t.number;
     hash = t.hash;
@@ -40,6 +41,7 @@ module _ {A : Type 0} (b n : SessionTold) (now : ℕ) (before after : List Track
   took-error c e t = record {
     taken = t.taken;
     one = t.one;
+    chunks = t.chunks;
     files = t.files;
     number = t.number;
     hash = t.hash;

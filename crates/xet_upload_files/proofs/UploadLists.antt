@@ -20,7 +20,7 @@ use Rattle.xet_upload_session.specs.Calls.{Backs, Keeps, Says, finalized_error}
 use Rattle.xet_upload_session.specs.Completions.{with_file_counts}
 use Rattle.xet_upload_session.specs.Sessions.{HasListed, SessionTold, Tells, log_of}
 use Rattle.xet_upload_session.proofs.CallerLemmas.{keeps-both, keeps-refl}
-use Rattle.xet_clean_parts.specs.Made.{IsPickedFrom, PutsMade, PutsNone, StayOne}
+use Rattle.xet_clean_parts.specs.Made.{IsPickedFrom, PutsMade, PutsNone, PutsToEnd, StayOne}
 use Rattle.xet_clean_parts.specs.Places.{CutFile, Telling}
 use Rattle.xet_clean_parts.specs.Premises.{HashesAgree, IsOpen, IsSteady, NoClash}
 use Rattle.xet_clean.specs.Records.{CleanedFile, HasRecord}
@@ -31,7 +31,7 @@ use Rattle.xet_clean_parts.proofs.CallerLemmas.{clash-after, clash-before, hashe
 use Rattle.xet_clean.proofs.CallerLemmas.{backs-both, stay-picked, waits-still}
 use Rattle.xet_clean.proofs.CallerLemmas.{never}
 use Rattle.xet_clean_parts.proofs.CallerLemmas.{opened}
-use Rattle.xet_clean_parts.proofs.CallerLemmas.{made-both, made-more, made-still, none-both, none-same, picked-all, picked-both, picked-front, picked-later, says-err, says-none}
+use Rattle.xet_clean_parts.proofs.CallerLemmas.{made-both, made-still, none-both, none-same, picked-all, picked-both, picked-front, picked-later, says-err, says-none}
 use Rattle.xet_upload_files.proofs.Uploading.{chunk-later}
 use Rattle.xet_clean_parts.proofs.CallerLemmas.{agree-alone}
 
@@ -41,7 +41,9 @@ pub uploads-none : (b n : SessionTold) → n ≡ b → HasListed b → HasUpload
 uploads-none b n e listed = record {
   keeps = keeps-refl b n e;
   backs = (leaves-refl b n e).backs listed;
-  puts = λ t. made-still b n (b.waiting.chunks ++ []) (ap log_of e) (ap (λ (z : SessionTold). z.repeated) e);
+  puts = λ t. made-still b n (b.waiting.chunks ++ []) n.waiting.chunks
+      (waits-still b n [] (ap (λ (z : SessionTold). z.waiting) e)) (ap log_of e)
+      (ap (λ (z : SessionTold). z.repeated) e);
   full = λ w. none-same b n e;
   thresholds = ap (λ (z : SessionTold). z.thresholds) e;
   waits = waits-still b n [] (ap (λ (z : SessionTold). z.waiting) e);
@@ -71,10 +73,9 @@ module _ (b m n : SessionTold) (done : List Upload) (f : FileTold) (s : SourceTo
   now-own = picked-later (m.waiting.chunks ++ x.cut) m.waiting.chunks b.waiting.chunks (all_chunks done) x.cut
       (picked-all (m.waiting.chunks ++ x.cut)) h.waits
 
-  puts : Tells b → PutsMade b n (b.waiting.chunks ++ cut)
-  puts t = made-both b m n (b.waiting.chunks ++ cut)
-      (made-more b m (b.waiting.chunks ++ all_chunks done) (b.waiting.chunks ++ cut) before-own (h.puts t))
-      (made-more m n (m.waiting.chunks ++ x.cut) (b.waiting.chunks ++ cut) now-own (x.puts (h.keeps.tells t)))
+  puts : Tells b → PutsMade b n (b.waiting.chunks ++ cut) n.waiting.chunks
+  puts t = made-both b m n b.waiting.chunks m.waiting.chunks (all_chunks done) x.cut n.waiting.chunks h.waits (h.puts t)
+      (x.puts (h.keeps.tells t))
 
   full : StayOne b cut → PutsNone b n
   full w = none-both b m n h.keeps (h.full (stay-picked b b (all_chunks done) cut before-own refl w))
@@ -179,13 +180,15 @@ uploads-more b m n done f s l info h x =
 
 -- the calls, with those of one file more
 pub ends-more : (now : ℕ) (b m n : SessionTold) (done : List Upload) (u : Upload) → EndsUploads now done b m
-    → EndsUpload now m n u.file u.bytes (Ok tt) → EndsUploads now (done ++ u ∷ []) b n
-ends-more now b m n [] u e x = (
+    → EndsUpload now m n u.file u.bytes (Ok tt) → (Tells m → PutsToEnd m n [] u.chunks)
+    → EndsUploads now (done ++ u ∷ []) b n
+ends-more now b m n [] u e x turn = (
   n,
   subst (λ (t : SessionTold). EndsUpload now t n u.file u.bytes (Ok tt)) e x,
+  subst (λ (t : SessionTold). Tells t → PutsToEnd t n [] u.chunks) e turn,
   refl,
 )
-ends-more now b m n (v ∷ done) u e x = (e.0, e.1, ends-more now e.0 m n done u e.2 x)
+ends-more now b m n (v ∷ done) u e x turn = (e.0, e.1, e.2, ends-more now e.0 m n done u e.3 x turn)
 
 -- the counts, with those of one file more
 pub counts-more : (m x n : DeduplicationMetrics) (done : List Upload) (u : Upload) (counts : DeduplicationMetrics)

@@ -35,7 +35,7 @@ use Rattle.xet_clean.specs.Cleaners.{Counts, CountsChunks, AddFails, AddsData, C
 use Rattle.xet_clean_parts.specs.Cleanings.{IsFirstUnlisted}
 use Rattle.xet_clean_parts.specs.Pointers.{pointer_to, recorded_sha256}
 use Rattle.xet_clean_parts.specs.Cleanings.{AreNamed, ChunkFails, NoFault, TrackFails}
-use Rattle.xet_clean_parts.specs.Made.{IsPickedFrom, PutsMade, PutsNone, PutsSome, StayOne}
+use Rattle.xet_clean_parts.specs.Made.{IsPickedFrom, PutsInTurn, PutsMade, PutsNone, PutsSome, PutsToEnd, StayOne}
 use Rattle.xet_clean_parts.specs.Places.{CutAt, CutBy, CutFile, CutPieces, Telling}
 use Rattle.xet_clean_parts.specs.Premises.{HashesAgree, IsOpen, IsSteady, NoClash}
 use Rattle.xet_clean.specs.Records.{CleanedFile, HasRecord}
@@ -48,7 +48,7 @@ use Rattle.xet_clean.proofs.CallerLemmas.{left-holds}
 use Rattle.xet_clean_parts.proofs.CallerLemmas.{opened}
 use Rattle.xet_clean_parts.proofs.CallerLemmas.{bytes-later, picked-all, picked-behind, picked-both, picked-first, picked-front, picked-trans, picked-within}
 use Rattle.xet_clean_parts.proofs.CallerLemmas.{agree-alone, ok-err}
-use Rattle.xet_clean_parts.proofs.CallerLemmas.{made-both, made-more, made-still, none-both, none-same, pieces-more, says-err, says-none, some-behind}
+use Rattle.xet_clean_parts.proofs.CallerLemmas.{end-behind, made-before, made-behind, made-less, made-still, made-then, none-both, none-same, pieces-more, says-err, says-none, some-behind, turn-made}
 
 -- ---- errors, and answers
 
@@ -187,7 +187,7 @@ poured-more b m n s t u c x d xs ys w p taken a =
 -- what was put of these bytes
 poured-puts : {A : Type 0} (b n : SessionTold) (s t : SourceTold) (c d : Cleaner) (bytes : List ℕ)
     (answer : Result A DataError) → Poured b n s t c d bytes
-    → PutsSome b n c.parts.own.chunks (c.pending ++ bytes) answer
+    → PutsSome b n c.parts.own.chunks (c.pending ++ bytes) d.parts.own.chunks answer
 poured-puts b n s t c d bytes answer p = record {
   cut = p.fed.feeds.cut;
   rest = d.pending;
@@ -312,8 +312,8 @@ module _ (b m : SessionTold) (s t : SourceTold) (c x : Cleaner) (size : ℕ) (xs
       most = let sum = length-append xs ys in omega (arith, sum, most);
       whole = tt;
       fed = tt;
-      puts = some-behind b m n c.parts.own.chunks x.parts.own.chunks (c.pending ++ (xs ++ ys)) (x.pending ++ ys)
-          p.fed.feeds.cut went (Err e) p.leaves.keeps p.fed.feeds.failed p.fed.feeds.into.own bytes_are
+      puts = some-behind b m n c.parts.own.chunks x.parts.own.chunks d.parts.own.chunks (c.pending ++ (xs ++ ys))
+          (x.pending ++ ys) p.fed.feeds.cut tt (Err e) p.leaves.keeps p.fed.feeds.failed p.fed.feeds.into.own bytes_are
           (feeds-so b m c x xs went p.fed.feeds) a.puts;
       unfailed = tt;
       why = inr (go a.why);
@@ -352,7 +352,10 @@ file-unbegun b n f s e same is why = record {
   keeps = keeps-refl b n same;
   backs = (leaves-refl b n same).backs;
   cut = [];
-  puts = λ t. made-still b n (b.waiting.chunks ++ []) (ap log_of same) (ap (λ (z : SessionTold). z.repeated) same);
+  puts = λ t. made-still b n (b.waiting.chunks ++ []) n.waiting.chunks
+      (waits-still b n [] (ap (λ (z : SessionTold). z.waiting) same)) (ap log_of same)
+      (ap (λ (z : SessionTold). z.repeated) same);
+  turn = λ t. tt;
   full = λ w. none-same b n same;
   thresholds = ap (λ (z : SessionTold). z.thresholds) same;
   waits = waits-still b n [] (ap (λ (z : SessionTold). z.waiting) same);
@@ -390,8 +393,8 @@ file-unfed b n f s c d e new p = record {
   keeps = p.leaves.keeps;
   backs = p.leaves.backs;
   cut = p.puts.cut;
-  puts = λ t. made-more b n p.puts.cut (b.waiting.chunks ++ p.puts.cut) behind
-      (subst (λ (cs : List (List ℕ)). PutsMade b n (cs ++ p.puts.cut)) no_own (p.puts.so.puts t));
+  puts = λ t. unfed-puts p.puts.so.left (p.puts.so.puts t);
+  turn = λ t. tt;
   full = λ w. p.puts.so.full (subst (λ (cs : List (List ℕ)). IsWithin (cs ++ p.puts.cut)) (sym no_own)
       (picked-within p.puts.cut (b.waiting.chunks ++ p.puts.cut) behind w.within));
   thresholds = p.leaves.thresholds;
@@ -421,6 +424,17 @@ file-unfed b n f s c d e new p = record {
 
     behind : IsPickedFrom p.puts.cut (b.waiting.chunks ++ p.puts.cut)
     behind = picked-behind b.waiting.chunks p.puts.cut p.puts.cut (picked-all p.puts.cut)
+
+    unfed-puts : (left : List (List ℕ)) → PutsInTurn b n c.parts.own.chunks p.puts.cut left
+        → PutsMade b n (b.waiting.chunks ++ p.puts.cut) n.waiting.chunks
+    unfed-puts left turn =
+        let all = b.waiting.chunks ++ p.puts.cut in
+        let P : Waiting → Type 0 = λ w. PutsMade b n all w.chunks in
+        let Q : List (List ℕ) → Type 0 = λ cs. PutsMade b n (cs ++ p.puts.cut) left in
+        subst P (sym p.leaves.waiting) (made-less b n all (b.waiting.chunks ++ left) b.waiting.chunks
+        (picked-front b.waiting.chunks b.waiting.chunks left (picked-all b.waiting.chunks))
+        (made-before b n b.waiting.chunks p.puts.cut left
+        (subst Q no_own (turn-made b n c.parts.own.chunks p.puts.cut left turn))))
 
     go : SourceFails f.source s f.size p.bytes e ⊎ ChunkFails b n e → SourceFails f.source s f.size p.bytes e
         ⊎ SessionFails b n e
@@ -459,10 +473,28 @@ module _ (b m n : SessionTold) (f : FileTold) (s : SourceTold) (c d : Cleaner) (
       subst P (sym p.leaves.waiting) (picked-both b.waiting.chunks (d.parts.own.chunks ++ z.cut) b.waiting.chunks cut
       (picked-all b.waiting.chunks) file-own)
 
-  file-puts : Tells b → PutsMade b n all
-  file-puts t = made-both b m n all
-      (made-more b m (c.parts.own.chunks ++ p.fed.feeds.cut) all fed-own (p.fed.feeds.puts t))
-      (made-more m n (m.waiting.chunks ++ (d.parts.own.chunks ++ z.cut)) all end-own (z.puts (p.leaves.keeps.tells t)))
+  fed-puts : Tells b → PutsMade b m all (m.waiting.chunks ++ (d.parts.own.chunks ++ z.cut))
+  fed-puts t =
+      let own = d.parts.own.chunks in
+      let P : Waiting → Type 0 = λ w. PutsMade b m all (w.chunks ++ (own ++ z.cut)) in
+      let Q : List (List ℕ) → Type 0 = λ cs. PutsMade b m (cs ++ p.fed.feeds.cut) own in
+      let turn = turn-made b m c.parts.own.chunks p.fed.feeds.cut own (p.fed.feeds.puts t) in
+      subst P (sym p.leaves.waiting) (made-before b m b.waiting.chunks cut (own ++ z.cut)
+      (made-behind b m p.fed.feeds.cut own z.cut (subst Q no_own turn)))
+
+  file-puts : Tells b → PutsMade b n all n.waiting.chunks
+  file-puts t = made-then b m n all (m.waiting.chunks ++ (d.parts.own.chunks ++ z.cut)) n.waiting.chunks end-own
+      (fed-puts t) (z.puts (p.leaves.keeps.tells t))
+
+  file-turn : (a : Result (XetFileInfo × DeduplicationMetrics) DataError)
+      → (Tells m → OnOk a (PutsToEnd m n d.parts.own.chunks z.cut)) → Tells b
+      → OnOk (info_of_answer a) (PutsToEnd b n [] cut)
+  file-turn (Ok r) f t =
+      let own = d.parts.own.chunks in
+      let P : List (List ℕ) → Type 0 = λ cs. PutsInTurn b m cs p.fed.feeds.cut own in
+      end-behind b m n [] own p.fed.feeds.cut z.cut p.leaves.waiting (subst P no_own (p.fed.feeds.puts t))
+      (f (p.leaves.keeps.tells t))
+  file-turn (Err e) f t = tt
 
   file-full : StayOne b cut → PutsNone b n
   file-full w = none-both b m n p.leaves.keeps
@@ -618,6 +650,7 @@ module _ (b m n : SessionTold) (f : FileTold) (s : SourceTold) (c d : Cleaner) (
       backs = λ h. backs-both b m n p.leaves.keeps (keeps-both b m n p.leaves.keeps z.keeps) (p.leaves.backs h) z.backs;
       cut = cut;
       puts = file-puts;
+      turn = file-turn answer z.turn;
       full = file-full;
       thresholds = z.thresholds ∙ p.leaves.thresholds;
       waits = file-waits;

@@ -22,7 +22,7 @@ use Rattle.xet_clean_parts.specs.Pointers.{pointer_to, recorded_sha256}
 use Rattle.xet_clean.specs.Cleaners.{unknown_xorb}
 use Rattle.xet_clean_parts.specs.Cleanings.{ChunkFails, NoFault}
 use Rattle.xet_clean_parts.specs.FileCalls.{IsLate}
-use Rattle.xet_clean_parts.specs.Made.{IsPickedFrom, PutsMade, PutsNone, StayOne}
+use Rattle.xet_clean_parts.specs.Made.{IsPickedFrom, PutsMade, PutsNone, PutsToEnd, StayOne}
 use Rattle.xet_clean_parts.specs.Places.{CutFile, Telling}
 use Rattle.xet_clean_parts.specs.Premises.{HashesAgree, IsOpen, IsSteady, NoClash}
 use Rattle.xet_clean.specs.Records.{CleanedFile, HasRecord}
@@ -100,10 +100,11 @@ pub record EndsUpload (now : ℕ) (b n : SessionTold) (f : FileTold) (bytes : Li
   pub after : List TrackerStep
   pub ends : EndsFile middle n fed now told after answer
 
--- these files ended, one after another, and nothing else was called
+-- these files ended, one after another, and nothing else was called; xorbs were made in turn of the chunks of each
 abbrev pub EndsUploads : ℕ → List Upload → SessionTold → SessionTold → Type 0
 EndsUploads now [] b n = n ≡ b
-EndsUploads now (u ∷ us) b n = (m : SessionTold) × EndsUpload now b m u.file u.bytes (Ok tt) × EndsUploads now us m n
+EndsUploads now (u ∷ us) b n = (m : SessionTold) × EndsUpload now b m u.file u.bytes (Ok tt)
+    × (Tells b → PutsToEnd b m [] u.chunks) × EndsUploads now us m n
 
 -- the calls for a file that failed: searches and given xorbs alone, or it was read whole and its end failed
 abbrev pub StopsUpload : ℕ → SessionTold → SessionTold → FileTold → List ℕ → DataError → Type 0
@@ -167,7 +168,7 @@ CountsFiles m (u ∷ us) n = (counts : DeduplicationMetrics) × CountsChunks no_
 pub record HasUploads (b n : SessionTold) (cut : List (List ℕ)) (done : List Upload) : Type 0 where
   pub keeps : Keeps b n
   pub backs : Backs b n
-  pub puts : Tells b → PutsMade b n (b.waiting.chunks ++ cut)
+  pub puts : Tells b → PutsMade b n (b.waiting.chunks ++ cut) n.waiting.chunks
   pub full : StayOne b cut → PutsNone b n
   pub thresholds : n.thresholds ≡ b.thresholds
   pub waits : IsPickedFrom n.waiting.chunks (b.waiting.chunks ++ cut)

@@ -26,9 +26,10 @@ use Rattle.xet_upload_session.specs.Sessions.{log_of}
 use Rattle.xet_clean_parts.proofs.CallerLemmas.{Contains-cons, Contains-head, Contains-map}
 use Rattle.xet_clean.specs.Records.{CleanedFile, IsAccepted}
 use Rattle.xet_clean.proofs.CallerLemmas.{end-accepts}
-use Rattle.xet_upload_laws.specs.Downloads.{AcceptedDownload, FileHashesAgree, chunks_of_record, known_files}
+use Rattle.xet_upload_laws.specs.Clashes.{FileHashesAgree, chunks_of_record, known_files}
+use Rattle.xet_upload_laws.specs.Downloads.{AcceptedDownload}
 use Rattle.xet_upload_laws.specs.RecordsStand.{AreRecords, IsRecord}
-use Rattle.xet_upload_laws.proofs.Ends.{end-all-stand}
+use Rattle.xet_upload_laws.proofs.Ends.{end-stood}
 use Rattle.xet_upload_laws.proofs.Stores.{finds-world}
 
 -- ---- records in a log
@@ -145,7 +146,7 @@ module _ (k s : Store) (log : List Put) (after : store_after k log ≡ Some s) w
 -- ---- an accepted file
 
 module _ (k s : Store) (log : List Put) (f : CleanedFile) (after : store_after k log ≡ Some s) (valid : IsValid k)
-    (logged : AreRecords (world k log) (files_in log)) (agree : FileHashesAgree k log) (a : IsAccepted k log f) where
+    (logged : AreRecords (world k log) (files_in log)) (agree : FileHashesAgree (known_files k log)) (a : IsAccepted k log f) where
   abbrev info : MDBFileInfo
   info = a.recorded.info
 
@@ -211,13 +212,11 @@ module _ (k s : Store) (log : List Put) (f : CleanedFile) (after : store_after k
 
 pub accepted-download : {A : Type 0} → AcceptedDownload A
 accepted-download k b n now ended f range z dry s a valid clash r =
-    let after = end-all-stand k b n now (Ok ended) z s clash.xorbs a in
+    let after = end-stood k b n now (Ok ended) z s clash.xorbs a in
     let accepted = end-accepts k b n now ended f z s dry clash.xorbs r in
     let bytes = accepted-bytes k after.stored.store (log_of n) f after.stored.after valid after.logged clash.files
     accepted in
     record {
-      store = after.stored.store;
-      after = after.stored.after;
-      valid = after.stored.valid;
+      has = after.stored;
       window = ap (λ (bs : List ℕ). slice_range bs range.start range.end) bytes;
     }

@@ -21,6 +21,7 @@ use Rattle.xet_upload_session.specs.Calls.{Cut, EndsCut, EndsSo, EndsUncut, Fina
 use Rattle.xet_upload_session.specs.Sessions.{SessionTold, Tells, log_of}
 use Rattle.xet_clean_parts.specs.Premises.{HashesAgree, IsOpen, IsSteady, waiting_xorb}
 use Rattle.xet_upload_laws.specs.AllStand.{AllStand, HoldsRecords}
+use Rattle.xet_upload_laws.specs.Laws.{EndStands}
 use Rattle.xet_upload_laws.specs.RecordsStand.{AreRecords, IsRecord}
 use Rattle.xet_upload_laws.specs.StoreAfter.{HasStore}
 use Rattle.xet_upload_laws.proofs.Cuts.{cut-log, cut-ok-held, hashes-before, logged-one, storable-valid, stored-one}
@@ -149,9 +150,12 @@ module _ {A : Type 0} (k : Store) (b n : SessionTold) (now : ℕ) (answer : Resu
       go true e = same-log (ap log_of (z.again e).1)
 
   -- the store after the log is there, and its records stand, whatever the end answers
-  pub end-all-stand : AllStand k n
-  end-all-stand = record {
+  pub end-stood : AllStand k n
+  end-stood = record {
     stored = end-stands.stored;
     logged = end-stands.logged;
     held = λ o. absurd (false≢true (sym o.unfinished ∙ z.finalized));
   }
+
+pub end-all-stand : {A : Type 0} → EndStands A
+end-all-stand k b n now answer z s clash a = end-stood k b n now answer z s clash.xorbs a

@@ -2,8 +2,8 @@
 use Rattle.std.proofs.Common.{◌≡◌, ℕ, zero, suc, ◌+◌, ◌<◌, ◌≤◌, ◌^◌, ◌⊎◌, inl, inr, Bool, true, false, List, [], ◌∷◌, ◌++◌, length, map, refl, sym, ◌∙◌, ap, subst, arith}
 use Rattle.std.specs.Prelude.{All, Contains, IfOk, IfSome, None, Option, Some, Ok, Result, Err, option_map, slice_index_or, slice_range}
 use Rattle.std.specs.List.{concat}
-use Rattle.std.proofs.lemmas.List.{append-nil, length-append, length-map}
-use Rattle.std.proofs.lemmas.List.Elements.{All-cons, All-contains, All-head, All-nil, Contains-append_cases, Contains-append_left, Contains-append_right, Contains-get_or, Contains-push_cases}
+use Rattle.std.proofs.lemmas.List.{append-nil, append_assoc, length-append, length-map}
+use Rattle.std.proofs.lemmas.List.Elements.{All-cons, All-contains, All-contains_itself, All-head, All-nil, Contains-append_cases, Contains-append_left, Contains-append_right, Contains-push_cases}
 use Rattle.std.proofs.lemmas.Option.{none-some, same_Some}
 use Rattle.xet_base.specs.declared.cas_types.FileRange.{FileRange}
 use Rattle.xet_base.specs.declared.mdb_shard.MDBFileInfo.{MDBFileInfo}
@@ -32,20 +32,21 @@ use Rattle.xet_upload.specs.Waitings.{IsWithin, record_of_file}
 use Rattle.xet_upload.specs.declared.metrics.DeduplicationMetrics.{DeduplicationMetrics}
 use Rattle.xet_waiting.specs.Limits.{most_chunk_bytes}
 use Rattle.xet_upload_session.specs.Calls.{Cut, CutPut, CutRepeated, CutStill, EndsSo, EndsUncut, Finalizes, as_finalized, finalized_error, waiting_hash, waiting_records}
+use Rattle.xet_upload_session.specs.Puts.{made_of}
 use Rattle.xet_upload_session.specs.Sessions.{HasListed, SessionTold, Tells, log_of}
 use Rattle.xet_upload_session.proofs.CallerLemmas.{new-backed}
-use Rattle.xet_clean_parts.specs.Made.{IsMadeOf, IsPickedFrom, PutsMade}
+use Rattle.xet_clean_parts.specs.Made.{GrewInTurn, IsLast, PutsMade, PutsToEnd}
 use Rattle.xet_clean_parts.specs.Places.{CutFile, Telling}
 use Rattle.xet_clean_parts.specs.Pointers.{pointer_to, recorded_sha256}
 use Rattle.xet_clean_parts.specs.Premises.{HashesAgree, IsOpen, IsSteady, NoClash, waiting_xorb}
-use Rattle.xet_clean_parts.proofs.CallerLemmas.{fixed-cuts-file, ok-err}
+use Rattle.xet_clean_parts.proofs.CallerLemmas.{fixed-cuts-file, grew-both, grew-cut, grew-moved, ok-err, turns-all}
 use Rattle.xet_clean.specs.Records.{HasRecord}
 use Rattle.xet_upload_files.specs.Uploads.{EndsUploads, FileTold, IsUpload, Upload, UploadsFiles, all_chunks, recorded_file, upload_pointer}
 use Rattle.xet_upload_laws.specs.AllStand.{AllStand}
-use Rattle.xet_upload_laws.specs.Downloads.{Downloads, FileHashesAgree, chunks_of_record, known_files}
-use Rattle.xet_upload_laws.specs.Laws.{PartsAgree}
+use Rattle.xet_upload_laws.specs.Clashes.{FileHashesAgree, HashedFile, PartsAgree, chunks_of_record, known_files}
+use Rattle.xet_upload_laws.specs.Downloads.{Downloads}
 use Rattle.xet_upload_laws.specs.RecordsStand.{IsRecord}
-use Rattle.xet_upload_laws.specs.Sending.{Clashes, HasAfter, IsContent, IsPicked, IsSafe, Sends, UploadsAll, UploadsOne, content_file, content_pointer, empty_shards, empty_stores, empty_uploader, memory_session, no_store}
+use Rattle.xet_upload_laws.specs.Sending.{AreMade, Clashes, HasAfter, IsContent, IsSafe, Sends, UploadsAll, UploadsOne, content_file, content_pointer, empty_shards, empty_stores, empty_uploader, memory_session, no_store, store_of}
 use Rattle.xet_upload_laws.proofs.Cuts.{GrewByOne, cut-log, hashes-before}
 use Rattle.xet_upload_laws.proofs.Downloads.{accepted-download}
 use Rattle.xet_upload_laws.proofs.FileCounts.{file_count, upload-count}
@@ -91,6 +92,10 @@ new-all-stand = new-stands no_store _ _ false _ (record { store = no_store; afte
     (All-nil (IsRecord no_store)) (All-nil (IsRecord no_store))
 
 -- ---- lists
+
+-- no files have hashes that clash
+no-files : FileHashesAgree []
+no-files x y c d e = absurd (let lt = c.1 in omega (arith, lt))
 
 xorbs_in-map : (xs : List Xorb) → xorbs_in (map put.Xorb xs) ≡ xs
 xorbs_in-map [] = refl
@@ -235,6 +240,31 @@ module _ (b n : SessionTold) (counts : DeduplicationMetrics) (z : Finalizes b n 
       go (inr d) = repeated-before (cut-repeated (as_finalized b) middle 0 by-cut.1)
           (subst (λ (xs : List Xorb). Contains xs x) (ap (λ (t : SessionTold). t.repeated) by-cut.2.same) d)
 
+  -- what was made before, and in the cut
+  made-cut : (made : List Xorb) → GrewInTurn memory_session b made
+      → GrewInTurn memory_session middle (made ++ made_of b.waiting.chunks)
+  made-cut made g = grew-both memory_session b middle made (made_of b.waiting.chunks) g
+      (grew-moved b (as_finalized b) middle middle (made_of b.waiting.chunks) refl refl refl refl
+      (grew-cut (as_finalized b) middle 0 tt by-cut.1 begun))
+
+  -- each told xorb is one of the made ones
+  told-made : (made : List Xorb) → GrewInTurn memory_session middle made → (x : Xorb) → Contains (told_xorbs n) x
+      → Contains made x
+  told-made made g x c = go (Contains-append_cases (xorbs_in (log_of n)) n.repeated x c)
+    where
+      both : All (Contains made) g.xorbs × All (Contains made) g.again
+      both = turns-all (Contains made) g.xorbs g.again made g.turns (All-contains_itself made)
+
+      put : xorbs_in (log_of n) ≡ g.xorbs
+      put = xorbs-same ∙ ap xorbs_in g.grown ∙ xorbs_in-map g.xorbs
+
+      again : n.repeated ≡ g.again
+      again = ap (λ (t : SessionTold). t.repeated) by-cut.2.same ∙ g.repeated
+
+      go : Contains (xorbs_in (log_of n)) x ⊎ Contains n.repeated x → Contains made x
+      go (inl d) = All-contains (Contains made) g.xorbs x both.0 (subst (λ (xs : List Xorb). Contains xs x) put d)
+      go (inr d) = All-contains (Contains made) g.again x both.1 (subst (λ (xs : List Xorb). Contains xs x) again d)
+
   hashes-begun : (k : Store) → HashesAgree k n → HashesAgree k b
   hashes-begun k a =
       let g = z.grew tells in
@@ -304,8 +334,19 @@ module _ (source : SourceTold) (size chunk : ℕ) (some : 0 < chunk) (most : chu
   cut_are = ap (λ (us : List Upload). all_chunks us ++ c.last) one.are
       ∙ ap (λ (cs : List (List ℕ)). (it.chunks ++ []) ++ cs) c.none ∙ append-nil (it.chunks ++ []) ∙ append-nil it.chunks
 
-  puts : PutsMade memory_session b it.chunks
-  puts = subst (λ (cs : List (List ℕ)). PutsMade memory_session b cs) cut_are (c.has.puts new-tells)
+  puts : PutsMade memory_session b it.chunks b.waiting.chunks
+  puts = subst (λ (cs : List (List ℕ)). PutsMade memory_session b cs b.waiting.chunks) cut_are (c.has.puts new-tells)
+
+  -- xorbs were made in turn, and then what was left of the chunks waits, or became a xorb
+  turn : PutsToEnd memory_session b [] it.chunks
+  turn = go c.done one.are c.ended
+    where
+      go : (us : List Upload) → us ≡ it ∷ [] → EndsUploads 0 us memory_session c.reached
+          → PutsToEnd memory_session b [] it.chunks
+      go us e ends =
+          let n = subst (λ (vs : List Upload). EndsUploads 0 vs memory_session c.reached) e ends in
+          subst (λ (t : SessionTold). PutsToEnd memory_session t [] it.chunks) (sym (c.no_more ∙ n.3))
+          (n.2 new-tells)
 
   tells : Tells b
   tells = c.has.keeps.tells new-tells
@@ -315,25 +356,6 @@ module _ (source : SourceTold) (size chunk : ℕ) (some : 0 < chunk) (most : chu
 
   log_is : log_of b ≡ map put.Xorb puts.xorbs
   log_is = puts.grown
-
-  -- each xorb that is told then is made of the content's chunks
-  picked-told : (x : Xorb) → Contains (told_xorbs b) x → IsPicked it.chunks x
-  picked-told x d = go (Contains-append_cases (xorbs_in (log_of b)) b.repeated x d)
-    where
-      made : IsMadeOf it.chunks x → IsPicked it.chunks x
-      made m = record { honest = m.honest; picked = m.picked }
-
-      go : Contains (xorbs_in (log_of b)) x ⊎ Contains b.repeated x → IsPicked it.chunks x
-      go (inl q) = made (All-contains (IsMadeOf it.chunks) puts.xorbs x puts.put_made
-          (subst (λ (xs : List Xorb). Contains xs x) (ap xorbs_in log_is ∙ xorbs_in-map puts.xorbs) q))
-      go (inr q) = made (All-contains (IsMadeOf it.chunks) puts.again x puts.again_made
-          (subst (λ (xs : List Xorb). Contains xs x) puts.repeated q))
-
-  waiting-picked : IsPicked it.chunks (waiting_xorb b)
-  waiting-picked = record {
-    honest = refl;
-    picked = subst (λ (cs : List (List ℕ)). IsPickedFrom b.waiting.chunks cs) cut_are c.has.waits;
-  }
 
   -- nothing was told where all fits one xorb
   none-told : IsWithin it.chunks → (log_of b ≡ []) × (b.repeated ≡ [])
@@ -349,27 +371,34 @@ module _ (source : SourceTold) (size chunk : ℕ) (some : 0 < chunk) (most : chu
       go us e ends =
           let n = subst (λ (vs : List Upload). EndsUploads 0 vs memory_session c.reached) e ends in
           let many = upload-count 0 memory_session n.0 it.file it.bytes n.1 in
-          let last = ap file_count (c.no_more ∙ n.2) in
+          let last = ap file_count (c.no_more ∙ n.3) in
           omega arith
 
   -- ---- after the end
 
   module _ (n : SessionTold) (counts : DeduplicationMetrics) (z : Finalizes b n 0 (Ok counts)) where
     abbrev made : List Xorb
-    made = told_xorbs n
+    made = (turn.made ++ turn.last) ++ made_of b.waiting.chunks
 
-    made-picked : All (IsPicked it.chunks) made
-    made-picked i d lt = one-picked (slice_index_or made i d) (Contains-get_or made i d lt)
+    kept : (x : Xorb) → Contains (told_xorbs n) x → Contains made x
+    kept x d = told-made b n counts z tells live made (made-cut b n counts z tells live (turn.made ++ turn.last) turn.grew) x
+        d
+
+    are-made : AreMade it.chunks made
+    are-made = record { front = turn.made; left = turn.left; so = turn.so; are = ends turn.is_last }
       where
-        one-picked : (x : Xorb) → Contains made x → IsPicked it.chunks x
-        one-picked x q = go (told-before b n counts z tells live x q)
-          where
-            go : Contains (told_xorbs b) x ⊎ (x ≡ waiting_xorb b) → IsPicked it.chunks x
-            go (inl r) = picked-told x r
-            go (inr e) = subst (IsPicked it.chunks) (sym e) waiting-picked
+        last-is : turn.last ++ made_of b.waiting.chunks ≡ made_of turn.left → made ≡ turn.made ++ made_of turn.left
+        last-is e = append_assoc turn.made turn.last (made_of b.waiting.chunks)
+            ∙ ap (λ (xs : List Xorb). turn.made ++ xs) e
+
+        ends : IsLast [] turn.left turn.last b.waiting.chunks → made ≡ turn.made ++ made_of turn.left
+        ends (inl e) = last-is (ap (λ (xs : List Xorb). xs ++ made_of b.waiting.chunks) e.0 ∙ ap made_of e.1)
+        ends (inr (inl e)) = last-is (ap (λ (xs : List Xorb). xs ++ made_of b.waiting.chunks) e.0
+            ∙ ap (λ (cs : List (List ℕ)). made_of turn.left ++ made_of cs) e.1 ∙ append-nil (made_of turn.left))
+        ends (inr (inr e)) = last-is (ap (λ (xs : List Xorb). xs ++ made_of b.waiting.chunks) e.0 ∙ ap made_of e.1)
 
     -- where all fits one xorb, there is no other
-    only-waiting : IsWithin it.chunks → (x : Xorb) → Contains made x → x ≡ waiting_xorb b
+    only-waiting : IsWithin it.chunks → (x : Xorb) → Contains (told_xorbs n) x → x ≡ waiting_xorb b
     only-waiting within x q = go (told-before b n counts z tells live x q)
       where
         none : told_xorbs b ≡ []
@@ -382,16 +411,21 @@ module _ (source : SourceTold) (size chunk : ℕ) (some : 0 < chunk) (most : chu
     hashes-safe : IsSafe it.chunks made it.bytes → HashesAgree no_store n
     hashes-safe (inl within) = λ x y p q e. ap (λ (v : Xorb). v.chunks) (only-waiting within x p
         ∙ sym (only-waiting within y q))
-    hashes-safe (inr a) = a.xorbs
+    hashes-safe (inr a) = λ x y p q e. a.xorbs x y (more x p) (more y q) e
+      where
+        more : (v : Xorb) → Contains (told_xorbs n) v → Contains ((made ++ []) ++ []) v
+        more v d = Contains-append_left (made ++ []) [] v (Contains-append_left made [] v (kept v d))
 
     parts-safe : IsSafe it.chunks made it.bytes → PartsAgree (world no_store (log_of b)) it.bytes
     parts-safe (inl within) = λ x d front rest there e.
         absurd (let lt = (subst (λ (ps : List Put). Contains (xorbs_in ps) x) (none-told within).0 there).1 in
         omega (arith, lt))
-    parts-safe (inr a) = λ x d front rest there e. a.parts x d front rest (kept x there) e
+    parts-safe (inr a) = λ x d front rest there e.
+        All-head (PartsAgree (world (store_of made) [])) it.bytes [] a.parts x d front rest
+        (Contains-append_left made [] x (kept x (grown_told x there))) e
       where
-        kept : (y : Xorb) → Contains (xorbs_in (log_of b)) y → Contains made y
-        kept y q =
+        grown_told : (y : Xorb) → Contains (xorbs_in (log_of b)) y → Contains (told_xorbs n) y
+        grown_told y q =
             let g = z.grew tells in
             let more = map put.Xorb g.xorbs ++ map put.Shard g.shards in
             Contains-append_left (xorbs_in (log_of n)) n.repeated y (subst (λ (xs : List Xorb). Contains xs y)
@@ -399,8 +433,8 @@ module _ (source : SourceTold) (size chunk : ℕ) (some : 0 < chunk) (most : chu
             (Contains-append_left (xorbs_in (log_of b)) (xorbs_in more) y q))
 
     -- one file record has no other of its hash
-    files-safe : FileHashesAgree no_store (log_of n)
-    files-safe x y p q e = ap (λ (r : MerkleHash × List (List ℕ)). r.1)
+    files-safe : FileHashesAgree (known_files no_store (log_of n))
+    files-safe x y p q e = ap (λ (r : HashedFile). r.1)
         (few-same (known_files no_store (log_of n)) x y few p q)
       where
         few : length (known_files no_store (log_of n)) ≤ 1
@@ -421,10 +455,13 @@ module _ (source : SourceTold) (size chunk : ℕ) (some : 0 < chunk) (most : chu
       few-bytes = let e = content.count in omega arith
 
       stood : AllStand no_store b
-      stood = upload-stands no_store memory_session b 0 (f ∷ []) u.after (Ok (info ∷ [])) c new-steady begun_hashes
-          (subst (λ (us : List Upload). All (PartsAgree (world no_store (log_of b))) (map (λ (v : Upload). v.bytes) us))
-          (sym one.are) (All-cons (PartsAgree (world no_store (log_of b))) it.bytes [] (parts-safe safe)
-          (All-nil (PartsAgree (world no_store (log_of b))))))
+      stood = upload-stands no_store memory_session b 0 (f ∷ []) u.after (Ok (info ∷ [])) c new-steady (record {
+        xorbs = begun_hashes;
+        files = no-files;
+        parts = subst (λ (us : List Upload). All (PartsAgree (world no_store (log_of b)))
+            (map (λ (v : Upload). v.bytes) us)) (sym one.are) (All-cons (PartsAgree (world no_store (log_of b))) it.bytes
+            [] (parts-safe safe) (All-nil (PartsAgree (world no_store (log_of b)))));
+      })
           (subst (λ (us : List Upload). All (λ (bs : List ℕ). length bs < 2 ^ 64) (map (λ (v : Upload). v.bytes) us))
           (sym one.are) (All-cons (λ (bs : List ℕ). length bs < 2 ^ 64) it.bytes [] few-bytes
           (All-nil (λ (bs : List ℕ). length bs < 2 ^ 64))))
@@ -447,7 +484,11 @@ module _ (source : SourceTold) (size chunk : ℕ) (some : 0 < chunk) (most : chu
       downloads : (range : FileRange) → Downloads no_store (log_of n) (recorded_file it) range
       downloads range = accepted-download no_store b n 0 counts (recorded_file it) range z live
           (steady-kept no_store memory_session b c.has.keeps c.has.backs begun_hashes new-steady) stood none-valid
-          (record { xorbs = hashes-safe safe; files = files-safe }) recorded
+          (record {
+            xorbs = hashes-safe safe;
+            files = files-safe;
+            parts = All-nil (PartsAgree (world no_store (log_of n)));
+          }) recorded
 
 -- ---- the answers
 
@@ -476,8 +517,8 @@ module _ (source : SourceTold) (size chunk : ℕ) (some : 0 < chunk) (most : chu
     chunks = v.chunks;
     content = content source size chunk some most info b u;
     pointer = pointer source size chunk some most info b u;
-    made = told_xorbs n;
-    made_of = made-picked source size chunk some most info b u n all.counts all.ends;
+    made = made source size chunk some most info b u n all.counts all.ends;
+    are = are-made source size chunk some most info b u n all.counts all.ends;
     gives = λ safe range. given range (downloads source size chunk some most info b u n all.counts all.ends short safe
         range);
   }
@@ -485,22 +526,22 @@ module _ (source : SourceTold) (size chunk : ℕ) (some : 0 < chunk) (most : chu
       given : (range : FileRange) → Downloads no_store (log_of n) (recorded_file v) range
           → window store (file_hash_of (infos_of v.chunks)) range ≡ slice_range v.bytes range.start range.end
       given range d =
-          let same : store ≡ d.store = same_Some store d.store (first-none (Some store) h ∙ d.after) in
+          let same : store ≡ d.has.store = same_Some store d.has.store (first-none (Some store) h ∙ d.has.after) in
           let hash = (is source size chunk some most info b u).hash in
           ap (λ (s : Store). window s (file_hash_of (infos_of v.chunks)) range) same
-          ∙ ap (λ (h : MerkleHash). window d.store h range) (sym hash) ∙ d.window
+          ∙ ap (λ (h : MerkleHash). window d.has.store h range) (sym hash) ∙ d.window
 
   pub clashed : HasAfter n None → Clashes source size chunk
   clashed h = record {
     bytes = v.bytes;
     chunks = v.chunks;
     content = content source size chunk some most info b u;
-    made = told_xorbs n;
-    made_of = made-picked source size chunk some most info b u n all.counts all.ends;
+    made = made source size chunk some most info b u n all.counts all.ends;
+    are = are-made source size chunk some most info b u n all.counts all.ends;
     clash = λ safe.
         let d = downloads source size chunk some most info b u n all.counts all.ends short safe
         (record { start = 0; end = 0 }) in
-        none-some d.store (first-none None h ∙ d.after);
+        none-some d.has.store (first-none None h ∙ d.has.after);
   }
 
 -- what a content that was sent leaves, by what the parts of the call answer
@@ -515,12 +556,12 @@ module _ {E : Type 0} (source : SourceTold) (size chunk : ℕ) (some : 0 < chunk
   has-after : (answer : Option Store) → st ≡ Ok answer → HasAfter n answer
   has-after answer e = subst (λ (r : Result (Option Store) E). IfOk r (HasAfter n)) e after
 
-  pub sent-answers : {X F : Type 0} (info_of : X → XetFileInfo) (store_of : X → Store) (r : Result X F)
-      → IfOk r (λ s. (i ≡ Ok (info_of s)) × (st ≡ Ok (Some (store_of s))))
-      → IfOk r (λ s. Sends source size chunk (info_of s) (store_of s))
-  sent-answers info_of store_of (Err e) h = tt
-  sent-answers info_of store_of (Ok s) h = sent source size chunk some most short (info_of s) n
-      (uploads-all (info_of s) h.0) (store_of s) (has-after (Some (store_of s)) h.1)
+  pub sent-answers : {X F : Type 0} (info_of : X → XetFileInfo) (store_in : X → Store) (r : Result X F)
+      → IfOk r (λ s. (i ≡ Ok (info_of s)) × (st ≡ Ok (Some (store_in s))))
+      → IfOk r (λ s. Sends source size chunk (info_of s) (store_in s))
+  sent-answers info_of store_in (Err e) h = tt
+  sent-answers info_of store_in (Ok s) h = sent source size chunk some most short (info_of s) n
+      (uploads-all (info_of s) h.0) (store_in s) (has-after (Some (store_in s)) h.1)
 
   pub clash-answers : (info : XetFileInfo) → i ≡ Ok info → st ≡ Ok None → Clashes source size chunk
   clash-answers info e f = clashed source size chunk some most short info n (uploads-all info e) (has-after None f)

@@ -15,7 +15,8 @@ use Rattle.xet_clean_parts.specs.Premises.{HashesAgree, IsOpen, IsSteady}
 use Rattle.xet_clean_parts.proofs.CallerLemmas.{opened}
 use Rattle.xet_upload_files.specs.Uploads.{EndsUploads, FailsAt, FailsFirst, FileTold, StopsBehind, StopsUpload, Upload, UploadsFiles}
 use Rattle.xet_upload_laws.specs.AllStand.{AllStand, HoldsRecords}
-use Rattle.xet_upload_laws.specs.Laws.{FinishStands, PartsAgree, UploadStands, failed_bytes, read_bytes}
+use Rattle.xet_upload_laws.specs.Clashes.{PartsAgree}
+use Rattle.xet_upload_laws.specs.Laws.{FinishStands, UploadStands, failed_bytes, read_bytes}
 use Rattle.xet_upload_laws.specs.StoreAfter.{HasStore}
 use Rattle.xet_upload_laws.proofs.Records.{logged-xorbs}
 use Rattle.xet_upload_laws.proofs.Steps.{made-valid}
@@ -23,9 +24,9 @@ use Rattle.xet_upload_laws.proofs.Stores.{store-xorbs}
 use Rattle.xet_upload_laws.proofs.Uploads.{AfterUploads, AllBefore, AreShort, all-before, calls-held, calls-keep, ends-held, upload-held, uploads-held, uploads-keep}
 
 -- the log grew by xorbs that can be stored
-made-stand : (k : Store) (b n : SessionTold) (chunks : List (List ℕ)) → PutsMade b n chunks → AllStand k b
+made-stand : (k : Store) (b n : SessionTold) (chunks left : List (List ℕ)) → PutsMade b n chunks left → AllStand k b
     → (IsOpen n → HoldsRecords k n) → AllStand k n
-made-stand k b n chunks p a held = record {
+made-stand k b n chunks left p a held = record {
   stored = subst (λ (log : List Put). HasStore k log) (sym p.grown) (store-xorbs k (log_of b) p.xorbs a.stored
       (made-valid chunks p.xorbs p.put_made));
   logged = logged-xorbs k (log_of b) (log_of n) p.xorbs p.grown a.logged;
@@ -33,9 +34,10 @@ made-stand k b n chunks p a held = record {
 }
 
 pub finish-stands : FinishStands
-finish-stands k b n c now before after answer bytes z e s agree parts stands short a =
-    made-stand k b n _ (z.puts s.tells) a (λ o. ends-held k b n c now before after bytes s o agree parts stands short
-    (a.held (opened b n z.keeps o)) answer e)
+finish-stands k b n c now before after answer bytes z e s clash stands short a =
+    let parts = All-head (PartsAgree (world k (log_of n))) c.pending [] clash.parts in
+    made-stand k b n _ _ (z.puts s.tells) a (λ o. ends-held k b n c now before after bytes s o clash.xorbs parts stands
+    short (a.held (opened b n z.keeps o)) answer e)
 
 -- ---- uploads
 
@@ -98,6 +100,6 @@ module _ (k : Store) (b n : SessionTold) (now : ℕ) (s : IsSteady k b) (o : IsO
       go (inr u) p q = subst (λ (t : SessionTold). HoldsRecords k t) (sym u.1) h
 
 pub upload-stands : UploadStands
-upload-stands k b n now before after answer c s agree parts few a =
-    made-stand k b n _ (c.has.puts s.tells) a (λ o. files-held k b n now s o agree (a.held (opened b n c.has.keeps o))
-    before after answer c parts few)
+upload-stands k b n now before after answer c s clash few a =
+    made-stand k b n _ _ (c.has.puts s.tells) a (λ o. files-held k b n now s o clash.xorbs
+    (a.held (opened b n c.has.keeps o)) before after answer c clash.parts few)

@@ -17,9 +17,9 @@ use Rattle.xet_upload_session.specs.Calls.{Keeps, RegisterStopped, Registers, Wa
 use Rattle.xet_upload_session.specs.Sessions.{SessionTold, Tells, log_of}
 use Rattle.xet_clean_parts.specs.Made.{IsMadeOf}
 use Rattle.xet_clean_parts.specs.Premises.{IsOpen, waiting_xorb}
-use Rattle.xet_clean_parts.proofs.CallerLemmas.{opened}
+use Rattle.xet_clean_parts.proofs.CallerLemmas.{opened, turn-made}
 use Rattle.xet_upload_laws.specs.AllStand.{AllStand, HoldsRecords}
-use Rattle.xet_upload_laws.specs.Laws.{CountsStand, CutStands, FeedStands, FileStands, LearningStands, NewStands, RegisterStands, SearchStands}
+use Rattle.xet_upload_laws.specs.Laws.{AskStands, CountsStand, CutStands, FeedStands, FileStands, LearningStands, NewStands, RegisterStands, SearchStands}
 use Rattle.xet_upload_laws.specs.RecordsStand.{AreRecords, IsRecord, IsWaiting}
 use Rattle.xet_upload_laws.specs.StoreAfter.{HasStore}
 use Rattle.xet_upload_laws.proofs.Cuts.{GrewByOne, cut-any-held, cut-log, held-grown, logged-one, storable-valid, stored-one}
@@ -120,24 +120,42 @@ learning-stands k b n hashes answer l a = record {
       unfinished = sym (ap (λ (t : SessionTold). t.finalized) l.same) ∙ o.unfinished;
     }
 
+pub ask-stands : AskStands
+ask-stands k b n chunk answer q a = record {
+  stored = subst (λ (log : List Put). HasStore k log) (sym log) a.stored;
+  logged = subst (λ (log : List Put). AreRecords (world k log) (files_in log)) (sym log) a.logged;
+  held = λ o. held-grown k b n [] (log ∙ sym (append-nil (log_of b))) (ap (λ (t : SessionTold). t.waiting) q.same)
+      (ap (λ (t : SessionTold). t.finished) q.same)
+      (ap (λ (i : InterfaceTold). (records_of i.session).files) q.asks.same) (a.held (was o));
+}
+  where
+    log : log_of n ≡ log_of b
+    log = ap (λ (o : Option (List Put)). unwrap_or o []) q.asks.puts
+
+    was : IsOpen n → IsOpen b
+    was o = record {
+      unfailed = sym (ap (λ (t : SessionTold). t.failed) q.same) ∙ o.unfailed;
+      unfinished = sym (ap (λ (t : SessionTold). t.finalized) q.same) ∙ o.unfinished;
+    }
+
 pub cut-stands : CutStands
-cut-stands k b n now answer c s agree a =
+cut-stands k b n now answer c s clash a =
     let grew = cut-log b n now answer s.tells c in
     record {
       stored = stored-one k b n (waiting_xorb b) (storable-valid b.waiting.chunks c.storable) grew a.stored;
       logged = logged-one k b n (waiting_xorb b) grew a.logged;
-      held = λ o. let was = opened b n c.keeps o in cut-any-held k b n now s.tells c.keeps agree (a.held was) s.sound
+      held = λ o. let was = opened b n c.keeps o in cut-any-held k b n now s.tells c.keeps clash.xorbs (a.held was) s.sound
           (s.backed was.unfailed was.unfinished) (s.listed.all was.unfailed was.unfinished).put answer o.unfailed c;
     }
 
 pub file-stands : FileStands
-file-stands k b n w now answer t s agree taken a =
+file-stands k b n w now answer t s clash taken a =
     let g = take-grew b n w now s.tells answer t in
     let x = xorb_of_chunks g.chunks in
     record {
       stored = stored-one k b n x (storable-valid g.chunks g.storable) g.grew a.stored;
       logged = logged-one k b n x g.grew a.logged;
-      held = λ o. let was = opened b n t.keeps o in take-held k b n w now s.tells agree s.sound
+      held = λ o. let was = opened b n t.keeps o in take-held k b n w now s.tells clash.xorbs s.sound
           (s.backed was.unfailed was.unfinished) (s.listed.all was.unfailed was.unfinished).put o.unfailed (a.held was)
           taken answer t;
     }
@@ -153,6 +171,6 @@ made-valid chunks xs a = All-weaker (IsMadeOf chunks) IsValidXorb one xs a
 
 pub feed-stands : FeedStands
 feed-stands k b n c d bytes answer f s a =
-    let p = f.puts.so.puts s.tells in
+    let p = turn-made b n c.parts.own.chunks f.puts.cut f.puts.so.left (f.puts.so.puts s.tells) in
     xorbs-stand k b n f.leaves.keeps s.tells f.leaves.waiting f.leaves.finished a p.xorbs p.grown
     (made-valid (c.parts.own.chunks ++ f.puts.cut) p.xorbs p.put_made)

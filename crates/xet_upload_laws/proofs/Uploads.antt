@@ -23,7 +23,7 @@ use Rattle.xet_clean.specs.FileEnds.{CutsAndTakes, EndsFile, IsSame, TookFile, u
 use Rattle.xet_clean.specs.Records.{CleanedFile, WaitsFor}
 use Rattle.xet_upload_files.specs.Uploads.{EndsUpload, EndsUploads, FileTold, Upload}
 use Rattle.xet_upload_laws.specs.AllStand.{HoldsRecords}
-use Rattle.xet_upload_laws.specs.Laws.{PartsAgree}
+use Rattle.xet_upload_laws.specs.Clashes.{PartsAgree}
 use Rattle.xet_upload_laws.specs.RecordsStand.{AreWaiting, IsWaiting}
 use Rattle.xet_upload_laws.proofs.Cuts.{held-grown, hashes-before}
 use Rattle.xet_upload_laws.proofs.Takes.{take-held}
@@ -366,7 +366,7 @@ AreShort reads = All (λ (bytes : List ℕ). length bytes < 2 ^ 64) reads
 
 pub uploads-keep : (now : ℕ) (us : List Upload) (b n : SessionTold) → EndsUploads now us b n → Keeps b n
 uploads-keep now [] b n e = keeps-refl b n e
-uploads-keep now (u ∷ us) b n e = keeps-both b e.0 n e.1.keeps (uploads-keep now us e.0 n e.2)
+uploads-keep now (u ∷ us) b n e = keeps-both b e.0 n e.1.keeps (uploads-keep now us e.0 n e.3)
 
 pub all-before : (k : Store) (b m : SessionTold) (reads : List (List ℕ)) → Tells b → Keeps b m → AllBefore k m reads
     → AllBefore k b reads
@@ -393,7 +393,7 @@ uploads-held k n now (u ∷ us) b s h a short e =
     let m = e.0 in
     let more = map (λ (v : Upload). v.bytes) us in
     let one = e.1 in
-    let keeps = uploads-keep now us m n e.2 in
+    let keeps = uploads-keep now us m n e.3 in
     let tells = one.keeps.tells s.tells in
     let middle = all-before k m n (u.bytes ∷ more) tells keeps a in
     let first : Before k m u.bytes = record {
@@ -405,4 +405,4 @@ uploads-held k n now (u ∷ us) b s h a short e =
     (All-head (λ (bytes : List ℕ). length bytes < 2 ^ 64) u.bytes more short) first (Ok tt) one in
     uploads-held k n now us m (steady-kept k b m one.keeps (one.backs s.listed) middle.0 s) held
     (a.0, a.1, All-tail (PartsAgree (world k (log_of n))) u.bytes more a.2)
-    (All-tail (λ (bytes : List ℕ). length bytes < 2 ^ 64) u.bytes more short) e.2
+    (All-tail (λ (bytes : List ℕ). length bytes < 2 ^ 64) u.bytes more short) e.3

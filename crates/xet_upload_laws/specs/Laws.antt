@@ -1,5 +1,5 @@
 -- Which calls of a session keep that each of its records stands for its file's bytes.
-use Rattle.std.specs.Prelude.{ℕ, ◌≡◌, ◌<◌, ◌^◌, ◌⊎◌, Bool, List, [], ◌∷◌, ◌++◌, length, map, All, Contains, Option}
+use Rattle.std.specs.Prelude.{ℕ, ◌≡◌, ◌<◌, ◌^◌, ◌⊎◌, Bool, List, [], ◌∷◌, ◌++◌, length, map, All, Option}
 use Rattle.std.specs.Prelude.{Result, Ok, Err}
 use Rattle.std.proofs.Common.{inl, inr}
 use Rattle.xet_base.specs.declared.merklehash.MerkleHash.{MerkleHash}
@@ -14,20 +14,21 @@ use Rattle.xet_uploader.specs.StoresAfter.{files_in}
 use Rattle.xet_uploader.specs.Uploads.{UploaderTold}
 use Rattle.xet_shard_interface.specs.Interfaces.{InterfaceTold, records_of}
 use Rattle.xet_shard_interface.specs.Puts.{puts_of}
-use Rattle.xet_upload.specs.Standing.{AgreesWith, world}
+use Rattle.xet_upload.specs.Standing.{world}
 use Rattle.xet_upload.specs.Waitings.{Waiting}
 use Rattle.xet_upload.specs.declared.data_error.DataError.{DataError}
 use Rattle.xet_upload.specs.declared.metrics.DeduplicationMetrics.{DeduplicationMetrics}
 use Rattle.xet_upload_parts.specs.declared.cut_thresholds.CutThresholds.{CutThresholds}
-use Rattle.xet_upload_session.specs.Calls.{Cut, Finalizes, Queries, Registers, new_session}
+use Rattle.xet_upload_session.specs.Calls.{AsksFor, Cut, Finalizes, Queries, Registers, new_session}
 use Rattle.xet_upload_session.specs.Completions.{TakesFile}
 use Rattle.xet_upload_session.specs.Sessions.{SessionTold, log_of}
 use Rattle.xet_clean_parts.specs.Learnings.{Learns}
-use Rattle.xet_clean_parts.specs.Premises.{HashesAgree, IsSteady}
+use Rattle.xet_clean_parts.specs.Premises.{IsSteady}
 use Rattle.xet_clean.specs.Cleaners.{AddsData, Cleaner, CleanerStands, Finishes}
 use Rattle.xet_clean.specs.FileEnds.{EndsFile}
 use Rattle.xet_upload_files.specs.Uploads.{FailsAt, FileTold, UploadsFiles}
 use Rattle.xet_upload_laws.specs.AllStand.{AllStand}
+use Rattle.xet_upload_laws.specs.Clashes.{HasNoClash}
 use Rattle.xet_upload_laws.specs.RecordsStand.{AreRecords, AreWaiting}
 use Rattle.xet_upload_laws.specs.StoreAfter.{HasStore}
 
@@ -61,16 +62,21 @@ abbrev pub LearningStands : Type 0
 LearningStands = (k : Store) (b n : SessionTold) (hashes : List MerkleHash) (answer : Result Bool DataError)
     → Learns b n hashes answer → AllStand k b → AllStand k n
 
+-- and after one query of the uploader
+abbrev pub AskStands : Type 0
+AskStands = (k : Store) (b n : SessionTold) (chunk : MerkleHash) (answer : Result Bool DataError)
+    → AsksFor b n chunk answer → AllStand k b → AllStand k n
+
 -- after a cut
 abbrev pub CutStands : Type 0
 CutStands = (k : Store) (b n : SessionTold) (now : ℕ) (answer : Result (Unit {0}) DataError) → Cut b n now answer
-    → IsSteady k b → HashesAgree k n → AllStand k b → AllStand k n
+    → IsSteady k b → HasNoClash k n [] [] → AllStand k b → AllStand k n
 
 -- and after data of files that is taken, each of which stands for its bytes
 abbrev pub FileStands : Type 0
 FileStands = (k : Store) (b n : SessionTold) (w : Waiting) (now : ℕ) (answer : Result (Unit {0}) DataError)
-    → TakesFile b n w now answer → IsSteady k b → HashesAgree k n → AreWaiting (world k (log_of b)) w → AllStand k b
-    → AllStand k n
+    → TakesFile b n w now answer → IsSteady k b → HasNoClash k n [] [] → AreWaiting (world k (log_of b)) w
+    → AllStand k b → AllStand k n
 
 -- ---- cleaners
 
@@ -79,18 +85,12 @@ abbrev pub FeedStands : Type 0
 FeedStands = (k : Store) (b n : SessionTold) (c d : Cleaner) (bytes : List ℕ) (answer : Result (Unit {0}) DataError)
     → AddsData b n c bytes d answer → IsSteady k b → AllStand k b → AllStand k n
 
--- a chunk of a store's xorbs that has the hash of a part of these bytes is that part
-abbrev pub PartsAgree : Store → List ℕ → Type 0
-PartsAgree s bytes = (x : Xorb) (c front rest : List ℕ) → Contains s.xorbs x → bytes ≡ front ++ (c ++ rest)
-    → AgreesWith x.chunks c
-
 -- after the end of a file, for which a cleaner stood
 abbrev pub FinishStands : Type 0
 FinishStands = (k : Store) (b n : SessionTold) (c : Cleaner) (now : ℕ) (before after : List TrackerStep)
     (answer : Result (XetFileInfo × DeduplicationMetrics) DataError) (bytes : List ℕ) → Finishes b n c answer
-    → EndsFile b n c now before after answer → IsSteady k b → HashesAgree k n
-    → PartsAgree (world k (log_of n)) c.pending → CleanerStands (world k (log_of b)) c bytes → length bytes < 2 ^ 64
-    → AllStand k b → AllStand k n
+    → EndsFile b n c now before after answer → IsSteady k b → HasNoClash k n [] (c.pending ∷ [])
+    → CleanerStands (world k (log_of b)) c bytes → length bytes < 2 ^ 64 → AllStand k b → AllStand k n
 
 -- ---- uploads
 
@@ -110,15 +110,15 @@ read_bytes (Err e) c = map (λ u. u.bytes) c.done ++ failed_bytes c.why.why ∷ 
 abbrev pub UploadStands : Type 0
 UploadStands = (k : Store) (b n : SessionTold) (now : ℕ) (before after : List FileTold)
     (answer : Result (List XetFileInfo) DataError) (c : UploadsFiles now b n before after answer) → IsSteady k b
-    → HashesAgree k n → All (PartsAgree (world k (log_of n))) (read_bytes answer c)
-    → All (λ bytes. length bytes < 2 ^ 64) (read_bytes answer c) → AllStand k b → AllStand k n
+    → HasNoClash k n [] (read_bytes answer c) → All (λ bytes. length bytes < 2 ^ 64) (read_bytes answer c)
+    → AllStand k b → AllStand k n
 
 -- ---- the end
 
 -- after an end, whatever it answers, the store after the log is there and the log's records stand
 abbrev pub EndStands : Type 0 → Type 0
 EndStands A = (k : Store) (b n : SessionTold) (now : ℕ) (answer : Result A DataError) → Finalizes b n now answer
-    → IsSteady k b → HashesAgree k n → AllStand k b → AllStand k n
+    → IsSteady k b → HasNoClash k n [] [] → AllStand k b → AllStand k n
 
 -- the same of the three calls that end a session
 abbrev pub FinalizeStands : Type 0

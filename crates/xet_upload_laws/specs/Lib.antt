@@ -1,4 +1,5 @@
 pub mod AllStand
+pub mod Clashes
 pub mod Downloads
 pub mod Laws
 pub mod RecordsStand

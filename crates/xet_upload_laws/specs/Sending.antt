@@ -1,5 +1,5 @@
 -- One content that is sent to a store in memory.
-use Rattle.std.specs.Prelude.{ℕ, ◌≡◌, ◌⊎◌, ◌<◌, ◌≤◌, false, List, [], ◌∷◌, ◌++◌, length, All, IfSome, None, Some}
+use Rattle.std.specs.Prelude.{ℕ, ◌≡◌, ◌⊎◌, ◌<◌, ◌≤◌, false, List, [], ◌∷◌, ◌++◌, length, IfSome, None, Some}
 use Rattle.std.specs.Prelude.{Ok, Option, slice_range}
 use Rattle.xet_base.specs.declared.cas_types.FileRange.{FileRange}
 use Rattle.xet_base.specs.declared.mdb_shard.Xorb.{Xorb}
@@ -11,18 +11,18 @@ use Rattle.xet_uploader.specs.StoresAfter.{store_after}
 use Rattle.xet_uploader.specs.Uploads.{UploaderTold}
 use Rattle.xet_shards.specs.Shards.{ShardsTold, no_records}
 use Rattle.xet_shard_interface.specs.Interfaces.{InterfaceTold}
-use Rattle.xet_upload.specs.Waitings.{IsWithin, xorb_of_chunks}
+use Rattle.xet_upload.specs.Waitings.{IsWithin}
 use Rattle.xet_upload.specs.declared.metrics.DeduplicationMetrics.{DeduplicationMetrics}
 use Rattle.xet_upload.specs.declared.sha256_policy.Sha256Policy.TheVariants.{Skip}
 use Rattle.xet_waiting.specs.Limits.{most_xorb_bytes, most_xorb_chunks}
 use Rattle.xet_upload_session.specs.Calls.{Finalizes, new_session}
+use Rattle.xet_upload_session.specs.Puts.{made_of}
 use Rattle.xet_upload_session.specs.Sessions.{SessionTold, log_of}
-use Rattle.xet_upload_session.specs.Sounds.{XorbsAgree}
-use Rattle.xet_clean_parts.specs.Made.{IsPickedFrom}
+use Rattle.xet_clean_parts.specs.Made.{AreMadeInTurn}
 use Rattle.xet_clean_parts.specs.Places.{IsInChunks, fixed_telling}
 use Rattle.xet_clean_parts.specs.Pointers.{pointer_to}
 use Rattle.xet_upload_files.specs.Uploads.{FileTold, UploadsFiles}
-use Rattle.xet_upload_laws.specs.Laws.{PartsAgree}
+use Rattle.xet_upload_laws.specs.Clashes.{HasNoClash}
 
 -- ---- what is sent
 
@@ -40,45 +40,13 @@ content_pointer size chunks = pointer_to (file_hash_of (infos_of chunks)) size N
 abbrev pub store_of : List Xorb → Store
 store_of xs = record { xorbs = xs; files = [] }
 
--- the hash of the xorb is that of its chunks, which are picked from these
-pub record IsPicked (chunks : List (List ℕ)) (x : Xorb) : Type 0 where
-  pub honest : x ≡ xorb_of_chunks x.chunks
-  pub picked : IsPickedFrom x.chunks chunks
-
--- among these xorbs equal hashes mean equal chunks, and a chunk of them with the hash of a part of the bytes is that
--- part
-pub record ContentAgrees (made : List Xorb) (bytes : List ℕ) : Type 0 where
-  pub xorbs : XorbsAgree (store_of made)
-  pub parts : PartsAgree (store_of made) bytes
-
--- the chunks fit one xorb, or equal hashes mean equal contents
-abbrev pub IsSafe : List (List ℕ) → List Xorb → List ℕ → Type 0
-IsSafe chunks made bytes = IsWithin chunks ⊎ ContentAgrees made bytes
-
--- the store gives each range of the content under the hash of its chunks
-abbrev pub Gives : Store → List (List ℕ) → List ℕ → Type 0
-Gives s chunks bytes = (range : FileRange)
-    → window s (file_hash_of (infos_of chunks)) range ≡ slice_range bytes range.start range.end
-
--- a content was sent: the pointer record is that of its chunks, and the store gives it, if its chunks fit one xorb, or
--- equal hashes mean equal contents of the xorbs that were made of its chunks
-pub record Sends (source : SourceTold) (size chunk : ℕ) (info : XetFileInfo) (store : Store) : Type 0 where
-  pub bytes : List ℕ
-  pub chunks : List (List ℕ)
-  pub content : IsContent source size chunk bytes chunks
-  pub pointer : info ≡ content_pointer size chunks
-  pub made : List Xorb
-  pub made_of : All (IsPicked chunks) made
-  pub gives : IsSafe chunks made bytes → Gives store chunks bytes
-
--- nothing was sent, since different contents have one hash, of the xorbs that were made of a content's chunks
-pub record Clashes (source : SourceTold) (size chunk : ℕ) : Type 0 where
-  pub bytes : List ℕ
-  pub chunks : List (List ℕ)
-  pub content : IsContent source size chunk bytes chunks
-  pub made : List Xorb
-  pub made_of : All (IsPicked chunks) made
-  pub clash : IsSafe chunks made bytes → ⊥
+-- these xorbs are made of the chunks, one after the other, each since the next chunk didn't fit, and the last of those
+-- that were left
+pub record AreMade (chunks : List (List ℕ)) (made : List Xorb) : Type 0 where
+  pub front : List Xorb
+  pub left : List (List ℕ)
+  pub so : AreMadeInTurn [] chunks left front
+  pub are : made ≡ front ++ made_of left
 
 -- ---- the session
 
@@ -111,6 +79,39 @@ memory_session = new_session empty_uploader empty_stores false (record {
   bytes = most_xorb_bytes;
   chunks = most_xorb_chunks;
 })
+
+-- the chunks fit one xorb, or equal hashes mean equal contents, of the made xorbs and of parts of the bytes
+abbrev pub IsSafe : List (List ℕ) → List Xorb → List ℕ → Type 0
+IsSafe chunks made bytes = IsWithin chunks ⊎ HasNoClash (store_of made) memory_session [] (bytes ∷ [])
+
+-- ---- what was sent
+
+-- the store gives each range of the content under the hash of its chunks
+abbrev pub Gives : Store → List (List ℕ) → List ℕ → Type 0
+Gives s chunks bytes = (range : FileRange)
+    → window s (file_hash_of (infos_of chunks)) range ≡ slice_range bytes range.start range.end
+
+-- a content was sent: the pointer record is that of its chunks, and the store gives it, if its chunks fit one xorb, or
+-- equal hashes mean equal contents of the xorbs that were made of its chunks and of its parts
+pub record Sends (source : SourceTold) (size chunk : ℕ) (info : XetFileInfo) (store : Store) : Type 0 where
+  pub bytes : List ℕ
+  pub chunks : List (List ℕ)
+  pub content : IsContent source size chunk bytes chunks
+  pub pointer : info ≡ content_pointer size chunks
+  pub made : List Xorb
+  pub are : AreMade chunks made
+  pub gives : IsSafe chunks made bytes → Gives store chunks bytes
+
+-- nothing was sent, since different contents have one hash, of the xorbs that were made of a content's chunks
+pub record Clashes (source : SourceTold) (size chunk : ℕ) : Type 0 where
+  pub bytes : List ℕ
+  pub chunks : List (List ℕ)
+  pub content : IsContent source size chunk bytes chunks
+  pub made : List Xorb
+  pub are : AreMade chunks made
+  pub clash : IsSafe chunks made bytes → ⊥
+
+-- ---- the calls
 
 -- the file of the content
 abbrev pub content_file : SourceTold → ℕ → ℕ → FileTold

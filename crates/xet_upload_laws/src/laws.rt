@@ -1,8 +1,9 @@
 //! Laws of a session's records and of the store after its log, as functions whose contracts state them.
 ghost use Rattle.xet_upload_laws.specs.Downloads.{DownloadsAfterFiles, DownloadsAfterFinalize, DownloadsAfterReport};
-ghost use Rattle.xet_upload_laws.specs.Laws.{CountsStand, CutStands, FeedStands, FileStands, FinalizeStands};
-ghost use Rattle.xet_upload_laws.specs.Laws.{FinalizeWithFilesStands, FinalizeWithReportStands, FinishStands};
-ghost use Rattle.xet_upload_laws.specs.Laws.{LearningStands, NewStands, RegisterStands, SearchStands, UploadStands};
+ghost use Rattle.xet_upload_laws.specs.Laws.{AskStands, CountsStand, CutStands, FeedStands, FileStands};
+ghost use Rattle.xet_upload_laws.specs.Laws.{FinalizeStands, FinalizeWithFilesStands, FinalizeWithReportStands};
+ghost use Rattle.xet_upload_laws.specs.Laws.{FinishStands, LearningStands, NewStands, RegisterStands, SearchStands};
+ghost use Rattle.xet_upload_laws.specs.Laws.{UploadStands};
 ghost use Rattle.xet_upload_laws.specs.StoreAfter.{StoreAfterShards, StoreAfterXorbs};
 
 /// A session that isn't a dry run, over an uploader and record stores that tell what they hold, and over a valid store:
@@ -11,8 +12,8 @@ ghost use Rattle.xet_upload_laws.specs.StoreAfter.{StoreAfterShards, StoreAfterX
 /// range.
 ///
 /// It asks that equal hashes mean equal contents, of the xorbs and files of the store and of the session
-/// (`HasNoClash`), and that all records of the session stand, which a new one has and each call keeps under the
-/// premises of the law `records_stand_after_calls`.
+/// (`HasNoClash`), and that all records of the session stand, which a new one has and each call keeps, as the law
+/// `records_stand_after_calls` says under the same premise.
 pub fn accepted_files_download()
     ensures finalize { DownloadsAfterFinalize }
     ensures files { DownloadsAfterFiles }
@@ -21,13 +22,15 @@ pub fn accepted_files_download()
 
 /// All records of a session stand for their files' bytes (`AllStand`): of a new one, and after each call that answers
 /// Ok or fails. A given xorb has to be one that a store takes, and data of files that are given have to stand for their
-/// bytes. What cleaners are fed needs neither.
+/// bytes. What cleaners are fed needs neither. Calls that put ask that equal hashes mean equal contents, of the xorbs
+/// and of the bytes that are cut in the call (`HasNoClash`).
 pub fn records_stand_after_calls()
     ensures new { NewStands }
     ensures register { RegisterStands }
     ensures search { SearchStands }
     ensures counts { CountsStand }
     ensures learning { LearningStands }
+    ensures ask { AskStands }
     ensures cut { CutStands }
     ensures file { FileStands }
     ensures feed { FeedStands }

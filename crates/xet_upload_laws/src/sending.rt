@@ -173,8 +173,9 @@ fn answered(
 /// which gives the content in each range.
 ///
 /// Of chunks that don't fit one xorb it says of the store only what holds where equal hashes mean equal contents, of
-/// any choice of these chunks. `Clash` never comes where the chunks fit one xorb. Each other error has its cause in
-/// `upload_files` or `finalize`, which no clause says.
+/// the xorbs that were made of these chunks (`HasNoClash`). These are made one after the other, each since the next
+/// chunk didn't fit, so that there are at most as many as chunks. `Clash` never comes where the chunks fit one xorb.
+/// Each other error has its cause in `upload_files` or `finalize`, which no clause says.
 ///
 /// It has no source in the Rust crates.
 pub fn send<I: Source + Drop, W: Wait>(

@@ -14,7 +14,7 @@ use Rattle.xet_upload_session.specs.Calls.{Backs, CountsSent, Keeps, Says}
 use Rattle.xet_upload_session.specs.Sessions.{HasListed, SessionTold, Tells}
 use Rattle.xet_clean.specs.Cleaners.{Cleaner, Counts, CountsChunks, Feeds}
 use Rattle.xet_clean_parts.specs.Cleanings.{ChunkFails, Leaves}
-use Rattle.xet_clean_parts.specs.Made.{IsPickedFrom, PutsMade, PutsNone, PutsSome, StayOne}
+use Rattle.xet_clean_parts.specs.Made.{IsPickedFrom, PutsMade, PutsNone, PutsSome, PutsToEnd, StayOne}
 use Rattle.xet_clean_parts.specs.Places.{CutFile, CutPieces}
 use Rattle.xet_clean_parts.specs.Pointers.{pointer_to, recorded_sha256}
 use Rattle.xet_clean_parts.specs.Premises.{HashesAgree, IsOpen, IsSteady, NoClash}
@@ -45,7 +45,7 @@ pub record Pours (b n : SessionTold) (s t : SourceTold) (c d : Cleaner) (size : 
   pub most : length bytes ≤ size
   pub whole : OnOk answer (length bytes ≡ size)
   pub fed : OnOk answer (FeedsPieces b n c bytes d)
-  pub puts : PutsSome b n c.parts.own.chunks (c.pending ++ bytes) answer
+  pub puts : PutsSome b n c.parts.own.chunks (c.pending ++ bytes) d.parts.own.chunks answer
   pub unfailed : OnOk answer (d.failed ≡ None)
   pub why : IfErr answer (λ e. SourceFails s t size bytes e ⊎ ChunkFails b n e)
 
@@ -60,7 +60,8 @@ pub record UploadsFile (b n : SessionTold) (f : FileTold) (s : SourceTold)
   pub keeps : Keeps b n
   pub backs : HasListed b → Backs b n
   pub cut : List (List ℕ)
-  pub puts : Tells b → PutsMade b n (b.waiting.chunks ++ cut)
+  pub puts : Tells b → PutsMade b n (b.waiting.chunks ++ cut) n.waiting.chunks
+  pub turn : Tells b → OnOk answer (PutsToEnd b n [] cut)
   pub full : StayOne b cut → PutsNone b n
   pub thresholds : n.thresholds ≡ b.thresholds
   pub waits : IsPickedFrom n.waiting.chunks (b.waiting.chunks ++ cut)

@@ -1,5 +1,7 @@
-use Rattle.std.proofs.Common.{false, ◌≡◌}
+use Rattle.std.proofs.Common.{false, refl, ap, sym, ◌≡◌}
 use Rattle.std.specs.Prelude.{Err, Ok}
+use Rattle.xet_upload.specs.Waitings.{Waiting}
+use Rattle.xet_upload.specs.declared.data_error.DataError.TheVariants as data_error
 use Rattle.xet_upload_session.specs.Telling.{told_by}
 use Rattle.xet_base.proofs.CallerLemmas.{err-of}
 use Rattle.xet_clean_parts.proofs.Cleaning.{chunk-later, found-adds, leaves-both, new-adds}
@@ -16,7 +18,7 @@ returns-in_err-add_new-in-None g c =
     rw e (record {
       leaves = leaves-both _ _ _ c.find_chunk.ensures.leaves c.add_new.ensures.leaves;
       cleans = tt;
-      puts = so-err _ _ _ _ _ (so-behind _ _ _ _ _ _ c.find_chunk.ensures.leaves.keeps c.find_chunk.ensures.found.log
+      puts = so-err _ _ _ _ _ _ _ (so-behind _ _ _ _ _ _ _ c.find_chunk.ensures.leaves.keeps c.find_chunk.ensures.found.log
           c.find_chunk.ensures.found.repeated c.find_chunk.ensures.found.failed
           (rw c.in_err-add_new-in-None.was at c.add_new.ensures.puts));
       why = chunk-later _ _ (told_by g.U.Uploader.told g.R.ShardStore.told c.add_new.new.session) _
@@ -42,9 +44,10 @@ returns-in_ok-add_new-in-None g c =
       cleans = new-adds _ _ _ _ _ _ _ (rw c.as_slice.ensures at c.chunk_info-info.ensures)
           c.find_chunk.ensures.leaves c.add_new.ensures.leaves (rw (was, c.in-None.is) at c.find_chunk.ensures.found)
           c.in_ok-add_new-in-None.ensures.cleans;
-      puts = so-behind _ _ _ _ _ _ c.find_chunk.ensures.leaves.keeps c.find_chunk.ensures.found.log
+      puts = so-behind _ _ _ _ _ _ _ c.find_chunk.ensures.leaves.keeps c.find_chunk.ensures.found.log
           c.find_chunk.ensures.found.repeated c.find_chunk.ensures.found.failed
-          (so-any _ _ _ _ _ _ c.in_ok-add_new-in-None.ensures.cleans.failed c.add_new.ensures.puts);
+          (so-any _ _ _ _ _ _ _ _ c.in_ok-add_new-in-None.ensures.cleans.failed refl
+          (rw c.in_ok-add_new-in-None.was at c.add_new.ensures.puts));
       why = tt;
       tells = tells-both _ _ _ _ _ _ (rw was at c.find_chunk.ensures.tells) _
           (tells-late _ _ _ _ _ _ c.find_chunk.ensures.leaves.keeps.finalized
@@ -54,16 +57,22 @@ returns-in_ok-add_new-in-None g c =
     }
 
 pub returns-in_err-entry-clause-puts : goal.returns-in_err-entry-clause-puts
-returns-in_err-entry-clause-puts g c = so-quiet _ _ _ _ _ c.find_chunk.ensures.found.log
-    c.find_chunk.ensures.found.repeated c.find_chunk.ensures.found.failed
+returns-in_err-entry-clause-puts g c =
+    let e : c.from_residual.result ≡ Err c.in_err-entry.field-0.0 = err-of _ _ c.from_residual.ensures in
+    rw e (so-quiet _ _ _ _ _ _ c.find_chunk.ensures.found.log
+    c.find_chunk.ensures.found.repeated c.find_chunk.ensures.found.failed tt)
 
 pub returns-in_err-add_found-in-Some-clause-puts : goal.returns-in_err-add_found-in-Some-clause-puts
-returns-in_err-add_found-in-Some-clause-puts g c = so-quiet _ _ _ _ _ c.find_chunk.ensures.found.log
-    c.find_chunk.ensures.found.repeated c.find_chunk.ensures.found.failed
+returns-in_err-add_found-in-Some-clause-puts g c =
+    let e : c.from_residual-in_err-add_found-in-Some.result ≡ Err data_error.OutOfMemory =
+    err-of _ _ c.from_residual-in_err-add_found-in-Some.ensures in
+    rw e (so-quiet _ _ _ _ _ _ c.find_chunk.ensures.found.log
+    c.find_chunk.ensures.found.repeated c.find_chunk.ensures.found.failed tt)
 
 pub returns-in_ok-add_found-in-Some-clause-puts : goal.returns-in_ok-add_found-in-Some-clause-puts
-returns-in_ok-add_found-in-Some-clause-puts g c = so-quiet _ _ _ _ _ c.find_chunk.ensures.found.log
+returns-in_ok-add_found-in-Some-clause-puts g c = so-quiet _ _ _ _ _ _ c.find_chunk.ensures.found.log
     c.find_chunk.ensures.found.repeated c.find_chunk.ensures.found.failed
+    (sym (ap (λ (w : Waiting). w.chunks) c.in_ok-add_found-in-Some.ensures.own))
 
 pub returns-in_err-entry-clause-calls : goal.returns-in_err-entry-clause-calls
 returns-in_err-entry-clause-calls g c = c.find_chunk.ensures.calls c.args.now

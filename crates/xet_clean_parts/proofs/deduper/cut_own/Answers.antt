@@ -1,11 +1,12 @@
 use Rattle.std.proofs.Common.{refl, ap, ◌≡◌}
 use Rattle.std.specs.Prelude.{Err}
 use Rattle.xet_upload.specs.FileDatas.{Parts}
+use Rattle.xet_upload.specs.Waitings.{Waiting}
 use Rattle.xet_upload.specs.declared.data_error.DataError.TheVariants as data_error
 use Rattle.xet_upload_session.specs.Telling.{told_by}
 use Rattle.xet_base.proofs.CallerLemmas.{err-of}
 use Rattle.xet_clean_parts.proofs.Cleaning.{chunk-memory, cut-cleans, leaves-refl, no-own, registers-fails, registers-leaves, some-own, still-cleans}
-use Rattle.xet_clean_parts.proofs.Puts.{made-registered, made-still, says-err, says-none}
+use Rattle.xet_clean_parts.proofs.Puts.{so-any, so-empty, so-err, so-quiet, so-registered}
 use Rattle.xet_clean_parts.proofs.SessionCalls.{calls-none, calls-xorb}
 use Rattle.xet_clean_parts.proofs.FileCalls.{tells-err, tells-memory, tells-none, tells-ok, xorb-tells, xorb-tells-err}
 use Rattle.xet_clean_parts.proofs.deduper.cut_own.Goals as goal
@@ -15,10 +16,8 @@ returns-then-count-eq0 g c = record {
   leaves = leaves-refl _ _ refl;
   cleans = still-cleans _ _ _ _ refl refl;
   emptied = no-own _ _ c.num_chunks-count.ensures.chunks c.if-count-eq0.true c.num_chunks-count.ensures.no_files;
-  puts = λ t. made-still _ _ _ refl refl;
-  said = says-none
-      (told_by g.U.Uploader.told g.R.ShardStore.told c.args.session.now)
-      (told_by g.U.Uploader.told g.R.ShardStore.told c.args.session.now) _ refl;
+  puts = λ next unfit. so-empty _ _ _ _ _ (ap (λ (w : Waiting). w.chunks)
+      (no-own _ _ c.num_chunks-count.ensures.chunks c.if-count-eq0.true c.num_chunks-count.ensures.no_files)) refl;
   why = tt;
   tells = tells-none _ _ _ _ _ refl tt;
   calls = calls-none _ _ _ refl;
@@ -32,10 +31,7 @@ returns-in_err-raw g c =
       leaves = leaves-refl _ _ refl;
       cleans = tt;
       emptied = tt;
-      puts = λ t. made-still _ _ _ refl refl;
-      said = says-none
-          (told_by g.U.Uploader.told g.R.ShardStore.told c.args.session.now)
-          (told_by g.U.Uploader.told g.R.ShardStore.told c.args.session.now) _ refl;
+      puts = λ next unfit. so-quiet _ _ _ _ _ _ refl refl refl tt;
       why = chunk-memory
           (told_by g.U.Uploader.told g.R.ShardStore.told c.args.session.now)
           (told_by g.U.Uploader.told g.R.ShardStore.told c.args.session.now) _ refl;
@@ -54,10 +50,9 @@ returns-in_err-register_new_xorb g c =
       leaves = registers-leaves _ _ _ _ _ call c.register_new_xorb.ensures.backs;
       cleans = tt;
       emptied = tt;
-      puts = made-registered _ _ _ _ _ _ (some-own _ _ count.chunks c.if-count-eq0.false)
-          (record { some = count.some; within = count.within }) c.in_ok-raw.ensures.xorb call;
-      said = λ none. says-err
-          (told_by g.U.Uploader.told g.R.ShardStore.told c.register_new_xorb.new.self) _ (call.said none);
+      puts = λ next unfit. so-err _ _ _ _ _ _ _ (so-registered _ _ _ next _
+          (some-own _ _ count.chunks c.if-count-eq0.false) (record { some = count.some; within = count.within }) unfit _
+          _ c.in_ok-raw.ensures.xorb call);
       why = registers-fails _ _ _ _ _ call;
       tells = tells-err _ _ _ _ _ (xorb-tells-err _ _ _ _ _ _ _ _ refl _
           (rw (c.in_err-register_new_xorb.was, c.as_slice.ensures) at c.register_new_xorb.ensures.tracks) call.err
@@ -76,11 +71,8 @@ returns g c =
       leaves = registers-leaves _ _ _ _ _ call c.register_new_xorb.ensures.backs;
       cleans = cleans;
       emptied = ap (λ (p : Parts). p.own) c.in_ok-raw.ensures.named;
-      puts = made-registered _ _ _ _ _ _ some
-          (record { some = count.some; within = count.within }) c.in_ok-raw.ensures.xorb call;
-      said = says-none
-          (told_by g.U.Uploader.told g.R.ShardStore.told c.args.session.now)
-          (told_by g.U.Uploader.told g.R.ShardStore.told c.register_new_xorb.new.self) _ cleans.failed;
+      puts = λ next unfit. so-any _ _ _ _ _ _ _ _ cleans.failed refl (so-registered _ _ _ next _ some
+          (record { some = count.some; within = count.within }) unfit _ _ c.in_ok-raw.ensures.xorb call);
       why = tt;
       tells = tells-ok _ _ _ _ _ tt (xorb-tells _ _ _ _ _ _ _ c.args.now refl _
           (rw (c.in_ok-register_new_xorb.was, c.as_slice.ensures) at c.register_new_xorb.ensures.tracks));

@@ -76,7 +76,7 @@ loop-file-preserved g c =
     record {
       done = c.loop-file.invariant.done ++ u ∷ [];
       has = uploads-more _ _ _ _ _ _ _ _ c.loop-file.invariant.has x;
-      ended = ends-more _ _ _ _ _ u c.loop-file.invariant.ended one.ended;
+      ended = ends-more _ _ _ _ _ u c.loop-file.invariant.ended one.ended x.turn;
       progress = step-more told _ _ _ _ c.loop-file.invariant.progress item c.upload_file.new.file _ _ lt
           (read-again files i c.file-item.result lt) c.upload_file.ensures.same x.bytes x.cut x.hash;
       answers = answers-more _ _ _ _ _ _ x _ _ _ c.loop-file.invariant.answers c.push_reserved.ensures.items;

@@ -13,7 +13,7 @@ returns-in_err-found g c =
       cleans = tt;
       same = tt;
       counts = tt;
-      puts = so-err _ _ _ _ _ (rw c.in_err-found.was at c.add_chunk.ensures.puts);
+      puts = so-err _ _ _ _ _ _ _ (rw c.in_err-found.was at c.add_chunk.ensures.puts);
       failed = refl;
       why = rw c.in_err-found.was at c.add_chunk.ensures.why;
       tells = tells-err _ _ _ _ _ (rw c.in_err-found.was at c.add_chunk.ensures.tells);
@@ -30,7 +30,8 @@ returns g c = record {
     c.in_ok-found.found,
     c.merge_in.ensures ∙ ap (both c.args.self.now.counts) (rw c.len-length.ensures.value at c.chunk_counts.ensures),
   );
-  puts = so-any _ _ _ _ _ _ c.in_ok-found.ensures.cleans.failed c.add_chunk.ensures.puts;
+  puts = so-any _ _ _ _ _ _ _ _ c.in_ok-found.ensures.cleans.failed refl
+      (rw c.in_ok-found.was at c.add_chunk.ensures.puts);
   failed = refl;
   why = tt;
   tells = tells-ok _ _ _ _ _ _ (rw c.in_ok-found.was at c.add_chunk.ensures.tells);

@@ -1,4 +1,4 @@
-use Rattle.std.proofs.Common.{refl, ap, inl, inr, ◌≡◌, ◌∙◌}
+use Rattle.std.proofs.Common.{refl, ap, sym, inl, inr, ◌≡◌, ◌∙◌}
 use Rattle.std.specs.Prelude.{Err, Ok}
 use Rattle.xet_upload.specs.declared.data_error.DataError.TheVariants as data_error
 use Rattle.xet_clean.specs.Cleaners.{Cleaner}
@@ -15,7 +15,7 @@ returns-in_err-next_chunk g c =
     rw e (record {
       leaves = leaves-refl _ _ refl;
       cuts = tt;
-      puts = some-still _ _ _ _ _ refl;
+      puts = some-still _ _ _ _ _ _ refl tt;
       shorter = tt;
       up = tt;
       none = tt;
@@ -35,7 +35,10 @@ returns-in-None-clause-cuts g c =
     cuts-ended _ _ _ _ _ refl (rw (was, c.in-None.is) at c.next_chunk.ensures.next)
 
 pub returns-in-None-clause-puts : goal.returns-in-None-clause-puts
-returns-in-None-clause-puts g c = some-still _ _ _ _ _ refl
+returns-in-None-clause-puts g c =
+    let was : c.next_chunk.result ≡ Ok c.in_ok-next_chunk.field-0 = c.in_ok-next_chunk.was in
+    let next = rw (was, c.in-None.is) at c.next_chunk.ensures.next in
+    some-still _ _ _ _ _ _ refl (sym (ap (λ (z : Cleaner). z.parts.own.chunks) next.same))
 
 pub returns-in-None-clause-up : goal.returns-in-None-clause-up
 returns-in-None-clause-up g c =
@@ -69,7 +72,8 @@ returns-in_err-clean-in-Some g c =
     rw e (record {
       leaves = c.clean.ensures.leaves;
       cuts = tt;
-      puts = some-err _ _ _ _ _ (cleaned-puts _ _ _ _ _ _ _ next (rw c.in_err-clean-in-Some.was at c.clean.ensures.puts));
+      puts = some-err _ _ _ _ _ _ _ (cleaned-puts _ _ _ _ _ _ _ _ next
+          (rw c.in_err-clean-in-Some.was at c.clean.ensures.puts));
       shorter = tt;
       up = tt;
       none = tt;
@@ -94,8 +98,8 @@ pub returns-in_ok-clean-in-Some-clause-puts : goal.returns-in_ok-clean-in-Some-c
 returns-in_ok-clean-in-Some-clause-puts g c =
     let was : c.next_chunk.result ≡ Ok c.in_ok-next_chunk.field-0 = c.in_ok-next_chunk.was in
     let next = rw (was, c.in-Some.is) at c.next_chunk.ensures.next in
-    some-any _ _ _ _ _ _ c.in_ok-clean-in-Some.ensures.cleans.failed
-    (cleaned-puts _ _ _ _ _ _ _ next c.clean.ensures.puts)
+    some-any _ _ _ _ _ _ _ c.in_ok-clean-in-Some.ensures.cleans.failed
+    (cleaned-puts _ _ _ _ _ _ _ _ next (rw c.in_ok-clean-in-Some.was at c.clean.ensures.puts))
 
 pub returns-in_ok-clean-in-Some-clause-tells : goal.returns-in_ok-clean-in-Some-clause-tells
 returns-in_ok-clean-in-Some-clause-tells g c =

@@ -62,7 +62,7 @@ returns-in-Err g c =
     record {
       leaves = leaves-both _ _ _ old.leaves c.cut_chunk.ensures.leaves;
       cuts = tt;
-      puts = chunks-stopped _ _ _ _ _ _ _ old.leaves old.cuts (rw c.in-Err.is at c.cut_chunk.ensures.puts);
+      puts = chunks-stopped _ _ _ _ _ _ _ _ old.leaves old.cuts (rw c.in-Err.is at c.cut_chunk.ensures.puts);
       up = tt;
       none = tt;
       failed = c.cut_chunk.ensures.failed ∙ old.failed;

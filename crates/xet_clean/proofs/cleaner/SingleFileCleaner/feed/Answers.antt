@@ -28,7 +28,7 @@ returns-in_err-grow g c =
     let e : c.from_residual.result ≡ Err c.in_err-grow.field-0.0 = err-of _ _ c.from_residual.ensures in
     rw e (record {
       feeds = feeds-failed _ _ _ _ _ _ (leaves-refl _ _ c.grow.ensures.same)
-          (some-still _ _ _ _ _ c.grow.ensures.same) refl
+          (some-still _ _ _ _ _ _ c.grow.ensures.same tt) refl
           (sym c.is_finalized.ensures.is ∙ c.if-is_finalized.false) c.in_default.is
           (c.past_total.ensures.none c.in_default-past_total.is)
           (chunk-tracks (told_by g.U.Uploader.told g.R.ShardStore.told c.args.session.now)
@@ -47,7 +47,7 @@ returns-in_err-take_in g c =
     err-of _ _ c.from_residual-in_err-take_in.ensures in
     rw e (record {
       feeds = feeds-failed _ _ _ _ _ _ (leaves-refl _ _ c.grow.ensures.same)
-          (some-still _ _ _ _ _ c.grow.ensures.same) (ap (λ (z : Cleaner). z.failed) c.in_err-take_in.ensures.err)
+          (some-still _ _ _ _ _ _ c.grow.ensures.same tt) (ap (λ (z : Cleaner). z.failed) c.in_err-take_in.ensures.err)
           (sym c.is_finalized.ensures.is ∙ c.if-is_finalized.false) c.in_default.is
           (c.past_total.ensures.none c.in_default-past_total.is)
           (chunk-memory (told_by g.U.Uploader.told g.R.ShardStore.told c.args.session.now)

@@ -22,7 +22,7 @@ returns-in_err-cut_chunks g c =
     let e : c.from_residual.result ≡ Err c.in_err-cut_chunks.field-0.0 = err-of _ _ c.from_residual.ensures in
     let passes = c.refused.ensures.none c.in_default.is in
     rw e (record {
-      ends = finishes-uncut _ _ _ c.refused.ensures.listed _ c.cut_chunks.ensures.leaves
+      ends = finishes-uncut _ _ _ c.refused.ensures.listed _ c.cut_chunks.ensures.leaves _
           (rw c.in_err-cut_chunks.was at c.cut_chunks.ensures.puts) passes.unfinalized passes.unfailed passes.named
           (rw c.in_err-cut_chunks.was at c.cut_chunks.ensures.why);
       refused = end-uncut _ (told_by g.U.Uploader.told g.R.ShardStore.told c.args.session.now)
