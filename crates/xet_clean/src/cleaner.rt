@@ -132,22 +132,21 @@ impl<T: Cutter> SingleFileCleaner<T> {
     ) -> Result<(), DataError>
         requires some { 0 < length chunk }
         requires short { length chunk ≤ most_chunk_bytes }
-        ensures leaves { Leaves (told_by U.told R.told session.old) (told_by U.told R.told session.new) }
-        ensures cleans { OnOk result (Cleans (told_by U.told R.told session.old) (told_by U.told R.told session.new)
-            self.old.parts self.new.parts (chunk ∷ [])) }
-        ensures puts { PutsSo (told_by U.told R.told session.old) (told_by U.told R.told session.new)
-            self.old.parts.own.chunks (chunk ∷ []) self.new.parts.own.chunks result }
+        ensures leaves { Leaves (told_by session.old) (told_by session.new) }
+        ensures cleans { OnOk result
+            (Cleans (told_by session.old) (told_by session.new) self.old.parts self.new.parts (chunk ∷ [])) }
+        ensures puts { PutsSo (told_by session.old) (told_by session.new) self.old.parts.own.chunks (chunk
+            ∷ []) self.new.parts.own.chunks result }
         ensures same { OnOk result (cleaner_of T.told self.new ≡ record (cleaner_of T.told self.old) {
           parts = self.new.parts;
           counts = self.new.counts;
         }) }
         ensures counts { OnOk result (CountsChunks self.old.counts (chunk ∷ []) self.new.counts) }
         ensures failed { self.new.failed ≡ self.old.failed }
-        ensures why { IfErr result (ChunkFails (told_by U.told R.told session.old)
-            (told_by U.told R.told session.new)) }
+        ensures why { IfErr result (ChunkFails (told_by session.old) (told_by session.new)) }
         ensures tells { TellsOf (IsPartOf self.old.file_id) (IsLate session.old.finalized) session.old.files.tracker
             session.new.files.tracker result }
-        ensures calls { Calls now (told_by U.told R.told session.old) (told_by U.told R.told session.new) }
+        ensures calls { Calls now (told_by session.old) (told_by session.new) }
         ensures group { KeepsGroup session.old session.new }
     {
         let length = chunk.len() as u64;
@@ -173,22 +172,21 @@ impl<T: Cutter> SingleFileCleaner<T> {
         last: bool,
         now: u64,
     ) -> Result<bool, DataError>
-        ensures leaves { Leaves (told_by U.told R.told session.old) (told_by U.told R.told session.new) }
-        ensures cuts { OnOk result (CutsChunks last (told_by U.told R.told session.old)
-            (told_by U.told R.told session.new) (cleaner_of T.told self.old) (cleaner_of T.told self.new)) }
-        ensures puts { PutsSome (told_by U.told R.told session.old) (told_by U.told R.told session.new)
-            self.old.parts.own.chunks (bytes_left self.old.pending) self.new.parts.own.chunks result }
+        ensures leaves { Leaves (told_by session.old) (told_by session.new) }
+        ensures cuts { OnOk result (CutsChunks last (told_by session.old) (told_by session.new)
+            (cleaner_of T.told self.old) (cleaner_of T.told self.new)) }
+        ensures puts { PutsSome (told_by session.old) (told_by session.new) self.old.parts.own.chunks
+            (bytes_left self.old.pending) self.new.parts.own.chunks result }
         ensures shorter { IfOk result (λ more. more ≡ true
             → length (bytes_left self.new.pending) < length (bytes_left self.old.pending)) }
         ensures up { IfOk result (λ more. more ≡ false
             → IsCutUp (T.told self.old.cutter) last (bytes_left self.new.pending)) }
         ensures none { IfOk result (λ more. more ≡ false → last ≡ true → bytes_left self.new.pending ≡ []) }
         ensures failed { self.new.failed ≡ self.old.failed }
-        ensures why { IfErr result (ChunkFails (told_by U.told R.told session.old)
-            (told_by U.told R.told session.new)) }
+        ensures why { IfErr result (ChunkFails (told_by session.old) (told_by session.new)) }
         ensures tells { TellsOf (IsPartOf self.old.file_id) (IsLate session.old.finalized) session.old.files.tracker
             session.new.files.tracker result }
-        ensures calls { Calls now (told_by U.told R.told session.old) (told_by U.told R.told session.new) }
+        ensures calls { Calls now (told_by session.old) (told_by session.new) }
         ensures group { KeepsGroup session.old session.new }
     {
         match self.next_chunk(alloc, last)? {
@@ -209,19 +207,18 @@ impl<T: Cutter> SingleFileCleaner<T> {
         last: bool,
         now: u64,
     ) -> Result<(), DataError>
-        ensures leaves { Leaves (told_by U.told R.told session.old) (told_by U.told R.told session.new) }
-        ensures cuts { OnOk result (CutsChunks last (told_by U.told R.told session.old)
-            (told_by U.told R.told session.new) (cleaner_of T.told self.old) (cleaner_of T.told self.new)) }
-        ensures puts { PutsSome (told_by U.told R.told session.old) (told_by U.told R.told session.new)
-            self.old.parts.own.chunks (bytes_left self.old.pending) self.new.parts.own.chunks result }
+        ensures leaves { Leaves (told_by session.old) (told_by session.new) }
+        ensures cuts { OnOk result (CutsChunks last (told_by session.old) (told_by session.new)
+            (cleaner_of T.told self.old) (cleaner_of T.told self.new)) }
+        ensures puts { PutsSome (told_by session.old) (told_by session.new) self.old.parts.own.chunks
+            (bytes_left self.old.pending) self.new.parts.own.chunks result }
         ensures up { OnOk result (IsCutUp (T.told self.old.cutter) last (bytes_left self.new.pending)) }
         ensures none { OnOk result (last ≡ true → bytes_left self.new.pending ≡ []) }
         ensures failed { self.new.failed ≡ self.old.failed }
-        ensures why { IfErr result (ChunkFails (told_by U.told R.told session.old)
-            (told_by U.told R.told session.new)) }
+        ensures why { IfErr result (ChunkFails (told_by session.old) (told_by session.new)) }
         ensures tells { TellsOf (IsPartOf self.old.file_id) (IsLate session.old.finalized) session.old.files.tracker
             session.new.files.tracker result }
-        ensures calls { Calls now (told_by U.told R.told session.old) (told_by U.told R.told session.new) }
+        ensures calls { Calls now (told_by session.old) (told_by session.new) }
         ensures group { KeepsGroup session.old session.new }
     {
         'chunks: loop {
@@ -260,7 +257,7 @@ impl<T: Cutter> SingleFileCleaner<T> {
         rt: &W,
         bytes: u64,
     ) -> Result<(), DataError>
-        ensures same { told_by U.told R.told session.new ≡ told_by U.told R.told session.old }
+        ensures same { told_by session.new ≡ told_by session.old }
         ensures why { IfErr result TrackFails }
         ensures tells { TellsOf (IsFor self.now.file_id self.now.size bytes) (IsLate session.old.finalized)
             session.old.files.tracker session.new.files.tracker result }
@@ -283,14 +280,14 @@ impl<T: Cutter> SingleFileCleaner<T> {
         bytes: &[u8],
         now: u64,
     ) -> Result<(), DataError>
-        ensures feeds { FeedsSo (told_by U.told R.told session.old) (told_by U.told R.told session.new)
-            (cleaner_of T.told self.old) bytes.now (cleaner_of T.told self.new) result }
+        ensures feeds { FeedsSo (told_by session.old) (told_by session.new) (cleaner_of T.told self.old) bytes.now
+            (cleaner_of T.told self.new) result }
         ensures tells { TellsOf (IsFor self.old.file_id self.old.size (length bytes.now))
             (IsOwnError session.old.finalized (cleaner_of T.told self.old) bytes.now)
             session.old.files.tracker session.new.files.tracker result }
         ensures grows { OnOk result (GrowsFirst self.old.file_id self.old.size (length bytes.now)
             session.old.files.tracker session.new.files.tracker) }
-        ensures calls { Calls now (told_by U.told R.told session.old) (told_by U.told R.told session.new) }
+        ensures calls { Calls now (told_by session.old) (told_by session.new) }
         ensures group { KeepsGroup session.old session.new }
     {
         if session.is_finalized() {
@@ -324,14 +321,14 @@ impl<T: Cutter> SingleFileCleaner<T> {
         bytes: &[u8],
         now: u64,
     ) -> Result<(), DataError>
-        ensures adds { AddsData (told_by U.told R.told session.old) (told_by U.told R.told session.new)
-            (cleaner_of T.told self.old) bytes.now (cleaner_of T.told self.new) result }
+        ensures adds { AddsData (told_by session.old) (told_by session.new) (cleaner_of T.told self.old) bytes.now
+            (cleaner_of T.told self.new) result }
         ensures tells { TellsOf (IsFor self.old.file_id self.old.size (length bytes.now))
             (IsOwnError session.old.finalized (cleaner_of T.told self.old) bytes.now)
             session.old.files.tracker session.new.files.tracker result }
         ensures grows { OnOk result (GrowsFirst self.old.file_id self.old.size (length bytes.now)
             session.old.files.tracker session.new.files.tracker) }
-        ensures calls { Calls now (told_by U.told R.told session.old) (told_by U.told R.told session.new) }
+        ensures calls { Calls now (told_by session.old) (told_by session.new) }
         ensures group { KeepsGroup session.old session.new }
     {
         match self.feed(session, rt, alloc, bytes, now) {
@@ -356,13 +353,11 @@ impl<T: Cutter> SingleFileCleaner<T> {
         requires named { session.old.failed ≡ None → session.old.finalized ≡ false
             → AreNamed session.old.listed.hashes.items self.parts.terms }
         requires ended { bytes_left self.pending ≡ [] }
-        ensures call { Completes (told_by U.told R.told session.old) (told_by U.told R.told session.new)
-            (cleaner_of T.told self) result }
-        ensures ok { OnOk result (TookFile (told_by U.told R.told session.old) (told_by U.told R.told session.new)
-            (cleaner_of T.told self) now session.old.files.tracker session.new.files.tracker result) }
-        ensures err { OnErr result (IsSame (told_by U.told R.told session.old) (told_by U.told R.told session.new)
-            session.old.files.tracker session.new.files.tracker
-            ⊎ TookFile (told_by U.told R.told session.old) (told_by U.told R.told session.new)
+        ensures call { Completes (told_by session.old) (told_by session.new) (cleaner_of T.told self) result }
+        ensures ok { OnOk result (TookFile (told_by session.old) (told_by session.new) (cleaner_of T.told self) now
+            session.old.files.tracker session.new.files.tracker result) }
+        ensures err { OnErr result (IsSame (told_by session.old) (told_by session.new)
+            session.old.files.tracker session.new.files.tracker ⊎ TookFile (told_by session.old) (told_by session.new)
             (cleaner_of T.told self) now session.old.files.tracker session.new.files.tracker result) }
         ensures group { KeepsGroup session.old session.new }
     {
@@ -380,9 +375,9 @@ impl<T: Cutter> SingleFileCleaner<T> {
         &self,
         session: &FileUploadSession<U, R>,
     ) -> Option<DataError>
-        ensures some { IfSome result (EndRefused (told_by U.told R.told session.now) (cleaner_of T.told self.now)) }
-        ensures none { result ≡ None → EndPasses (told_by U.told R.told session.now) (cleaner_of T.told self.now) }
-        ensures listed { HasListed (told_by U.told R.told session.now) }
+        ensures some { IfSome result (EndRefused (told_by session.now) (cleaner_of T.told self.now)) }
+        ensures none { result ≡ None → EndPasses (told_by session.now) (cleaner_of T.told self.now) }
+        ensures listed { HasListed (told_by session.now) }
     {
         if session.is_finalized() {
             return Some(DataError::InvalidOperation(Invalid::Finalized));
@@ -415,13 +410,11 @@ impl<T: Cutter> SingleFileCleaner<T> {
     ) -> Result<(XetFileInfo, DeduplicationMetrics), DataError>
     where
         T: Drop,
-        ensures ends { Finishes (told_by U.told R.told session.old) (told_by U.told R.told session.new)
-            (cleaner_of T.told self) result }
-        ensures refused { RefusedOf (IsPartOf self.file_id)
-            (IsEndError (told_by U.told R.told session.old) (cleaner_of T.told self)) session.old.files.tracker
-            session.new.files.tracker result }
-        ensures so { EndsFile (told_by U.told R.told session.old) (told_by U.told R.told session.new)
-            (cleaner_of T.told self) now session.old.files.tracker session.new.files.tracker result }
+        ensures ends { Finishes (told_by session.old) (told_by session.new) (cleaner_of T.told self) result }
+        ensures refused { RefusedOf (IsPartOf self.file_id) (IsEndError (told_by session.old) (cleaner_of T.told self))
+            session.old.files.tracker session.new.files.tracker result }
+        ensures so { EndsFile (told_by session.old) (told_by session.new) (cleaner_of T.told self) now
+            session.old.files.tracker session.new.files.tracker result }
         ensures group { KeepsGroup session.old session.new }
     {
         if let Some(error) = self.refused(session) {
@@ -452,7 +445,7 @@ pub fn start_clean<U: Uploader, R: ShardStore, W: Wait, T: Cutter>(
 ) -> Result<(UniqueID, SingleFileCleaner<T>), DataError>
 where
     T: Drop,
-    ensures same { told_by U.told R.told session.new ≡ told_by U.told R.told session.old }
+    ensures same { told_by session.new ≡ told_by session.old }
     ensures cleaner { IfOk result (λ r. IsNewCleaner (cleaner_of T.told r.1) size sha256 (T.told cutter)) }
     ensures starts { StartsFile session.old.files.tracker session.new.files.tracker session.old.ids session.new.ids
         session.old.finalized size (started (λ r. (r.0, r.1.file_id)) result) }

@@ -93,9 +93,10 @@ unfit-more own (c ∷ cs) more u = u
 full-both : (ms ns : List Xorb) (mid left more : List (List ℕ)) → joined_chunks ns ++ left ≡ mid ++ more
     → AreFull ms mid → AreFull ns left → AreFull (ms ++ ns) left
 full-both [] ns mid left more e f g = g
-full-both (x ∷ ms) ns mid left more e f g =
-    (subst (IsNextUnfit x.chunks) (sym later) (unfit-more x.chunks (joined_chunks ms ++ mid) more f.0),
-    full-both ms ns mid left more e f.1 g)
+full-both (x ∷ ms) ns mid left more e f g = (
+  subst (IsNextUnfit x.chunks) (sym later) (unfit-more x.chunks (joined_chunks ms ++ mid) more f.0),
+  full-both ms ns mid left more e f.1 g,
+)
   where
     later : joined_chunks (ms ++ ns) ++ left ≡ (joined_chunks ms ++ mid) ++ more
     later = ap (λ (cs : List (List ℕ)). cs ++ left) (joined-both ms ns)

@@ -29,17 +29,15 @@ fn cut_own<U: Uploader, R: ShardStore, W: Wait>(
     parts: &mut FileParts,
     now: u64,
 ) -> Result<(), DataError>
-    ensures leaves { Leaves (told_by U.told R.told session.old) (told_by U.told R.told session.new) }
-    ensures cleans { OnOk result (Cleans (told_by U.told R.told session.old) (told_by U.told R.told session.new)
-        parts.old parts.new []) }
+    ensures leaves { Leaves (told_by session.old) (told_by session.new) }
+    ensures cleans { OnOk result (Cleans (told_by session.old) (told_by session.new) parts.old parts.new []) }
     ensures emptied { OnOk result (parts.new.own ≡ no_waiting) }
     ensures puts { (next : List ℕ) → (IsWithin (parts.old.own.chunks ++ next ∷ []) → ⊥)
-        → PutsSo (told_by U.told R.told session.old) (told_by U.told R.told session.new) parts.old.own.chunks
-        (next ∷ []) (next ∷ []) result }
-    ensures why { IfErr result (ChunkFails (told_by U.told R.told session.old) (told_by U.told R.told session.new)) }
+        → PutsSo (told_by session.old) (told_by session.new) parts.old.own.chunks (next ∷ []) (next ∷ []) result }
+    ensures why { IfErr result (ChunkFails (told_by session.old) (told_by session.new)) }
     ensures tells { TellsOf (IsPartOf file_id) (IsLate session.old.finalized) session.old.files.tracker
         session.new.files.tracker result }
-    ensures calls { Calls now (told_by U.told R.told session.old) (told_by U.told R.told session.new) }
+    ensures calls { Calls now (told_by session.old) (told_by session.new) }
     ensures group { KeepsGroup session.old session.new }
 {
     let count = parts.num_chunks();
@@ -68,16 +66,15 @@ fn make_room<U: Uploader, R: ShardStore, W: Wait>(
     now: u64,
 ) -> Result<(), DataError>
     requires { length chunk.now ≤ most_chunk_bytes }
-    ensures leaves { Leaves (told_by U.told R.told session.old) (told_by U.told R.told session.new) }
-    ensures cleans { OnOk result (Cleans (told_by U.told R.told session.old) (told_by U.told R.told session.new)
-        parts.old parts.new []) }
+    ensures leaves { Leaves (told_by session.old) (told_by session.new) }
+    ensures cleans { OnOk result (Cleans (told_by session.old) (told_by session.new) parts.old parts.new []) }
     ensures room { OnOk result (IsWithin (parts.new.own.chunks ++ chunk.now ∷ [])) }
-    ensures puts { PutsSo (told_by U.told R.told session.old) (told_by U.told R.told session.new)
-        parts.old.own.chunks (chunk.now ∷ []) (parts.new.own.chunks ++ chunk.now ∷ []) result }
-    ensures why { IfErr result (ChunkFails (told_by U.told R.told session.old) (told_by U.told R.told session.new)) }
+    ensures puts { PutsSo (told_by session.old) (told_by session.new) parts.old.own.chunks (chunk.now
+        ∷ []) (parts.new.own.chunks ++ chunk.now ∷ []) result }
+    ensures why { IfErr result (ChunkFails (told_by session.old) (told_by session.new)) }
     ensures tells { TellsOf (IsPartOf file_id) (IsLate session.old.finalized) session.old.files.tracker
         session.new.files.tracker result }
-    ensures calls { Calls now (told_by U.told R.told session.old) (told_by U.told R.told session.new) }
+    ensures calls { Calls now (told_by session.old) (told_by session.new) }
     ensures group { KeepsGroup session.old session.new }
 {
     if parts.has_room(chunk) {
@@ -100,15 +97,15 @@ fn add_new<U: Uploader, R: ShardStore, W: Wait>(
     requires info { info ≡ info_of chunk }
     requires some { 0 < length chunk }
     requires short { length chunk ≤ most_chunk_bytes }
-    ensures leaves { Leaves (told_by U.told R.told session.old) (told_by U.told R.told session.new) }
-    ensures cleans { OnOk result (Cleans (told_by U.told R.told session.old) (told_by U.told R.told session.new)
-        parts.old parts.new (chunk ∷ [])) }
-    ensures puts { PutsSo (told_by U.told R.told session.old) (told_by U.told R.told session.new)
-        parts.old.own.chunks (chunk ∷ []) parts.new.own.chunks result }
-    ensures why { IfErr result (ChunkFails (told_by U.told R.told session.old) (told_by U.told R.told session.new)) }
+    ensures leaves { Leaves (told_by session.old) (told_by session.new) }
+    ensures cleans { OnOk result
+        (Cleans (told_by session.old) (told_by session.new) parts.old parts.new (chunk ∷ [])) }
+    ensures puts { PutsSo (told_by session.old) (told_by session.new) parts.old.own.chunks (chunk
+        ∷ []) parts.new.own.chunks result }
+    ensures why { IfErr result (ChunkFails (told_by session.old) (told_by session.new)) }
     ensures tells { TellsOf (IsPartOf file_id) (IsLate session.old.finalized) session.old.files.tracker
         session.new.files.tracker result }
-    ensures calls { Calls now (told_by U.told R.told session.old) (told_by U.told R.told session.new) }
+    ensures calls { Calls now (told_by session.old) (told_by session.new) }
     ensures group { KeepsGroup session.old session.new }
 {
     make_room(session, rt, alloc, file_id, parts, chunk.as_slice(), now)?;
@@ -137,7 +134,7 @@ fn tell_found<U: Uploader, R: ShardStore, W: Wait>(
     length: u32,
     is_external: bool,
 ) -> Result<(), DataError>
-    ensures same { told_by U.told R.told session.new ≡ told_by U.told R.told session.old }
+    ensures same { told_by session.new ≡ told_by session.old }
     ensures why { IfErr result TrackFails }
     ensures tells { TellsOf (IsPartOf file_id) (IsLate session.old.finalized) session.old.files.tracker
         session.new.files.tracker result }
@@ -161,13 +158,12 @@ fn find_chunk<U: Uploader, R: ShardStore, W: Wait>(
     file_id: u64,
     info: ChunkInfo,
 ) -> Result<Option<FileDataSequenceEntry>, DataError>
-    ensures leaves { Leaves (told_by U.told R.told session.old) (told_by U.told R.told session.new) }
-    ensures found { FoundChunk (told_by U.told R.told session.old) (told_by U.told R.told session.new) info.hash
-        result }
-    ensures why { IfErr result (ChunkFails (told_by U.told R.told session.old) (told_by U.told R.told session.new)) }
+    ensures leaves { Leaves (told_by session.old) (told_by session.new) }
+    ensures found { FoundChunk (told_by session.old) (told_by session.new) info.hash result }
+    ensures why { IfErr result (ChunkFails (told_by session.old) (told_by session.new)) }
     ensures tells { TellsOf (IsPartOf file_id) (IsLate session.old.finalized) session.old.files.tracker
         session.new.files.tracker result }
-    ensures calls { (now : ℕ) → Calls now (told_by U.told R.told session.old) (told_by U.told R.told session.new) }
+    ensures calls { (now : ℕ) → Calls now (told_by session.old) (told_by session.new) }
     ensures group { KeepsGroup session.old session.new }
 {
     let hashes = [info.hash];
@@ -199,15 +195,15 @@ pub fn add_chunk<U: Uploader, R: ShardStore, W: Wait>(
 ) -> Result<bool, DataError>
     requires some { 0 < length chunk }
     requires short { length chunk ≤ most_chunk_bytes }
-    ensures leaves { Leaves (told_by U.told R.told session.old) (told_by U.told R.told session.new) }
-    ensures cleans { OnOk result (Cleans (told_by U.told R.told session.old) (told_by U.told R.told session.new)
-        parts.old parts.new (chunk ∷ [])) }
-    ensures puts { PutsSo (told_by U.told R.told session.old) (told_by U.told R.told session.new)
-        parts.old.own.chunks (chunk ∷ []) parts.new.own.chunks result }
-    ensures why { IfErr result (ChunkFails (told_by U.told R.told session.old) (told_by U.told R.told session.new)) }
+    ensures leaves { Leaves (told_by session.old) (told_by session.new) }
+    ensures cleans { OnOk result
+        (Cleans (told_by session.old) (told_by session.new) parts.old parts.new (chunk ∷ [])) }
+    ensures puts { PutsSo (told_by session.old) (told_by session.new) parts.old.own.chunks (chunk
+        ∷ []) parts.new.own.chunks result }
+    ensures why { IfErr result (ChunkFails (told_by session.old) (told_by session.new)) }
     ensures tells { TellsOf (IsPartOf file_id) (IsLate session.old.finalized) session.old.files.tracker
         session.new.files.tracker result }
-    ensures calls { Calls now (told_by U.told R.told session.old) (told_by U.told R.told session.new) }
+    ensures calls { Calls now (told_by session.old) (told_by session.new) }
     ensures group { KeepsGroup session.old session.new }
 {
     let info = chunk_info(chunk.as_slice());

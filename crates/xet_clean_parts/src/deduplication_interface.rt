@@ -116,7 +116,7 @@ impl<'a, U: Uploader, R: ShardStore> UploadSessionDataManager<'a, U, R> {
         alloc: Global,
         session: &'a mut FileUploadSession<U, R>,
     ) -> UploadSessionDataManager<'a, U, R>
-        ensures session { told_by U.told R.told result.session.now ≡ told_by U.told R.told session.old }
+        ensures session { told_by result.session.now ≡ told_by session.old }
         ensures same { result.session.now ≡ session.old }
         ensures pending { result.pending.items ≡ [] }
         ensures same_session { result.session.ghost_name ≡ session.entry.ghost_name }
@@ -130,7 +130,7 @@ impl<'a, U: Uploader, R: ShardStore> UploadSessionDataManager<'a, U, R> {
 
 impl<'a, U: Uploader, R: ShardStore> DeduplicationDataInterface
     for UploadSessionDataManager<'a, U, R> {
-    ghost told = { λ m. told_by U.told R.told m.session.now };
+    ghost told = { λ m. told_by m.session.now };
 
     ghost pending = { λ m. m.pending.items };
 
@@ -141,12 +141,10 @@ impl<'a, U: Uploader, R: ShardStore> DeduplicationDataInterface
         alloc: Global,
         query_hashes: &[MerkleHash],
     ) -> Result<Option<(usize, FileDataSequenceEntry, bool)>, DataError>
-        ensures call { Queries (told_by U.told R.told self.old.session.now)
-            (told_by U.told R.told self.new.session.now) query_hashes.now result }
-        ensures order { SearchesInOrder (told_by U.told R.told self.old.session.now)
-            (told_by U.told R.told self.new.session.now) query_hashes.now result }
-        ensures backs { Backs (told_by U.told R.told self.old.session.now)
-            (told_by U.told R.told self.new.session.now) }
+        ensures call { Queries (told_by self.old.session.now) (told_by self.new.session.now) query_hashes.now result }
+        ensures order { SearchesInOrder (told_by self.old.session.now) (told_by self.new.session.now)
+            query_hashes.now result }
+        ensures backs { Backs (told_by self.old.session.now) (told_by self.new.session.now) }
         ensures waits { self.new.pending.items ≡ self.old.pending.items }
         ensures untold { self.new.session.now.files.tracker ≡ self.old.session.now.files.tracker }
         ensures same_session { self.new.session.ghost_name ≡ self.old.session.ghost_name }
@@ -156,7 +154,7 @@ impl<'a, U: Uploader, R: ShardStore> DeduplicationDataInterface
     }
 
     fn register_global_dedup_query(&mut self, chunk_hash: MerkleHash) -> Result<(), DataError>
-        ensures same { told_by U.told R.told self.new.session.now ≡ told_by U.told R.told self.old.session.now }
+        ensures same { told_by self.new.session.now ≡ told_by self.old.session.now }
         ensures ok { OnOk result (self.new.pending.items ≡ self.old.pending.items ++ chunk_hash ∷ []) }
         ensures err { OnErr result (self.new.pending.items ≡ self.old.pending.items) }
         ensures memory { OnErr result (result ≡ Err DataError.OutOfMemory) }
@@ -171,8 +169,8 @@ impl<'a, U: Uploader, R: ShardStore> DeduplicationDataInterface
     }
 
     fn complete_global_dedup_queries(&mut self, alloc: Global) -> Result<bool, DataError>
-        ensures call { Completes (told_by U.told R.told self.old.session.now)
-            (told_by U.told R.told self.new.session.now) self.old.pending.items self.new.pending.items result }
+        ensures call { Completes (told_by self.old.session.now) (told_by self.new.session.now)
+            self.old.pending.items self.new.pending.items result }
         ensures untold { self.new.session.now.files.tracker ≡ self.old.session.now.files.tracker }
         ensures same_session { self.new.session.ghost_name ≡ self.old.session.ghost_name }
         ensures group { KeepsGroup self.old.session.now self.new.session.now }
@@ -192,13 +190,10 @@ impl<'a, U: Uploader, R: ShardStore> DeduplicationDataInterface
         now: u64,
     ) -> Result<(), DataError>
         requires { Describes xorb.xorb_info xorb.xorb }
-        ensures call { RegistersSo (told_by U.told R.told self.old.session.now)
-            (told_by U.told R.told self.new.session.now) xorb.xorb now result }
-        ensures tracks { TracksXorb (told_by U.told R.told self.old.session.now)
-            (told_by U.told R.told self.new.session.now) self.old.session.now.files.tracker
-            self.new.session.now.files.tracker xorb.xorb [] result }
-        ensures backs { Backs (told_by U.told R.told self.old.session.now)
-            (told_by U.told R.told self.new.session.now) }
+        ensures call { RegistersSo (told_by self.old.session.now) (told_by self.new.session.now) xorb.xorb now result }
+        ensures tracks { TracksXorb (told_by self.old.session.now) (told_by self.new.session.now)
+            self.old.session.now.files.tracker self.new.session.now.files.tracker xorb.xorb [] result }
+        ensures backs { Backs (told_by self.old.session.now) (told_by self.new.session.now) }
         ensures waits { self.new.pending.items ≡ self.old.pending.items }
         ensures same_session { self.new.session.ghost_name ≡ self.old.session.ghost_name }
         ensures group { KeepsGroup self.old.session.now self.new.session.now }
@@ -215,7 +210,7 @@ impl<'a, U: Uploader, R: ShardStore> DeduplicationDataInterface
         alloc: Global,
         dependencies: &[FileXorbDependency],
     ) -> Result<(), DataError>
-        ensures same { told_by U.told R.told self.new.session.now ≡ told_by U.told R.told self.old.session.now }
+        ensures same { told_by self.new.session.now ≡ told_by self.old.session.now }
         ensures tracks { Tracks self.old.session.now.files.tracker self.new.session.now.files.tracker
             (RegisterDependencies dependencies.now ∷ []) result }
         ensures waits { self.new.pending.items ≡ self.old.pending.items }
@@ -233,8 +228,8 @@ fn ask_each<U: Uploader, R: ShardStore>(
     session: &mut FileUploadSession<U, R>,
     chunks: &[MerkleHash],
 ) -> Result<bool, DataError>
-    ensures learns { Learns (told_by U.told R.told session.old) (told_by U.told R.told session.new) chunks.now result }
-    ensures backs { Backs (told_by U.told R.told session.old) (told_by U.told R.told session.new) }
+    ensures learns { Learns (told_by session.old) (told_by session.new) chunks.now result }
+    ensures backs { Backs (told_by session.old) (told_by session.new) }
     ensures untold { session.new.files.tracker ≡ session.old.files.tracker }
     ensures group { KeepsGroup session.old session.new }
 {

@@ -53,12 +53,11 @@ fn pour<I: Source, T: Cutter, U: Uploader, R: ShardStore, W: Wait>(
     requires fed { cleaner.old.fed ≡ 0 }
     requires unfailed { cleaner.old.failed ≡ None }
     requires room { 0 < length buffer.old }
-    ensures call { Pours (told_by U.told R.told session.old) (told_by U.told R.told session.new)
-        (I.told source.old) (I.told source.new) (cleaner_of T.told cleaner.old) (cleaner_of T.told cleaner.new)
-        total result }
+    ensures call { Pours (told_by session.old) (told_by session.new) (I.told source.old) (I.told source.new)
+        (cleaner_of T.told cleaner.old) (cleaner_of T.told cleaner.new) total result }
     ensures tells { TellsOf IsXorbCall (IsLate session.old.finalized) session.old.files.tracker
         session.new.files.tracker result }
-    ensures calls { Calls now (told_by U.told R.told session.old) (told_by U.told R.told session.new) }
+    ensures calls { Calls now (told_by session.old) (told_by session.new) }
     ensures group { KeepsGroup session.old session.new }
 {
     let mut left = total;
@@ -85,17 +84,16 @@ fn upload_file<I: Source, T: Cutter, U: Uploader, R: ShardStore, W: Wait>(
     file: &mut UploadFile<I, T>,
     now: u64,
 ) -> Result<XetFileInfo, DataError>
-    ensures call { UploadsAlone now (told_by U.told R.told session.old) (told_by U.told R.told session.new)
-        (file_told I.told T.told file.old) (I.told file.new.source) result }
+    ensures call { UploadsAlone now (told_by session.old) (told_by session.new) (file_told I.told T.told file.old)
+        (I.told file.new.source) result }
     ensures same { file_told I.told T.told file.new ≡ record (file_told I.told T.told file.old) {
       source = I.told file.new.source;
       tell = T.told file.new.cutter;
     } }
-    ensures tells { HasListed (told_by U.told R.told session.old) → TellsOf IsUploadCall
-        (IsFileError (told_by U.told R.told session.old) (told_by U.told R.told session.new) session.old.ids)
+    ensures tells { HasListed (told_by session.old)
+        → TellsOf IsUploadCall (IsFileError (told_by session.old) (told_by session.new) session.old.ids)
         session.old.files.tracker session.new.files.tracker result }
-    ensures calls { CallsOf (UploadsOnce now) (told_by U.told R.told session.old)
-        (told_by U.told R.told session.new) }
+    ensures calls { CallsOf (UploadsOnce now) (told_by session.old) (told_by session.new) }
     ensures group { session.new.progress ≡ session.old.progress }
     ensures ids { OnOk result (session.new.ids ≡ session.old.ids + 1) }
     ensures begun { OnOk result (sizes session.new.files.tracker
@@ -145,13 +143,12 @@ pub fn upload_files<I: Source, T: Cutter, U: Uploader, R: ShardStore, W: Wait>(
     files: &mut [UploadFile<I, T>],
     now: u64,
 ) -> Result<List<XetFileInfo>, DataError>
-    ensures call { UploadsFiles now (told_by U.told R.told session.old) (told_by U.told R.told session.new)
+    ensures call { UploadsFiles now (told_by session.old) (told_by session.new)
         (map (file_told I.told T.told) files.old) (map (file_told I.told T.told) files.new) result }
-    ensures tells { TellsOf IsUploadCall (IsUploadError (told_by U.told R.told session.old)
-        (told_by U.told R.told session.new) session.old.ids (length files.old))
+    ensures tells { TellsOf IsUploadCall
+        (IsUploadError (told_by session.old) (told_by session.new) session.old.ids (length files.old))
         session.old.files.tracker session.new.files.tracker result }
-    ensures calls { CallsOf (UploadsOnce now) (told_by U.told R.told session.old)
-        (told_by U.told R.told session.new) }
+    ensures calls { CallsOf (UploadsOnce now) (told_by session.old) (told_by session.new) }
     ensures group { session.new.progress ≡ session.old.progress }
     ensures ids { OnOk result (session.new.ids ≡ session.old.ids + length files.old) }
     ensures begun { OnOk result (sizes session.new.files.tracker

@@ -43,8 +43,7 @@ type MemorySession = FileUploadSession<MemUploader, MemShards>;
 
 // A session over an empty store, which cuts nothing of what fits one xorb.
 fn new_session(alloc: Global) -> Result<MemorySession, OutOfMemory>
-    ensures { IfOk result (λ session. told_by ⟦<MemUploader as Uploader>⟧.told ⟦<MemShards as ShardStore>⟧.told session
-        ≡ memory_session) }
+    ensures { IfOk result (λ session. told_by session ≡ memory_session) }
 {
     let session = SessionContext::for_memory(alloc)?;
     let config = TranslatorConfig {
@@ -112,10 +111,8 @@ fn upload<I: Source + Drop, W: Wait>(
     length: u64,
     size: usize,
 ) -> Result<XetFileInfo, DataError>
-    ensures { IfOk result (UploadsOne
-        (told_by ⟦<MemUploader as Uploader>⟧.told ⟦<MemShards as ShardStore>⟧.told session.old)
-        (told_by ⟦<MemUploader as Uploader>⟧.told ⟦<MemShards as ShardStore>⟧.told session.new)
-        (content_file (I.told source) length size)) }
+    ensures { IfOk result
+        (UploadsOne (told_by session.old) (told_by session.new) (content_file (I.told source) length size)) }
 {
     let mut files = one_file(alloc, source, length, size)?;
     let infos = upload_files(session, rt, alloc, files.as_mut_slice(), 0)?;
@@ -131,10 +128,8 @@ fn upload_all<I: Source + Drop, W: Wait>(
     length: u64,
     size: usize,
 ) -> Result<XetFileInfo, DataError>
-    ensures { IfOk result (UploadsAll
-        (told_by ⟦<MemUploader as Uploader>⟧.told ⟦<MemShards as ShardStore>⟧.told session.old)
-        (told_by ⟦<MemUploader as Uploader>⟧.told ⟦<MemShards as ShardStore>⟧.told session.new)
-        (content_file (I.told source) length size)) }
+    ensures { IfOk result
+        (UploadsAll (told_by session.old) (told_by session.new) (content_file (I.told source) length size)) }
 {
     let info = upload(session, rt, alloc, source, length, size)?;
     session.finalize(rt, alloc, 0)?;
@@ -143,8 +138,7 @@ fn upload_all<I: Source + Drop, W: Wait>(
 
 // The store after the session's log, if there is one.
 fn store_after(session: MemorySession, alloc: Global) -> Result<Option<MemStore>, OutOfMemory>
-    ensures { IfOk result (HasAfter
-        (told_by ⟦<MemUploader as Uploader>⟧.told ⟦<MemShards as ShardStore>⟧.told session)) }
+    ensures { IfOk result (HasAfter (told_by session)) }
 {
     let (uploader, _stores) = session.into_parts();
     uploader.into_store(alloc)

@@ -30,9 +30,8 @@ impl<U: Uploader, R: ShardStore> FileUploadSession<U, R> {
         requires storable { IsStorable file_data.chunks }
         requires passes { FitTogether self.old.thresholds self.old.waiting file_data → ⊥ }
         requires larger { waiting_bytes self.old.waiting ≤ waiting_bytes file_data }
-        ensures call { TakesFile (told_by U.told R.told self.old) (told_by U.told R.told self.new)
-            file_data now result }
-        ensures tracks { TracksFile (told_by U.told R.told self.old) (told_by U.told R.told self.new) file_data
+        ensures call { TakesFile (told_by self.old) (told_by self.new) file_data now result }
+        ensures tracks { TracksFile (told_by self.old) (told_by self.new) file_data
             self.old.files.tracker self.new.files.tracker result }
         ensures group { KeepsGroup self.old self.new }
     {
@@ -55,9 +54,8 @@ impl<U: Uploader, R: ShardStore> FileUploadSession<U, R> {
         requires storable { IsStorable file_data.chunks }
         requires passes { FitTogether self.old.thresholds self.old.waiting file_data → ⊥ }
         requires larger { waiting_bytes file_data < waiting_bytes self.old.waiting }
-        ensures call { TakesFile (told_by U.told R.told self.old) (told_by U.told R.told self.new)
-            file_data now result }
-        ensures tracks { TracksFile (told_by U.told R.told self.old) (told_by U.told R.told self.new) file_data
+        ensures call { TakesFile (told_by self.old) (told_by self.new) file_data now result }
+        ensures tracks { TracksFile (told_by self.old) (told_by self.new) file_data
             self.old.files.tracker self.new.files.tracker result }
         ensures group { KeepsGroup self.old self.new }
     {
@@ -76,9 +74,8 @@ impl<U: Uploader, R: ShardStore> FileUploadSession<U, R> {
             → All (Contains self.old.listed.hashes.items) (waiting_names file_data.files) }
         requires storable { IsStorable file_data.chunks }
         requires fits { FitTogether self.old.thresholds self.old.waiting file_data }
-        ensures call { (now : ℕ) → TakesFile (told_by U.told R.told self.old) (told_by U.told R.told self.new)
-            file_data now result }
-        ensures tracks { TracksFile (told_by U.told R.told self.old) (told_by U.told R.told self.new) file_data
+        ensures call { (now : ℕ) → TakesFile (told_by self.old) (told_by self.new) file_data now result }
+        ensures tracks { TracksFile (told_by self.old) (told_by self.new) file_data
             self.old.files.tracker self.new.files.tracker result }
         ensures group { KeepsGroup self.old self.new }
     {
@@ -105,12 +102,11 @@ impl<U: Uploader, R: ShardStore> FileUploadSession<U, R> {
     ) -> Result<(), DataError>
         requires named { self.old.failed ≡ None → self.old.finalized ≡ false
             → All (Contains self.old.listed.hashes.items) (waiting_names file_data.files) }
-        ensures call { TakesFile (told_by U.told R.told self.old) (told_by U.told R.told self.new)
-            file_data now result }
-        ensures tracks { TracksFile (told_by U.told R.told self.old) (told_by U.told R.told self.new) file_data
+        ensures call { TakesFile (told_by self.old) (told_by self.new) file_data now result }
+        ensures tracks { TracksFile (told_by self.old) (told_by self.new) file_data
             self.old.files.tracker self.new.files.tracker result }
         ensures group { KeepsGroup self.old self.new }
-        ensures backs { Backs (told_by U.told R.told self.old) (told_by U.told R.told self.new) }
+        ensures backs { Backs (told_by self.old) (told_by self.new) }
     {
         if self.thresholds().fit(self.waiting(), &file_data) {
             return self.join_waiting(alloc, file_data);

@@ -99,11 +99,11 @@ impl<U: Uploader, R: ShardStore> FileUploadSession<U, R> {
     where
         U: Drop,
         R: Drop,
-        ensures told { IfOk result (λ session. told_by U.told R.told session
+        ensures told { IfOk result (λ session. told_by session
             ≡ new_session (U.told uploader) (new_interface R.told (rules_of config.now false) stores now)
             config.now.global_dedup_query_enabled (thresholds_of config.now)) }
-        ensures backed { IfOk result (λ session. records_of (R.told stores.session) ≡ no_records
-            → IsBackedSession (told_by U.told R.told session)) }
+        ensures backed { IfOk result (λ session.
+            records_of (R.told stores.session) ≡ no_records → IsBackedSession (told_by session)) }
         ensures tracked { IfOk result (λ session. session.files.tracker ≡ []) }
         ensures ids { IfOk result (λ session. session.ids ≡ ids) }
     {
@@ -127,11 +127,11 @@ impl<U: Uploader, R: ShardStore> FileUploadSession<U, R> {
     where
         U: Drop,
         R: Drop,
-        ensures told { IfOk result (λ session. told_by U.told R.told session
+        ensures told { IfOk result (λ session. told_by session
             ≡ new_session (U.told uploader) (new_interface R.told (rules_of config.now true) stores now)
             config.now.global_dedup_query_enabled (thresholds_of config.now)) }
-        ensures backed { IfOk result (λ session. records_of (R.told stores.session) ≡ no_records
-            → IsBackedSession (told_by U.told R.told session)) }
+        ensures backed { IfOk result (λ session.
+            records_of (R.told stores.session) ≡ no_records → IsBackedSession (told_by session)) }
         ensures tracked { IfOk result (λ session. session.files.tracker ≡ []) }
         ensures ids { IfOk result (λ session. session.ids ≡ ids) }
     {
@@ -153,7 +153,7 @@ impl<U: Uploader, R: ShardStore> FileUploadSession<U, R> {
     where
         U: Drop,
         R: Drop,
-        ensures told { IfOk result (λ session. told_by U.told R.told session
+        ensures told { IfOk result (λ session. told_by session
             ≡ new_session (U.told uploader) (shards_told R.told shards) queries_enabled thresholds) }
         ensures tracked { IfOk result (λ session. session.files.tracker ≡ []) }
         ensures ids { IfOk result (λ session. session.ids ≡ ids) }
@@ -206,7 +206,7 @@ impl<U: Uploader, R: ShardStore> FileUploadSession<U, R> {
         requires room { vec_len self.old.listed.hashes < vec_capacity self.old.listed.hashes }
         requires noted { vec_len self.old.registered.hashes < vec_capacity self.old.registered.hashes }
         requires unfailed { self.old.failed ≡ None }
-        ensures call { PutRaw (told_by U.told R.told self.old) (told_by U.told R.told self.new) raw.now.xorb result }
+        ensures call { PutRaw (told_by self.old) (told_by self.new) raw.now.xorb result }
         ensures files { self.new.finished ≡ self.old.finished }
         ensures untold { self.new.files.tracker ≡ self.old.files.tracker }
         ensures group { KeepsGroup self.old self.new }
@@ -231,7 +231,7 @@ impl<U: Uploader, R: ShardStore> FileUploadSession<U, R> {
 
     // Makes room for a xorb on the lists.
     fn make_room(&mut self) -> Result<(), OutOfMemory>
-        ensures same { told_by U.told R.told self.new ≡ told_by U.told R.told self.old }
+        ensures same { told_by self.new ≡ told_by self.old }
         ensures room { OnOk result (vec_len self.new.listed.hashes < vec_capacity self.new.listed.hashes) }
         ensures noted { OnOk result (vec_len self.new.registered.hashes < vec_capacity self.new.registered.hashes) }
         ensures untold { self.new.files.tracker ≡ self.old.files.tracker }
@@ -246,7 +246,7 @@ impl<U: Uploader, R: ShardStore> FileUploadSession<U, R> {
         &mut self,
         alloc: Global,
     ) -> Result<(RawXorbData, List<PendingFile>), OutOfMemory>
-        ensures taken { TookWaiting (told_by U.told R.told self.old) (told_by U.told R.told self.new) result }
+        ensures taken { TookWaiting (told_by self.old) (told_by self.new) result }
         ensures room { OnOk result (vec_len self.new.listed.hashes < vec_capacity self.new.listed.hashes) }
         ensures noted { OnOk result (vec_len self.new.registered.hashes < vec_capacity self.new.registered.hashes) }
         ensures space { IfOk result (λ r.
@@ -264,7 +264,7 @@ impl<U: Uploader, R: ShardStore> FileUploadSession<U, R> {
         requires space { vec_len self.old.finished + length files ≤ vec_capacity self.old.finished }
         requires named { self.old.failed ≡ None → self.old.finalized ≡ false
             → All (Contains self.old.listed.hashes.items) (names_of (map (λ p. p.info) files)) }
-        ensures call { told_by U.told R.told self.new ≡ record (told_by U.told R.told self.old) {
+        ensures call { told_by self.new ≡ record (told_by self.old) {
           finished = map (λ p. p.info) self.old.finished.items ++ map (λ p. p.info) files;
         } }
         ensures untold { self.new.files.tracker ≡ self.old.files.tracker }
@@ -282,8 +282,7 @@ impl<U: Uploader, R: ShardStore> FileUploadSession<U, R> {
         raw: &RawXorbData,
         now: u64,
     ) -> Result<(), DataError>
-        ensures call { AddedRecord (told_by U.told R.told self.old) (told_by U.told R.told self.new)
-            raw.now.xorb_info now result }
+        ensures call { AddedRecord (told_by self.old) (told_by self.new) raw.now.xorb_info now result }
         ensures tracked { CountsPut self.old.files.tracker self.new.files.tracker raw.now.xorb.hash result }
         ensures group { KeepsGroup self.old self.new }
     {
@@ -311,9 +310,9 @@ impl<U: Uploader, R: ShardStore> FileUploadSession<U, R> {
             → All (Contains (self.old.listed.hashes.items ++ raw.now.xorb.hash ∷ []))
             (names_of (map (λ p. p.info) files)) }
         requires describes { Describes raw.now.xorb_info raw.now.xorb }
-        ensures call { PutFinished (told_by U.told R.told self.old) (told_by U.told R.told self.new)
-            raw.now.xorb (map (λ p. p.info) files) now result }
-        ensures tracked { PutCounted (told_by U.told R.told self.old) (told_by U.told R.told self.new)
+        ensures call { PutFinished (told_by self.old) (told_by self.new) raw.now.xorb
+            (map (λ p. p.info) files) now result }
+        ensures tracked { PutCounted (told_by self.old) (told_by self.new)
             self.old.files.tracker self.new.files.tracker raw.now.xorb.hash result }
         ensures group { KeepsGroup self.old self.new }
     {
@@ -347,8 +346,7 @@ impl<U: Uploader, R: ShardStore> FileUploadSession<U, R> {
         requires named { self.old.failed ≡ None → self.old.finalized ≡ false
             → All (Contains self.old.listed.hashes.items) (waiting_names file_data.files) }
         requires storable { IsStorable file_data.chunks }
-        ensures same { told_by U.told R.told self.new
-            ≡ record (told_by U.told R.told self.old) { waiting = file_data } }
+        ensures same { told_by self.new ≡ record (told_by self.old) { waiting = file_data } }
         ensures is { result ≡ self.old.waiting }
         ensures untold { self.new.files.tracker ≡ self.old.files.tracker }
         ensures group { KeepsGroup self.old self.new }
@@ -366,9 +364,9 @@ impl<U: Uploader, R: ShardStore> FileUploadSession<U, R> {
         requires named { self.old.failed ≡ None → self.old.finalized ≡ false
             → All (Contains self.old.listed.hashes.items) (waiting_names file_data.files) }
         requires storable { IsStorable file_data.chunks }
-        ensures ok { OnOk result (told_by U.told R.told self.new
-            ≡ record (told_by U.told R.told self.old) { waiting = merged self.old.waiting file_data }) }
-        ensures err { OnErr result (told_by U.told R.told self.new ≡ told_by U.told R.told self.old) }
+        ensures ok { OnOk result (told_by self.new
+            ≡ record (told_by self.old) { waiting = merged self.old.waiting file_data }) }
+        ensures err { OnErr result (told_by self.new ≡ told_by self.old) }
         ensures untold { self.new.files.tracker ≡ self.old.files.tracker }
         ensures group { KeepsGroup self.old self.new }
     {
@@ -387,11 +385,11 @@ impl<U: Uploader, R: ShardStore> FileUploadSession<U, R> {
     ///
     /// In the Rust crate xet-data: a part of `FileUploadSession::register_single_file_clean_completion`.
     pub fn merge_file_metrics(&mut self, counts: &DeduplicationMetrics)
-        ensures counted { told_by U.told R.told self.new ≡ record (told_by U.told R.told self.old) {
+        ensures counted { told_by self.new ≡ record (told_by self.old) {
           metrics = with_file_counts self.old.metrics counts.now;
         } }
-        ensures keeps { Keeps (told_by U.told R.told self.old) (told_by U.told R.told self.new) }
-        ensures backs { Backs (told_by U.told R.told self.old) (told_by U.told R.told self.new) }
+        ensures keeps { Keeps (told_by self.old) (told_by self.new) }
+        ensures backs { Backs (told_by self.old) (told_by self.new) }
         ensures untold { self.new.files.tracker ≡ self.old.files.tracker }
         ensures group { KeepsGroup self.old self.new }
     {
@@ -407,7 +405,7 @@ impl<U: Uploader, R: ShardStore> FileUploadSession<U, R> {
     /// It has no source in the Rust crates.
     pub fn is_finalized(&self) -> bool
         ensures is { result ≡ self.now.finalized }
-        ensures listed { HasListed (told_by U.told R.told self.now) }
+        ensures listed { HasListed (told_by self.now) }
     {
         self.finalized
     }
@@ -433,11 +431,11 @@ impl<U: Uploader, R: ShardStore> FileUploadSession<U, R> {
     ///
     /// In the Rust crate xet-data: `FileUploadSession::checkpoint`.
     pub fn checkpoint<W: Wait>(&mut self, rt: &W, alloc: Global, now: u64) -> Result<(), DataError>
-        ensures call { Cut (told_by U.told R.told self.old) (told_by U.told R.told self.new) now result }
-        ensures tracks { TracksCut (told_by U.told R.told self.old) (told_by U.told R.told self.new)
+        ensures call { Cut (told_by self.old) (told_by self.new) now result }
+        ensures tracks { TracksCut (told_by self.old) (told_by self.new)
             self.old.files.tracker self.new.files.tracker result }
         ensures group { KeepsGroup self.old self.new }
-        ensures backs { Backs (told_by U.told R.told self.old) (told_by U.told R.told self.new) }
+        ensures backs { Backs (told_by self.old) (told_by self.new) }
     {
         if let Some(error) = self.failed {
             return Err(DataError::from(error));
@@ -458,7 +456,7 @@ impl<U: Uploader, R: ShardStore> FileUploadSession<U, R> {
 
     // Tells that a xorb which was cut is not put, since one of its hash was put before. One without chunks is not told.
     fn repeat_cut(&mut self, xorb: &Xorb)
-        ensures call { Repeats (told_by U.told R.told self.old) (told_by U.told R.told self.new) xorb.now }
+        ensures call { Repeats (told_by self.old) (told_by self.new) xorb.now }
         ensures untold { self.new.files.tracker ≡ self.old.files.tracker }
         ensures group { KeepsGroup self.old self.new }
     {
@@ -498,10 +496,9 @@ impl<U: Uploader, R: ShardStore> FileUploadSession<U, R> {
         requires unfailed { (Contains self.old.registered.hashes.items raw.now.xorb.hash → ⊥)
             → 0 < length raw.now.xorb.chunks → self.old.failed ≡ None }
         requires describes { Describes raw.now.xorb_info raw.now.xorb }
-        ensures call { Registers (told_by U.told R.told self.old) (told_by U.told R.told self.new)
-            raw.now.xorb now result }
-        ensures why { IfErr result (PutsFail (told_by U.told R.told self.old) (told_by U.told R.told self.new)) }
-        ensures tracked { GivenCounted (told_by U.told R.told self.old) (told_by U.told R.told self.new)
+        ensures call { Registers (told_by self.old) (told_by self.new) raw.now.xorb now result }
+        ensures why { IfErr result (PutsFail (told_by self.old) (told_by self.new)) }
+        ensures tracked { GivenCounted (told_by self.old) (told_by self.new)
             self.old.files.tracker self.new.files.tracker raw.now.xorb result }
         ensures group { KeepsGroup self.old self.new }
     {
@@ -539,12 +536,11 @@ impl<U: Uploader, R: ShardStore> FileUploadSession<U, R> {
         now: u64,
     ) -> Result<bool, DataError>
         requires { Describes raw.xorb_info raw.xorb }
-        ensures call { Registers (told_by U.told R.told self.old) (told_by U.told R.told self.new)
-            raw.xorb now result }
-        ensures tracks { TracksXorb (told_by U.told R.told self.old) (told_by U.told R.told self.new)
-            self.old.files.tracker self.new.files.tracker raw.xorb file_dependencies.now result }
+        ensures call { Registers (told_by self.old) (told_by self.new) raw.xorb now result }
+        ensures tracks { TracksXorb (told_by self.old) (told_by self.new) self.old.files.tracker self.new.files.tracker
+            raw.xorb file_dependencies.now result }
         ensures group { KeepsGroup self.old self.new }
-        ensures backs { Backs (told_by U.told R.told self.old) (told_by U.told R.told self.new) }
+        ensures backs { Backs (told_by self.old) (told_by self.new) }
     {
         if self.finalized {
             return Err(DataError::InvalidOperation(Invalid::Finalized));
@@ -574,7 +570,7 @@ impl<U: Uploader, R: ShardStore> FileUploadSession<U, R> {
         alloc: Global,
         dependencies: &[FileXorbDependency],
     ) -> Result<(), DataError>
-        ensures same { told_by U.told R.told self.new ≡ told_by U.told R.told self.old }
+        ensures same { told_by self.new ≡ told_by self.old }
         ensures tracks { Tracks self.old.files.tracker self.new.files.tracker
             (RegisterDependencies dependencies.now ∷ []) result }
         ensures listed { self.new.listed ≡ self.old.listed }
@@ -599,7 +595,7 @@ impl<U: Uploader, R: ShardStore> FileUploadSession<U, R> {
         name: &str,
         size: Option<u64>,
     ) -> Result<(UniqueID, u64), DataError>
-        ensures same { told_by U.told R.told self.new ≡ told_by U.told R.told self.old }
+        ensures same { told_by self.new ≡ told_by self.old }
         ensures starts { StartsFile self.old.files.tracker self.new.files.tracker self.old.ids self.new.ids
             self.old.finalized size result }
         ensures group { self.new.progress ≡ self.old.progress }
@@ -623,7 +619,7 @@ impl<U: Uploader, R: ShardStore> FileUploadSession<U, R> {
     ///
     /// In the Rust crates: `CompletionTracker::increment_file_size`, on the session's tracker.
     pub fn grow_file<W: Wait>(&mut self, rt: &W, file_id: u64, bytes: u64) -> Result<(), DataError>
-        ensures same { told_by U.told R.told self.new ≡ told_by U.told R.told self.old }
+        ensures same { told_by self.new ≡ told_by self.old }
         ensures tracks { Tracks self.old.files.tracker self.new.files.tracker
             (IncrementFileSize file_id bytes ∷ []) result }
         ensures group { KeepsGroup self.old self.new }
@@ -634,7 +630,7 @@ impl<U: Uploader, R: ShardStore> FileUploadSession<U, R> {
     // The xorb is on the list, for which there is room.
     fn put_on_list(&mut self, xorb: MerkleHash)
         requires { vec_len self.old.listed.hashes < vec_capacity self.old.listed.hashes }
-        ensures call { OnList (told_by U.told R.told self.old) (told_by U.told R.told self.new) xorb }
+        ensures call { OnList (told_by self.old) (told_by self.new) xorb }
         ensures untold { self.new.files.tracker ≡ self.old.files.tracker }
         ensures group { KeepsGroup self.old self.new }
     {
@@ -655,10 +651,9 @@ impl<U: Uploader, R: ShardStore> FileUploadSession<U, R> {
         alloc: Global,
         hashes: &[MerkleHash],
     ) -> Result<Option<(usize, FileDataSequenceEntry, bool)>, DataError>
-        ensures call { Queries (told_by U.told R.told self.old) (told_by U.told R.told self.new) hashes.now result }
-        ensures order { SearchesInOrder (told_by U.told R.told self.old) (told_by U.told R.told self.new)
-            hashes.now result }
-        ensures backs { Backs (told_by U.told R.told self.old) (told_by U.told R.told self.new) }
+        ensures call { Queries (told_by self.old) (told_by self.new) hashes.now result }
+        ensures order { SearchesInOrder (told_by self.old) (told_by self.new) hashes.now result }
+        ensures backs { Backs (told_by self.old) (told_by self.new) }
         ensures untold { self.new.files.tracker ≡ self.old.files.tracker }
         ensures group { KeepsGroup self.old self.new }
     {
@@ -685,7 +680,7 @@ impl<U: Uploader, R: ShardStore> FileUploadSession<U, R> {
     ///
     /// In the Rust crate xet-data: a part of `UploadSessionDataManager::complete_global_dedup_queries`.
     pub fn ask(&mut self, alloc: Global, chunk: &MerkleHash) -> Result<bool, DataError>
-        ensures call { AsksFor (told_by U.told R.told self.old) (told_by U.told R.told self.new) chunk.now result }
+        ensures call { AsksFor (told_by self.old) (told_by self.new) chunk.now result }
         ensures untold { self.new.files.tracker ≡ self.old.files.tracker }
         ensures group { KeepsGroup self.old self.new }
     {
@@ -695,7 +690,7 @@ impl<U: Uploader, R: ShardStore> FileUploadSession<U, R> {
 
     // Adds the records of the finished files to those of the session.
     fn add_finished(&mut self, alloc: Global) -> Result<(), DataError>
-        ensures call { AddedFinished (told_by U.told R.told self.old) (told_by U.told R.told self.new) result }
+        ensures call { AddedFinished (told_by self.old) (told_by self.new) result }
         ensures untold { self.new.files.tracker ≡ self.old.files.tracker }
         ensures group { KeepsGroup self.old self.new }
     {
@@ -705,8 +700,8 @@ impl<U: Uploader, R: ShardStore> FileUploadSession<U, R> {
 
     // The counts at the end of the session, whose shards have so many bytes.
     fn count_shards(&mut self, bytes: u64) -> DeduplicationMetrics
-        ensures counted { told_by U.told R.told self.new
-            ≡ record (told_by U.told R.told self.old) { metrics = end_counts self.old.metrics bytes } }
+        ensures counted { told_by self.new
+            ≡ record (told_by self.old) { metrics = end_counts self.old.metrics bytes } }
         ensures is { result ≡ self.new.metrics }
         ensures untold { self.new.files.tracker ≡ self.old.files.tracker }
         ensures group { KeepsGroup self.old self.new }
@@ -718,7 +713,7 @@ impl<U: Uploader, R: ShardStore> FileUploadSession<U, R> {
 
     // Puts the records of the session as shards. It tells how many bytes these count for.
     fn put_records(&mut self, alloc: Global) -> Result<u64, DataError>
-        ensures call { PutRecords (told_by U.told R.told self.old) (told_by U.told R.told self.new) result }
+        ensures call { PutRecords (told_by self.old) (told_by self.new) result }
         ensures untold { self.new.files.tracker ≡ self.old.files.tracker }
         ensures group { KeepsGroup self.old self.new }
     {
@@ -741,13 +736,13 @@ impl<U: Uploader, R: ShardStore> FileUploadSession<U, R> {
         alloc: Global,
         now: u64,
     ) -> Result<DeduplicationMetrics, DataError>
-        ensures call { Finalizes (told_by U.told R.told self.old) (told_by U.told R.told self.new) now result }
-        ensures tracks { TracksCut (told_by U.told R.told self.old) (told_by U.told R.told self.new)
+        ensures call { Finalizes (told_by self.old) (told_by self.new) now result }
+        ensures tracks { TracksCut (told_by self.old) (told_by self.new)
             self.old.files.tracker self.new.files.tracker result }
         ensures untold { self.old.finalized ≡ true → self.new.files.tracker ≡ self.old.files.tracker }
         ensures group { KeepsGroup self.old self.new }
-        ensures counts { IfOk result (Counted (told_by U.told R.told self.old) (told_by U.told R.told self.new)) }
-        ensures backs { Backs (told_by U.told R.told self.old) (told_by U.told R.told self.new) }
+        ensures counts { IfOk result (Counted (told_by self.old) (told_by self.new)) }
+        ensures backs { Backs (told_by self.old) (told_by self.new) }
     {
         if self.finalized {
             return Err(DataError::InvalidOperation(Invalid::Finalized));
@@ -768,16 +763,14 @@ impl<U: Uploader, R: ShardStore> FileUploadSession<U, R> {
         alloc: Global,
         now: u64,
     ) -> Result<(DeduplicationMetrics, List<MDBFileInfo>), DataError>
-        ensures call { Finalizes (told_by U.told R.told self.old) (told_by U.told R.told self.new) now result }
-        ensures tracks { TracksCut (told_by U.told R.told self.old) (told_by U.told R.told self.new)
+        ensures call { Finalizes (told_by self.old) (told_by self.new) now result }
+        ensures tracks { TracksCut (told_by self.old) (told_by self.new)
             self.old.files.tracker self.new.files.tracker result }
         ensures untold { self.old.finalized ≡ true → self.new.files.tracker ≡ self.old.files.tracker }
         ensures group { KeepsGroup self.old self.new }
-        ensures counts { IfOk result (λ r.
-            Counted (told_by U.told R.told self.old) (told_by U.told R.told self.new) r.0) }
-        ensures files { IfOk result (λ r.
-            HasFiles (told_by U.told R.told self.old) (told_by U.told R.told self.new) r.1) }
-        ensures backs { Backs (told_by U.told R.told self.old) (told_by U.told R.told self.new) }
+        ensures counts { IfOk result (λ r. Counted (told_by self.old) (told_by self.new) r.0) }
+        ensures files { IfOk result (λ r. HasFiles (told_by self.old) (told_by self.new) r.1) }
+        ensures backs { Backs (told_by self.old) (told_by self.new) }
     {
         let metrics = self.finalize(rt, alloc, now)?;
         match self.shards.session_file_info_list(alloc) {
@@ -795,17 +788,16 @@ impl<U: Uploader, R: ShardStore> FileUploadSession<U, R> {
         alloc: Global,
         now: u64,
     ) -> Result<(DeduplicationMetrics, GroupProgressReport), DataError>
-        ensures call { Finalizes (told_by U.told R.told self.old) (told_by U.told R.told self.new) now result }
-        ensures tracks { TracksCut (told_by U.told R.told self.old) (told_by U.told R.told self.new)
+        ensures call { Finalizes (told_by self.old) (told_by self.new) now result }
+        ensures tracks { TracksCut (told_by self.old) (told_by self.new)
             self.old.files.tracker self.new.files.tracker result }
         ensures untold { self.old.finalized ≡ true → self.new.files.tracker ≡ self.old.files.tracker }
         ensures group { KeepsGroup self.old self.new }
-        ensures counts { IfOk result (λ r.
-            Counted (told_by U.told R.told self.old) (told_by U.told R.told self.new) r.0) }
+        ensures counts { IfOk result (λ r. Counted (told_by self.old) (told_by self.new) r.0) }
         ensures sums { IfOk result (λ r. Held (λ before after. (r.1 ≡ group_sums before) × (after ≡ before))) }
         ensures bytes { IfOk result (λ r. r.1.total_bytes_completed ≤ r.1.total_bytes) }
         ensures transfer { IfOk result (λ r. r.1.total_transfer_bytes_completed ≤ r.1.total_transfer_bytes) }
-        ensures backs { Backs (told_by U.told R.told self.old) (told_by U.told R.told self.new) }
+        ensures backs { Backs (told_by self.old) (told_by self.new) }
     {
         match self.finalize(rt, alloc, now) {
             Ok(metrics) => Ok((metrics, self.progress.report(rt))),

@@ -21,7 +21,7 @@ returns-in_err-add_new-in-None g c =
       puts = so-err _ _ _ _ _ _ _ (so-behind _ _ _ _ _ _ _ c.find_chunk.ensures.leaves.keeps c.find_chunk.ensures.found.log
           c.find_chunk.ensures.found.repeated c.find_chunk.ensures.found.failed
           (rw c.in_err-add_new-in-None.was at c.add_new.ensures.puts));
-      why = chunk-later _ _ (told_by g.U.Uploader.told g.R.ShardStore.told c.add_new.new.session) _
+      why = chunk-later _ _ (told_by c.add_new.new.session) _
           c.find_chunk.ensures.leaves (rw c.in_err-add_new-in-None.was at c.add_new.ensures.why);
       tells = tells-both _ _ _ _ _ _ (rw was at c.find_chunk.ensures.tells) _
           (tells-late _ _ _ _ _ _ c.find_chunk.ensures.leaves.keeps.finalized

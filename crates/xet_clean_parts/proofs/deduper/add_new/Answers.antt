@@ -32,8 +32,7 @@ returns-in_err-add_own g c =
       puts = so-lost _ _ _ _ _ _ _ _ c.in_ok-make_room.ensures.cleans.failed
           (rw (c.in_ok-make_room.was, c.as_slice.ensures) at c.make_room.ensures.puts);
       why = chunk-memory
-          (told_by g.U.Uploader.told g.R.ShardStore.told c.args.session.now)
-          (told_by g.U.Uploader.told g.R.ShardStore.told c.make_room.new.session) _ refl;
+          (told_by c.args.session.now) (told_by c.make_room.new.session) _ refl;
       tells = tells-both _ _ _ _ _ _ (rw c.in_ok-make_room.was at c.make_room.ensures.tells) _
           (tells-memory _ _ _ _ refl);
       calls = c.make_room.ensures.calls;

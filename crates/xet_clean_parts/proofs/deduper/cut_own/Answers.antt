@@ -33,8 +33,7 @@ returns-in_err-raw g c =
       emptied = tt;
       puts = λ next unfit. so-quiet _ _ _ _ _ _ refl refl refl tt;
       why = chunk-memory
-          (told_by g.U.Uploader.told g.R.ShardStore.told c.args.session.now)
-          (told_by g.U.Uploader.told g.R.ShardStore.told c.args.session.now) _ refl;
+          (told_by c.args.session.now) (told_by c.args.session.now) _ refl;
       tells = tells-memory _ _ _ _ refl;
       calls = calls-none _ _ _ refl;
       group = (refl, refl);

@@ -17,12 +17,10 @@ returns-in_err-chunk_hash_dedup_query g c =
       leaves = queries-leaves _ _ _ _ call c.chunk_hash_dedup_query.ensures.backs;
       found =
           found-err _ _ _ _ _ call;
-      why = fails-search (told_by g.U.Uploader.told g.R.ShardStore.told c.args.session.now)
-          (told_by g.U.Uploader.told g.R.ShardStore.told c.chunk_hash_dedup_query.new.self) _ call.why;
+      why = fails-search (told_by c.args.session.now) (told_by c.chunk_hash_dedup_query.new.self) _ call.why;
       tells = tells-none _ _ _ _ _ c.chunk_hash_dedup_query.ensures.untold
           (λ why q. search-valid
-          (told_by g.U.Uploader.told g.R.ShardStore.told c.args.session.now).shards
-          (told_by g.U.Uploader.told g.R.ShardStore.told c.chunk_hash_dedup_query.new.self).shards _ call.why why q);
+          (told_by c.args.session.now).shards (told_by c.chunk_hash_dedup_query.new.self).shards _ call.why why q);
       calls = λ now. calls-search now _ _ _ _ call;
       group = c.chunk_hash_dedup_query.ensures.group;
     })
@@ -77,8 +75,7 @@ pub returns-in_err-tell_found-in-Some-clause-why : goal.returns-in_err-tell_foun
 returns-in_err-tell_found-in-Some-clause-why g c =
     let e : c.from_residual-in_err-tell_found-in-Some.result ≡ Err c.in_err-tell_found-in-Some.field-0.0 =
     err-of _ _ c.from_residual-in_err-tell_found-in-Some.ensures in
-    rw e (chunk-tracks (told_by g.U.Uploader.told g.R.ShardStore.told c.args.session.now)
-    (told_by g.U.Uploader.told g.R.ShardStore.told c.tell_found.new.session) _
+    rw e (chunk-tracks (told_by c.args.session.now) (told_by c.tell_found.new.session) _
     (rw c.in_err-tell_found-in-Some.was at c.tell_found.ensures.why))
 
 pub returns-in_err-tell_found-in-Some-clause-calls : goal.returns-in_err-tell_found-in-Some-clause-calls

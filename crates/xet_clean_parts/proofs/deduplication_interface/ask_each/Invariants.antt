@@ -5,4 +5,4 @@ use Rattle.xet_upload_session.specs.Telling.{KeepsGroup, told_by}
 use Rattle.xet_clean_parts.proofs.deduplication_interface.ask_each.Given as goal
 
 abbrev pub invariant-loop-chunk : goal.invariant-loop-chunk
-invariant-loop-chunk g l = Learns (told_by g.U.Uploader.told g.R.ShardStore.told l.initial.session) (told_by g.U.Uploader.told g.R.ShardStore.told l.session) (take l.chunk-index l.chunks) (Ok l.found) × (l.session.files.tracker ≡ l.initial.session.files.tracker) × KeepsGroup l.initial.session l.session
+invariant-loop-chunk g l = Learns (told_by l.initial.session) (told_by l.session) (take l.chunk-index l.chunks) (Ok l.found) × (l.session.files.tracker ≡ l.initial.session.files.tracker) × KeepsGroup l.initial.session l.session

@@ -10,14 +10,12 @@ use Rattle.xet_upload_files.proofs.uploads.pour.Given as goal
 abbrev pub invariant-pieces : goal.invariant-pieces
 invariant-pieces g l = record {
   bytes : List ℕ;
-  poured : Poured (told_by g.U.Uploader.told g.R.ShardStore.told l.initial.session)
-      (told_by g.U.Uploader.told g.R.ShardStore.told l.session) (g.I.Source.told l.initial.source)
+  poured : Poured (told_by l.initial.session) (told_by l.session) (g.I.Source.told l.initial.source)
       (g.I.Source.told l.source) (cleaner_of g.T.Cutter.told l.initial.cleaner) (cleaner_of g.T.Cutter.told l.cleaner) bytes;
   count : l.left + length bytes ≡ l.total;
   tells : TellsOf {A = Unit {0}} IsXorbCall (IsLate l.initial.session.finalized) l.initial.session.files.tracker
       l.session.files.tracker (Ok tt);
-  calls : Calls l.now (told_by g.U.Uploader.told g.R.ShardStore.told l.initial.session)
-      (told_by g.U.Uploader.told g.R.ShardStore.told l.session);
+  calls : Calls l.now (told_by l.initial.session) (told_by l.session);
   group : KeepsGroup l.initial.session l.session;
 }
 

@@ -119,9 +119,7 @@ returns-in_err-upload_file g c =
           c.in_err-upload_file.ensures.call;
       tells = tells-both _ _ _ _ _ tt (tells-any {B = Unit {0}} _ _ _ _ _ tt tt old.tells) _
           (tells-err _ _ _ _ _ (file-errors
-          (told_by g.U.Uploader.told g.R.ShardStore.told c.args.session.now)
-          (told_by g.U.Uploader.told g.R.ShardStore.told c.loop-file.session)
-          (told_by g.U.Uploader.told g.R.ShardStore.told c.upload_file.new.session) _
+          (told_by c.args.session.now) (told_by c.loop-file.session) (told_by c.upload_file.new.session) _
           _ i _ _ _ _ old.has.keeps.finalized old.ids (step-within told _ files old.done i old.progress lt)
           (rw c.in_err-upload_file.was at listed)));
       calls = uploads-both _ _ _ _ old.calls c.upload_file.ensures.calls;

@@ -12,17 +12,14 @@ use Rattle.xet_upload_files.proofs.uploads.upload_files.Given as goal
 abbrev pub invariant-loop-file : goal.invariant-loop-file
 invariant-loop-file g l = record {
   done : List Upload;
-  has : HasUploads (told_by g.U.Uploader.told g.R.ShardStore.told l.fn.session)
-      (told_by g.U.Uploader.told g.R.ShardStore.told l.session) (all_chunks done) done;
-  ended : EndsUploads l.fn.now done (told_by g.U.Uploader.told g.R.ShardStore.told l.fn.session)
-      (told_by g.U.Uploader.told g.R.ShardStore.told l.session);
+  has : HasUploads (told_by l.fn.session) (told_by l.session) (all_chunks done) done;
+  ended : EndsUploads l.fn.now done (told_by l.fn.session) (told_by l.session);
   progress : Progress (map (file_told g.I.Source.told g.T.Cutter.told) l.fn.files) (map (file_told g.I.Source.told g.T.Cutter.told) l.files) done
       l.file-index;
   answers : l.infos.items ≡ map upload_pointer done;
   count : vec_len l.infos ≡ l.file-index;
   tells : TellsOf {A = Unit {0}} IsUploadCall (λ e. ⊥) l.fn.session.files.tracker l.session.files.tracker (Ok tt);
-  calls : CallsOf (UploadsOnce l.fn.now) (told_by g.U.Uploader.told g.R.ShardStore.told l.fn.session)
-      (told_by g.U.Uploader.told g.R.ShardStore.told l.session);
+  calls : CallsOf (UploadsOnce l.fn.now) (told_by l.fn.session) (told_by l.session);
   counts : CountsFiles l.fn.session.metrics done l.session.metrics;
   failed : l.session.failed ≡ l.fn.session.failed;
   begun : sizes l.session.files.tracker ≡ sizes l.fn.session.files.tracker ++ fixed_sizes (map (λ u. u.file) done);

@@ -66,7 +66,7 @@ returns-in-Err g c =
       up = tt;
       none = tt;
       failed = c.cut_chunk.ensures.failed ∙ old.failed;
-      why = chunk-later _ _ (told_by g.U.Uploader.told g.R.ShardStore.told c.cut_chunk.new.session) _ old.leaves
+      why = chunk-later _ _ (told_by c.cut_chunk.new.session) _ old.leaves
           (rw c.in-Err.is at c.cut_chunk.ensures.why);
       tells = tells-both _ _ _ _ _ tt old.tells _ (tells-late _ _ _ _ _ _ old.leaves.keeps.finalized
           (tells-err _ _ _ _ _ (rw (c.in-Err.is, file) at c.cut_chunk.ensures.tells)));

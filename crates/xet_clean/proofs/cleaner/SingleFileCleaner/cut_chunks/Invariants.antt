@@ -11,16 +11,14 @@ use Rattle.xet_clean.proofs.cleaner.SingleFileCleaner.cut_chunks.Given as goal
 
 abbrev pub invariant-chunks : goal.invariant-chunks
 invariant-chunks g l = record {
-  leaves : Leaves (told_by g.U.Uploader.told g.R.ShardStore.told l.initial.session)
-      (told_by g.U.Uploader.told g.R.ShardStore.told l.session);
-  cuts : CutsChunks l.last (told_by g.U.Uploader.told g.R.ShardStore.told l.initial.session)
-      (told_by g.U.Uploader.told g.R.ShardStore.told l.session) (cleaner_of g.T.Cutter.told l.initial.self) (cleaner_of g.T.Cutter.told l.self);
+  leaves : Leaves (told_by l.initial.session) (told_by l.session);
+  cuts : CutsChunks l.last (told_by l.initial.session) (told_by l.session)
+      (cleaner_of g.T.Cutter.told l.initial.self) (cleaner_of g.T.Cutter.told l.self);
   failed : l.self.failed ≡ l.initial.self.failed;
   tells : TellsOf {A = Unit {0}} (IsPartOf l.initial.self.file_id) (IsLate l.initial.session.finalized)
       l.initial.session.files.tracker
       l.session.files.tracker (Ok tt);
-  calls : Calls l.now (told_by g.U.Uploader.told g.R.ShardStore.told l.initial.session)
-      (told_by g.U.Uploader.told g.R.ShardStore.told l.session);
+  calls : Calls l.now (told_by l.initial.session) (told_by l.session);
   group : KeepsGroup l.initial.session l.session;
 }
 

@@ -31,8 +31,7 @@ returns-in_err-grow g c =
           (some-still _ _ _ _ _ _ c.grow.ensures.same tt) refl
           (sym c.is_finalized.ensures.is ∙ c.if-is_finalized.false) c.in_default.is
           (c.past_total.ensures.none c.in_default-past_total.is)
-          (chunk-tracks (told_by g.U.Uploader.told g.R.ShardStore.told c.args.session.now)
-          (told_by g.U.Uploader.told g.R.ShardStore.told c.grow.new.session) _
+          (chunk-tracks (told_by c.args.session.now) (told_by c.grow.new.session) _
           (rw c.in_err-grow.was at c.grow.ensures.why));
       tells = tells-own _ _ _ _ _ _ (λ e l. inl l) (tells-err _ _ _ _ _
           (rw c.in_err-grow.was at c.grow.ensures.tells));
@@ -50,8 +49,7 @@ returns-in_err-take_in g c =
           (some-still _ _ _ _ _ _ c.grow.ensures.same tt) (ap (λ (z : Cleaner). z.failed) c.in_err-take_in.ensures.err)
           (sym c.is_finalized.ensures.is ∙ c.if-is_finalized.false) c.in_default.is
           (c.past_total.ensures.none c.in_default-past_total.is)
-          (chunk-memory (told_by g.U.Uploader.told g.R.ShardStore.told c.args.session.now)
-          (told_by g.U.Uploader.told g.R.ShardStore.told c.grow.new.session) _ refl);
+          (chunk-memory (told_by c.args.session.now) (told_by c.grow.new.session) _ refl);
       tells = tells-own _ _ _ _ _ _ (λ e l. inl l) (tells-both _ _ _ _ _ _
           (rw c.in_ok-grow.was at c.grow.ensures.tells) _ (tells-memory _ _ _ _ refl));
       grows = tt;

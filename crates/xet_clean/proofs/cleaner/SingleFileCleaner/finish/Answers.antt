@@ -11,7 +11,7 @@ use Rattle.xet_clean.proofs.cleaner.SingleFileCleaner.finish.Goals as goal
 pub returns-in-Some : goal.returns-in-Some
 returns-in-Some g c = record {
   ends = finishes-refused _ _ _ c.refused.ensures.listed _ refl c.in-Some.ensures.some;
-  refused = λ why q. inl (end-early (told_by g.U.Uploader.told g.R.ShardStore.told c.args.session.now)
+  refused = λ why q. inl (end-early (told_by c.args.session.now)
       (cleaner_of g.T.Cutter.told c.args.self) _ c.in-Some.ensures.some);
   so = ends-early _ (cleaner_of g.T.Cutter.told c.args.self) _ _ _ _ _ refl refl;
   group = (refl, refl);
@@ -25,7 +25,7 @@ returns-in_err-cut_chunks g c =
       ends = finishes-uncut _ _ _ c.refused.ensures.listed _ c.cut_chunks.ensures.leaves _
           (rw c.in_err-cut_chunks.was at c.cut_chunks.ensures.puts) passes.unfinalized passes.unfailed passes.named
           (rw c.in_err-cut_chunks.was at c.cut_chunks.ensures.why);
-      refused = end-uncut _ (told_by g.U.Uploader.told g.R.ShardStore.told c.args.session.now)
+      refused = end-uncut _ (told_by c.args.session.now)
           (cleaner_of g.T.Cutter.told c.args.self) _ _ _ (rw c.in_err-cut_chunks.was at c.cut_chunks.ensures.tells);
       so = ends-uncut _ (cleaner_of g.T.Cutter.told c.args.self) _ _ _ _ _ _ c.cut_chunks.ensures.calls
           (rw c.in_err-cut_chunks.was at c.cut_chunks.ensures.tells);
@@ -39,9 +39,9 @@ returns g c =
       ends = finishes-complete _ _ _ c.refused.ensures.listed _ _ c.cut_chunks.ensures.leaves
           c.in_ok-cut_chunks.ensures.cuts c.complete.result c.complete.ensures.call
           passes.unfinalized passes.unfailed passes.named (c.in_ok-cut_chunks.ensures.none refl);
-      refused = end-taken _ (told_by g.U.Uploader.told g.R.ShardStore.told c.args.session.now)
-          (cleaner_of g.T.Cutter.told c.args.self) _ _ (told_by g.U.Uploader.told g.R.ShardStore.told c.cut_chunks.new.session)
-          (told_by g.U.Uploader.told g.R.ShardStore.told c.complete.new.session) c.complete.result
+      refused = end-taken _ (told_by c.args.session.now)
+          (cleaner_of g.T.Cutter.told c.args.self) _ _ (told_by c.cut_chunks.new.session)
+          (told_by c.complete.new.session) c.complete.result
           c.cut_chunks.ensures.leaves.keeps.finalized c.complete.ensures.call.why;
       so =
           ends-so _ (cleaner_of g.T.Cutter.told c.args.self) _ _ _ _ (cleaner_of g.T.Cutter.told c.cut_chunks.new.self) _ _ _ _ c.complete.result

@@ -16,7 +16,7 @@ returns-in_err-metrics g c =
 
 pub returns-in-Err : goal.returns-in-Err
 returns-in-Err g c =
-    let n = record (told_by g.U.Uploader.told g.R.ShardStore.told c.finalize.new.self) { shards = shards_told g.R.ShardStore.told c.session_file_info_list.new.self } in
+    let n = record (told_by c.finalize.new.self) { shards = shards_told g.R.ShardStore.told c.session_file_info_list.new.self } in
     let call = listed-err _ _ n _ _ (rw c.in_ok-metrics.was at c.finalize.ensures.call) refl _ c.session_file_info_list.ensures _ c.in-Err.is in
     record {
       call = call;
@@ -32,7 +32,7 @@ pub returns-in-Ok : goal.returns-in-Ok
 returns-in-Ok g c =
     let k = rw c.in_ok-metrics.was at c.finalize.ensures.call in
     let counted = rw c.in_ok-metrics.was at c.finalize.ensures.counts in
-    let n = record (told_by g.U.Uploader.told g.R.ShardStore.told c.finalize.new.self) { shards = shards_told g.R.ShardStore.told c.session_file_info_list.new.self } in
+    let n = record (told_by c.finalize.new.self) { shards = shards_told g.R.ShardStore.told c.session_file_info_list.new.self } in
     let call = listed-ok _ _ n _ _ k refl _ c.session_file_info_list.ensures _ c.in-Ok.is in
     record {
       call = call;

@@ -10,4 +10,4 @@ invariant_of-self g c = record { lists = λ f z. are-found _ _ _ _ (c.args.self.
 
 pub returns-clause-call : goal.returns-clause-call
 returns-clause-call g c =
-    on-list-pushed _ _ _ (c.contains.ensures.no c.if-contains.false) (ap (λ (hs : List MerkleHash). record (told_by g.U.Uploader.told g.R.ShardStore.told c.args.self.now) { listed = hs }) c.push_reserved.ensures)
+    on-list-pushed _ _ _ (c.contains.ensures.no c.if-contains.false) (ap (λ (hs : List MerkleHash). record (told_by c.args.self.now) { listed = hs }) c.push_reserved.ensures)

@@ -23,7 +23,7 @@ pub returns-in_err-reserve : goal.returns-in_err-reserve
 returns-in_err-reserve g c =
     let e : c.from_residual-in_err-reserve.result ≡ Err c.in_err-reserve.field-0.0 =
     err-of _ _ c.from_residual-in_err-reserve.ensures in
-    let t = told_by g.U.Uploader.told g.R.ShardStore.told c.make_room.new.self in
+    let t = told_by c.make_room.new.self in
     let same = ap (λ (fs : List PendingFile). record t { finished = map (λ p. p.info) fs }) c.in_err-reserve.ensures.same ∙ c.make_room.ensures.same in
     rw e (record {
       taken = record { ok = tt; err = same; xorb = tt; describes = tt; files = tt; parts = tt };
@@ -36,7 +36,7 @@ returns-in_err-reserve g c =
 
 pub returns : goal.returns
 returns g c =
-    let t = told_by g.U.Uploader.told g.R.ShardStore.told c.make_room.new.self in
+    let t = told_by c.make_room.new.self in
     let same = ap (λ (fs : List PendingFile). record t { finished = map (λ p. p.info) fs }) c.in_ok-reserve.ensures.same ∙ c.make_room.ensures.same in
     record {
       taken = took-so _ _ same _ c.finalize.result c.finalize.ensures.xorb c.finalize.ensures.info c.finalize.ensures.files c.finalize.ensures.emptied c.finalize.ensures.kept;
