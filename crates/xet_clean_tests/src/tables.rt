@@ -24,7 +24,7 @@ ceec83669ec066f3d710059e3ab01a7c2ea7daf531d75df20c81fb4044c032da 5; 0 1 0 76 5 5
 9c1d9657cd59293907594624a7d18217d2404474880ceb3df08757d4920df2df 13 x; 13 13 x; 3 3 13 296 26 26 13 13 xs;
 - | feed - 131072 */*/*/*/*/*/*/*/*/*/*/*/*/*/*/*/*; end => \
 0 0 0 0 0 0 0 0 0 0 0 0 0 0 0 0 0 0; 2 0 139264 184 139264 139264 139264 139264 xs;
-- | feed 6 1+1 abcdef; end => 0 0; 3 0 6 220 6 6 6 6 xs;
+- | feed 7 1+1 abcdefg; end => 0 0; 4 0 7 256 7 7 7 7 xs;
 first=18446744073709551613 | begin 18446744073709551615; feed 1 5 x; feed - 5 x => 18446744073709551613 0; \
 InvalidOperation(SumTooGreat { have: 18446744073709551615, add: 1 }); InvalidOperation(IdsUsedUp);
 cut=4 | feed 3 5 ab/cd; begin 18446744073709551609; feed - 5 ab/cd => \

@@ -29,8 +29,8 @@ fn empty_ones(pieces: &[Bytes]) -> usize {
     count
 }
 
-/// The steps of a text without a last word `M`: by a word a write takes so many bytes at most, `F` fails, and `A5` fails
-/// after so many.
+/// The steps of a text without a last word `M`: by a word a write takes so many bytes at most, `F` fails, and `A5`
+/// fails after so many.
 fn steps_of(alloc: Global, text: &str) -> Vec<SinkStep> {
     let mut steps = Vec::new(alloc);
     for word in text.trim_end_matches('M').split_whitespace() {

@@ -33,6 +33,14 @@ from 10; to 20; lanes p; plan 2;17 6 0 1 17 10 1 2 17 3 2 3;17:0 3: Trim { exces
 from 10; to 20; multi; lanes p; plan 2;17 6 0 1 17 10 1 2 17 3 2 3;17:0 3: Trim { excess: 7, length: 3 } '' 1/0
 lanes p; plan 0;17 9 0 2 17 9 3 4;17:0 4: TermPastBlock { end: 21, length: 13 } '' 1/1
 lanes p; plan no memory: OutOfMemory '' 1/0
+lanes p; plan 0;17 10 0 1;17:0 4, 4 2: 10 'Hello, wor' 1/1
+lanes p; plan 0;17 10 0 1;17:0 4;2:4 4: 10 'Hello, wor' 1/1
+lanes p; plan 0;17 10 0 1;17:0 4 3 6: 10 'Hello, wor' 1/1
+lanes p; plan 0;17 10 0 1;17:0 4;17:4 2: 10 'Hello, wor' 1/1
+lanes p; plan 0;17 10 0 1;17:0 4 4 6, 0 4: 10 'Hello, wor' 1/1
+multi; lanes p; plan 0;17 10 0 1;17:0 2 2 4, 0 4: 10 'Hello, wor' 1/1
+from 10; to 24; lanes p; plan 2;17 6 0 1 17 10 1 2 17 3 2 3;17:0 3: BlockLength { expected: 19, actual: 12 } '' 1/1
+from 18446744073709551610; lanes p; plan 1;17 3 0 1 17 3 1 2;17:0 3: 5 'el, w' 1/1
 lanes p; plan 0;;: 0 '' 1/0
 lanes e: 0 '' 1/0
 lanes n: FileNotFound '' 1/0";
