@@ -135,8 +135,8 @@ impl<T: Cutter> SingleFileCleaner<T> {
         ensures leaves { Leaves (told_by session.old) (told_by session.new) }
         ensures cleans { OnOk result
             (Cleans (told_by session.old) (told_by session.new) self.old.parts self.new.parts (chunk ∷ [])) }
-        ensures puts { PutsSo (told_by session.old) (told_by session.new) self.old.parts.own.chunks (chunk
-            ∷ []) self.new.parts.own.chunks result }
+        ensures puts { PutsSo (told_by session.old) (told_by session.new) self.old.parts.own.chunks
+            (chunk ∷ []) self.new.parts.own.chunks result }
         ensures same { OnOk result (cleaner_of T.told self.new ≡ record (cleaner_of T.told self.old) {
           parts = self.new.parts;
           counts = self.new.counts;
@@ -357,8 +357,9 @@ impl<T: Cutter> SingleFileCleaner<T> {
         ensures ok { OnOk result (TookFile (told_by session.old) (told_by session.new) (cleaner_of T.told self) now
             session.old.files.tracker session.new.files.tracker result) }
         ensures err { OnErr result (IsSame (told_by session.old) (told_by session.new)
-            session.old.files.tracker session.new.files.tracker ⊎ TookFile (told_by session.old) (told_by session.new)
-            (cleaner_of T.told self) now session.old.files.tracker session.new.files.tracker result) }
+            session.old.files.tracker session.new.files.tracker
+            ⊎ TookFile (told_by session.old) (told_by session.new) (cleaner_of T.told self) now
+            session.old.files.tracker session.new.files.tracker result) }
         ensures group { KeepsGroup session.old session.new }
     {
         let hash = MerkleHash::file_hash(self.parts.infos());

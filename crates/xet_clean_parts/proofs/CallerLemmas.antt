@@ -11,7 +11,7 @@ pub use Rattle.xet_clean_parts.proofs.Picked.{bytes-later, into-both, into-same,
 -- where chunks end
 pub use Rattle.xet_clean_parts.proofs.Places.{at-both, at-joined, at-one, fixed-cuts-file, pieces-more, pieces-none}
 -- what is put, and what is said of a put that failed
-pub use Rattle.xet_clean_parts.proofs.Puts.{end-after, end-behind, grew-both, grew-cut, grew-moved, grew-none, last-moved, made-before, made-behind, made-both, made-cut, made-less, made-more, made-moved, made-still, made-then, none-both, none-same, on-any, says-err, says-none, so-any, so-both, so-err, so-still, so-turn, some-any, some-behind, some-err, some-one, some-still, turn-both, turn-made}
+pub use Rattle.xet_clean_parts.proofs.Puts.{end-after, end-behind, grew-both, grew-cut, grew-moved, grew-none, last-moved, made-before, made-behind, made-both, made-cut, made-less, made-more, made-moved, made-still, made-then, none-both, none-same, on-any, says-err, says-none, so-any, so-both, so-err, so-still, so-turn, some-any, some-behind, some-err, some-one, some-still, turn-made}
 -- two lists in turn
 pub use Rattle.xet_clean_parts.proofs.Turns.{turns-all}
 -- calls of a session, one after another

@@ -1,14 +1,14 @@
 -- Xorbs that are made one after the other, and chunks that are in one of them at most.
-use Rattle.std.proofs.Common.{◌≡◌, ℕ, ◌+◌, ◌≤◌, inl, inr, List, [], ◌∷◌, ◌++◌, refl, sym, ◌∙◌, ap, subst, arith}
+use Rattle.std.proofs.Common.{◌≡◌, ℕ, ◌+◌, ◌≤◌, inl, inr, List, [], ◌∷◌, ◌++◌, sym, ◌∙◌, ap, subst, arith}
 use Rattle.std.specs.Prelude.{All}
 use Rattle.std.specs.List.{sum_by}
 use Rattle.std.proofs.lemmas.List.{append-nil, append_assoc}
 use Rattle.std.proofs.lemmas.List.Concat.{flat_map-append}
-use Rattle.std.proofs.lemmas.List.Elements.{All-append, All-cons, All-head, All-nil, All-same, All-tail, All-weaker}
+use Rattle.std.proofs.lemmas.List.Elements.{All-append, All-cons, All-head, All-nil, All-same, All-tail}
 use Rattle.std.proofs.lemmas.List.Sums.{sum_by-append, sum_by-cons}
 use Rattle.xet_base.specs.declared.mdb_shard.Xorb.{Xorb}
 use Rattle.xet_clean_parts.specs.Made.{AreFull, AreInTurn, AreMadeInTurn, AreNoMore, IsMadeOf, IsNextUnfit, IsPickedFrom, joined_chunks}
-use Rattle.xet_clean_parts.proofs.Picked.{made-wider, picked-all, picked-behind, picked-both, picked-first, picked-front, picked-none, picked-same, picked-trans}
+use Rattle.xet_clean_parts.proofs.Picked.{made-wider, picked-all, picked-behind, picked-both, picked-first, picked-front, picked-trans}
 
 -- ---- what chunks weigh
 

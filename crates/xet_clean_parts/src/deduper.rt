@@ -69,8 +69,8 @@ fn make_room<U: Uploader, R: ShardStore, W: Wait>(
     ensures leaves { Leaves (told_by session.old) (told_by session.new) }
     ensures cleans { OnOk result (Cleans (told_by session.old) (told_by session.new) parts.old parts.new []) }
     ensures room { OnOk result (IsWithin (parts.new.own.chunks ++ chunk.now ∷ [])) }
-    ensures puts { PutsSo (told_by session.old) (told_by session.new) parts.old.own.chunks (chunk.now
-        ∷ []) (parts.new.own.chunks ++ chunk.now ∷ []) result }
+    ensures puts { PutsSo (told_by session.old) (told_by session.new) parts.old.own.chunks
+        (chunk.now ∷ []) (parts.new.own.chunks ++ chunk.now ∷ []) result }
     ensures why { IfErr result (ChunkFails (told_by session.old) (told_by session.new)) }
     ensures tells { TellsOf (IsPartOf file_id) (IsLate session.old.finalized) session.old.files.tracker
         session.new.files.tracker result }
@@ -100,8 +100,8 @@ fn add_new<U: Uploader, R: ShardStore, W: Wait>(
     ensures leaves { Leaves (told_by session.old) (told_by session.new) }
     ensures cleans { OnOk result
         (Cleans (told_by session.old) (told_by session.new) parts.old parts.new (chunk ∷ [])) }
-    ensures puts { PutsSo (told_by session.old) (told_by session.new) parts.old.own.chunks (chunk
-        ∷ []) parts.new.own.chunks result }
+    ensures puts { PutsSo (told_by session.old) (told_by session.new) parts.old.own.chunks
+        (chunk ∷ []) parts.new.own.chunks result }
     ensures why { IfErr result (ChunkFails (told_by session.old) (told_by session.new)) }
     ensures tells { TellsOf (IsPartOf file_id) (IsLate session.old.finalized) session.old.files.tracker
         session.new.files.tracker result }
@@ -198,8 +198,8 @@ pub fn add_chunk<U: Uploader, R: ShardStore, W: Wait>(
     ensures leaves { Leaves (told_by session.old) (told_by session.new) }
     ensures cleans { OnOk result
         (Cleans (told_by session.old) (told_by session.new) parts.old parts.new (chunk ∷ [])) }
-    ensures puts { PutsSo (told_by session.old) (told_by session.new) parts.old.own.chunks (chunk
-        ∷ []) parts.new.own.chunks result }
+    ensures puts { PutsSo (told_by session.old) (told_by session.new) parts.old.own.chunks
+        (chunk ∷ []) parts.new.own.chunks result }
     ensures why { IfErr result (ChunkFails (told_by session.old) (told_by session.new)) }
     ensures tells { TellsOf (IsPartOf file_id) (IsLate session.old.finalized) session.old.files.tracker
         session.new.files.tracker result }

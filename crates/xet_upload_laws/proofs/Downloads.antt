@@ -1,5 +1,5 @@
 -- The store after a log gives the bytes of each accepted file.
-use Rattle.std.proofs.Common.{◌≡◌, ℕ, zero, suc, ◌<◌, ◌⊎◌, Bool, true, false, cond, List, [], ◌∷◌, ◌++◌, length, map, refl, sym, ◌∙◌, ap, subst, arith}
+use Rattle.std.proofs.Common.{◌≡◌, ℕ, zero, suc, ◌<◌, Bool, true, false, cond, List, [], ◌∷◌, ◌++◌, length, map, refl, sym, ◌∙◌, ap, subst, arith}
 use Rattle.std.specs.Prelude.{All, Contains, IsSome, None, Option, Some, Ok, find, option_map, slice_index_or, slice_range, unwrap_or}
 use Rattle.std.specs.List.{concat, flat_map}
 use Rattle.std.specs.Option.{option_or}
@@ -13,7 +13,7 @@ use Rattle.xet_base.specs.declared.merklehash.MerkleHash.{MerkleHash}
 use Rattle.xet_base.specs.declared.stored.StoredFile.{StoredFile}
 use Rattle.xet_base.specs.declared.stored.StoredTerm.{StoredTerm}
 use Rattle.xet_base.specs.Hashes.{hash_eq}
-use Rattle.xet_base.specs.Store.{IsTermIn, IsValid, Store, bytes_of, chunks_of_file, chunks_of_term, file_of, window, xorb_of}
+use Rattle.xet_base.specs.Store.{IsTermIn, IsValid, Store, bytes_of, chunks_of_file, chunks_of_term, file_of, xorb_of}
 use Rattle.xet_base.proofs.CallerLemmas.{eq-hash_eq, hash_eq-true}
 use Rattle.xet_uploader.specs.declared.uploader.Put.{Put}
 use Rattle.xet_uploader.specs.declared.uploader.Put.TheVariants as put

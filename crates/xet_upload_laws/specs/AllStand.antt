@@ -1,5 +1,4 @@
 -- A session of which each record stands for its file's bytes.
-use Rattle.std.specs.Prelude.{◌≡◌}
 use Rattle.xet_base.specs.Store.{Store}
 use Rattle.xet_uploader.specs.StoresAfter.{files_in}
 use Rattle.xet_shard_interface.specs.Interfaces.{records_of}

@@ -1,5 +1,5 @@
 -- One content that is sent to a store in memory.
-use Rattle.std.specs.Prelude.{ℕ, ◌≡◌, ◌⊎◌, ◌<◌, ◌≤◌, false, List, [], ◌∷◌, ◌++◌, length, IfSome, None, Some}
+use Rattle.std.specs.Prelude.{ℕ, ◌≡◌, ◌⊎◌, false, List, [], ◌∷◌, ◌++◌, length, IfSome, None, Some}
 use Rattle.std.specs.Prelude.{Ok, Option, slice_range}
 use Rattle.xet_base.specs.declared.cas_types.FileRange.{FileRange}
 use Rattle.xet_base.specs.declared.mdb_shard.Xorb.{Xorb}
