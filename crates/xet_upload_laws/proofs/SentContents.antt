@@ -1,9 +1,9 @@
 -- What a content that was sent leaves.
 use Rattle.std.proofs.Common.{◌≡◌, ℕ, zero, suc, ◌<◌, ◌≤◌, ◌^◌, ◌⊎◌, inl, inr, Bool, true, false, List, [], ◌∷◌, ◌++◌, length, map, refl, sym, ◌∙◌, ap, subst, arith}
-use Rattle.std.specs.Prelude.{All, Contains, IfOk, IfSome, None, Option, Some, Ok, Result, Err, option_map, slice_index_or, slice_range}
+use Rattle.std.specs.Prelude.{All, Contains, IfOk, IfSome, None, Option, Some, Ok, Result, Err, cond, find, option_map, slice_index_or, slice_range}
 use Rattle.std.specs.List.{concat}
 use Rattle.std.proofs.lemmas.List.{append-nil, append_assoc, length-append, length-map}
-use Rattle.std.proofs.lemmas.List.Elements.{All-cons, All-contains, All-contains_itself, All-head, All-nil, Contains-append_cases, Contains-append_left, Contains-append_right, Contains-push_cases}
+use Rattle.std.proofs.lemmas.List.Elements.{All-cons, All-contains, All-contains_itself, All-head, All-nil, All-tail, Contains-append_cases, Contains-append_left, Contains-append_right, Contains-push_cases}
 use Rattle.std.proofs.lemmas.Option.{none-some, same_Some}
 use Rattle.xet_base.specs.declared.cas_types.FileRange.{FileRange}
 use Rattle.xet_base.specs.declared.mdb_shard.MDBFileInfo.{MDBFileInfo}
@@ -11,7 +11,8 @@ use Rattle.xet_base.specs.declared.mdb_shard.ShardRecord.{ShardRecord}
 use Rattle.xet_base.specs.declared.mdb_shard.Xorb.{Xorb}
 use Rattle.xet_base.specs.declared.merklehash.MerkleHash.{MerkleHash}
 use Rattle.xet_base.specs.Digests.{file_hash_of, infos_of}
-use Rattle.xet_base.specs.Store.{IsValid, Store, window}
+use Rattle.xet_base.specs.Hashes.{hash_eq}
+use Rattle.xet_base.specs.Store.{IsValid, Store, window, xorb_of}
 use Rattle.xet_outside.specs.Told.{SourceTold}
 use Rattle.xet_outside.specs.declared.client.ClientError.{ClientError}
 use Rattle.xet_pointer.specs.declared.xet_file_info.XetFileInfo.{XetFileInfo}
@@ -20,7 +21,7 @@ use Rattle.xet_uploader.specs.declared.uploader.Put.TheVariants as put
 use Rattle.xet_uploader.specs.StoresAfter.{files_in, store_after}
 use Rattle.xet_uploader.specs.Uploads.{UploaderTold, xorbs_in}
 use Rattle.xet_shards.specs.Shards.{ShardsTold}
-use Rattle.xet_uploader.proofs.CallerLemmas.{xorbs_in-append}
+use Rattle.xet_uploader.proofs.CallerLemmas.{after_finds_xorbs, xorbs_in-append}
 use Rattle.xet_shard_interface.specs.declared.shard_interface.ShardRules.{ShardRules}
 use Rattle.xet_shard_interface.specs.Interfaces.{InterfaceTold, records_of}
 use Rattle.xet_shard_interface.specs.Puts.{shards_of}
@@ -104,6 +105,15 @@ xorbs_in-map (x ∷ xs) = ap (λ (ys : List Xorb). x ∷ ys) (xorbs_in-map xs)
 xorbs_in-shards : (ss : List ShardRecord) → xorbs_in (map put.Shard ss) ≡ []
 xorbs_in-shards [] = refl
 xorbs_in-shards (s ∷ ss) = xorbs_in-shards ss
+
+-- what is found among some has what all of them have
+find-all : {A : Type 0} (P : A → Type 0) (p : A → Bool) (xs : List A) → All P xs → IfSome (find p xs) P
+find-all P p [] a = tt
+find-all P p (x ∷ xs) a = go (p x) (find-all P p xs (All-tail P x xs a))
+  where
+    go : (b : Bool) → IfSome (find p xs) P → IfSome (cond b (Some x) (find p xs)) P
+    go true r = All-head P x xs a
+    go false r = r
 
 -- a list of one at most has one member at most
 few-same : {A : Type 0} (xs : List A) (x y : A) → length xs ≤ 1 → Contains xs x → Contains xs y → x ≡ y
@@ -247,6 +257,16 @@ module _ (b n : SessionTold) (counts : DeduplicationMetrics) (z : Finalizes b n 
       (grew-moved b (as_finalized b) middle middle (made_of b.waiting.chunks) refl refl refl refl
       (grew-cut (as_finalized b) middle 0 tt by-cut.1 begun))
 
+  -- each xorb that is put is one of the made ones
+  put-made : (made : List Xorb) → GrewInTurn memory_session middle made → All (Contains made) (xorbs_in (log_of n))
+  put-made made g = subst (λ (xs : List Xorb). All (Contains made) xs) (sym put) both.0
+    where
+      both : All (Contains made) g.xorbs × All (Contains made) g.again
+      both = turns-all (Contains made) g.xorbs g.again made g.turns (All-contains_itself made)
+
+      put : xorbs_in (log_of n) ≡ g.xorbs
+      put = xorbs-same ∙ ap xorbs_in g.grown ∙ xorbs_in-map g.xorbs
+
   -- each told xorb is one of the made ones
   told-made : (made : List Xorb) → GrewInTurn memory_session middle made → (x : Xorb) → Contains (told_xorbs n) x
       → Contains made x
@@ -384,6 +404,9 @@ module _ (source : SourceTold) (size chunk : ℕ) (some : 0 < chunk) (most : chu
     kept x d = told-made b n counts z tells live made (made-cut b n counts z tells live (turn.made ++ turn.last) turn.grew) x
         d
 
+    put-are : All (Contains made) (xorbs_in (log_of n))
+    put-are = put-made b n counts z tells live made (made-cut b n counts z tells live (turn.made ++ turn.last) turn.grew)
+
     are-made : AreMade it.chunks made
     are-made = record { front = turn.made; left = turn.left; so = turn.so; are = ends turn.is_last }
       where
@@ -519,10 +542,21 @@ module _ (source : SourceTold) (size chunk : ℕ) (some : 0 < chunk) (most : chu
     pointer = pointer source size chunk some most info b u;
     made = made source size chunk some most info b u n all.counts all.ends;
     are = are-made source size chunk some most info b u n all.counts all.ends;
+    stored = λ hash. found-made hash;
     gives = λ safe range. given range (downloads source size chunk some most info b u n all.counts all.ends short safe
         range);
   }
     where
+      found : (hash : MerkleHash) → xorb_of store hash ≡ find (λ (x : Xorb). hash_eq x.hash hash) (xorbs_in (log_of n))
+      found hash = after_finds_xorbs no_store store (log_of n) hash (sym (first-none (Some store) h))
+
+      found-made : (hash : MerkleHash) → IfSome (xorb_of store hash)
+          (Contains (made source size chunk some most info b u n all.counts all.ends))
+      found-made hash =
+          let P : Xorb → Type 0 = Contains (made source size chunk some most info b u n all.counts all.ends) in
+          subst (λ (o : Option Xorb). IfSome o P) (sym (found hash)) (find-all P (λ (x : Xorb). hash_eq x.hash hash)
+          (xorbs_in (log_of n)) (put-are source size chunk some most info b u n all.counts all.ends))
+
       given : (range : FileRange) → Downloads no_store (log_of n) (recorded_file v) range
           → window store (file_hash_of (infos_of v.chunks)) range ≡ slice_range v.bytes range.start range.end
       given range d =

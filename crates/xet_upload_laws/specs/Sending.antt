@@ -1,10 +1,11 @@
 -- One content that is sent to a store in memory.
-use Rattle.std.specs.Prelude.{ℕ, ◌≡◌, ◌⊎◌, false, List, [], ◌∷◌, ◌++◌, length, IfSome, None, Some}
+use Rattle.std.specs.Prelude.{ℕ, ◌≡◌, ◌⊎◌, false, List, [], ◌∷◌, ◌++◌, length, Contains, IfSome, None, Some}
 use Rattle.std.specs.Prelude.{Ok, Option, slice_range}
 use Rattle.xet_base.specs.declared.cas_types.FileRange.{FileRange}
 use Rattle.xet_base.specs.declared.mdb_shard.Xorb.{Xorb}
+use Rattle.xet_base.specs.declared.merklehash.MerkleHash.{MerkleHash}
 use Rattle.xet_base.specs.Digests.{file_hash_of, infos_of}
-use Rattle.xet_base.specs.Store.{Store, window}
+use Rattle.xet_base.specs.Store.{Store, window, xorb_of}
 use Rattle.xet_outside.specs.Told.{SourceTold}
 use Rattle.xet_pointer.specs.declared.xet_file_info.XetFileInfo.{XetFileInfo}
 use Rattle.xet_uploader.specs.StoresAfter.{store_after}
@@ -91,8 +92,8 @@ abbrev pub Gives : Store → List (List ℕ) → List ℕ → Type 0
 Gives s chunks bytes = (range : FileRange)
     → window s (file_hash_of (infos_of chunks)) range ≡ slice_range bytes range.start range.end
 
--- a content was sent: the pointer record is that of its chunks, and the store gives it, if its chunks fit one xorb, or
--- equal hashes mean equal contents of the xorbs that were made of its chunks and of its parts
+-- a content was sent: the pointer record is that of its chunks, each stored xorb was made of them, and the store gives
+-- the content, if its chunks fit one xorb, or equal hashes mean equal contents of the made xorbs and of its parts
 pub record Sends (source : SourceTold) (size chunk : ℕ) (info : XetFileInfo) (store : Store) : Type 0 where
   pub bytes : List ℕ
   pub chunks : List (List ℕ)
@@ -100,6 +101,7 @@ pub record Sends (source : SourceTold) (size chunk : ℕ) (info : XetFileInfo) (
   pub pointer : info ≡ content_pointer size chunks
   pub made : List Xorb
   pub are : AreMade chunks made
+  pub stored : (h : MerkleHash) → IfSome (xorb_of store h) (Contains made)
   pub gives : IsSafe chunks made bytes → Gives store chunks bytes
 
 -- nothing was sent, since different contents have one hash, of the xorbs that were made of a content's chunks
