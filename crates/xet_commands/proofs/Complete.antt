@@ -12,6 +12,8 @@ use Rattle.xet_get_command.specs.GetOptions.{lanes_of}
 use Rattle.xet_get_command.specs.Taps.{LanesHonest}
 use Rattle.xet_track.specs.Texts.{track_reads}
 use Rattle.xet_track_command.specs.Track.{TrackStatus}
+use Rattle.xet_bench_command.specs.declared.wanted.BenchWanted.{BenchWanted}
+use Rattle.xet_bench_command.specs.Bench.{BenchPrinted, end_by, unmet_bench}
 use Rattle.xet_commands.specs.declared.commands.Command.{Command}
 use Rattle.xet_commands.specs.declared.commands.Command.TheVariants as command
 use Rattle.xet_commands.specs.Commands.{Outcome, command_of}
@@ -61,8 +63,14 @@ module _ (limit : ℕ) (text : List ℕ) (b n : Told) (f : NothingFails text b n
       (λ r. ⊎_elim (λ w. absurd (f.writes w.1)) (λ m. inl m.0) r)
       o
 
+  bench_by : (wanted : BenchWanted) (s : Status) → BenchPrinted wanted b.sink n.sink s
+      → (s ≡ status.NoMemory) ⊎ (s ≡ end_by (unmet_bench wanted))
+  bench_by wanted s (inl o) = text_by (end_by (unmet_bench wanted)) s o
+  bench_by wanted s (inr o) = ⊎_elim (λ m. inl m) (λ m. inl m) (text_by status.NoMemory s o)
+
   outcome_by : (o : Option Command) (s : Status) → Outcome limit o b n s → (s ≡ status.NoMemory) ⊎ StatusBy limit o text s
   outcome_by (Some (command.Get wanted)) s o = get_by wanted s o
+  outcome_by (Some (command.Bench wanted)) s o = bench_by wanted s o.printed
   outcome_by (Some command.Track) s o = track_by s o.by_status
   outcome_by (Some command.Help) s o = text_by status.Done s o.text_is
   outcome_by (Some command.Version) s o = text_by status.Done s o.text_is

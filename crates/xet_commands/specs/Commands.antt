@@ -12,6 +12,7 @@ use Rattle.xet_room.specs.Texts.{line, number_of}
 use Rattle.xet_commands.specs.Texts.{help_text, version_text}
 use Rattle.xet_get_command.specs.Get.{GetOutcome}
 use Rattle.xet_track_command.specs.Track.{TrackOutcome}
+use Rattle.xet_bench_command.specs.Bench.{BenchOutcome, bench_of}
 
 -- the command of one word
 abbrev pub command_of_one : List ℕ → Option Command
@@ -19,15 +20,22 @@ command_of_one w =
     cond (bytes_eq w (codes "--help")) (Some command.Help) (cond (bytes_eq w (codes "--version")) (Some command.Version)
     (cond (bytes_eq w (codes "track")) (Some command.Track) None))
 
--- `--help`, `--version` or `track` alone, or `get` with its words
+-- the command of this name, with the words after it
+abbrev pub command_with : List ℕ → List (List ℕ) → Option Command
+command_with name words =
+    cond (bytes_eq name (codes "get")) (option_map command.Get (wanted_of words))
+    (cond (bytes_eq name (codes "bench")) (option_map command.Bench (bench_of words)) None)
+
+-- `--help`, `--version` or `track` alone, or `get` or `bench` with its words
 abbrev pub command_of : List (List ℕ) → Option Command
 command_of [] = None
 command_of (w ∷ []) = command_of_one w
-command_of (w ∷ v ∷ vs) = cond (bytes_eq w (codes "get")) (option_map command.Get (wanted_of (v ∷ vs))) None
+command_of (w ∷ v ∷ vs) = command_with w (v ∷ vs)
 
 -- any words, by the command that they spell
 abbrev pub Outcome : ℕ → Option Command → Told → Told → Status → Type 0
 Outcome limit (Some (command.Get wanted)) before after status = GetOutcome limit wanted before after status
+Outcome limit (Some (command.Bench wanted)) before after status = BenchOutcome wanted before after status
 Outcome limit (Some command.Track) before after status = TrackOutcome limit before after status
 Outcome limit (Some command.Help) before after status = TextOutcome help_text Done before after status
 Outcome limit (Some command.Version) before after status = TextOutcome version_text Done before after status

@@ -11,6 +11,7 @@ use Rattle.xet_room.specs.Texts.{number_of}
 use Rattle.xet_track.specs.Texts.{track_reads}
 use Rattle.xet_get_command.specs.declared.wanted.Wanted.{Wanted}
 use Rattle.xet_get_command.specs.Wanted.{IsFound, IsMissing, unmet_setting}
+use Rattle.xet_bench_command.specs.Bench.{end_by, unmet_bench}
 use Rattle.xet_commands.specs.declared.commands.Command.{Command}
 use Rattle.xet_commands.specs.declared.commands.Command.TheVariants as command
 use Rattle.xet_commands.specs.Commands.{Answers, command_of}
@@ -50,6 +51,7 @@ TrackBy limit text _ = ⊥
 -- and any words, by the command that they spell
 abbrev pub StatusBy : ℕ → Option Command → List ℕ → Status → Type 0
 StatusBy limit (Some (command.Get wanted)) text status = GetBy limit wanted text status
+StatusBy limit (Some (command.Bench wanted)) text status = status ≡ end_by (unmet_bench wanted)
 StatusBy limit (Some command.Track) text status = TrackBy limit text status
 StatusBy limit (Some command.Help) text status = status ≡ Done
 StatusBy limit (Some command.Version) text status = status ≡ Done

@@ -2,12 +2,13 @@
 ghost use Rattle.std.specs.Prelude.{◌≡◌, length, map, string_bytes};
 ghost use Rattle.xet_room.specs.Ends.{input_limit};
 ghost use Rattle.xet_room.specs.Outcome.{IsFlushed, IsReadUnfailed, IsUnfailed};
-ghost use Rattle.xet_commands.specs.Commands.{Outcome, command_of, command_of_one};
+ghost use Rattle.xet_commands.specs.Commands.{Outcome, command_of, command_of_one, command_with};
 
 use crate::texts::{HELP, VERSION};
 use std::alloc::Global;
 use std::sync::Wait;
 use std::thread::Threads;
+use xet_bench_command::{BenchWanted, bench, read_bench};
 use xet_get_command::{Wanted, get, read_wanted};
 use xet_room::{Status, print_text, say};
 use xet_store::{Sink, Source, Tap};
@@ -22,6 +23,8 @@ pub enum Command {
     Version,
     /// `get` with its words.
     Get(Wanted),
+    /// `bench` with its words.
+    Bench(BenchWanted),
     /// `track`
     Track,
 }
@@ -38,6 +41,23 @@ fn read_one(word: &str) -> Option<Command>
     }
 }
 
+// The command of this name, with the words after it.
+fn read_with(name: &str, words: &[String]) -> Option<Command>
+    ensures { result ≡ command_with name.now (map string_bytes words.now) }
+{
+    match name {
+        "get" => {
+            let wanted = read_wanted(words)?;
+            Some(Command::Get(wanted))
+        }
+        "bench" => {
+            let wanted = read_bench(words)?;
+            Some(Command::Bench(wanted))
+        }
+        _ => None,
+    }
+}
+
 /// The command that the words spell, or none where they don't read.
 pub fn read_words(words: &[String]) -> Option<Command>
     ensures { result ≡ command_of (map string_bytes words.now) }
@@ -45,13 +65,7 @@ pub fn read_words(words: &[String]) -> Option<Command>
     match words {
         [] => None,
         [word] => read_one(word.as_str()),
-        [word, rest @ ..] => {
-            if word.as_str() != "get" {
-                return None;
-            }
-            let wanted = read_wanted(rest)?;
-            Some(Command::Get(wanted))
-        }
+        [name, words @ ..] => read_with(name.as_str(), words),
     }
 }
 
@@ -75,6 +89,7 @@ pub fn run_words<R: Threads + Wait + Sync, I: Source, O: Sink, T: Tap + Send>(
     match read_words(words) {
         Some(Command::Get(wanted)) => get(rt, alloc, wanted, input, out, taps),
         Some(Command::Track) => track(alloc, input, out),
+        Some(Command::Bench(wanted)) => bench(rt, alloc, wanted, out),
         Some(Command::Help) => print_text(out, Status::Done, HELP),
         Some(Command::Version) => print_text(out, Status::Done, VERSION),
         None => say(out, Status::BadWords),

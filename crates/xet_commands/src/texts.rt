@@ -2,12 +2,14 @@
 
 /// What `--help` prints.
 pub const HELP: &[u8] = b"\
-xet_tool: prints a range of a file of a Xet store, or runs a script of calls of a tracker
+xet_tool: prints a range of a file of a Xet store, runs a script of calls of a tracker, or
+fetches a made file
 
 usage:
   xet_tool get HASH START END [OPTION ..]
                                 print bytes START to before END of the file HASH
   xet_tool track                make the calls of a script, and print the reply to each
+  xet_tool bench N [OPTION ..]  fetch a made file of N terms, and print what its bytes come to
   xet_tool --help               print this text
   xet_tool --version            print the version
   Other words, also -h, help or none at all, do not read.
@@ -18,7 +20,10 @@ words of get:
               18446744073709551615. END may also be the word end. What lies past the file's end
               is cut off, and a range with END at or before START is empty.
 
-options of get, in any order and each at most once; N is a number as START is:
+words of bench:
+  N           how many terms the file has: a number as START is, 1 to 100000
+
+options of get and bench, in any order and each at most once; N is a number as START is:
   lanes=N     fetch over N connections side by side, 0 to 64, else over 1
   least=N     ask for plans of N bytes of the file at least, else 1048576
   greatest=N  and of less than N and the least together, else 67108864
@@ -66,12 +71,19 @@ input of track:
   7 for an unknown xorb, 8 for another size, 9 past a total, 10 where the xorb is completed, and
   11 where a sum has no room.
 
+file of bench:
+  It is in a store of 8 xorbs of 16 chunks each, which is made and not read. All is counted from
+  0: chunk J of xorb I has number C = 16 * I + J, it has 1 + C mod 64 bytes, and its byte P is
+  C + P. Term K of the file is of xorb K mod 8, from chunk K mod 13 on, and of 1 + K mod 3
+  chunks. Four lines are printed, the same for all options: terms and N, bytes and their number,
+  sum and the sum of the bytes, sha256 and the SHA-256 of the bytes.
+
 output:
   For get the bytes as lower-case hexadecimal digits, a line end, and a last line. The lines of
   1, 2, 4 and 8 stand alone, but that of 2 for track, which ends the lines of a script that does
-  not read. With 0 track prints its lines and no last line. All lines, those of errors too, go
-  to standard output. For the bytes themselves turn the digits of the first line back, as with
-  | head -n 1 | xxd -r -p.
+  not read; for bench that of 7 stands alone too. With 0 track and bench print their lines and no
+  last line. All lines, those of errors too, go to standard output. For the bytes themselves turn
+  the digits of the first line back, as with | head -n 1 | xxd -r -p.
 
 last line, and exit status:
   ok N                    0  all N bytes of the range were printed
@@ -100,6 +112,14 @@ examples of the options, after the words of that one:
   budget=1000 perfile=500 limit=1200
                                     with 1200 bytes at most that are not written
   multi vectored                    whole fetch entries, and several pieces a write
+
+example of bench:
+  xet_tool bench 3 lanes=4
+prints
+  terms 3
+  bytes 146
+  sum 6645
+  sha256 a12c2c5b9d867a31924c6963eb531c2b58ca2f37b2eb5ceb6b23a9c70d97172f
 ";
 
 /// What `--version` prints.

@@ -1,4 +1,4 @@
--- The options of `get`, and the words that spell them.
+-- The options of `get` and `bench`, and the words that spell them.
 use Rattle.std.specs.Prelude.{ℕ, ◌-◌, ◌^◌, ◌==◌, true, false, cond, nat_lt, nat_le, List, [], ◌∷◌, length, Option, Some}
 use Rattle.std.specs.Prelude.{None, option_and_then, unwrap_or, codes}
 use Rattle.std.specs.List.{after_first, before_first, position_or_len}

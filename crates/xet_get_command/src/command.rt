@@ -1,36 +1,22 @@
 //! The command `get`.
-ghost use Rattle.std.specs.Prelude.{◌≡◌, IfOk, length, map};
-ghost use Rattle.std.specs.Arc.{arc_value};
+ghost use Rattle.std.specs.Prelude.{◌≡◌, length, map};
 ghost use Rattle.xet_room.specs.Ends.{input_limit};
 ghost use Rattle.xet_get_command.specs.Get.{GetOutcome};
 ghost use Rattle.xet_room.specs.Outcome.{IsFlushed, IsReadUnfailed, IsUnfailed};
 ghost use Rattle.xet_get_command.specs.steps.Printing.{GotFrom, PrintedWithin};
 ghost use Rattle.xet_get_command.specs.steps.TapRuns.{IsBookOf};
 
+use crate::book::new_book_view;
 use crate::digits::{Printed, print_digits};
 use crate::wanted::Wanted;
 use std::alloc::Global;
 use std::mem::forget;
-use std::sync::{Arc, Wait};
+use std::sync::Wait;
 use std::thread::Threads;
-use xet_base::OutOfMemory;
 use xet_document::store_of_text;
 use xet_room::{LIMIT, ReadError, Status, finish, read_to_end, say, say_after, stopped};
-use xet_run::{BookView, BudgetBook, BudgetSettings};
+use xet_run::BookView;
 use xet_store::{MemStore, Sink, Source, Tap};
-
-// A view of a new book of running downloads, in which this one runs.
-fn book_view<R: Wait>(
-    rt: &R,
-    alloc: Global,
-    settings: BudgetSettings,
-) -> Result<BookView, OutOfMemory>
-    ensures { IfOk result (λ view. (arc_value view.book).settings ≡ settings) }
-{
-    let book = Arc::new(alloc, BudgetBook::new(alloc, settings)?)?;
-    book.start(rt);
-    Ok(BookView::new(book))
-}
 
 // Prints the digits of the range and the last line.
 fn print<R: Threads + Wait + Sync, T: Tap + Send, O: Sink>(
@@ -80,7 +66,7 @@ fn print_within<R: Threads + Wait + Sync, T: Tap + Send, O: Sink>(
     ensures flushed { IsFlushed result (O.told out.new) }
     ensures unfailed { IsUnfailed result (O.told out.old) (O.told out.new) }
 {
-    match book_view(rt, alloc, wanted.options.budget_settings()) {
+    match new_book_view(rt, alloc, wanted.options.budget_settings()) {
         Ok(view) => print(rt, alloc, wanted, view, store, taps, out),
         Err(_) => say(out, Status::NoMemory),
     }

@@ -1,4 +1,4 @@
-//! The options of `get`, and the words that say them.
+//! The options of `get` and `bench`, and the words that say them.
 ghost use Rattle.std.specs.Prelude.{◌≡◌, cond, None, Some, map, string_bytes};
 ghost use Rattle.xet_get_command.specs.GetOptions.{budget_of, config_of, lanes_of, no_options, option_of_flag};
 ghost use Rattle.xet_get_command.specs.GetOptions.{option_of_name, option_of_word, options_of, unless_given};
@@ -8,7 +8,7 @@ use xet_room::number;
 use xet_run::BudgetSettings;
 use xet_terms::ReconstructionConfig;
 
-/// An option of `get`. Sizes are in bytes.
+/// An option of `get` and `bench`. Sizes are in bytes.
 #[derive(Clone, Copy, PartialEq, Eq)]
 pub enum GetOption {
     /// `multi`: each fetch entry is one block of all its ranges.
@@ -31,7 +31,7 @@ pub enum GetOption {
     Limit(u64),
 }
 
-/// The options of `get` as the words say them, each at most once. Sizes are in bytes.
+/// The options of `get` and `bench` as the words say them, each at most once. Sizes are in bytes.
 #[derive(Clone, Copy, PartialEq, Eq)]
 pub struct Options {
     /// How many connections, at most 64.

@@ -1,0 +1,3 @@
+mod Fetching
+mod Filing
+mod Making
