@@ -1,0 +1,4 @@
+mod Bounds
+mod Calling
+mod Exact
+mod Refusals

@@ -1,0 +1,5 @@
+pub mod Bounds
+pub mod Calls
+pub mod Downloads
+pub mod Laws
+pub mod Telling

@@ -1,0 +1,15 @@
+//! Tests of `xet_download`, over a store in memory.
+#![tactic(auto)]
+
+#[cfg(test)]
+mod books;
+#[cfg(test)]
+mod calls;
+#[cfg(test)]
+mod ranges;
+#[cfg(test)]
+mod rows;
+#[cfg(test)]
+mod uploaded;
+#[cfg(test)]
+mod watching;
