@@ -1,0 +1,3 @@
+pub mod BlockParts
+pub mod Providing
+pub mod steps

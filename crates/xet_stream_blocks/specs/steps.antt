@@ -1,0 +1,4 @@
+-- Working words of private functions.
+pub mod FetchParts
+pub mod Fetching
+pub mod Looking

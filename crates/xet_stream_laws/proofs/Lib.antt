@@ -1,0 +1,3 @@
+mod AllowedParts
+mod Joined
+mod Placed

@@ -1,0 +1,10 @@
+//! The terms of a stream: the next one is planned, admitted, and handed over.
+#![tactic(auto)]
+
+pub mod admitting;
+pub mod handing;
+pub mod planning;
+
+pub use admitting::admit_next;
+pub use handing::hand_over;
+pub use planning::plan_next;

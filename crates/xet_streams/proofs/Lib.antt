@@ -1,0 +1,9 @@
+mod Delivered
+mod Ending
+mod PullWays
+mod Pulled
+mod Starting
+mod Stepped
+mod Steps
+mod Waiting
+mod Working

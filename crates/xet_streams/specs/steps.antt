@@ -1,0 +1,4 @@
+-- Working words of private functions.
+pub mod Pulling
+pub mod Stepping
+pub mod Working

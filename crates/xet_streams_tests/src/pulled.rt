@@ -1,0 +1,192 @@
+//! Streams of rows over the worked store, and what their pulls answer.
+use crate::caching::Cache;
+use crate::connections::{connections, lent};
+use crate::histories::tell_history;
+use crate::row::Row;
+use crate::told::{comes_to, cut, put, tell_error, tell_piece};
+use bytes::Bytes;
+use std::alloc::Global;
+use std::process::Abort;
+use std::sync::{Arc, Wait};
+use xet_base::OutOfMemory;
+use xet_blocks::Steady;
+use xet_connections::ScriptClient;
+use xet_error::Result;
+use xet_leader::Job;
+use xet_progress::ItemProgressUpdater;
+use xet_run::{BookView, BudgetBook, BudgetSettings};
+use xet_store::MemStore;
+use xet_store::worked::worked_store;
+use xet_streams::{DownloadStream, FlagSignal, Step};
+
+/// How many pulls a row makes at most, where it doesn't say.
+const MOST_PULLS: u64 = 40;
+
+/// A view of a book with one download, of this limit.
+fn book<R: Wait>(
+    rt: &R,
+    alloc: Global,
+    per_file: u64,
+) -> std::result::Result<BookView, OutOfMemory> {
+    let settings = BudgetSettings {
+        base: 0,
+        per_file,
+        limit: u64::MAX,
+    };
+    let book = BudgetBook::new(alloc, settings)?;
+    book.start(rt);
+    Ok(BookView::new(Arc::new(alloc, book)?))
+}
+
+/// The book of a row, where it has one.
+fn book_of<R: Wait>(
+    rt: &R,
+    alloc: Global,
+    row: Row<'_>,
+) -> std::result::Result<Option<BookView>, OutOfMemory> {
+    if !row.has("book") {
+        return Ok(None);
+    }
+    match book(rt, alloc, row.number("book", 0)) {
+        Ok(view) => Ok(Some(view)),
+        Err(error) => Err(error),
+    }
+}
+
+/// The stream of a row, which reports to the updater, where there is one.
+fn stream_of<R: Wait>(
+    rt: &R,
+    alloc: Global,
+    row: Row<'_>,
+    updater: Option<ItemProgressUpdater>,
+) -> std::result::Result<DownloadStream<Steady>, OutOfMemory> {
+    let book = book_of(rt, alloc, row)?;
+    let config = row.config();
+    let job = Job {
+        file_hash: row.file(),
+        byte_range: row.range(),
+        config,
+    };
+    let limit = config.download_buffer_size;
+    DownloadStream::new(alloc, job, Steady { size: 0 }, updater, limit, book)
+}
+
+/// Raises the flag, where this is the pull before which the row does.
+fn may_raise(row: Row<'_>, pull: u64, flag: &FlagSignal) {
+    if row.number("raise", u64::MAX) == pull {
+        flag.raise();
+    }
+}
+
+/// Whether this is the pull before which the row cancels the stream.
+fn is_cancelled(row: Row<'_>, pull: u64) -> bool {
+    row.number("cancel", u64::MAX) == pull
+}
+
+/// Adds what a pull answered: a dot where nothing is there yet, a hyphen where there is no more. Whether it is over.
+fn tell_answer(text: &mut String, answer: Result<Step<Option<Bytes>>>) -> bool {
+    match answer {
+        Ok(Step::Pending) => put(text, " ."),
+        Ok(Step::Ready(Some(piece))) => tell_piece(text, piece.as_slice()),
+        Ok(Step::Ready(None)) => {
+            put(text, " -");
+            return true;
+        }
+        Err(error) => {
+            tell_error(text, error);
+            return true;
+        }
+    }
+    false
+}
+
+/// One pull of a row.
+fn pull<R: Wait>(
+    rt: &R,
+    alloc: Global,
+    row: Row<'_>,
+    stream: &mut DownloadStream<Steady>,
+    clients: &mut [ScriptClient<'_>],
+    cache: &mut Cache,
+) -> Result<Step<Option<Bytes>>> {
+    if !row.has("waits") {
+        return stream.next(rt, alloc, clients, cache);
+    }
+    match stream.blocking_next(rt, alloc, clients, cache) {
+        Ok(piece) => Ok(Step::Ready(piece)),
+        Err(error) => Err(error),
+    }
+}
+
+/// All pulls of a row.
+fn pull_all<R: Wait>(
+    rt: &R,
+    alloc: Global,
+    row: Row<'_>,
+    stream: &mut DownloadStream<Steady>,
+    clients: &mut [ScriptClient<'_>; 3],
+    cache: &mut Cache,
+    text: &mut String,
+) {
+    let Ok(flag) = stream.abort_flag() else {
+        return;
+    };
+    let mut over = 0u64;
+    for number in 0..row.number("pulls", MOST_PULLS) {
+        may_raise(row, number, &flag);
+        if is_cancelled(row, number) {
+            stream.cancel();
+        }
+        let lent = &mut clients[..lent(row, number)];
+        let answer = pull(rt, alloc, row, stream, lent, cache);
+        if tell_answer(text, answer) {
+            over = over.saturating_add(1);
+        }
+        if over > 1 {
+            return;
+        }
+    }
+}
+
+/// What the pulls of a stream tell, over this store.
+fn play<R: Wait>(
+    rt: &R,
+    alloc: Global,
+    row: Row<'_>,
+    store: &MemStore,
+    stream: &mut DownloadStream<Steady>,
+    text: &mut String,
+) {
+    let (mut clients, mut cache) = (connections(alloc, row, store), Cache::new(alloc, row));
+    stream.start();
+    pull_all(rt, alloc, row, stream, &mut clients, &mut cache, text);
+    if row.has("history") {
+        tell_history(text, stream.history());
+    }
+}
+
+/// What the stream of a row that reports to the updater tells, which is nothing where memory is wanting for it.
+pub(crate) fn played<R: Wait>(
+    rt: &R,
+    alloc: Global,
+    row: Row<'_>,
+    updater: Option<ItemProgressUpdater>,
+) -> String {
+    let mut text = String::new(alloc);
+    if let Ok(store) = worked_store(alloc)
+        && let Ok(mut stream) = stream_of(rt, alloc, row, updater)
+    {
+        play(rt, alloc, row, &store, &mut stream, &mut text);
+    }
+    text
+}
+
+/// Plays each line's row, which comes to what stands behind the colon.
+pub(crate) fn come_to<R: Wait + Abort>(rt: &R, alloc: Global, lines: &str) {
+    for line in lines.lines() {
+        let (text, wanted) = cut(line, ": ");
+        let row = Row { text };
+        assert!(rt; row.is_known(), "{text}");
+        comes_to(rt, text, played(rt, alloc, row, None), wanted);
+    }
+}
