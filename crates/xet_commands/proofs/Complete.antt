@@ -14,6 +14,7 @@ use Rattle.xet_track.specs.Texts.{track_reads}
 use Rattle.xet_track_command.specs.Track.{TrackStatus}
 use Rattle.xet_bench_command.specs.declared.wanted.BenchWanted.{BenchWanted}
 use Rattle.xet_bench_command.specs.Bench.{BenchPrinted, end_by, unmet_bench}
+use Rattle.xet_roundtrip_command.specs.Roundtrip.{RoundtripPrinted}
 use Rattle.xet_commands.specs.declared.commands.Command.{Command}
 use Rattle.xet_commands.specs.declared.commands.Command.TheVariants as command
 use Rattle.xet_commands.specs.Commands.{Outcome, command_of}
@@ -68,9 +69,15 @@ module _ (limit : ℕ) (text : List ℕ) (b n : Told) (f : NothingFails text b n
   bench_by wanted s (inl o) = text_by (end_by (unmet_bench wanted)) s o
   bench_by wanted s (inr o) = ⊎_elim (λ m. inl m) (λ m. inl m) (text_by status.NoMemory s o)
 
+  roundtrip_by : (size : ℕ) (s : Status) → RoundtripPrinted size b.sink n.sink s
+      → (s ≡ status.NoMemory) ⊎ (s ≡ status.Done)
+  roundtrip_by size s (inl o) = text_by status.Done s o.2
+  roundtrip_by size s (inr o) = ⊎_elim (λ m. inl m) (λ m. inl m) (text_by status.NoMemory s o)
+
   outcome_by : (o : Option Command) (s : Status) → Outcome limit o b n s → (s ≡ status.NoMemory) ⊎ StatusBy limit o text s
   outcome_by (Some (command.Get wanted)) s o = get_by wanted s o
   outcome_by (Some (command.Bench wanted)) s o = bench_by wanted s o.printed
+  outcome_by (Some (command.Roundtrip size)) s o = roundtrip_by size s o.printed
   outcome_by (Some command.Track) s o = track_by s o.by_status
   outcome_by (Some command.Help) s o = text_by status.Done s o.text_is
   outcome_by (Some command.Version) s o = text_by status.Done s o.text_is

@@ -1,5 +1,5 @@
 -- The commands: the words that spell each, and what the top call says of it.
-use Rattle.std.specs.Prelude.{ℕ, ◌≡◌, cond, List, [], ◌∷◌, Option, Some, None, option_map, codes}
+use Rattle.std.specs.Prelude.{ℕ, ◌≡◌, ◌≤◌, cond, List, [], ◌∷◌, Option, Some, None, option_map, codes}
 use Rattle.std.specs.Str.{bytes_eq}
 use Rattle.xet_room.specs.declared.status.Status.{Status}
 use Rattle.xet_room.specs.declared.status.Status.TheVariants.{Done, BadWords}
@@ -13,6 +13,7 @@ use Rattle.xet_commands.specs.Texts.{help_text, version_text}
 use Rattle.xet_get_command.specs.Get.{GetOutcome}
 use Rattle.xet_track_command.specs.Track.{TrackOutcome}
 use Rattle.xet_bench_command.specs.Bench.{BenchOutcome, bench_of}
+use Rattle.xet_roundtrip_command.specs.Roundtrip.{RoundtripOutcome, size_of}
 
 -- the command of one word
 abbrev pub command_of_one : List ℕ → Option Command
@@ -20,22 +21,34 @@ command_of_one w =
     cond (bytes_eq w (codes "--help")) (Some command.Help) (cond (bytes_eq w (codes "--version")) (Some command.Version)
     (cond (bytes_eq w (codes "track")) (Some command.Track) None))
 
+-- `roundtrip` with the words after it, where that is the name
+abbrev pub roundtrip_with : List ℕ → List (List ℕ) → Option Command
+roundtrip_with name words =
+    cond (bytes_eq name (codes "roundtrip")) (option_map command.Roundtrip (size_of words)) None
+
 -- the command of this name, with the words after it
 abbrev pub command_with : List ℕ → List (List ℕ) → Option Command
 command_with name words =
     cond (bytes_eq name (codes "get")) (option_map command.Get (wanted_of words))
-    (cond (bytes_eq name (codes "bench")) (option_map command.Bench (bench_of words)) None)
+    (cond (bytes_eq name (codes "bench")) (option_map command.Bench (bench_of words))
+    (roundtrip_with name words))
 
--- `--help`, `--version` or `track` alone, or `get` or `bench` with its words
+-- `--help`, `--version` or `track` alone, or `get`, `bench` or `roundtrip` with its words
 abbrev pub command_of : List (List ℕ) → Option Command
 command_of [] = None
 command_of (w ∷ []) = command_of_one w
 command_of (w ∷ v ∷ vs) = command_with w (v ∷ vs)
 
+-- a round trip is of 1,000,000 bytes at most
+abbrev pub IsWithinSize : Command → Type 0
+IsWithinSize (command.Roundtrip size) = size ≤ 1000000
+IsWithinSize c = Unit {0}
+
 -- any words, by the command that they spell
 abbrev pub Outcome : ℕ → Option Command → Told → Told → Status → Type 0
 Outcome limit (Some (command.Get wanted)) before after status = GetOutcome limit wanted before after status
 Outcome limit (Some (command.Bench wanted)) before after status = BenchOutcome wanted before after status
+Outcome limit (Some (command.Roundtrip size)) before after status = RoundtripOutcome size before after status
 Outcome limit (Some command.Track) before after status = TrackOutcome limit before after status
 Outcome limit (Some command.Help) before after status = TextOutcome help_text Done before after status
 Outcome limit (Some command.Version) before after status = TextOutcome version_text Done before after status

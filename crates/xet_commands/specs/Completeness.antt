@@ -52,6 +52,7 @@ TrackBy limit text _ = ⊥
 abbrev pub StatusBy : ℕ → Option Command → List ℕ → Status → Type 0
 StatusBy limit (Some (command.Get wanted)) text status = GetBy limit wanted text status
 StatusBy limit (Some (command.Bench wanted)) text status = status ≡ end_by (unmet_bench wanted)
+StatusBy limit (Some (command.Roundtrip size)) text status = status ≡ Done
 StatusBy limit (Some command.Track) text status = TrackBy limit text status
 StatusBy limit (Some command.Help) text status = status ≡ Done
 StatusBy limit (Some command.Version) text status = status ≡ Done

@@ -1,8 +1,9 @@
 //! The commands: the words of each, and what it does. Each has a crate of its own below.
-ghost use Rattle.std.specs.Prelude.{◌≡◌, length, map, string_bytes};
+ghost use Rattle.std.specs.Prelude.{◌≡◌, IfSome, length, map, string_bytes};
 ghost use Rattle.xet_room.specs.Ends.{input_limit};
 ghost use Rattle.xet_room.specs.Outcome.{IsFlushed, IsReadUnfailed, IsUnfailed};
-ghost use Rattle.xet_commands.specs.Commands.{Outcome, command_of, command_of_one, command_with};
+ghost use Rattle.xet_commands.specs.Commands.{IsWithinSize, Outcome, command_of, command_of_one, command_with};
+ghost use Rattle.xet_commands.specs.Commands.{roundtrip_with};
 
 use crate::texts::{HELP, VERSION};
 use std::alloc::Global;
@@ -11,6 +12,7 @@ use std::thread::Threads;
 use xet_bench_command::{BenchWanted, bench, read_bench};
 use xet_get_command::{Wanted, get, read_wanted};
 use xet_room::{Status, print_text, say};
+use xet_roundtrip_command::{read_size, roundtrip};
 use xet_store::{Sink, Source, Tap};
 use xet_track_command::track;
 
@@ -25,13 +27,16 @@ pub enum Command {
     Get(Wanted),
     /// `bench` with its words.
     Bench(BenchWanted),
+    /// `roundtrip` of so many bytes, 1,000,000 at most.
+    Roundtrip(u32),
     /// `track`
     Track,
 }
 
 // The command of one word.
 fn read_one(word: &str) -> Option<Command>
-    ensures { result ≡ command_of_one word.now }
+    ensures command { result ≡ command_of_one word.now }
+    ensures within { IfSome result IsWithinSize }
 {
     match word {
         "--help" => Some(Command::Help),
@@ -41,9 +46,22 @@ fn read_one(word: &str) -> Option<Command>
     }
 }
 
+// `roundtrip` with the words after it, where that is the name.
+fn read_roundtrip(name: &str, words: &[String]) -> Option<Command>
+    ensures command { result ≡ roundtrip_with name.now (map string_bytes words.now) }
+    ensures within { IfSome result IsWithinSize }
+{
+    if name != "roundtrip" {
+        return None;
+    }
+    let size = read_size(words)?;
+    Some(Command::Roundtrip(size))
+}
+
 // The command of this name, with the words after it.
 fn read_with(name: &str, words: &[String]) -> Option<Command>
-    ensures { result ≡ command_with name.now (map string_bytes words.now) }
+    ensures command { result ≡ command_with name.now (map string_bytes words.now) }
+    ensures within { IfSome result IsWithinSize }
 {
     match name {
         "get" => {
@@ -54,13 +72,14 @@ fn read_with(name: &str, words: &[String]) -> Option<Command>
             let wanted = read_bench(words)?;
             Some(Command::Bench(wanted))
         }
-        _ => None,
+        _ => read_roundtrip(name, words),
     }
 }
 
 /// The command that the words spell, or none where they don't read.
 pub fn read_words(words: &[String]) -> Option<Command>
-    ensures { result ≡ command_of (map string_bytes words.now) }
+    ensures command { result ≡ command_of (map string_bytes words.now) }
+    ensures within { IfSome result IsWithinSize }
 {
     match words {
         [] => None,
@@ -90,6 +109,7 @@ pub fn run_words<R: Threads + Wait + Sync, I: Source, O: Sink, T: Tap + Send>(
         Some(Command::Get(wanted)) => get(rt, alloc, wanted, input, out, taps),
         Some(Command::Track) => track(alloc, input, out),
         Some(Command::Bench(wanted)) => bench(rt, alloc, wanted, out),
+        Some(Command::Roundtrip(size)) => roundtrip(rt, alloc, size, out),
         Some(Command::Help) => print_text(out, Status::Done, HELP),
         Some(Command::Version) => print_text(out, Status::Done, VERSION),
         None => say(out, Status::BadWords),

@@ -2,14 +2,15 @@
 
 /// What `--help` prints.
 pub const HELP: &[u8] = b"\
-xet_tool: prints a range of a file of a Xet store, runs a script of calls of a tracker, or
-fetches a made file
+xet_tool: prints a range of a file of a Xet store, runs a script of calls of a tracker, fetches a
+made file, or uploads one and downloads it
 
 usage:
   xet_tool get HASH START END [OPTION ..]
                                 print bytes START to before END of the file HASH
   xet_tool track                make the calls of a script, and print the reply to each
   xet_tool bench N [OPTION ..]  fetch a made file of N terms, and print what its bytes come to
+  xet_tool roundtrip N          upload a made file of N bytes, and download it by its pointer
   xet_tool --help               print this text
   xet_tool --version            print the version
   Other words, also -h, help or none at all, do not read.
@@ -22,6 +23,9 @@ words of get:
 
 words of bench:
   N           how many terms the file has: a number as START is, 1 to 100000
+
+words of roundtrip:
+  N           how many bytes the file has: a number as START is, 0 to 1000000
 
 options of get and bench, in any order and each at most once; N is a number as START is:
   lanes=N     fetch over N connections side by side, 0 to 64, else over 1
@@ -78,15 +82,20 @@ file of bench:
   chunks. Four lines are printed, the same for all options: terms and N, bytes and their number,
   sum and the sum of the bytes, sha256 and the SHA-256 of the bytes.
 
+file of roundtrip:
+  Byte P, counted from 0, is P mod 251. It is uploaded to a store in memory, in chunks of 1000
+  bytes, and downloaded by the text of its pointer record, which is printed, and then ok N: the
+  bytes are the same.
+
 output:
   For get the bytes as lower-case hexadecimal digits, a line end, and a last line. The lines of
   1, 2, 4 and 8 stand alone, but that of 2 for track, which ends the lines of a script that does
-  not read; for bench that of 7 stands alone too. With 0 track and bench print their lines and no
-  last line. All lines, those of errors too, go to standard output. For the bytes themselves turn
+  not read; for bench that of 7 stands alone too. With 0 track, bench and roundtrip print their
+  lines alone. All lines, those of errors too, go to standard output. For the bytes themselves turn
   the digits of the first line back, as with | head -n 1 | xxd -r -p.
 
 last line, and exit status:
-  ok N                    0  all N bytes of the range were printed
+  ok N                    0  all N bytes of the range were printed, or came back
   error words             1  the words do not read; nothing was read of the input
   error store             2  the input is no document of a valid store
   error script            2  a line of the script does not read, and no later one was run

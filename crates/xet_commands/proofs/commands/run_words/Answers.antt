@@ -1,6 +1,6 @@
 use Rattle.std.proofs.Common.{map, rules, ◌≡◌}
 use Rattle.std.specs.Prelude.{Some, string_bytes}
-use Rattle.xet_commands.specs.declared.commands.Command.TheVariants.{Bench, Track}
+use Rattle.xet_commands.specs.declared.commands.Command.TheVariants.{Bench, Roundtrip, Track}
 use Rattle.xet_commands.specs.Commands.{command_of}
 use Rattle.xet_commands.proofs.commands.run_words.Goals as goal
 
@@ -13,3 +13,8 @@ pub returns-in-Some-Bench-clause-outcome : goal.returns-in-Some-Bench-clause-out
 returns-in-Some-Bench-clause-outcome g c =
     let is : command_of (map string_bytes c.args.words.now) ≡ Some (Bench c.in-Some-Bench.wanted) = search rules in
     rw is (c.bench.ensures.outcome (g.I.Source.told c.args.input.now) (map g.T.Tap.told c.args.taps.now.items))
+
+pub returns-in-Some-Roundtrip-clause-outcome : goal.returns-in-Some-Roundtrip-clause-outcome
+returns-in-Some-Roundtrip-clause-outcome g c =
+    let is : command_of (map string_bytes c.args.words.now) ≡ Some (Roundtrip c.in-Some-Roundtrip.size) = search rules in
+    rw is (c.roundtrip.ensures.outcome (g.I.Source.told c.args.input.now) (map g.T.Tap.told c.args.taps.now.items))

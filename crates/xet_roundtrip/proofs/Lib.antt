@@ -1,0 +1,4 @@
+mod ComeBack
+mod HashTexts
+mod Patterns
+mod Trips

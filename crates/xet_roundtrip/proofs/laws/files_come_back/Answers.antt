@@ -1,0 +1,16 @@
+use Rattle.xet_roundtrip.proofs.ComeBack.{accepted_comes_back, after_end, comes_back}
+use Rattle.xet_roundtrip.proofs.laws.files_come_back.Goals as goal
+
+pub returns : goal.returns
+returns c =
+    let exact = c.downloads_are_exact.ensures.writer in
+    let uploads = c.accepted_files_download.ensures in
+    record {
+      given = comes_back exact;
+      accepted = accepted_comes_back exact c.records_are_accepted.ensures.reads;
+      uploaded = record {
+        finalize = after_end exact uploads.finalize;
+        files = after_end exact uploads.files;
+        report = after_end exact uploads.report;
+      };
+    }

@@ -1,0 +1,3 @@
+pub mod ComeBack
+pub mod Roundtrip
+pub mod steps

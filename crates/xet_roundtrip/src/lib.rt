@@ -1,0 +1,8 @@
+//! A made file that is uploaded and downloaded again, and laws of files that come back.
+#![tactic(auto)]
+
+pub mod laws;
+mod pattern;
+mod trip;
+
+pub use trip::roundtrip;
