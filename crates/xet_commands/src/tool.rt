@@ -15,7 +15,9 @@ use xet_store::{Sink, Source, Tap};
 ///   unless the range is empty; and the lower-case hexadecimal digits of the bytes of the file in the range, cut to the
 ///   file's end, were printed, a line end, `ok n` with their number, and a line end. For `track` each line of the input
 ///   reads as a call of a completion tracker, and the line of each reply was printed. For `bench` no setting fails, and
-///   the four lines of the bytes of a made file of so many terms were printed, whatever the options are.
+///   the four lines of the bytes of a made file of so many terms were printed, whatever the options are. For
+///   `roundtrip` the text of the pointer record of a made file of so many bytes was printed, a line end, `ok n` with
+///   their number, and a line end.
 /// - 1, `error words`: exactly where the words don't read. Nothing was read.
 /// - 2, `error store` for `get`: exactly where the input is within the limit and is no document of a valid store;
 ///   `error script` for `track`, after the lines of the calls before it: exactly where a line of it doesn't read.
@@ -35,13 +37,14 @@ use xet_store::{Sink, Source, Tap};
 ///
 /// "Exactly" yields to 5 and 6, and for 2, 3, 7 and 8 to 4 too: a read may fail first. There are 64 taps: while a run
 /// of `get` goes on each is owned by a connection, the first by those of the lanes, and handed back then; the others
-/// are as before, and with 1, 2, 4, 7 and 8 and for `track` and `bench`, which reads nothing, all are. Each tap is as
-/// honest afterwards as it was. What is said of the bytes of a store's file is said where those of the lanes hand each
-/// block on as it came, for all options. Over such taps that tell what passed, each chunk with a byte in the range
-/// passed one of them with status 0. Over taps of any kind that tell what passed and what they handed on, the digits of
-/// status 0 are those of all terms of the store's own plans in these blocks, which pass their tests, and with another
-/// status those of some first bytes; with `cache` the data of some of these blocks may be what a tap handed on earlier
-/// in this run. No block of a plan passed them twice, and each that passed is a block of one of the store's plans.
+/// are as before, and with 1, 2, 4, 7 and 8 and for the other commands all are; `bench` and `roundtrip` read nothing.
+/// Each tap is as honest afterwards as it was. What is said of the bytes of a store's file is said where those of the
+/// lanes hand each block on as it came, for all options. Over such taps that tell what passed, each chunk with a byte
+/// in the range passed one of them with status 0. Over taps of any kind that tell what passed and what they handed on,
+/// the digits of status 0 are those of all terms of the store's own plans in these blocks, which pass their tests, and
+/// with another status those of some first bytes; with `cache` the data of some of these blocks may be what a tap
+/// handed on earlier in this run. No block of a plan passed them twice, and each that passed is a block of one of the
+/// store's plans.
 ///
 /// With 1, 2, 4 and 8, but 2 of `track`, that line and nothing else was printed. With 5 and 6 a prefix of one text was
 /// printed: of the text of another status, of which all that is said here holds; or of `error memory`, for `get` with
