@@ -1,5 +1,7 @@
 mod Delivered
 mod Ending
+mod ItemWaiting
+mod Placings
 mod PullWays
 mod Pulled
 mod Starting

@@ -1,2 +1,3 @@
+pub mod ItemWaits
 pub mod Parts
 pub mod steps

@@ -7,7 +7,10 @@ mod limits;
 mod pulls;
 mod stepper;
 mod stepping;
+pub mod unordered_download_stream;
+mod waiting_items;
 
 pub use download_stream::DownloadStream;
 pub use flag::FlagSignal;
+pub use unordered_download_stream::UnorderedDownloadStream;
 pub use xet_stream_rules::Step;

@@ -105,6 +105,22 @@ impl<P: FetchPolicy, E: EventLog> Stepper<P, E> {
         self.cancelled || 0 < self.flag.seen
     }
 
+    /// Where its range starts in the file.
+    pub(crate) fn range_start(&self) -> u64
+        ensures { result ≡ self.now.setup.range.start }
+    {
+        self.job.byte_range.start
+    }
+
+    /// Whom it reports to.
+    pub(crate) fn progress(&self) -> Option<&ItemProgressUpdater> {
+        match (&self.leader, &self.order) {
+            (Some(leader), _) => leader.progress.as_ref(),
+            (None, Some(order)) => order.progress.as_ref(),
+            (None, None) => None,
+        }
+    }
+
     /// Another owner of its flag.
     pub(crate) fn abort_flag(&self) -> std::result::Result<FlagSignal, OutOfMemory>
         ensures { IfOk result (λ flag. flag.seen ≡ 0) }

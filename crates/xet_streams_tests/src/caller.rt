@@ -6,12 +6,10 @@ use xet_base::FileRange;
 use xet_blocks::Steady;
 use xet_connections::MemClient;
 use xet_error::Result;
-use xet_leader::Job;
 use xet_outside::NoCache;
+use xet_reconstruct::FileReconstructor;
 use xet_store::MemStore;
 use xet_store::worked::{FILE_OF_ALL, worked_store};
-use xet_streams::DownloadStream;
-use xet_terms::ReconstructionConfig;
 
 /// Adds a range of a file to a text, piece by piece.
 fn read<R: Wait>(
@@ -21,15 +19,10 @@ fn read<R: Wait>(
     range: FileRange,
     text: &mut String,
 ) -> Result<()> {
-    let config = ReconstructionConfig::new();
-    let (limit, policy) = (config.download_buffer_size, Steady { size: 0 });
-    let job = Job {
-        file_hash: FILE_OF_ALL,
-        byte_range: range,
-        config,
-    };
     let mut clients = [MemClient::new(alloc, store)];
-    let mut stream = DownloadStream::new(alloc, job, policy, None, limit, None)?;
+    let mut stream = FileReconstructor::new(FILE_OF_ALL, Steady { size: 0 })
+        .with_byte_range(range)
+        .reconstruct_to_stream(alloc)?;
     for _ in rt.forever() {
         match stream.blocking_next(rt, alloc, &mut clients, &mut NoCache)? {
             Some(piece) => put(text, str::from_utf8(&piece).unwrap_or("no text")),

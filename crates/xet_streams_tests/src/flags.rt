@@ -3,33 +3,20 @@ use crate::told::{comes_to, put};
 use std::alloc::Global;
 use std::sync::Wait;
 use std::thread::{Threads, join_mut};
-use xet_base::{FileRange, OutOfMemory};
+use xet_base::OutOfMemory;
 use xet_blocks::Steady;
 use xet_connections::MemClient;
-use xet_leader::Job;
 use xet_outside::{CancelSignal, NoCache};
+use xet_reconstruct::FileReconstructor;
 use xet_store::MemStore;
 use xet_store::worked::{FILE_OF_ALL, worked_store};
 use xet_streams::{DownloadStream, FlagSignal, Step};
-use xet_terms::ReconstructionConfig;
 
 /// Raises a flag in a thread of its own, which has ended then.
 fn raise_beside<R: Threads>(rt: &R, flag: &FlagSignal) {
     let mut raise = || flag.raise();
     let mut nothing = || {};
     join_mut(rt, &mut raise, &mut nothing);
-}
-
-/// A stream of a whole file.
-fn whole(alloc: Global) -> Result<DownloadStream<Steady>, OutOfMemory> {
-    let config = ReconstructionConfig::new();
-    let job = Job {
-        file_hash: FILE_OF_ALL,
-        byte_range: FileRange::full(),
-        config,
-    };
-    let limit = config.download_buffer_size;
-    DownloadStream::new(alloc, job, Steady { size: 0 }, None, limit, None)
 }
 
 /// Adds what a pull answers: whether it is none.
@@ -59,7 +46,10 @@ fn told<R: Threads + Wait + Sync>(
     raise_beside(rt, &flag);
     put(text, flag.asked() && other.asked());
     let store = worked_store(alloc).unwrap_or(MemStore::new(alloc));
-    let mut stream = whole(alloc)?;
+    let wanted = FileReconstructor::new(FILE_OF_ALL, Steady { size: 0 });
+    let Ok(mut stream) = wanted.reconstruct_to_stream(alloc) else {
+        return Err(OutOfMemory);
+    };
     let end = stream.abort_flag()?;
     tell_pull(rt, alloc, &mut stream, &store, text);
     raise_beside(rt, &end);

@@ -24,3 +24,5 @@ mod script;
 mod streams;
 #[cfg(test)]
 mod told;
+#[cfg(test)]
+mod unordered;

@@ -4,6 +4,7 @@ use crate::connections::{connections, lent};
 use crate::histories::tell_history;
 use crate::row::Row;
 use crate::told::{comes_to, cut, put, tell_error, tell_piece};
+use crate::unordered::play_unordered;
 use bytes::Bytes;
 use std::alloc::Global;
 use std::process::Abort;
@@ -12,8 +13,8 @@ use xet_base::OutOfMemory;
 use xet_blocks::Steady;
 use xet_connections::ScriptClient;
 use xet_error::Result;
-use xet_leader::Job;
 use xet_progress::ItemProgressUpdater;
+use xet_reconstruct::FileReconstructor;
 use xet_run::{BookView, BudgetBook, BudgetSettings};
 use xet_store::MemStore;
 use xet_store::worked::worked_store;
@@ -38,48 +39,42 @@ fn book<R: Wait>(
     Ok(BookView::new(Arc::new(alloc, book)?))
 }
 
-/// The book of a row, where it has one.
-fn book_of<R: Wait>(
-    rt: &R,
-    alloc: Global,
-    row: Row<'_>,
-) -> std::result::Result<Option<BookView>, OutOfMemory> {
-    if !row.has("book") {
-        return Ok(None);
-    }
-    match book(rt, alloc, row.number("book", 0)) {
-        Ok(view) => Ok(Some(view)),
-        Err(error) => Err(error),
-    }
+/// The reconstruction of a row, which reports to nobody and has the limit of its settings.
+fn plain(row: Row<'_>) -> FileReconstructor<Steady> {
+    FileReconstructor::new(row.file(), Steady { size: 0 })
+        .with_byte_range(row.range())
+        .with_config(&row.config())
 }
 
-/// The stream of a row, which reports to the updater, where there is one.
-fn stream_of<R: Wait>(
+/// The reconstruction of a row, which reports to the updater.
+fn wanted<R: Wait>(
     rt: &R,
     alloc: Global,
     row: Row<'_>,
-    updater: Option<ItemProgressUpdater>,
-) -> std::result::Result<DownloadStream<Steady>, OutOfMemory> {
-    let book = book_of(rt, alloc, row)?;
-    let config = row.config();
-    let job = Job {
-        file_hash: row.file(),
-        byte_range: row.range(),
-        config,
-    };
-    let limit = config.download_buffer_size;
-    DownloadStream::new(alloc, job, Steady { size: 0 }, updater, limit, book)
+    updater: Option<&ItemProgressUpdater>,
+) -> std::result::Result<FileReconstructor<Steady>, OutOfMemory> {
+    match updater {
+        Some(updater) => {
+            let shared = updater.share()?;
+            Ok(plain(row).with_progress_updater(shared))
+        }
+        None if row.has("book") => {
+            let view = book(rt, alloc, row.number("book", 0))?;
+            Ok(plain(row).with_budget_book(view))
+        }
+        None => Ok(plain(row)),
+    }
 }
 
 /// Raises the flag, where this is the pull before which the row does.
-fn may_raise(row: Row<'_>, pull: u64, flag: &FlagSignal) {
+pub(crate) fn may_raise(row: Row<'_>, pull: u64, flag: &FlagSignal) {
     if row.number("raise", u64::MAX) == pull {
         flag.raise();
     }
 }
 
 /// Whether this is the pull before which the row cancels the stream.
-fn is_cancelled(row: Row<'_>, pull: u64) -> bool {
+pub(crate) fn is_cancelled(row: Row<'_>, pull: u64) -> bool {
     row.number("cancel", u64::MAX) == pull
 }
 
@@ -154,12 +149,19 @@ fn play<R: Wait>(
     alloc: Global,
     row: Row<'_>,
     store: &MemStore,
-    stream: &mut DownloadStream<Steady>,
+    wanted: FileReconstructor<Steady>,
     text: &mut String,
 ) {
     let (mut clients, mut cache) = (connections(alloc, row, store), Cache::new(alloc, row));
+    if row.has("unordered") {
+        play_unordered(rt, alloc, row, wanted, &mut clients, &mut cache, text);
+        return;
+    }
+    let Ok(mut stream) = wanted.reconstruct_to_stream(alloc) else {
+        return;
+    };
     stream.start();
-    pull_all(rt, alloc, row, stream, &mut clients, &mut cache, text);
+    pull_all(rt, alloc, row, &mut stream, &mut clients, &mut cache, text);
     if row.has("history") {
         tell_history(text, stream.history());
     }
@@ -170,13 +172,13 @@ pub(crate) fn played<R: Wait>(
     rt: &R,
     alloc: Global,
     row: Row<'_>,
-    updater: Option<ItemProgressUpdater>,
+    updater: Option<&ItemProgressUpdater>,
 ) -> String {
     let mut text = String::new(alloc);
     if let Ok(store) = worked_store(alloc)
-        && let Ok(mut stream) = stream_of(rt, alloc, row, updater)
+        && let Ok(wanted) = wanted(rt, alloc, row, updater)
     {
-        play(rt, alloc, row, &store, &mut stream, &mut text);
+        play(rt, alloc, row, &store, wanted, &mut text);
     }
     text
 }

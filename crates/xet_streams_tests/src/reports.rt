@@ -31,7 +31,7 @@ fn reported<R: Wait>(
     if size > 0 {
         let _ = updater.update_item_size(rt, size, true);
     }
-    let mut text = played(rt, alloc, row, updater.share().ok());
+    let mut text = played(rt, alloc, row, Some(updater));
     if let Ok(item) = updater.item(rt, alloc) {
         tell_item(&mut text, &item);
     }
@@ -44,6 +44,9 @@ fn item<R: Wait>(rt: &R, alloc: Global, row: Row<'_>, size: u64) -> String {
         Err(_) => String::new(alloc),
     }
 }
+
+/// By the unordered stream, of which two pulls are made.
+const PLACED: &str = "unordered; pulls 2; history; file b; from 4; to 13";
 
 /// A kept block is reported as transferred, and a delivered piece as written. Where the item's size is final before, at
 /// four bytes, the report of the second piece is refused, and the stream goes on.
@@ -60,6 +63,7 @@ fn blocks_and_pieces_are_reported(rt: HostRuntime) {
             4,
             "'d!' 'Hello' 'He' - - 4 4 11 11",
         ),
+        (PLACED, 0, "0 'd!' 2 'Hello' | 0 2 has 7/9 open 9 7 11 11"),
     ] {
         let told = item(&rt, rt.alloc(), Row { text }, size);
         comes_to(&rt, text, told, wanted);

@@ -8,7 +8,7 @@ use xet_terms::ReconstructionConfig;
 /// What the fields are called.
 const NAMES: &str = "\
 file from to least greatest size budget book multi tries lanes lent plan block cached down waits cancel raise pulls \
-history";
+history unordered";
 
 /// One stream. What it says nothing of is as in the stream of a whole file, that of all chunks, over one honest
 /// connection, which is pulled until it answered none or an error twice.
@@ -26,7 +26,7 @@ history";
 /// Where it `waits` a pull steps until its piece is there. Before the pull `cancel` the stream is cancelled, before the
 /// pull `raise` its flag is raised. So many `pulls` are made at most.
 ///
-/// With `history` its events are told at the end.
+/// With `history` its events are told at the end. With `unordered` the pieces have their places.
 #[derive(Clone, Copy)]
 pub(crate) struct Row<'a> {
     pub(crate) text: &'a str,

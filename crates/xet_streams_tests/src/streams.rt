@@ -64,9 +64,17 @@ const LIMITS: &str = "\
 file e; budget 0; history: 'Hello' '!' - - | P1:0..1048576 A0 F0:1.0 W5 A0 F0:1.1 W1
 file e; book 7; history: 'Hello' '!' - - | P1:0..1048576 A7 F0:1.0 W5 A7 F0:1.1 W1";
 
+/// Pieces at their places.
+const PLACED: &str = "\
+unordered; file b; from 4; to 13; history: 0 'd!' 2 'Hello' 7 'He' - - | 0 2 7 has 0/0 complete
+unordered; file b; from 4; to 13; waits: 0 'd!' 2 'Hello' 7 'He' - -
+unordered; file b; from 4; to 13; cancel 1; history: 0 'd!' - - | 0 has 0/0 complete
+unordered; tries 2; lanes .x; pulls 1; history: . | has 0/0 open
+unordered; lanes .f; history: ClientError - | has 0/0 complete";
+
 #[test]
 fn pulls_of_rows(rt: HostRuntime) {
-    for lines in [WORKED, FAILING, EXPIRED, ROUND, CACHED, LIMITS] {
+    for lines in [WORKED, FAILING, EXPIRED, ROUND, CACHED, LIMITS, PLACED] {
         come_to(&rt, rt.alloc(), lines);
     }
 }
