@@ -1,9 +1,9 @@
-//! A writer that looks into a book.
+//! A writer, or a file, that looks into a book.
 ghost use Rattle.std.specs.Prelude.{[], None};
 
 use std::sync::Wait;
 use xet_events::BudgetBook;
-use xet_outside::{Sink, SinkError};
+use xet_outside::{PlaceSink, Sink, SinkError};
 
 /// Takes each piece, and keeps the limit that the book had then.
 #[derive(Drop)]
@@ -24,4 +24,16 @@ impl<'a, R: Wait> Sink for Watching<'a, R> {
     fn flush(&mut self) -> Result<(), SinkError> {
         Ok(())
     }
+}
+
+impl<'a, R: Wait> PlaceSink for Watching<'a, R> {
+    fn empty(&mut self) -> Result<(), SinkError> {
+        Ok(())
+    }
+
+    fn seek(&mut self, _place: u64) -> Result<(), SinkError> {
+        Ok(())
+    }
+
+    ghost counted = { λ _. tt };
 }

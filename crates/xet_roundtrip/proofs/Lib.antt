@@ -1,4 +1,5 @@
 mod ComeBack
+mod Fetches
 mod HashTexts
 mod Patterns
 mod Trips

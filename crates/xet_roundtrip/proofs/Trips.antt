@@ -38,7 +38,8 @@ given size info store few sent =
       chunks = sent.chunks;
       cut = cut;
       pointer = sent.pointer;
-      gives = sent.gives (inl fits) whole ∙ ap (λ xs. slice_range xs 0 (2 ^ 64 - 1)) bytes
+      stored = (sent.gives (inl fits)).stored;
+      gives = (sent.gives (inl fits)).ranges whole ∙ ap (λ xs. slice_range xs 0 (2 ^ 64 - 1)) bytes
           ∙ pattern_whole size (omega arith);
     }
 
@@ -57,11 +58,15 @@ pub no_clash : (size : ℕ) (source : SourceTold) → size ≤ 1000000 → Clash
     → source ≡ made_source size → ⊥
 no_clash size source few c is = clashes size few (rw is at c)
 
+-- the hash of its pointer record
+pub hash_is : (size : ℕ) (info : XetFileInfo) (store : Store) (back : GivesBack size info store)
+    → hash_of_text info.hash ≡ Some (file_hash_of (infos_of back.chunks))
+hash_is size info store back =
+    ap (λ (i : XetFileInfo). hash_of_text i.hash) back.pointer ∙ read_back (infos_of back.chunks)
+
 -- a writer that took the file of its pointer record took the pattern
 pub took_pattern : (size : ℕ) (info : XetFileInfo) (store : Store) (before after : SinkTold)
     → GivesBack size info store → Downloaded store info before after → before.took ≡ Some []
     → after.took ≡ Some (pattern size)
 took_pattern size info store before after back came none =
-    let hash : hash_of_text info.hash ≡ Some (file_hash_of (infos_of back.chunks)) =
-    ap (λ (i : XetFileInfo). hash_of_text i.hash) back.pointer ∙ read_back (infos_of back.chunks) in
-    rw (none, back.gives) at (came _ hash)
+    rw (none, back.gives) at (came _ (hash_is size info store back))

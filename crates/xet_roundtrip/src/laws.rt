@@ -6,7 +6,8 @@ use xet_download::laws::downloads_are_exact;
 use xet_upload_laws::laws::accepted_files_download;
 
 /// A download by a pointer record with a file's hash, whole or in a range, that answers Ok over connections and a cache
-/// which tell one valid store, writes the file's bytes in the range and counts them:
+/// which tell one valid store, writes the file's bytes in the range and counts them. One into a file, by the session or
+/// by a job that it began, leaves all of them in the file and nothing else. So it is:
 ///
 /// - where the store gives these bytes under the hash;
 /// - where it has the xorbs and the accepted record of a file of an upload session;

@@ -3,7 +3,8 @@ ghost use Rattle.std.specs.Prelude.{◌≡◌, ◌≤◌, ◌++◌, ◌∷◌, [
 ghost use Rattle.std.specs.Fmt.{decimal};
 ghost use Rattle.xet_pointer.specs.Pointers.{pointer_of};
 ghost use Rattle.xet_roundtrip.specs.Roundtrip.{IsRoundtrip};
-ghost use Rattle.xet_roundtrip.specs.steps.Trips.{Downloaded, GivesBack, IsOverStore};
+ghost use Rattle.xet_roundtrip.specs.steps.Trips.{Downloaded, GivesBack, IsOverStore, IsSent};
+ghost use Rattle.xet_upload.specs.declared.data_error.DataError.TheVariants as data_error;
 ghost use Rattle.xet_download.specs.Telling.{told_by};
 
 use crate::pattern::pattern;
@@ -18,6 +19,7 @@ use xet_download::laws::downloads_are_exact;
 use xet_events::{BudgetBook, BudgetSettings};
 use xet_outside::{ChunkCache, Client, NoCache, Sink};
 use xet_pointer::{PointerError, XetFileInfo};
+use xet_reconstruct::laws::calls_are_complete;
 use xet_sinks::{VecSink, VecSource};
 use xet_store::MemStore;
 use xet_terms::ReconstructionConfig;
@@ -69,21 +71,41 @@ fn session<'a>(alloc: Global, store: &'a MemStore) -> Result<MemorySession<'a>, 
     Ok(session.with_budget_book(book))
 }
 
-// Downloads the whole file of a pointer record.
+// That memory was wanting, which the error says.
+fn wanting(error: DataError) -> OutOfMemory
+    requires { error ≡ data_error.OutOfMemory }
+{
+    match error {
+        DataError::OutOfMemory => OutOfMemory,
+        DataError::ClientError => unreachable!(),
+        DataError::IOError => unreachable!(),
+        DataError::HashStringParsingFailure => unreachable!(),
+        DataError::InvalidOperation(_) => unreachable!(),
+        DataError::SizeMismatch { .. } => unreachable!(),
+        DataError::FileReconstructionError(_) => unreachable!(),
+        DataError::SourceEnded { .. } => unreachable!(),
+    }
+}
+
+// Downloads the whole file of a pointer record, which the store has. No connection, cache or writer of it fails.
 fn download<R: Threads + Wait + Sync>(
     rt: &R,
     alloc: Global,
     store: &MemStore,
     info: &XetFileInfo,
     writer: &mut VecSink,
-) -> Result<(), DataError>
+) -> Result<(), OutOfMemory>
+    requires sent { IsSent info.now store.now }
     ensures { OnOk result (Downloaded store.now info.now (⟦<VecSink as Sink>⟧.told writer.old)
         (⟦<VecSink as Sink>⟧.told writer.new)) }
 {
     downloads_are_exact();
+    calls_are_complete();
     let mut session = session(alloc, store)?;
-    session.download_to_writer(rt, alloc, info, (Unbounded, Unbounded), writer)?;
-    Ok(())
+    match session.download_to_writer(rt, alloc, info, (Unbounded, Unbounded), writer) {
+        Ok(_) => Ok(()),
+        Err(error) => Err(wanting(error)),
+    }
 }
 
 // Whether the bytes come back that were sent.
@@ -98,9 +120,7 @@ fn comes_back<R: Threads + Wait + Sync>(
     ensures { IfOk result (λ same. same ≡ true) }
 {
     let mut writer = VecSink::new(alloc);
-    let Ok(()) = download(rt, alloc, store, info, &mut writer) else {
-        return Err(OutOfMemory);
-    };
+    download(rt, alloc, store, info, &mut writer)?;
     let wanted = pattern(alloc, size)?;
     Ok(writer.taken() == wanted.as_slice())
 }

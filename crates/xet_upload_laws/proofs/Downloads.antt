@@ -175,13 +175,17 @@ module _ (k s : Store) (log : List Put) (f : CleanedFile) (after : store_after k
   first = first-of (files_in log) f.hash info there a.recorded.hash
 
   -- the first record of the hash is the log's
+  new-found : file_of k f.hash ≡ None → file_of s f.hash ≡ Some (file_of_record first.info)
+  new-found none =
+      let rest = option_map file_of_record (find (λ (z : MDBFileInfo). hash_eq z.hash f.hash) (files_in log)) in
+      after_finds_files k s log f.hash after ∙ ap (λ (o : Option StoredFile). option_or o rest) none
+      ∙ ap (option_map file_of_record) first.found
+
   new-bytes : file_of k f.hash ≡ None → bytes_of s f.hash ≡ f.bytes
   new-bytes none =
       let r = first.info in
       let q = All-contains (IsRecord (world k log)) (files_in log) r logged first.is_there in
-      let rest = option_map file_of_record (find (λ (z : MDBFileInfo). hash_eq z.hash f.hash) (files_in log)) in
-      let found : file_of s f.hash ≡ Some (file_of_record r) = after_finds_files k s log f.hash after
-      ∙ ap (λ (o : Option StoredFile). option_or o rest) none ∙ ap (option_map file_of_record) first.found in
+      let found = new-found none in
       let stands : StandsFor (world k log) r.entries (concat q.chunks) = record {
         chunks = q.chunks;
         stand = q.stand;
@@ -210,6 +214,18 @@ module _ (k s : Store) (log : List Put) (f : CleanedFile) (after : store_after k
       go None e = new-bytes e
       go (Some g) e = old-bytes g e
 
+  old-found : (g : StoredFile) → file_of k f.hash ≡ Some g → file_of s f.hash ≡ Some g
+  old-found g e =
+      let rest = option_map file_of_record (find (λ (z : MDBFileInfo). hash_eq z.hash f.hash) (files_in log)) in
+      after_finds_files k s log f.hash after ∙ ap (λ (o : Option StoredFile). option_or o rest) e
+
+  pub accepted-stored : IsSome (file_of s f.hash)
+  accepted-stored = go (file_of k f.hash) refl
+    where
+      go : (o : Option StoredFile) → file_of k f.hash ≡ o → IsSome (file_of s f.hash)
+      go None e = subst (λ (p : Option StoredFile). IsSome p) (sym (new-found e)) refl
+      go (Some g) e = subst (λ (p : Option StoredFile). IsSome p) (sym (old-found g e)) refl
+
 pub accepted-download : {A : Type 0} → AcceptedDownload A
 accepted-download k b n now ended f range z dry s a valid clash r =
     let after = end-stood k b n now (Ok ended) z s clash.xorbs a in
@@ -218,5 +234,7 @@ accepted-download k b n now ended f range z dry s a valid clash r =
     accepted in
     record {
       has = after.stored;
+      stored = accepted-stored k after.stored.store (log_of n) f after.stored.after valid after.logged clash.files
+          accepted;
       window = ap (λ (bs : List ℕ). slice_range bs range.start range.end) bytes;
     }

@@ -1,6 +1,6 @@
 -- What a content that was sent leaves.
 use Rattle.std.proofs.Common.{◌≡◌, ℕ, zero, suc, ◌<◌, ◌≤◌, ◌^◌, ◌⊎◌, inl, inr, Bool, true, false, List, [], ◌∷◌, ◌++◌, length, map, refl, sym, ◌∙◌, ap, subst, arith}
-use Rattle.std.specs.Prelude.{All, Contains, IfOk, IfSome, None, Option, Some, Ok, Result, Err, cond, find, option_map, slice_index_or, slice_range}
+use Rattle.std.specs.Prelude.{All, Contains, IfOk, IfSome, IsSome, None, Option, Some, Ok, Result, Err, cond, find, option_map, slice_index_or, slice_range}
 use Rattle.std.specs.List.{concat}
 use Rattle.std.proofs.lemmas.List.{append-nil, append_assoc, length-append, length-map}
 use Rattle.std.proofs.lemmas.List.Elements.{All-cons, All-contains, All-contains_itself, All-head, All-nil, All-tail, Contains-append_cases, Contains-append_left, Contains-append_right, Contains-push_cases}
@@ -12,7 +12,7 @@ use Rattle.xet_base.specs.declared.mdb_shard.Xorb.{Xorb}
 use Rattle.xet_base.specs.declared.merklehash.MerkleHash.{MerkleHash}
 use Rattle.xet_base.specs.Digests.{file_hash_of, infos_of}
 use Rattle.xet_base.specs.Hashes.{hash_eq}
-use Rattle.xet_base.specs.Store.{IsValid, Store, window, xorb_of}
+use Rattle.xet_base.specs.Store.{IsValid, Store, file_of, window, xorb_of}
 use Rattle.xet_outside.specs.Told.{SourceTold}
 use Rattle.xet_outside.specs.declared.client.ClientError.{ClientError}
 use Rattle.xet_pointer.specs.declared.xet_file_info.XetFileInfo.{XetFileInfo}
@@ -543,8 +543,12 @@ module _ (source : SourceTold) (size chunk : ℕ) (some : 0 < chunk) (most : chu
     made = made source size chunk some most info b u n all.counts all.ends;
     are = are-made source size chunk some most info b u n all.counts all.ends;
     stored = λ hash. found-made hash;
-    gives = λ safe range. given range (downloads source size chunk some most info b u n all.counts all.ends short safe
-        range);
+    gives = λ safe. record {
+      stored = has (downloads source size chunk some most info b u n all.counts all.ends short safe
+          (record { start = 0; end = 0 }));
+      ranges = λ range. given range (downloads source size chunk some most info b u n all.counts all.ends short safe
+          range);
+    };
   }
     where
       found : (hash : MerkleHash) → xorb_of store hash ≡ find (λ (x : Xorb). hash_eq x.hash hash) (xorbs_in (log_of n))
@@ -556,6 +560,14 @@ module _ (source : SourceTold) (size chunk : ℕ) (some : 0 < chunk) (most : chu
           let P : Xorb → Type 0 = Contains (made source size chunk some most info b u n all.counts all.ends) in
           subst (λ (o : Option Xorb). IfSome o P) (sym (found hash)) (find-all P (λ (x : Xorb). hash_eq x.hash hash)
           (xorbs_in (log_of n)) (put-are source size chunk some most info b u n all.counts all.ends))
+
+      has : {range : FileRange} → Downloads no_store (log_of n) (recorded_file v) range
+          → IsSome (file_of store (file_hash_of (infos_of v.chunks)))
+      has d =
+          let same : store ≡ d.has.store = same_Some store d.has.store (first-none (Some store) h ∙ d.has.after) in
+          subst (λ (s : Store). IsSome (file_of s (file_hash_of (infos_of v.chunks)))) (sym same)
+          (subst (λ (hash : MerkleHash). IsSome (file_of d.has.store hash))
+          (is source size chunk some most info b u).hash d.stored)
 
       given : (range : FileRange) → Downloads no_store (log_of n) (recorded_file v) range
           → window store (file_hash_of (infos_of v.chunks)) range ≡ slice_range v.bytes range.start range.end

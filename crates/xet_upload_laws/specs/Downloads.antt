@@ -1,8 +1,8 @@
 -- What the store after a session's log gives of each accepted file.
-use Rattle.std.specs.Prelude.{ℕ, ◌≡◌, List, [], Ok, slice_range, false}
+use Rattle.std.specs.Prelude.{ℕ, ◌≡◌, List, [], IsSome, Ok, slice_range, false}
 use Rattle.xet_base.specs.declared.cas_types.FileRange.{FileRange}
 use Rattle.xet_base.specs.declared.mdb_shard.MDBFileInfo.{MDBFileInfo}
-use Rattle.xet_base.specs.Store.{IsValid, Store, window}
+use Rattle.xet_base.specs.Store.{IsValid, Store, file_of, window}
 use Rattle.xet_progress_state.specs.declared.item.GroupProgressReport.{GroupProgressReport}
 use Rattle.xet_uploader.specs.declared.uploader.Put.{Put}
 use Rattle.xet_upload.specs.declared.metrics.DeduplicationMetrics.{DeduplicationMetrics}
@@ -14,9 +14,10 @@ use Rattle.xet_upload_laws.specs.AllStand.{AllStand}
 use Rattle.xet_upload_laws.specs.Clashes.{HasNoClash, known_files}
 use Rattle.xet_upload_laws.specs.StoreAfter.{HasStore}
 
--- the store after the log is there and valid, and gives this range of the file
+-- the store after the log is there and valid, has the file, and gives this range of it
 pub record Downloads (k : Store) (log : List Put) (f : CleanedFile) (range : FileRange) : Type 0 where
   pub has : HasStore k log
+  pub stored : IsSome (file_of has.store f.hash)
   pub window : window has.store f.hash range ≡ slice_range f.bytes range.start range.end
 
 -- after an end that answered Ok, and was no dry run, each file of which the session has a record downloads

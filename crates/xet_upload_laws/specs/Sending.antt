@@ -1,11 +1,11 @@
 -- One content that is sent to a store in memory.
 use Rattle.std.specs.Prelude.{ℕ, ◌≡◌, ◌⊎◌, false, List, [], ◌∷◌, ◌++◌, length, Contains, IfSome, None, Some}
-use Rattle.std.specs.Prelude.{Ok, Option, slice_range}
+use Rattle.std.specs.Prelude.{IsSome, Ok, Option, slice_range}
 use Rattle.xet_base.specs.declared.cas_types.FileRange.{FileRange}
 use Rattle.xet_base.specs.declared.mdb_shard.Xorb.{Xorb}
 use Rattle.xet_base.specs.declared.merklehash.MerkleHash.{MerkleHash}
 use Rattle.xet_base.specs.Digests.{file_hash_of, infos_of}
-use Rattle.xet_base.specs.Store.{Store, window, xorb_of}
+use Rattle.xet_base.specs.Store.{Store, file_of, window, xorb_of}
 use Rattle.xet_outside.specs.Told.{SourceTold}
 use Rattle.xet_pointer.specs.declared.xet_file_info.XetFileInfo.{XetFileInfo}
 use Rattle.xet_uploader.specs.StoresAfter.{store_after}
@@ -87,10 +87,11 @@ IsSafe chunks made bytes = IsWithin chunks ⊎ HasNoClash (store_of made) memory
 
 -- ---- what was sent
 
--- the store gives each range of the content under the hash of its chunks
-abbrev pub Gives : Store → List (List ℕ) → List ℕ → Type 0
-Gives s chunks bytes = (range : FileRange)
-    → window s (file_hash_of (infos_of chunks)) range ≡ slice_range bytes range.start range.end
+-- the store has the content under the hash of its chunks, and gives each range of it
+pub record Gives (s : Store) (chunks : List (List ℕ)) (bytes : List ℕ) : Type 0 where
+  pub stored : IsSome (file_of s (file_hash_of (infos_of chunks)))
+  pub ranges : (range : FileRange)
+      → window s (file_hash_of (infos_of chunks)) range ≡ slice_range bytes range.start range.end
 
 -- a content was sent: the pointer record is that of its chunks, each stored xorb was made of them, and the store gives
 -- the content, if its chunks fit one xorb, or equal hashes mean equal contents of the made xorbs and of its parts

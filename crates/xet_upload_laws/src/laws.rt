@@ -8,7 +8,7 @@ ghost use Rattle.xet_upload_laws.specs.StoreAfter.{StoreAfterShards, StoreAfterX
 
 /// A session that isn't a dry run, over an uploader and record stores that tell what they hold, and over a valid store:
 /// each file that was finished before an end that answers Ok, by any of the three calls, downloads to its bytes. The
-/// store after the uploader's log is there and valid, and under the file's hash it gives the file's bytes in each
+/// store after the uploader's log is there and valid, and has the file under its hash, whose bytes it gives in each
 /// range.
 ///
 /// It asks that equal hashes mean equal contents, of the xorbs and files of the store and of the session

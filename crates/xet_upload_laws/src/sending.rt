@@ -164,7 +164,7 @@ fn answered(
 
 /// Sends a content to an empty store in memory: so many bytes of a source are cut into chunks of one size and uploaded
 /// in a session, which then ends. It answers the pointer record of the content, and the store after the session's log,
-/// which gives the content in each range.
+/// which has the content and gives it in each range.
 ///
 /// Of chunks that don't fit one xorb it says of the store only what holds where equal hashes mean equal contents, of
 /// the xorbs that were made of these chunks (`HasNoClash`). These are made one after the other, each since the next
