@@ -1,6 +1,7 @@
 mod Adding
 mod Arrays
 mod ChunkEnds
+mod Cutting
 mod DigitPairs
 mod DocumentChunks
 mod DocumentMembers

@@ -1,10 +1,11 @@
 -- A document, and the store that it lists.
 use Rattle.std.proofs.Common.{◌≡◌, ℕ, List, [], ◌∷◌, ◌∙◌, codes, false, true, inl, inr, map, refl, ap, sym, subst, arith}
-use Rattle.std.specs.Prelude.{◌⊎◌, Option, Some, None, IsUtf8, MatchOption, option_and_then, option_map}
+use Rattle.std.specs.Prelude.{◌⊎◌, All, Option, Some, None, IsUtf8, MatchOption, option_and_then, option_map}
+use Rattle.std.proofs.lemmas.List.Elements.{All-map, All-same}
 use Rattle.json.specs.Token.{Token}
 use Rattle.json.specs.Lex.{tokens}
 use Rattle.serde_json.specs.Data.{Data, null, boolean, number, string, array, object, Num, unsigned, negative, float, Items, no_items, item, Members, no_members, member}
-use Rattle.serde_json.specs.Find.{as_array, as_object, as_str, as_u64, get_member}
+use Rattle.serde_json.specs.Find.{as_array, as_object, as_str, as_u64, get, get_member}
 use Rattle.serde_json.specs.Read.{read}
 use Rattle.serde_json.specs.Written.{has_float, items_have_float, members_have_float}
 use Rattle.xet_base.specs.HashText.{hash_of_text}
@@ -12,7 +13,7 @@ use Rattle.xet_base.specs.declared.mdb_shard.Xorb.{Xorb}
 use Rattle.xet_base.specs.declared.stored.StoredFile.{StoredFile}
 use Rattle.xet_base.specs.declared.stored.StoredTerm.{StoredTerm}
 use Rattle.xet_base.specs.Store.{Store, IsValid}
-use Rattle.xet_document.specs.Document.{HasStore, NoStore, chunk_of, chunks_of_items, file_of_member, files_of_members, listed_store, number_of_data, term_of_items, terms_of_items, xorb_of_member, xorbs_of_members}
+use Rattle.xet_document.specs.Document.{HasListing, HasStore, LacksPart, NoStore, chunk_of, chunks_of_items, file_of_member, files_of_members, listed_store, number_of_data, term_of_items, terms_of_items, xorb_of_member, xorbs_of_members}
 use Rattle.xet_document.specs.declared.joined_chunks.JoinedChunks.{JoinedChunks}
 use Rattle.xet_document.specs.declared.joined_chunks.XorbPlace.{XorbPlace}
 use Rattle.xet_document.specs.declared.plain_files.ListedFile.{ListedFile}
@@ -21,6 +22,9 @@ use Rattle.xet_document.specs.declared.plain_store.Listed.{Listed}
 use Rattle.xet_document.specs.steps.AddedMembers.{no_store, with_files, with_xorbs}
 use Rattle.xet_document.specs.steps.Placed.{placed_xorb}
 use Rattle.xet_document.specs.steps.Reads.{IsFound, IsRead, Lists, ListsFile, ListsXorb, ReadsMembers, Takes, stored_file, stored_files, stored_xorbs}
+use Rattle.xet_document.specs.Listings.{listing_store}
+use Rattle.xet_document.specs.declared.listing.Listing.{Listing}
+use Rattle.xet_document.proofs.Listings.{lists_all}
 use Rattle.xet_document.proofs.Objects.{reads_object}
 
 -- ---- what is listed
@@ -37,7 +41,7 @@ module _ {K : Type 0} (text_of : K → List ℕ) where
   files_listed no_members [] h = refl
   files_listed no_members (e ∷ es) h = absurd h
   files_listed (member k d ms) [] h = absurd h
-  files_listed (member k d ms) (e ∷ es) h = rw (h.1, files_listed ms es h.2) refl
+  files_listed (member k d ms) (e ∷ es) h = rw (h.1.0, files_listed ms es h.2) refl
 
 -- ---- no float is listed
 
@@ -161,29 +165,39 @@ document_read text t ms opens e =
 abbrev no_store_of : List Xorb → Option Store
 no_store_of xs = None
 
--- where a key is missing the text is a document of no store
-lacks : (text : List ℕ) (ms : Members) (found : Found) → read text ≡ Some (object ms) → IsFound ms found → (found.xorbs ≡ None) ⊎ (found.files ≡ None) → NoStore text
-lacks text ms found reads is (inl none) s has =
-    let same : has.data_of ≡ object ms = same_data has.data_of (object ms) (sym has.reads.value ∙ reads) in
+-- where a key is missing the text lacks a part
+lacks : (text : List ℕ) (ms : Members) (found : Found) → read text ≡ Some (object ms) → IsFound ms found → (found.xorbs ≡ None) ⊎ (found.files ≡ None) → LacksPart text
+lacks text ms found reads is (inl none) =
     let absent : get_member (codes "xorbs") ms ≡ None = rw none at is.xorbs in
-    let listed : listed_store (object ms) ≡ Some s = rw same at has.store.listed in
-    nothing s (rw absent at listed)
-  where
-    nothing : (s : Store) → None ≡ Some s → ⊥
-    nothing s e = cc
-lacks text ms found reads is (inr none) s has =
-    let same : has.data_of ≡ object ms = same_data has.data_of (object ms) (sym has.reads.value ∙ reads) in
+    record { data_of = object ms; value = reads; lacks = inl (ap (option_and_then as_object) absent) }
+lacks text ms found reads is (inr none) =
     let absent : get_member (codes "files") ms ≡ None = rw none at is.files in
-    let listed : listed_store (object ms) ≡ Some s = rw same at has.store.listed in
-    nothing s (option_and_then xorbs_of_members (option_and_then as_object (get_member (codes "xorbs") ms))) (rw absent at listed)
+    record { data_of = object ms; value = reads; lacks = inr (ap (option_and_then as_object) absent) }
+
+-- and a text that lacks one is a document of no store
+pub no_part : (text : List ℕ) → LacksPart text → NoStore text
+no_part text l s has = go l.lacks
   where
-    nothing : (s : Store) (o : Option (List Xorb)) → option_and_then no_store_of o ≡ Some s → ⊥
-    nothing s None e = cc
-    nothing s (Some xs) e = cc
+    same : has.data_of ≡ l.data_of
+    same = same_data has.data_of l.data_of (sym has.reads.value ∙ l.value)
+
+    listed : listed_store l.data_of ≡ Some s
+    listed = rw same at has.store.listed
+
+    nothing : None ≡ Some s → ⊥
+    nothing e = cc
+
+    nor : (o : Option (List Xorb)) → option_and_then no_store_of o ≡ Some s → ⊥
+    nor None e = cc
+    nor (Some xs) e = cc
+
+    go : (option_and_then as_object (get (codes "xorbs") l.data_of) ≡ None) ⊎ (option_and_then as_object (get (codes "files") l.data_of) ≡ None) → ⊥
+    go (inl none) = nothing (rw none at listed)
+    go (inr none) = nor (option_and_then xorbs_of_members (option_and_then as_object (get (codes "xorbs") l.data_of))) (rw none at listed)
 
 -- where both were found it reads as a document with them
 pub both_read : (text : List ℕ) (found : Found) (o : Option Listed) (ms : Members) → MatchOption o ((found.xorbs ≡ None) ⊎ (found.files ≡ None)) (λ l. found ≡ record { xorbs = Some l.xorbs; files = Some l.files })
-    → read text ≡ Some (object ms) → IsFound ms found → MatchOption o (NoStore text) (IsRead text)
+    → read text ≡ Some (object ms) → IsFound ms found → MatchOption o (LacksPart text) (IsRead text)
 both_read text found None ms none reads is = lacks text ms found reads is none
 both_read text found (Some l) ms same reads is = record { document = ms; reads = reads; found = subst (IsFound ms) same is }
 
@@ -207,3 +221,28 @@ stored text l (Some s) utf8 r taken = record {
   reads = record { utf8 = utf8; value = r.reads };
   store = record { listed = listed text l r ∙ ap Some (sym taken.0); no_float = r.found.no_float; valid = taken.1 };
 }
+
+-- the listing of what was read
+pub listing_has : (text : List ℕ) (l : Listed) (made : Listing) → IsUtf8 text → IsRead text l → made.xorbs ≡ stored_xorbs l.xorbs
+    → made.files ≡ map (λ e. e.1) l.files.entries → HasListing text (listing_store made)
+listing_has text l made utf8 r xorbs files =
+    let stored : map stored_file made.files ≡ stored_files l.files = ap (map stored_file) files ∙ map-map stored_file (λ e. e.1) l.files.entries in
+    record {
+      data_of = object r.document;
+      reads = record { utf8 = utf8; value = r.reads };
+      listed = rw (xorbs, stored) (listed text l r);
+      no_float = r.found.no_float;
+    }
+  where
+    map-map : {A B C : Type 0} (g : B → C) (f : A → B) (xs : List A) → map g (map f xs) ≡ map (λ x. g (f x)) xs
+    map-map g f [] = refl
+    map-map g f (x ∷ xs) = ap (λ ys. g (f x) ∷ ys) (map-map g f xs)
+
+-- no term of it has a count of bytes
+pub listed_all : (text : List ℕ) (l : Listed) (made : Listing) → IsRead text l → made.files ≡ map (λ e. e.1) l.files.entries
+    → All (λ (f : ListedFile). All (λ t. t.bytes ≡ 0) f.terms) made.files
+listed_all text l made r files =
+    let own = r.found.files in
+    let each = lists_all (λ k. k.text.now) ListsFile (λ e. All (λ t. t.bytes ≡ 0) e.1.terms) (λ k d e h. h.1) own.0 l.files.entries own.2 in
+    All-same (λ (f : ListedFile). All (λ t. t.bytes ≡ 0) f.terms) made.files (map (λ e. e.1) l.files.entries) files
+    (All-map (λ (f : ListedFile). All (λ t. t.bytes ≡ 0) f.terms) (λ e. e.1) l.files.entries each)

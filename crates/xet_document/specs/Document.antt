@@ -1,5 +1,5 @@
 -- The store that a JSON value lists.
-use Rattle.std.specs.Prelude.{ℕ, ◌≡◌, ◌^◌, false, cond, nat_lt, List, [], ◌∷◌, Option, Some, None, option_and_then}
+use Rattle.std.specs.Prelude.{ℕ, ◌≡◌, ◌⊎◌, ◌^◌, false, cond, nat_lt, List, [], ◌∷◌, Option, Some, None, option_and_then}
 use Rattle.std.specs.Prelude.{option_map, codes}
 use Rattle.std.specs.Result.{result_ok}
 use Rattle.std.specs.Str.{IsUtf8}
@@ -101,6 +101,20 @@ pub record Reads (text : List ℕ) (d : Data) : Type 0 where
 -- the text does not read as a JSON value
 abbrev pub NoData : List ℕ → Type 0
 NoData text = (d : Data) → Reads text d → ⊥
+
+-- the text reads as a value without a float that lists this store, valid or not
+pub record HasListing (text : List ℕ) (s : Store) : Type 0 where
+  pub data_of : Data
+  pub reads : Reads text data_of
+  pub listed : listed_store data_of ≡ Some s
+  pub no_float : has_float data_of ≡ false
+
+-- the text reads as a value that has no object of xorbs, or none of files
+pub record LacksPart (text : List ℕ) : Type 0 where
+  pub data_of : Data
+  pub value : read text ≡ Some data_of
+  pub lacks : (option_and_then as_object (get (codes "xorbs") data_of) ≡ None)
+      ⊎ (option_and_then as_object (get (codes "files") data_of) ≡ None)
 
 -- the text is a document of this store
 pub record HasStore (text : List ℕ) (s : Store) : Type 0 where

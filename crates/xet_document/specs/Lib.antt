@@ -1,2 +1,3 @@
 pub mod Document
+pub mod Listings
 pub mod steps

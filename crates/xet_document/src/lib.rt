@@ -6,6 +6,7 @@
 mod hex_digits;
 mod ignored;
 mod joined_chunks;
+mod listing;
 mod plain_files;
 mod plain_store;
 mod plain_xorbs;
@@ -14,5 +15,9 @@ mod text_store;
 mod unread;
 mod value_store;
 
-pub use text_store::store_of_text;
-pub use value_store::store_of;
+pub use hex_digits::{decode_digits, hash_of};
+pub use listing::{Listing, listing_of_text};
+pub use plain_files::ListedFile;
+pub use text_store::{store_of_text, value_of};
+pub use unread::Unread;
+pub use value_store::{holds_float, store_of, terms_of};

@@ -1,6 +1,6 @@
 //! The files of a document, read in one pass.
-ghost use Rattle.std.specs.Prelude.{◌≡◌, ◌∷◌, ◌<◌, ◌≤◌, Some, IfErr, IfOk, IfSome, List as Items, OnOk, ℕ, length, map};
-ghost use Rattle.std.specs.Prelude.{option_and_then};
+ghost use Rattle.std.specs.Prelude.{◌≡◌, ◌∷◌, ◌<◌, ◌≤◌, All, Some, IfErr, IfOk, IfSome, List as Items, OnOk, ℕ, length};
+ghost use Rattle.std.specs.Prelude.{map, option_and_then};
 ghost use Rattle.json.specs.Token.{number};
 ghost use Rattle.serde_json.specs.Data.{Data, Items as DataItems, Members, unsigned};
 ghost use Rattle.serde_json.specs.Find.{as_array};
@@ -19,11 +19,11 @@ use xet_base::{FileDataSequenceEntry, List, MerkleHash};
 
 /// A file that a document lists.
 #[derive(Drop)]
-pub(crate) struct ListedFile {
+pub struct ListedFile {
     /// The hash.
-    pub(crate) hash: MerkleHash,
+    pub hash: MerkleHash,
     /// The terms, whose counts of bytes are 0.
-    pub(crate) terms: List<FileDataSequenceEntry>,
+    pub terms: List<FileDataSequenceEntry>,
 }
 
 /// The files of an object that was opened, by the texts of their hashes.
@@ -64,6 +64,7 @@ fn read_file(alloc: Global, reader: &mut Reader<'_>, text: &str) -> Result<Liste
 fn read_terms(alloc: Global, reader: &mut Reader<'_>) -> Result<List<FileDataSequenceEntry>, Unread>
     ensures terms { IfOk result (λ terms. (ds : DataItems) × ReadsItems 124 reader.old ds reader.new
         × (terms_of_items ds ≡ Some (map stored_term terms))) }
+    ensures uncounted { IfOk result (All (λ t. t.bytes ≡ 0)) }
     ensures shorter { OnOk result (length reader.new < length reader.old) }
 {
     let mut terms = List::new(alloc);
@@ -81,6 +82,7 @@ fn read_term<'a>(
 ) -> Result<FileDataSequenceEntry, Unread>
     ensures term { IfOk result (λ term. (d : Data) × ReadsValue 124 reader.old d reader.new
         × (option_and_then term_of_items (as_array d) ≡ Some (stored_term term))) }
+    ensures uncounted { IfOk result (λ term. term.bytes ≡ 0) }
     ensures shorter { OnOk result (length reader.new < length reader.old) }
     ensures refused { IfErr result (λ e. e ≡ Unread.NotPlain) }
 {

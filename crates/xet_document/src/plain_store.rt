@@ -4,7 +4,7 @@ ghost use Rattle.std.specs.Prelude.{length, true};
 ghost use Rattle.json.specs.Token.{begin_object};
 ghost use Rattle.serde_json.specs.Data.{Members};
 ghost use Rattle.xet_base.specs.Store.{IsValid};
-ghost use Rattle.xet_document.specs.Document.{HasStore, NoStore};
+ghost use Rattle.xet_document.specs.Document.{HasStore, LacksPart, NoStore};
 ghost use Rattle.xet_document.specs.steps.AddedMembers.{TakesFiles, TakesXorbs, no_store};
 ghost use Rattle.xet_document.specs.steps.Placed.{IsPlaced};
 ghost use Rattle.xet_document.specs.steps.Reads.{Finds, IsFound, IsRead, ReadsMembers, Takes, stored_files};
@@ -30,8 +30,8 @@ const DEPTH: usize = 126;
 // What a document lists, by the texts of the hashes.
 #[derive(Drop)]
 pub(crate) struct Listed<'a> {
-    xorbs: ListedXorbs<'a>,
-    files: BTreeMap<TextKey<'a>, ListedFile>,
+    pub(crate) xorbs: ListedXorbs<'a>,
+    pub(crate) files: BTreeMap<TextKey<'a>, ListedFile>,
 }
 
 // What the last key of each kind lists, of the keys so far.
@@ -69,13 +69,13 @@ pub(crate) fn plain_store(alloc: Global, text: &[u8]) -> Result<Option<MemStore>
     Ok(listed_store(alloc, listed)?)
 }
 
-// What a text lists, or none where xorbs or files are missing.
-fn read_listed<'a>(
+/// What a text lists, or none where xorbs or files are missing.
+pub(crate) fn read_listed<'a>(
     alloc: Global,
     text: &'a str,
     scratch: &'a mut Scratch,
 ) -> Result<Option<Listed<'a>>, Unread>
-    ensures { IfOk result (λ o. MatchOption o (NoStore text.now) (IsRead text.now)) }
+    ensures { IfOk result (λ o. MatchOption o (LacksPart text.now) (IsRead text.now)) }
 {
     let mut reader = Reader::new(text, scratch)?;
     open_object(&mut reader)?;

@@ -29,8 +29,9 @@ fn is_well_formed(alloc: Global, text: &str) -> Result<bool, OutOfMemory>
     }
 }
 
-// The value of a text, or none where it is no JSON. The text's memory is given back.
-fn value_of(alloc: Global, text: Vec<u8>) -> Result<Option<Value>, OutOfMemory>
+/// The value of a text, or none where it is no JSON. The text's memory is given back. Want of memory is the only
+/// error.
+pub fn value_of(alloc: Global, text: Vec<u8>) -> Result<Option<Value>, OutOfMemory>
     ensures { IfOk result (λ o. MatchOption o (NoData text.items) (λ v. Reads text.items (view v))) }
 {
     let Ok(json) = simdutf8::compat::from_utf8(text.as_slice()) else {

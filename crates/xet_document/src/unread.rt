@@ -8,7 +8,7 @@ use xet_base::OutOfMemory;
 
 /// Why a document was not read in one pass.
 #[derive(Clone, Copy)]
-pub(crate) enum Unread {
+pub enum Unread {
     /// Memory was refused.
     OutOfMemory,
     /// A xorb or a file hasn't its form, a number isn't whole and of 64 bits, or it is no JSON. The tree tells.

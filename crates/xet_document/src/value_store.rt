@@ -1,6 +1,6 @@
 //! Reads a store from a JSON document.
-ghost use Rattle.std.specs.Prelude.{◌≡◌, ◌≢◌, [], IfErr, IfOk, MatchOption, cond, length, map, option_and_then};
-ghost use Rattle.std.specs.Prelude.{option_map};
+ghost use Rattle.std.specs.Prelude.{◌≡◌, ◌≢◌, [], All, IfErr, IfOk, IfSome, MatchOption, cond, length, map};
+ghost use Rattle.std.specs.Prelude.{option_and_then, option_map};
 ghost use Rattle.serde_json.specs.Data.{item, no_items};
 ghost use Rattle.serde_json.specs.Find.{as_array};
 ghost use Rattle.serde_json.specs.View.{items_view, members_view, view};
@@ -19,8 +19,8 @@ use std::alloc::Global;
 use xet_base::{FileDataSequenceEntry, List, MerkleHash, OutOfMemory};
 use xet_store::{JoinedXorb, MemStore, StoreRefused};
 
-// Whether a number that is kept as a float stands anywhere in the value.
-fn holds_float(value: &Value) -> bool
+/// Whether a number that is kept as a float stands anywhere in the value.
+pub fn holds_float(value: &Value) -> bool
     ensures { result ≡ has_float (view value.now) }
 {
     match value {
@@ -112,9 +112,10 @@ fn number(value: &Value) -> Option<u32>
     u32::try_from(number).ok()
 }
 
-// A term: a xorb's hash, and the numbers of its first chunk and of the one after its last.
+// A term: a xorb's hash, and the numbers of its first chunk and of the one after its last. Its count of bytes is 0.
 fn term_of<'a>(value: &'a Value, last: &mut LastHash<'a>) -> Option<FileDataSequenceEntry>
-    ensures { option_map stored_term result ≡ option_and_then term_of_items (as_array (view value.now)) }
+    ensures term { option_map stored_term result ≡ option_and_then term_of_items (as_array (view value.now)) }
+    ensures uncounted { IfSome result (λ t. t.bytes ≡ 0) }
 {
     match value.as_array()?.as_slice() {
         [xorb, from, to] => term_by(xorb, from, to, last),
@@ -129,8 +130,9 @@ fn term_by<'a>(
     to: &Value,
     last: &mut LastHash<'a>,
 ) -> Option<FileDataSequenceEntry>
-    ensures { option_map stored_term result
+    ensures term { option_map stored_term result
         ≡ term_of_items (item (view xorb.now) (item (view from.now) (item (view to.now) no_items))) }
+    ensures uncounted { IfSome result (λ t. t.bytes ≡ 0) }
 {
     Some(FileDataSequenceEntry {
         xorb: last.hash_of(xorb.as_str()?)?,
@@ -140,13 +142,15 @@ fn term_by<'a>(
     })
 }
 
-// The terms of a file, or none where one hasn't the form.
-fn terms_of(
+/// The terms of a file, or none where one hasn't the form. Their counts of bytes are 0. Want of memory is the only
+/// error.
+pub fn terms_of(
     alloc: Global,
     value: &Value,
 ) -> Result<Option<List<FileDataSequenceEntry>>, OutOfMemory>
-    ensures { IfOk result (λ o. option_map (map stored_term) o
+    ensures terms { IfOk result (λ o. option_map (map stored_term) o
         ≡ option_and_then terms_of_items (as_array (view value.now))) }
+    ensures uncounted { IfOk result (λ o. MatchOption o (Unit {0}) (All (λ t. t.bytes ≡ 0))) }
 {
     let Some(items) = value.as_array() else {
         return Ok(None);

@@ -1,5 +1,5 @@
 -- What a reader of tokens reads, in the words of the grammar.
-use Rattle.std.specs.Prelude.{ℕ, ◌≡◌, ⊤, Bool, List, [], ◌∷◌, codes, false, length, map, true}
+use Rattle.std.specs.Prelude.{ℕ, ◌≡◌, ⊤, All, Bool, List, [], ◌∷◌, codes, false, length, map, true}
 use Rattle.std.specs.Prelude.{None, Option, Some, MatchOption}
 use Rattle.std.specs.BTreeMap.{BTreeMap}
 use Rattle.json.specs.Token.{Token}
@@ -12,8 +12,8 @@ use Rattle.serde_json.specs.Written.{members_have_float}
 use Rattle.xet_base.specs.declared.mdb_shard.Xorb.{Xorb}
 use Rattle.xet_base.specs.declared.stored.StoredFile.{StoredFile}
 use Rattle.xet_base.specs.Store.{Store, IsValid}
-use Rattle.xet_store.specs.Refusals.{stored_term}
 use Rattle.xet_document.specs.Document.{file_of_member, xorb_of_member}
+pub use Rattle.xet_document.specs.Listings.{stored_file}
 use Rattle.xet_document.specs.declared.joined_chunks.JoinedChunks.{JoinedChunks}
 use Rattle.xet_document.specs.declared.joined_chunks.XorbPlace.{XorbPlace}
 use Rattle.xet_document.specs.declared.plain_files.ListedFile.{ListedFile}
@@ -55,13 +55,9 @@ abbrev pub ListsXorb : JoinedChunks → List ℕ → Data → XorbPlace → Type
 ListsXorb joined k d p = IsPlaced joined.bytes.items joined.ends.items p
     × (xorb_of_member k d ≡ Some (placed_xorb joined.bytes.items joined.ends.items p))
 
--- a listed file as a store has it
-abbrev pub stored_file : ListedFile → StoredFile
-stored_file f = record { hash = f.hash; terms = map stored_term f.terms }
-
--- the member lists this file
+-- the member lists this file, whose terms have no counts of bytes
 abbrev pub ListsFile : List ℕ → Data → ListedFile → Type 0
-ListsFile k d f = file_of_member k d ≡ Some (stored_file f)
+ListsFile k d f = (file_of_member k d ≡ Some (stored_file f)) × All (λ t. t.bytes ≡ 0) f.terms
 
 -- the number is whole and of 64 bits, so that it isn't kept as a float
 abbrev pub IsWhole : List ℕ → Type 0

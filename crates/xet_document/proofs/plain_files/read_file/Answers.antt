@@ -18,7 +18,7 @@ returns c =
       value = (
         array read.0,
         rw opens (reads_array 125 c.next.new.self c.read_terms.new.reader read.0 (omega arith) read.1),
-        file_is text (array read.0) c.in-Some.hash c.in_ok-terms.terms spelt (sym read.2),
+        (file_is text (array read.0) c.in-Some.hash c.in_ok-terms.terms spelt (sym read.2), terms.uncounted),
       );
       long = hash_long text c.in-Some.hash spelt;
       shorter = omega (arith, ap length opens, terms.shorter);

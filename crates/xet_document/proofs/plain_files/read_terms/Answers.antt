@@ -1,5 +1,6 @@
 use Rattle.std.proofs.Common.{◌≡◌, ◌∷◌, ◌++◌, [], Some, None, length, map, refl, sym, ap, ◌∙◌, arith}
 use Rattle.std.proofs.lemmas.List.{map-append}
+use Rattle.std.proofs.lemmas.List.Elements.{All-nil, All-push, All-same}
 use Rattle.json.specs.Json.{after_end_array}
 use Rattle.json.proofs.Grammar.{after_end_array-shorter}
 use Rattle.serde_json.specs.Data.{no_items}
@@ -8,7 +9,7 @@ use Rattle.xet_document.proofs.Arrays.{behind, item_more, items_read, no_items_y
 use Rattle.xet_document.proofs.plain_files.read_terms.Goals as goal
 
 pub terms-init : goal.terms-init
-terms-init c = ([], no_items_yet 124 c.args.reader.now, rw c.new-terms.ensures refl)
+terms-init c = ([], no_items_yet 124 c.args.reader.now, rw c.new-terms.ensures refl, rw c.new-terms.ensures (All-nil (λ t. t.bytes ≡ 0)))
 
 pub terms-preserved : goal.terms-preserved
 terms-preserved c =
@@ -22,6 +23,7 @@ terms-preserved c =
       l.invariant.0 ++ read.term.0 ∷ [],
       item_more 124 c.args.reader.now l.reader c.read_term.new.reader l.invariant.0 read.term.0 l.invariant.1 going.0 (omega (arith, read.shorter, ap length going.1)) value,
       terms_so_far l.invariant.0 read.term.0 (map stored_term l.terms) (stored_term term) l.invariant.2 read.term.2 ∙ ap Some (sym pushed),
+      All-same (λ t. t.bytes ≡ 0) c.push.new.self (l.terms ++ term ∷ []) c.in_ok-push.ensures.ok (All-push (λ t. t.bytes ≡ 0) l.terms term l.invariant.3 read.uncounted),
     )
 
 pub returns-clause-terms : goal.returns-clause-terms
@@ -29,6 +31,9 @@ returns-clause-terms c =
     let l = c.terms in
     let over = c.terms-test.ensures in
     (behind l.invariant.0 no_items, items_read 124 c.args.reader.now l.reader c.take_end_array.new.self l.invariant.0 l.invariant.1 over, l.invariant.2)
+
+pub returns-clause-uncounted : goal.returns-clause-uncounted
+returns-clause-uncounted c = c.terms.invariant.3
 
 pub returns-clause-shorter : goal.returns-clause-shorter
 returns-clause-shorter c =

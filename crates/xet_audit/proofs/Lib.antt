@@ -1,0 +1,12 @@
+mod Hashing
+mod Lists
+mod Located
+mod Marking
+mod Members
+mod RawTexts
+mod Sizes
+mod Strict
+mod Tables
+mod TermStates
+mod Unnamed
+mod Validity

@@ -1,0 +1,13 @@
+pub mod AscendingLists
+pub mod Compacting
+pub mod DocumentValues
+pub mod HeldTerms
+pub mod KeptXorbs
+pub mod Listing
+pub mod Members
+pub mod Placed
+pub mod RawFiles
+pub mod Reached
+pub mod Renumbered
+pub mod Serving
+pub mod ShortChunks

@@ -1,0 +1,5 @@
+pub mod Compacts
+pub mod Documents
+pub mod Laws
+pub mod Refusals
+pub mod steps

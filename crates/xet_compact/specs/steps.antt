@@ -1,0 +1,4 @@
+-- Working words of private functions.
+pub mod Ascending
+pub mod Kept
+pub mod Reaches

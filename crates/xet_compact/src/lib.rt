@@ -1,0 +1,14 @@
+//! Stores without what no file needs, and their documents.
+#![tactic(auto)]
+
+mod ascending;
+pub mod compaction;
+pub mod documents;
+mod kept_store;
+mod kept_xorb;
+pub mod laws;
+mod reach;
+mod reaches;
+
+pub use compaction::{CompactError, Compacted, compact};
+pub use documents::document;
