@@ -1,11 +1,12 @@
 -- The commands: the words that spell each, and what the top call says of it.
-use Rattle.std.specs.Prelude.{ℕ, ◌≡◌, ◌≤◌, cond, List, [], ◌∷◌, Option, Some, None, option_map, codes}
+use Rattle.std.specs.Prelude.{ℕ, ◌≡◌, ◌≤◌, cond, false, List, [], ◌∷◌, Option, Some, None, option_map, codes}
 use Rattle.std.specs.Str.{bytes_eq}
 use Rattle.xet_room.specs.declared.status.Status.{Status}
 use Rattle.xet_room.specs.declared.status.Status.TheVariants.{Done, BadWords}
 use Rattle.xet_commands.specs.declared.commands.Command.{Command}
 use Rattle.xet_commands.specs.declared.commands.Command.TheVariants as command
 use Rattle.xet_room.specs.Ends.{Told}
+use Rattle.xet_room.specs.Inputs.{InputOutcome}
 use Rattle.xet_get_command.specs.GetWords.{wanted_of}
 use Rattle.xet_room.specs.Outcome.{IsFlushed, IsReadUnfailed, IsUnfailed, TextOutcome}
 use Rattle.xet_room.specs.Texts.{line, number_of}
@@ -14,26 +15,35 @@ use Rattle.xet_get_command.specs.Get.{GetOutcome}
 use Rattle.xet_track_command.specs.Track.{TrackOutcome}
 use Rattle.xet_bench_command.specs.Bench.{BenchOutcome, bench_of}
 use Rattle.xet_roundtrip_command.specs.Roundtrip.{RoundtripOutcome, size_of}
+use Rattle.xet_audit_command.specs.Audit.{AuditPrints, hashes_of}
+use Rattle.xet_compact_command.specs.Compact.{CompactPrints}
+
+-- the command of one word, of those over a store's document
+abbrev pub document_command_of_one : List ℕ → Option Command
+document_command_of_one w =
+    cond (bytes_eq w (codes "audit")) (Some (command.Audit false))
+    (cond (bytes_eq w (codes "compact")) (Some command.Compact) None)
 
 -- the command of one word
 abbrev pub command_of_one : List ℕ → Option Command
 command_of_one w =
     cond (bytes_eq w (codes "--help")) (Some command.Help) (cond (bytes_eq w (codes "--version")) (Some command.Version)
-    (cond (bytes_eq w (codes "track")) (Some command.Track) None))
+    (cond (bytes_eq w (codes "track")) (Some command.Track) (document_command_of_one w)))
 
--- `roundtrip` with the words after it, where that is the name
-abbrev pub roundtrip_with : List ℕ → List (List ℕ) → Option Command
-roundtrip_with name words =
-    cond (bytes_eq name (codes "roundtrip")) (option_map command.Roundtrip (size_of words)) None
+-- the command of this name, with the words after it, of those that are neither `get` nor `bench`
+abbrev pub other_command_with : List ℕ → List (List ℕ) → Option Command
+other_command_with name words =
+    cond (bytes_eq name (codes "roundtrip")) (option_map command.Roundtrip (size_of words))
+    (cond (bytes_eq name (codes "audit")) (option_map command.Audit (hashes_of words)) None)
 
 -- the command of this name, with the words after it
 abbrev pub command_with : List ℕ → List (List ℕ) → Option Command
 command_with name words =
     cond (bytes_eq name (codes "get")) (option_map command.Get (wanted_of words))
     (cond (bytes_eq name (codes "bench")) (option_map command.Bench (bench_of words))
-    (roundtrip_with name words))
+    (other_command_with name words))
 
--- `--help`, `--version` or `track` alone, or `get`, `bench` or `roundtrip` with its words
+-- a command of one word alone, or another with its words
 abbrev pub command_of : List (List ℕ) → Option Command
 command_of [] = None
 command_of (w ∷ []) = command_of_one w
@@ -50,6 +60,9 @@ Outcome limit (Some (command.Get wanted)) before after status = GetOutcome limit
 Outcome limit (Some (command.Bench wanted)) before after status = BenchOutcome wanted before after status
 Outcome limit (Some (command.Roundtrip size)) before after status = RoundtripOutcome size before after status
 Outcome limit (Some command.Track) before after status = TrackOutcome limit before after status
+Outcome limit (Some (command.Audit hashes)) before after status =
+    InputOutcome (AuditPrints hashes) limit before after status
+Outcome limit (Some command.Compact) before after status = InputOutcome CompactPrints limit before after status
 Outcome limit (Some command.Help) before after status = TextOutcome help_text Done before after status
 Outcome limit (Some command.Version) before after status = TextOutcome version_text Done before after status
 Outcome limit None before after status = TextOutcome (line BadWords) BadWords before after status

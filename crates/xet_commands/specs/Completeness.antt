@@ -7,11 +7,14 @@ use Rattle.xet_room.specs.declared.status.Status.{Status}
 use Rattle.xet_room.specs.declared.status.Status.TheVariants.{Done, BadWords, BadStore, BadScript, NotFound, NoMemory}
 use Rattle.xet_room.specs.declared.status.Status.TheVariants.{TooLong, BadSettings}
 use Rattle.xet_room.specs.Ends.{Told}
+use Rattle.xet_room.specs.Inputs.{Prints}
 use Rattle.xet_room.specs.Texts.{number_of}
 use Rattle.xet_track.specs.Texts.{track_reads}
 use Rattle.xet_get_command.specs.declared.wanted.Wanted.{Wanted}
 use Rattle.xet_get_command.specs.Wanted.{IsFound, IsMissing, unmet_setting}
 use Rattle.xet_bench_command.specs.Bench.{end_by, unmet_bench}
+use Rattle.xet_audit_command.specs.Audit.{AuditPrints}
+use Rattle.xet_compact_command.specs.Compact.{CompactPrints}
 use Rattle.xet_commands.specs.declared.commands.Command.{Command}
 use Rattle.xet_commands.specs.declared.commands.Command.TheVariants as command
 use Rattle.xet_commands.specs.Commands.{Answers, command_of}
@@ -48,12 +51,20 @@ TrackBy limit text BadScript = (length text ≤ limit) × (track_reads text ≡ 
 TrackBy limit text Done = (length text ≤ limit) × (track_reads text ≡ true)
 TrackBy limit text _ = ⊥
 
+-- and a command over an input, by what it has to print: 8 where the text is longer than the limit, else a status with
+-- which something is to be printed
+abbrev pub InputBy : Prints → ℕ → List ℕ → Status → Type 0
+InputBy P limit text status =
+    ((limit < length text) × (status ≡ TooLong)) ⊎ ((whole : List ℕ) × (length text ≤ limit) × P text status whole)
+
 -- and any words, by the command that they spell
 abbrev pub StatusBy : ℕ → Option Command → List ℕ → Status → Type 0
 StatusBy limit (Some (command.Get wanted)) text status = GetBy limit wanted text status
 StatusBy limit (Some (command.Bench wanted)) text status = status ≡ end_by (unmet_bench wanted)
 StatusBy limit (Some (command.Roundtrip size)) text status = status ≡ Done
 StatusBy limit (Some command.Track) text status = TrackBy limit text status
+StatusBy limit (Some (command.Audit hashes)) text status = InputBy (AuditPrints hashes) limit text status
+StatusBy limit (Some command.Compact) text status = InputBy CompactPrints limit text status
 StatusBy limit (Some command.Help) text status = status ≡ Done
 StatusBy limit (Some command.Version) text status = status ≡ Done
 StatusBy limit None text status = status ≡ BadWords

@@ -3,13 +3,15 @@ ghost use Rattle.std.specs.Prelude.{◌≡◌, IfSome, length, map, string_bytes
 ghost use Rattle.xet_room.specs.Ends.{input_limit};
 ghost use Rattle.xet_room.specs.Outcome.{IsFlushed, IsReadUnfailed, IsUnfailed};
 ghost use Rattle.xet_commands.specs.Commands.{IsWithinSize, Outcome, command_of, command_of_one, command_with};
-ghost use Rattle.xet_commands.specs.Commands.{roundtrip_with};
+ghost use Rattle.xet_commands.specs.Commands.{document_command_of_one, other_command_with};
 
 use crate::texts::{HELP, VERSION};
 use std::alloc::Global;
 use std::sync::Wait;
 use std::thread::Threads;
+use xet_audit_command::{audit, read_hashes};
 use xet_bench_command::{BenchWanted, bench, read_bench};
+use xet_compact_command::compact;
 use xet_get_command::{Wanted, get, read_wanted};
 use xet_room::{Status, print_text, say};
 use xet_roundtrip_command::{read_size, roundtrip};
@@ -31,6 +33,10 @@ pub enum Command {
     Roundtrip(u32),
     /// `track`
     Track,
+    /// `audit`, and whether with `hashes`.
+    Audit(bool),
+    /// `compact`
+    Compact,
 }
 
 // The command of one word.
@@ -42,20 +48,38 @@ fn read_one(word: &str) -> Option<Command>
         "--help" => Some(Command::Help),
         "--version" => Some(Command::Version),
         "track" => Some(Command::Track),
+        _ => read_one_more(word),
+    }
+}
+
+// The command of one word, of those over a store's document.
+fn read_one_more(word: &str) -> Option<Command>
+    ensures command { result ≡ document_command_of_one word.now }
+    ensures within { IfSome result IsWithinSize }
+{
+    match word {
+        "audit" => Some(Command::Audit(false)),
+        "compact" => Some(Command::Compact),
         _ => None,
     }
 }
 
-// `roundtrip` with the words after it, where that is the name.
-fn read_roundtrip(name: &str, words: &[String]) -> Option<Command>
-    ensures command { result ≡ roundtrip_with name.now (map string_bytes words.now) }
+// The command of this name, with the words after it, of those that are neither `get` nor `bench`.
+fn read_more(name: &str, words: &[String]) -> Option<Command>
+    ensures command { result ≡ other_command_with name.now (map string_bytes words.now) }
     ensures within { IfSome result IsWithinSize }
 {
-    if name != "roundtrip" {
-        return None;
+    match name {
+        "roundtrip" => {
+            let size = read_size(words)?;
+            Some(Command::Roundtrip(size))
+        }
+        "audit" => {
+            let hashes = read_hashes(words)?;
+            Some(Command::Audit(hashes))
+        }
+        _ => None,
     }
-    let size = read_size(words)?;
-    Some(Command::Roundtrip(size))
 }
 
 // The command of this name, with the words after it.
@@ -72,7 +96,7 @@ fn read_with(name: &str, words: &[String]) -> Option<Command>
             let wanted = read_bench(words)?;
             Some(Command::Bench(wanted))
         }
-        _ => read_roundtrip(name, words),
+        _ => read_more(name, words),
     }
 }
 
@@ -108,6 +132,8 @@ pub fn run_words<R: Threads + Wait + Sync, I: Source, O: Sink, T: Tap + Send>(
     match read_words(words) {
         Some(Command::Get(wanted)) => get(rt, alloc, wanted, input, out, taps),
         Some(Command::Track) => track(alloc, input, out),
+        Some(Command::Audit(hashes)) => audit(alloc, hashes, input, out),
+        Some(Command::Compact) => compact(alloc, input, out),
         Some(Command::Bench(wanted)) => bench(rt, alloc, wanted, out),
         Some(Command::Roundtrip(size)) => roundtrip(rt, alloc, size, out),
         Some(Command::Help) => print_text(out, Status::Done, HELP),

@@ -6,7 +6,9 @@ ghost use Rattle.xet_commands.specs.Completeness.{AnswersAreComplete};
 /// it came. For `get` it is 8 where the input is longer than the limit, else 2 where it is no document of a valid
 /// store, else 7 where a setting fails, else 3 where the range isn't empty and the store has no such file, else 0. For
 /// `track` it is 8 likewise, 2 where a line doesn't read, else 0. For `bench` it is 7 where a setting fails, else 0.
-/// For `roundtrip` it is 0.
+/// For `roundtrip` it is 0. For `audit` it is 8 likewise, 2 where the input lists no store, 10 where something is found
+/// in it, else 0. For `compact` it is 8 likewise, 2 where the input lists no valid store or two lists of kept chunks
+/// would stand under one hash, else 0.
 pub fn answers_are_complete()
     ensures { AnswersAreComplete }
 {}

@@ -2,12 +2,15 @@
 
 /// What `--help` prints.
 pub const HELP: &[u8] = b"\
-xet_tool: prints a range of a file of a Xet store, runs a script of calls of a tracker, fetches a
-made file, or uploads one and downloads it
+xet_tool: prints a range of a file of a Xet store, tells what is wrong with a store or drops what
+no file needs, runs a script of calls of a tracker, fetches a made file, or uploads one and
+downloads it
 
 usage:
   xet_tool get HASH START END [OPTION ..]
                                 print bytes START to before END of the file HASH
+  xet_tool audit [hashes]       print what is wrong with a store, and which xorbs no file names
+  xet_tool compact              print a store without the xorbs and chunks that no file needs
   xet_tool track                make the calls of a script, and print the reply to each
   xet_tool bench N [OPTION ..]  fetch a made file of N terms, and print what its bytes come to
   xet_tool roundtrip N          upload a made file of N bytes, and download it by its pointer
@@ -20,6 +23,10 @@ words of get:
   START, END  places in the file in bytes, counted from 0: 1 to 20 decimal digits of at most
               18446744073709551615. END may also be the word end. What lies past the file's end
               is cut off, and a range with END at or before START is empty.
+
+words of audit:
+  hashes      compute the hashes of xorbs and files too, which takes as long as the files have
+              chunks, each as often as terms have it
 
 words of bench:
   N           how many terms the file has: a number as START is, 1 to 100000
@@ -56,6 +63,37 @@ input of get:
   ten times at most where each xorb and each file has this form and each number is whole and of
   64 bits, also under keys that are passed over. Else up to 175 times.
 
+input of audit:
+  A document as that of get, of any store: a CHUNK may have no byte, a term may be empty or not
+  inside a xorb, and keys that differ may spell one hash.
+
+lines of audit:
+  finding K A B for each thing that is wrong, by K, then A, then B. Xorbs and files are counted
+  from 0 in the order of their keys, chunks and terms in their lists; B is 0 where none is named.
+    K is 1  xorb A has an earlier xorb's hash
+         2  chunk B of xorb A is empty
+         3  xorb A has 4294967296 chunks or bytes or more
+         4  file A has an earlier file's hash
+         5  term B of file A names no xorb
+         6  it names one, and is empty or not inside it
+         7  file A, without 5 and 6, has 18446744073709551616 bytes or more
+         8  the hash of xorb A is not that of its chunks; with hashes alone
+         9  the hash of file A, without 5 and 6, is not that of its chunks; with hashes alone
+  spare HASH for each xorb that no file names, by ascending hash. That is no finding.
+  Then ok with the numbers of files and of xorbs, or bad with the number of findings. Where no K
+  is below 8, get prints each file in any range.
+
+input of compact:
+  A document as that of get.
+
+lines of compact:
+  The document of a store on one line, with ascending keys and lower-case digits: the same files,
+  without xorbs that no file names and chunks that no term holds. A xorb that lost chunks gets
+  the hash of those that are left, SHA-256 of the byte 1 and then, for each, of its own hash and
+  its length as 4 bytes, the highest first; a chunk's hash is SHA-256 of the byte 0 and its bytes.
+  Of two xorbs with one hash then one stays. Then ok with the numbers of xorbs that are left and
+  of chunks that no term holds.
+
 input of track:
   A script on standard input, of at most 67108864 bytes: a call of a new tracker of uploads on
   each line, with one space between its words. N and ID are numbers as START is, and NAME is one
@@ -91,13 +129,16 @@ output:
   For get the bytes as lower-case hexadecimal digits, a line end, and a last line. The lines of
   1, 2, 4 and 8 stand alone, but that of 2 for track, which ends the lines of a script that does
   not read; for bench that of 7 stands alone too. With 0 track, bench and roundtrip print their
-  lines alone. All lines, those of errors too, go to standard output. For the bytes themselves turn
-  the digits of the first line back, as with | head -n 1 | xxd -r -p.
+  lines alone, compact too, and audit with 0 and 10. All lines, those of errors too, go to standard
+  output. For the bytes themselves turn the digits of the first line back, as with
+  | head -n 1 | xxd -r -p.
 
 last line, and exit status:
   ok N                    0  all N bytes of the range were printed, or came back
   error words             1  the words do not read; nothing was read of the input
-  error store             2  the input is no document of a valid store
+  error store             2  the input is no document of a valid store; for audit, of any
+  error hash H            2  lists of chunks that differ would stand under the hash H in what
+                             compact leaves
   error script            2  a line of the script does not read, and no later one was run
   error file not found    3  the range is not empty, and the store has no such file
   error read              4  standard input failed
@@ -106,6 +147,7 @@ last line, and exit status:
   error settings K        7  K is 1 for lanes=0, 3 for least=0, 4 for a greatest below the least;
                              nothing was fetched
   error input             8  the input is longer than the limit
+  bad N                  10  N things are wrong with the store
   After 5 and 6 the digits may be cut short, and lines may be missing.
 
 example, with the store in the file hello.json:

@@ -17,9 +17,15 @@ use xet_store::{Sink, Source, Tap};
 ///   reads as a call of a completion tracker, and the line of each reply was printed. For `bench` no setting fails, and
 ///   the four lines of the bytes of a made file of so many terms were printed, whatever the options are. For
 ///   `roundtrip` the text of the pointer record of a made file of so many bytes was printed, a line end, `ok n` with
-///   their number, and a line end.
+///   their number, and a line end. For `audit` nothing is found in the store that the input lists, valid or not, and a
+///   line for each of its xorbs that no file names was printed, and `ok` with how many files and xorbs there are. For
+///   `compact` the input lists a valid store, and the document of its files in the least store was printed, a line end,
+///   and `ok` with how many xorbs are kept and how many chunks were dropped.
 /// - 1, `error words`: exactly where the words don't read. Nothing was read.
-/// - 2, `error store` for `get`: exactly where the input is within the limit and is no document of a valid store;
+/// - 2, `error store` for `get`: exactly where the input is within the limit and is no document of a valid store; for
+///   `audit`: exactly where it is within the limit and lists no store, valid or not; for `compact`: exactly where it is
+///   within the limit and lists no valid store. `error hash H` for `compact`: exactly where it lists a valid store, and
+///   two lists of kept chunks that differ would stand under the hash H.
 ///   `error script` for `track`, after the lines of the calls before it: exactly where a line of it doesn't read.
 /// - 3, a line end and `error file not found`: exactly where the input is a document of a valid store, no setting
 ///   fails, the range isn't empty and the store has no such file; that, and that with 0 the store has the file, is said
@@ -31,13 +37,16 @@ use xet_store::{Sink, Source, Tap};
 ///   words fails first, whatever the file and the range are. Nothing passed the taps of the lanes, where these tell it:
 ///   all taps are as before. For `bench` that line alone, exactly where setting K of the words fails first.
 /// - 8, `error input`: exactly where the input has more than 67,108,864 bytes, which is the limit.
+/// - 10, `bad n` for `audit`, after a line for each finding and for each spare xorb: exactly where the input lists a
+///   store in which so many things are found.
 /// - 12, `error block K` after the digits of some bytes and a line end: over a tap that isn't honest. Where the taps of
 ///   the lanes tell what passed and what they handed on, K is the test that a block of a plan of the store's, or a term
 ///   in one, fails in what they handed on. Never over taps that hand each block on as it came.
 ///
-/// "Exactly" yields to 5 and 6, and for 2, 3, 7 and 8 to 4 too: a read may fail first. There are 64 taps: while a run
-/// of `get` goes on each is owned by a connection, the first by those of the lanes, and handed back then; the others
-/// are as before, and with 1, 2, 4, 7 and 8 and for the other commands all are; `bench` and `roundtrip` read nothing.
+/// "Exactly" yields to 5 and 6, and for 2, 3, 7, 8 and 10 to 4 too: a read may fail first. There are 64 taps: while a
+/// run of `get` goes on each is owned by a connection, the first by those of the lanes, and handed back then; the
+/// others are as before, and with 1, 2, 4, 7 and 8 and for the other commands all are; `bench` and `roundtrip` read
+/// nothing.
 /// Each tap is as honest afterwards as it was. What is said of the bytes of a store's file is said where those of the
 /// lanes hand each block on as it came, for all options. Over such taps that tell what passed, each chunk with a byte
 /// in the range passed one of them with status 0. Over taps of any kind that tell what passed and what they handed on,

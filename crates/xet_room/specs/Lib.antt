@@ -1,4 +1,5 @@
 pub mod Ends
+pub mod Inputs
 pub mod LaterFlushes
 pub mod Numbers
 pub mod Outcome

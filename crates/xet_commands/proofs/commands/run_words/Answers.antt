@@ -1,6 +1,6 @@
 use Rattle.std.proofs.Common.{map, rules, ◌≡◌}
 use Rattle.std.specs.Prelude.{Some, string_bytes}
-use Rattle.xet_commands.specs.declared.commands.Command.TheVariants.{Bench, Roundtrip, Track}
+use Rattle.xet_commands.specs.declared.commands.Command.TheVariants.{Audit, Bench, Compact, Roundtrip, Track}
 use Rattle.xet_commands.specs.Commands.{command_of}
 use Rattle.xet_commands.proofs.commands.run_words.Goals as goal
 
@@ -8,6 +8,16 @@ pub returns-in-Some-Track-clause-outcome : goal.returns-in-Some-Track-clause-out
 returns-in-Some-Track-clause-outcome g c =
     let is : command_of (map string_bytes c.args.words.now) ≡ Some Track = search rules in
     rw is (c.track.ensures.outcome (map g.T.Tap.told c.args.taps.now.items))
+
+pub returns-in-Some-Audit-clause-outcome : goal.returns-in-Some-Audit-clause-outcome
+returns-in-Some-Audit-clause-outcome g c =
+    let is : command_of (map string_bytes c.args.words.now) ≡ Some (Audit c.in-Some-Audit.hashes) = search rules in
+    rw is (c.audit.ensures.outcome (map g.T.Tap.told c.args.taps.now.items))
+
+pub returns-in-Some-Compact-clause-outcome : goal.returns-in-Some-Compact-clause-outcome
+returns-in-Some-Compact-clause-outcome g c =
+    let is : command_of (map string_bytes c.args.words.now) ≡ Some Compact = search rules in
+    rw is (c.compact.ensures.outcome (map g.T.Tap.told c.args.taps.now.items))
 
 pub returns-in-Some-Bench-clause-outcome : goal.returns-in-Some-Bench-clause-outcome
 returns-in-Some-Bench-clause-outcome g c =
