@@ -14,8 +14,8 @@ use std::marker::Model;
 use std::mem;
 use xet_base::{FileRange, MerkleHash, OutOfMemory, Text};
 
-/// A file by its hash and length in bytes, and the ranges of its bytes that are missing, half open: nonempty,
-/// ascending, apart by a byte at least, inside the length. Contracts see it as that. A gap takes 16 bytes of memory.
+/// A file by its hash and length in bytes, and the ranges of its bytes that are missing, half open: nonempty, ascending
+/// and apart by a byte at least, inside the length. Contracts see it as that. A gap takes 16 bytes of memory.
 ///
 /// The Rust crate has no such type.
 #[derive(Drop)]

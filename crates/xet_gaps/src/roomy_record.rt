@@ -47,6 +47,7 @@ impl RoomyRecord {
         ensures parts { parts_of result.now range ≡ parts_of self.now.gaps range }
         ensures each { AllByRecursion (Touches range) result.now }
         ensures are { AreGaps 0 self.now.length_is result.now }
+        ensures all { AreGaps 0 self.now.length_is self.now.gaps }
     {
         let gaps = &self.gaps[self.first..];
         let (from, to) = find_touched(gaps, range);

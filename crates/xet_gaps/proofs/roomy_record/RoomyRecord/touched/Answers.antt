@@ -23,6 +23,9 @@ returns-clause-each c =
     each_touches gs c.args.range c.find_touched-from.result.0 c.find_touched-from.result.1 c.self.inside.size are
     c.find_touched-from.ensures
 
+pub returns-clause-all : goal.returns-clause-all
+returns-clause-all c = rw (← c.self.view_is) c.self.invariant.1
+
 pub returns-clause-are : goal.returns-clause-are
 returns-clause-are c =
     let all = c.deref.result.now in
