@@ -18,8 +18,8 @@ pub struct RawFile {
 /// The Rust crates have no such type.
 #[derive(Drop)]
 pub struct RawStore {
-    /// The xorbs, in the order in which they were read.
+    /// The xorbs. One that was read has them by ascending keys, a compacted one by ascending hash.
     pub xorbs: List<RawXorb>,
-    /// The files, in the order in which they were read.
+    /// The files, in the same order.
     pub files: List<RawFile>,
 }

@@ -1,22 +1,20 @@
 -- Turns of a job, one after another, up to its end.
-use Rattle.std.proofs.Common.{◌≡◌, ℕ, ◌+◌, ◌-◌, ◌<◌, ◌≤◌, ◌^◌, ◌⊎◌, inl, inr, Bool, true, false, List, [], ◌∷◌, ◌++◌, length, refl, sym, ◌∙◌, ap, subst, arith}
-use Rattle.std.specs.Prelude.{Option, Some, None, IfSome, IsSome, option_map, unwrap_or, Result, Ok, Err, OnOk}
+use Rattle.std.proofs.Common.{◌≡◌, ℕ, ◌+◌, ◌-◌, ◌<◌, inl, inr, Bool, true, false, List, [], ◌∷◌, ◌++◌, length, refl, sym, ◌∙◌, ap, subst, arith}
+use Rattle.std.specs.Prelude.{Option, Some, None, IfSome, IsSome, option_map, unwrap_or, Result, Ok, Err}
 use Rattle.std.specs.List.{concat}
 use Rattle.std.proofs.lemmas.Bool.{false≢true}
 use Rattle.std.proofs.lemmas.List.{append-nil, append_assoc}
 use Rattle.std.proofs.lemmas.List.Folds.{concat-append}
 use Rattle.std.proofs.lemmas.Option.{same_Some}
-use Rattle.xet_base.specs.declared.merklehash.MerkleHash.{MerkleHash}
-use Rattle.xet_outside.specs.Told.{Rose, SourceTold}
+use Rattle.xet_outside.specs.Told.{SourceTold}
 use Rattle.xet_upload.specs.declared.data_error.DataError.{DataError}
-use Rattle.xet_upload.specs.declared.data_error.DataError.TheVariants as data_error
 use Rattle.xet_upload.specs.declared.sha256_policy.Sha256Policy.{Sha256Policy}
-use Rattle.xet_upload_session.specs.Calls.{Backs, finalized_error}
-use Rattle.xet_upload_session.specs.Sessions.{HasListed, SessionTold}
+use Rattle.xet_upload_session.specs.Calls.{finalized_error}
+use Rattle.xet_upload_session.specs.Sessions.{SessionTold}
 use Rattle.xet_clean_parts.specs.Pointers.{pointer_to, recorded_sha256}
 use Rattle.xet_clean.specs.Cleaners.{AddsData, Cleaner, IsFed, PassesTotal, past_total, total_of}
 use Rattle.xet_upload_files.specs.Uploads.{TakesOff}
-use Rattle.xet_jobs.specs.Jobs.{Ended, EndsJob, FeedsAll, FillCall, Fills, HeldStep, JobTold, RunFails, RunsJob, Seen, StepCall, Steps, Turn, Turns, UploadsAll, ends_with}
+use Rattle.xet_jobs.specs.Jobs.{Ended, EndsJob, FeedsAll, JobTold, RunsJob, Steps, Turn, Turns, UploadsAll}
 
 -- ---- bytes come off a source
 

@@ -1,5 +1,5 @@
 use Rattle.std.proofs.Common.{refl, ap, inl, sym, ◌≡◌, ◌∙◌}
-use Rattle.std.specs.Prelude.{Err, Option, option_map, unwrap_or}
+use Rattle.std.specs.Prelude.{Err, option_map, unwrap_or}
 use Rattle.xet_base.proofs.CallerLemmas.{err-of}
 use Rattle.xet_upload.specs.declared.data_error.DataError.TheVariants as data_error
 use Rattle.xet_clean.specs.Cleaners.{Cleaner}

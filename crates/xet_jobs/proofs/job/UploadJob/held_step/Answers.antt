@@ -1,4 +1,4 @@
-use Rattle.xet_jobs.specs.Telling.{job_of, seen_of}
+use Rattle.xet_jobs.specs.Telling.{seen_of}
 use Rattle.xet_jobs.proofs.Stepping.{step-backs}
 use Rattle.xet_jobs.proofs.job.UploadJob.held_step.Goals as goal
 
