@@ -1,3 +1,1 @@
-mod AllowedParts
 mod Joined
-mod Placed

@@ -1,4 +1,4 @@
--- What one pull of an unordered stream does and answers, and what the pulls give together.
+-- An unordered stream as plain values, and its items together.
 use Rattle.std.specs.Prelude.{ℕ, ◌≡◌, ◌⊎◌, ◌-◌, ◌<◌, ◌++◌, Bool, true, false, not, List, [], ◌∷◌, All, length, map}
 use Rattle.std.specs.Prelude.{take}
 use Rattle.std.specs.Prelude.{drop, filter, Option, Some, None, Result, Ok, Err}
@@ -39,49 +39,15 @@ abbrev pub IsIn : {A : Type 0} → A → List A → Type 0
 IsIn x [] = ⊥
 IsIn x (y ∷ ys) = (x ≡ y) ⊎ IsIn x ys
 
--- ---- one pull
+-- ---- items
 
 -- what a pull answers
 abbrev pub ItemAnswer : Type 0
 ItemAnswer = Result (Step (Option Item)) FileReconstructionError
 
--- the same answer with the bytes alone
-abbrev pub bytes_of_step : Step (Option Item) → Step (Option (List ℕ))
-bytes_of_step Pending = Pending
-bytes_of_step (Ready None) = Ready None
-bytes_of_step (Ready (Some item)) = Ready (Some item.1)
-
-abbrev pub bytes_of : ItemAnswer → Answer
-bytes_of (Ok a) = Ok (bytes_of_step a)
-bytes_of (Err e) = Err e
-
 -- where a term starts in the range
 abbrev pub offset_of : FileRange → Task → ℕ
 offset_of r t = t.term.byte_range.start - r.start
-
--- an item is of the term that was delivered: it stands where the term does, and no item stood there before
-pub record DeliversItem (b n : UnorderedView) (item : Item) : Type 0 where
-  pub before : List Event
-  pub last : n.stream.events ≡ before ++ Wrote (length item.1) ∷ []
-  pub term : Task
-  pub next : next_term before ≡ Some term
-  pub at : item.0 ≡ offset_of b.stream.setup.range term
-  pub new : IsIn item.0 b.delivered → ⊥
-  pub added : n.delivered ≡ b.delivered ++ item.0 ∷ []
-  pub going : n.ended ≡ b.ended
-
--- what an answer does to the list of offsets, and to the mark of the end
-abbrev pub Delivers : UnorderedView → UnorderedView → ItemAnswer → Type 0
-Delivers b n (Ok Pending) = (n.delivered ≡ b.delivered) × (n.ended ≡ b.ended)
-Delivers b n (Ok (Ready None)) = (n.delivered ≡ b.delivered) × (n.ended ≡ true)
-Delivers b n (Ok (Ready (Some item))) = DeliversItem b n item
-Delivers b n (Err e) = (n.delivered ≡ b.delivered) × (n.ended ≡ b.ended)
-
--- one pull: that of a stream, whose piece is handed over with its place
-pub record ItemCall (b n : UnorderedView) (cs ds : List ClientTold) (k l : CacheTold) (answer : ItemAnswer) : Type 0
-  where
-    pub pull : PullCall b.stream n.stream cs ds k l (bytes_of answer)
-    pub delivers : Delivers b n answer
 
 -- ---- readers
 
@@ -90,23 +56,7 @@ abbrev pub awaited : List Event → List Task
 awaited es = filter (λ t. not (is_kept es t.plan t.term.block))
     (map (λ (c : ℕ × Task). c.1) (unfinished es))
 
--- ---- laws
-
--- a pull over connections and a cache that tell the store
-pub record ItemOver (s : Store) (b n : UnorderedView) (answer : ItemAnswer) : Type 0 where
-  pub clients_before : List ClientTold
-  pub clients_after : List ClientTold
-  pub cache_before : CacheTold
-  pub cache_after : CacheTold
-  pub over : IsOver s clients_before
-  pub cache : CacheTells s cache_before
-  pub call : ItemCall b n clients_before clients_after cache_before cache_after answer
-
--- pulls, one after another; between two the stream may be cancelled
-abbrev pub ItemPulls : Store → UnorderedView → List ItemAnswer → UnorderedView → Type 0
-ItemPulls s b [] n = n ≡ b
-ItemPulls s b (a ∷ more) n = (c : StreamView) × (m : UnorderedView) × MayCancel b.stream c
-    × ItemOver s (record b { stream = c }) m a × ItemPulls s m more n
+-- ---- items together
 
 abbrev pub items_in : ItemAnswer → List Item
 items_in (Ok (Ready (Some item))) = item ∷ []
@@ -144,14 +94,3 @@ pub record IsSortedOf (items sorted : List Item) : Type 0 where
 pub record ArePlaced (s : Store) (g : Setup) (items : List Item) : Type 0 where
   pub each : All (IsPlaced s g) items
   pub once : Differ (map (λ (x : Item). x.0) items)
-
-abbrev pub ItemsArePlaced : Type 0
-ItemsArePlaced = (s : Store) → IsValid s → (g : Setup) (limits : LimitTold) (answers : List ItemAnswer)
-    (n : UnorderedView) → ItemPulls s (new_unordered g limits) answers n → ArePlaced s g (items_of answers)
-
--- up to an end that is none without error or cancel, sorted by their offsets they join to the window
-abbrev pub ItemsJoin : Type 0
-ItemsJoin = (s : Store) → IsValid s → (g : Setup) (limits : LimitTold) (answers : List ItemAnswer)
-    (end n : UnorderedView) → ItemPulls s (new_unordered g limits) answers end → ItemOver s end n (Ok (Ready None))
-    → IsOpen n.stream → (sorted : List Item) → IsSortedOf (items_of answers) sorted
-    → flat_map (λ (x : Item). x.1) sorted ≡ window s g.file g.range

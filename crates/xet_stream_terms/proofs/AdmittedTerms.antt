@@ -25,7 +25,7 @@ use Rattle.xet_leader.specs.LedTerms.{IsNextTerm, NoneHas, PlanTerm, ahead, size
 use Rattle.xet_leader.specs.Stepping.{AdmitSome, AdmittedSome}
 use Rattle.xet_leader.proofs.CallerLemmas.{length_tasks, next_tasks}
 use Rattle.xet_stream_rules.specs.Streams.{Carries, nobody}
-use Rattle.xet_stream_terms.specs.Admitting.{AdmitsCall, AdmitsNext, most_of}
+use Rattle.xet_stream_terms.specs.Admitting.{AdmitsCall, AdmitsNext, AdmitsSome, AheadCall, most_of}
 use Rattle.xet_stream_rules.specs.Moments.{Lasts, at}
 use Rattle.xet_stream_terms.proofs.Admits.{admit_still, carries_admits}
 use Rattle.xet_stream_rules.proofs.CallerLemmas.{each_same, lasts_still, lasts_then, admits_running}
@@ -225,3 +225,51 @@ module _ (g : Setup) (es : List Event) (l : Led) (c : Carries nobody g es l) (n 
           },
         );
       }
+
+-- ---- all that wait
+
+waiting_few : (left : ℕ) (fs : List Event) (us : List ℕ) → IsWaiting left fs us → length us ≤ 1
+waiting_few left fs [] w = omega arith
+waiting_few left fs (u ∷ []) w = omega arith
+waiting_few left fs (u ∷ v ∷ us) w = absurd w
+
+module _ (g : Setup) (es : List Event) (l : Led) (c : Carries nobody g es l) (cs : List ClientTold) (kk : CacheTold)
+    (before after : LimitTold) (fs : List Event) (k : Led) (most : ℕ) where
+  admitted_some : AdmittedSome most before after es fs l k
+      → AdmitsSome g (at es l cs kk) (at fs k cs kk) before after
+  admitted_some a =
+      let ls = a.admits.admitted.limits in
+      let is : fs ≡ es ++ admits ls = a.admits.admitted.events in
+      let lasts : Lasts g (at es l cs kk) (at fs k cs kk) =
+      subst (λ (v : List Event). Lasts g (at es l cs kk) (at v k cs kk)) (sym is) (lasts_admits g es l k cs kk ls) in
+      record {
+        unused = a.admits.unused;
+        few = waiting_few a.left fs a.admits.unused a.admits.waits;
+        admits = record { limits = ls; added = is; given = a.admits.admitted.given; lasts = lasts };
+        goes = record {
+          lasts = lasts;
+          carries = λ b t h. subst (λ (v : List Event). Carries b g v k) (sym is)
+              (subst (λ (z : Led). Carries b g (es ++ admits ls) z) (sym a.led)
+              (carries_admits b g es l h ls most a.left a.admits.counted));
+        };
+        led = a.led ∙ ap (λ (m : ℕ). record l { admitted = m }) (sym (ap (λ (z : Led). z.admitted) a.led));
+      }
+
+  pub ahead_call : (answer : Result (Unit {0}) FileReconstructionError)
+      → AdmitSome most before after es fs l k answer
+      → AheadCall g (at es l cs kk) (at fs k cs kk) before after answer
+  ahead_call (Ok tt) a = record { ok = admitted_some a.ok; err = tt }
+  ahead_call (Err x) a = record {
+    ok = tt;
+    err = (
+      a.err.admits.memory,
+      a.err.admits.last,
+      record {
+        limits = a.err.admits.admitted.limits;
+        added = a.err.admits.admitted.events;
+        given = a.err.admits.admitted.given;
+        lasts = subst (λ (v : List Event). Lasts g (at es l cs kk) (at v k cs kk)) (sym a.err.admits.admitted.events)
+            (lasts_admits g es l k cs kk a.err.admits.admitted.limits);
+      },
+    );
+  }

@@ -5,4 +5,4 @@ pub use Rattle.xet_stream_terms.proofs.HandedTerms.{goes_wrote, next_task, refus
 pub use Rattle.xet_stream_terms.proofs.Marking.{marks_on}
 pub use Rattle.xet_stream_terms.proofs.PlanCounts.{plan_part}
 pub use Rattle.xet_stream_terms.proofs.TermSizes.{piece_sized}
-pub use Rattle.xet_stream_terms.proofs.Wanting.{next_missing}
+pub use Rattle.xet_stream_terms.proofs.Wanting.{next_missing, term_missing}

@@ -1,5 +1,5 @@
 -- Handing the next term over, by what its calls answered.
-use Rattle.std.proofs.Common.{◌≡◌, inl, ℕ, ◌+◌, ◌-◌, ◌^◌, List, [], ◌∷◌, ◌++◌, refl, sym, subst, ◌∙◌, ap, arith, Option, Some, None, Ok, Err}
+use Rattle.std.proofs.Common.{◌≡◌, inl, ℕ, Bool, true, false, ◌+◌, ◌-◌, ◌^◌, List, [], ◌∷◌, ◌++◌, refl, sym, subst, ◌∙◌, ap, arith, Option, Some, None, Ok, Err}
 use Rattle.std.specs.Prelude.{get_or, length, min, slice_get}
 use Rattle.std.proofs.lemmas.Option.{slice_get_read, slice_get_within}
 use Rattle.xet_error.specs.declared.error.FileReconstructionError.{FileReconstructionError}
@@ -7,6 +7,7 @@ use Rattle.xet_error.specs.declared.error.FileReconstructionError.TheVariants as
 use Rattle.xet_events.specs.declared.event.Event.{Event}
 use Rattle.xet_events.specs.declared.event.Event.TheVariants.{Wrote}
 use Rattle.xet_events.specs.Allowed.{IsAllowed}
+use Rattle.xet_events.specs.Events.{is_kept}
 use Rattle.xet_ties.specs.Setup.{Setup}
 use Rattle.xet_leader.specs.declared.ahead.NextTerm.{NextTerm}
 use Rattle.xet_leader.specs.declared.leader.LedPlan.{LedPlan}
@@ -16,9 +17,9 @@ use Rattle.xet_leader.specs.LedTerms.{BytesOf, IsNextTerm, PlanTerm, of_plan, si
 use Rattle.xet_leader.proofs.CallerLemmas.{same_found}
 use Rattle.xet_stream_rules.specs.Streams.{Carries, nobody}
 use Rattle.xet_stream_rules.specs.declared.step.Step.TheVariants.{Pending, Ready}
-use Rattle.xet_stream_terms.specs.Handing.{HandsTerm, IsOpenNext}
+use Rattle.xet_stream_terms.specs.Handing.{HandsTerm, IsOpenNext, RecordsTerm}
 use Rattle.xet_stream_terms.proofs.AdmittedTerms.{empties_are, is_planned}
-use Rattle.xet_stream_terms.proofs.HandedTerms.{may_wrote}
+use Rattle.xet_stream_terms.proofs.HandedTerms.{may_record, may_wrote}
 
 -- the plan that was read is the term's
 pub plan_read : (ls : List LedPlan) (l : Led) → ls ≡ l.plans → (n : NextTerm) → (x : IsNextTerm l n) → (p : LedPlan)
@@ -70,3 +71,42 @@ module _ (g : Setup) (es : List Event) (l : Led) (c : Carries nobody g es l) (n 
     pub hands_short : (e : FileReconstructionError) (fs : List Event) → e ≡ error.OutOfMemory → fs ≡ es
         → HandsTerm es fs l l n (Err e)
     hands_short e fs memory same = record { next = next.next; hands = (refl, same, inl memory) }
+
+    -- ---- it was handed over before
+
+    pub record_may : (plan : ℕ) → plan ≡ next.next.plan.number → (kept : Bool) → kept ≡ is_kept es plan n.term.xorb_block
+        → kept ≡ true → (long : ℕ) → long ≡ size_in t → IsAllowed es (Wrote long)
+    record_may plan of_it kept same yes_kept long is =
+        subst (λ (k : ℕ). IsAllowed es (Wrote k)) (sym is)
+        (may_record g es l c n next.next next.open_now
+        (ap (λ (p : ℕ). is_kept es p n.term.xorb_block) (sym of_it) ∙ sym same ∙ yes_kept))
+
+    pub records_it : (long : ℕ) → long ≡ size_in t → (fs : List Event) → fs ≡ es ++ Wrote long ∷ [] → (count : ℕ)
+        → count ≡ min (n.empties + 1) (2 ^ 64 - 1) → (k : Led) → k ≡ advanced count l → RecordsTerm es fs l k n (Ok true)
+    records_it long is fs events count one k led =
+        let f = empties_are g es l c n next.next in
+        let p = is_planned g es l c n next.next in
+        let fits = c.led.counted.planned_fits in
+        let same : count ≡ n.empties + 1 = omega (arith, one, f, p, fits) in
+        record {
+          next = next.next;
+          records = (
+            events ∙ ap (λ (s : ℕ). es ++ Wrote s ∷ []) is,
+            led ∙ ap (λ (s : ℕ). advanced s l) same,
+          );
+        }
+
+    pub records_none : (plan : ℕ) → plan ≡ next.next.plan.number → (kept : Bool)
+        → kept ≡ is_kept es plan n.term.xorb_block → kept ≡ false → RecordsTerm es es l l n (Ok false)
+    records_none plan of_it kept same absent = record {
+      next = next.next;
+      records = (
+        refl,
+        refl,
+        ap (λ (p : ℕ). is_kept es p n.term.xorb_block) (sym of_it) ∙ sym same ∙ absent,
+      );
+    }
+
+    pub records_short : (e : FileReconstructionError) (fs : List Event) → e ≡ error.OutOfMemory → fs ≡ es
+        → RecordsTerm es fs l l n (Err e)
+    records_short e fs memory same = record { next = next.next; records = (memory, same, refl) }

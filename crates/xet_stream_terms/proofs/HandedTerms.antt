@@ -221,10 +221,9 @@ module _ (g : Setup) (es : List Event) (l : Led) (c : Carries nobody g es l) (n 
   pub within : l.finished + (count + 1) ≤ l.admitted
   within = let e = empties_are g es l c n next in omega (arith, opens, e)
 
-  -- where its block keeps data
-  pub may_wrote : (d : XorbBlockData) → kept_in t ≡ Some d → IsAllowed es (Wrote (size_in t))
-  may_wrote d kept =
-      let k = is_kept_there g nobody es c.slack [] t is_led d kept in
+  -- where its block is kept
+  pub may_record : is_kept es next.plan.number n.term.xorb_block ≡ true → IsAllowed es (Wrote (size_in t))
+  may_record k =
       let one = ones (ahead l) count t next.first.there next.first.before next.first.some in
       let long = slice_get_within (ahead l) count t next.first.there in
       let size : length (Tasks some_front) ≡ count + 1 =
@@ -239,6 +238,10 @@ module _ (g : Setup) (es : List Event) (l : Led) (c : Carries nobody g es l) (n 
       (is_at g nobody es c.slack [] l c.led) (omega (arith, size, w, admitted)) parts
       (kept_tasks es (ahead l) count t next.first.there next.first.before k) in
       (subst (λ (fs : List Event). AllowedAfter es fs) one.events all).0
+
+  -- where its block keeps data
+  pub may_wrote : (d : XorbBlockData) → kept_in t ≡ Some d → IsAllowed es (Wrote (size_in t))
+  may_wrote d kept = may_record (is_kept_there g nobody es c.slack [] t is_led d kept)
 
   -- it is the history's next term
   pub next_task : next_term es ≡ Some (task_of t)

@@ -1,5 +1,5 @@
 -- What admitting the terms up to the next one does.
-use Rattle.std.specs.Prelude.{ℕ, ◌≡◌, ◌+◌, ◌-◌, ◌^◌, ◌<◌, ◌++◌, min, List, [], ◌∷◌, Result, OnOk, IfErr}
+use Rattle.std.specs.Prelude.{ℕ, ◌≡◌, ◌+◌, ◌-◌, ◌^◌, ◌<◌, ◌≤◌, ◌++◌, min, List, [], ◌∷◌, length, Result, OnOk, IfErr}
 use Rattle.xet_error.specs.declared.error.FileReconstructionError.{FileReconstructionError}
 use Rattle.xet_error.specs.declared.error.FileReconstructionError.TheVariants as error
 use Rattle.xet_events.specs.Limits.{LimitTold}
@@ -31,4 +31,18 @@ pub record AdmitsNext (g : Setup) (x y : At) (before after : LimitTold) (n : Nex
 pub record AdmitsCall (g : Setup) (x y : At) (before after : LimitTold) (n : NextTerm)
     (answer : Result (Unit {0}) FileReconstructionError) : Type 0 where
   pub ok : OnOk answer (AdmitsNext g x y before after n)
+  pub err : IfErr answer (λ e. (e ≡ error.OutOfMemory) × (last : ℕ) × Admits g x y before after (last ∷ []))
+
+-- those that wait are, each under a limit of its own; the limit that was given last may have refused one
+pub record AdmitsSome (g : Setup) (x y : At) (before after : LimitTold) : Type 0 where
+  pub unused : List ℕ
+  pub few : length unused ≤ 1
+  pub admits : Admits g x y before after unused
+  pub goes : Goes g x y
+  pub led : y.led ≡ record x.led { admitted = y.led.admitted }
+
+-- one call of `admit_ahead`
+pub record AheadCall (g : Setup) (x y : At) (before after : LimitTold)
+    (answer : Result (Unit {0}) FileReconstructionError) : Type 0 where
+  pub ok : OnOk answer (AdmitsSome g x y before after)
   pub err : IfErr answer (λ e. (e ≡ error.OutOfMemory) × (last : ℕ) × Admits g x y before after (last ∷ []))

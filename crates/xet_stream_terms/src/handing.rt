@@ -3,7 +3,7 @@ ghost use Rattle.std.specs.Prelude.{◌≡◌};
 ghost use Rattle.xet_ties.specs.Setup.{Setup};
 ghost use Rattle.xet_leader.specs.LedTerms.{BytesOf, IsNextTerm, of_plan};
 ghost use Rattle.xet_stream_rules.specs.Streams.{Carries, nobody};
-ghost use Rattle.xet_stream_terms.specs.Handing.{HandsTerm, IsOpenNext};
+ghost use Rattle.xet_stream_terms.specs.Handing.{HandsTerm, IsOpenNext, RecordsTerm};
 
 use bytes::Bytes;
 use std::alloc::Global;
@@ -51,6 +51,41 @@ pub fn hand_over<R: Wait, P: FetchPolicy, E: EventLog>(
     advance(leader, next.empties.saturating_add(1));
     report_delivered(rt, leader, length);
     Ok(Step::Ready(Some(piece)))
+}
+
+/// Records the next term as written, whose bytes were handed over before those of a term ahead of it, where its block
+/// is kept. Whether it is. `OutOfMemory` where memory was refused, and then nothing is recorded.
+pub fn record_given<P: FetchPolicy, E: EventLog>(
+    leader: &mut Leader<P>,
+    core: &mut RunCore<E>,
+    next: NextTerm,
+) -> Result<bool>
+    requires carries { (g : Setup) × Carries nobody g core.old leader.old }
+    requires next { IsOpenNext leader.old next }
+    ensures { RecordsTerm core.old core.new leader.old leader.new next result }
+{
+    if !core.is_kept(plan_of(leader, next), next.term.xorb_block) {
+        return Ok(false);
+    }
+    let length = next
+        .term
+        .byte_range
+        .end
+        .saturating_sub(next.term.byte_range.start);
+    match add_wrote(core, length) {
+        Ok(()) => {}
+        Err(error) => return Err(error),
+    }
+    advance(leader, next.empties.saturating_add(1));
+    Ok(true)
+}
+
+/// The number of the next term's plan.
+fn plan_of<P: FetchPolicy>(leader: &Leader<P>, next: NextTerm) -> u64
+    requires { IsNextTerm leader.now next }
+    ensures { (x : IsNextTerm leader.now next) → result ≡ x.plan.number }
+{
+    leader.plans[next.place].number
 }
 
 /// The bytes of the next term, where its block is kept.

@@ -5,6 +5,6 @@ pub mod admitting;
 pub mod handing;
 pub mod planning;
 
-pub use admitting::admit_next;
-pub use handing::hand_over;
+pub use admitting::{admit_ahead, admit_next};
+pub use handing::{hand_over, record_given};
 pub use planning::plan_next;

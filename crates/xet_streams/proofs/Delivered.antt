@@ -31,7 +31,8 @@ use Rattle.xet_stream_terms.proofs.CallerLemmas.{empties_are, goes_wrote, next_t
 use Rattle.xet_stream_blocks.specs.BlockParts.{BlockFails}
 use Rattle.xet_stream_blocks.specs.Providing.{IsProvision, Provides}
 use Rattle.xet_stream_blocks.proofs.CallerLemmas.{block_part}
-use Rattle.xet_streams.specs.steps.Stepping.{Delivers, IsPlaceOf, IsPlaced, StepAnswer, left_at}
+use Rattle.xet_streams.specs.Places.{IsPlaced}
+use Rattle.xet_streams.specs.steps.Stepping.{Delivers, IsPlaceOf, StepAnswer, left_at}
 
 -- ---- what a block's events leave
 

@@ -1,7 +1,7 @@
+mod AnyBlocks
+mod AnyParts
 mod Delivered
 mod Ending
-mod ItemWaiting
-mod Placings
 mod PullWays
 mod Pulled
 mod Starting

@@ -46,12 +46,12 @@ stands_once b v h = record {
 }
 
 -- what holds of its history, whatever else
-record IsTrueSo (b : RunTold) (v : StreamView) : Type 0 where
+pub record IsTrueSo (b : RunTold) (v : StreamView) : Type 0 where
   pub true_of : (s : Store) → IsOver s b.clients → IsTrueHistory s (download_of v.setup) v.events
   pub starts : FirstStarts v.setup.range.start (planned v.events)
 
 -- an error is recorded, or nothing
-told_stands : (b : RunTold) (v : StreamView) (e told : FileReconstructionError) (n : StreamView) → IsTrueSo b v
+pub told_stands : (b : RunTold) (v : StreamView) (e told : FileReconstructionError) (n : StreamView) → IsTrueSo b v
     → IsTold v n e told → Stands b n
 told_stands b v e told n h t = ⊎_elim
     (λ (z : (told ≡ e) × (n ≡ record v { events = v.events ++ Fail told ∷ []; told_error = Some told })).
@@ -128,7 +128,7 @@ module _ (b : StreamView) (open_now : IsOpen b) (led : Led) (start : IsStart b.s
       → Carries (telling_so store entries) g b.events led
   led_of store entries s = start.carries store entries (s.led open_now)
 
-  stands_then : (y : At) → Goes g x y → (store : Option Store) (entries : Option (List CacheEntry))
+  pub stands_then : (y : At) → Goes g x y → (store : Option Store) (entries : Option (List CacheEntry))
       → TellsAs (telling_so store entries) cs k → Stands (telling_so store entries) b
       → Stands (telling_so store entries) (view y.events y.led)
   stands_then y on store entries tells s = record {
@@ -138,7 +138,7 @@ module _ (b : StreamView) (open_now : IsOpen b) (led : Led) (start : IsStart b.s
   }
 
   -- its work
-  abbrev work_of : (y : At) → Worked g x y b.limits after → StepWork b (view y.events y.led) cs y.clients k y.cache
+  abbrev pub work_of : (y : At) → Worked g x y b.limits after → StepWork b (view y.events y.led) cs y.clients k y.cache
   work_of y w = record {
     new = w.new;
     added = w.added;

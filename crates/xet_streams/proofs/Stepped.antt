@@ -66,7 +66,7 @@ left_grows g es new none = by (next_term es) refl (next_term (es ++ new)) refl
 
 -- ---- parts of which there is nothing
 
-abbrev no_admits : (g : Setup) (x : At) (l : LimitTold) → Admits g x x l l []
+abbrev pub no_admits : (g : Setup) (x : At) (l : LimitTold) → Admits g x x l l []
 no_admits g x l = record { limits = []; added = sym (append-nil x.events); given = refl; lasts = lasts_same g x }
 
 into_all : (xs ls ys : List Event) (v : Event) → Contains ys v → Contains (xs ++ (ls ++ ys)) v

@@ -1,3 +1,4 @@
-pub mod ItemWaits
+pub mod AnyOrder
 pub mod Parts
+pub mod Places
 pub mod steps

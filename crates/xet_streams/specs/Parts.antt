@@ -1,21 +1,18 @@
 -- What the private parts of a step do.
-use Rattle.std.specs.Prelude.{ℕ, zero, suc, ◌≡◌, ◌≤◌, Bool, true, false, List, [], length, map, take, Option, Some}
+use Rattle.std.specs.Prelude.{ℕ, zero, suc, ◌≡◌, ◌≤◌, Bool, true, false, List, [], Option, Some}
 use Rattle.std.specs.Prelude.{None, Ok}
 use Rattle.xet_base.specs.declared.cas_types.FileRange.{FileRange}
 use Rattle.xet_outside.specs.Told.{CacheTold, ClientTold}
 use Rattle.xet_events.specs.declared.budget_book.BookView.{BookView}
 use Rattle.xet_events.specs.declared.event.Event.{Event}
-use Rattle.xet_events.specs.Allowed.{IsAllowedHistory}
 use Rattle.xet_events.specs.Books.{book_limit}
 use Rattle.xet_events.specs.Limits.{LimitTold}
-use Rattle.xet_ties.specs.Saids.{some_of}
 use Rattle.xet_ties.specs.Setup.{Setup}
 use Rattle.xet_leader.specs.declared.leader.Job.{Job}
 use Rattle.xet_leader.specs.Led.{Led, setup_of_job}
 use Rattle.xet_stream_rules.specs.declared.step.Step.TheVariants.{Pending}
 use Rattle.xet_stream_rules.specs.Pulls.{PullCall}
-use Rattle.xet_stream_rules.specs.Streams.{Carries, Stands, StreamView, delivered, is_closed, nobody}
-use Rattle.xet_stream_rules.specs.Unordered.{offset_of}
+use Rattle.xet_stream_rules.specs.Streams.{Carries, StreamView, is_closed, nobody}
 use Rattle.xet_stream_terms.specs.Planning.{IsMarked}
 
 -- ---- limits
@@ -44,13 +41,6 @@ pub record Holds (j : Job) (es : List Event) (o : Option Led) (reached pulled ca
   pub begun : IsBegun j.byte_range o pulled cancelled seen
   -- what a leader is made of is there until one is made
   pub order_held : o ≡ None → ordered ≡ true
-
--- what an unordered stream keeps: the places are those of the terms that were delivered
-pub record IsPlacing (v : StreamView) (places : List ℕ) : Type 0 where
-  pub allowed : IsAllowedHistory v.events
-  pub stands : Stands nobody v
-  pub few : delivered v.events ≤ length (some_of v.events)
-  pub placed : places ≡ map (offset_of v.setup.range) (take (delivered v.events) (some_of v.events))
 
 -- ---- pulls that weren't there yet
 

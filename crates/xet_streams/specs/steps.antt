@@ -1,5 +1,5 @@
 -- Working words of private functions.
-pub mod ItemWaiting
+pub mod Ahead
 pub mod Pulling
 pub mod Stepping
 pub mod Working

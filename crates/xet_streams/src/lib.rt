@@ -3,14 +3,14 @@
 
 pub mod download_stream;
 pub mod flag;
-mod limits;
+pub mod limits;
+mod parts;
 mod pulls;
-mod stepper;
+pub mod stepper;
 mod stepping;
-pub mod unordered_download_stream;
-mod waiting_items;
 
 pub use download_stream::DownloadStream;
 pub use flag::FlagSignal;
-pub use unordered_download_stream::UnorderedDownloadStream;
+pub use limits::StreamLimits;
+pub use stepper::{Order, Stepper};
 pub use xet_stream_rules::Step;

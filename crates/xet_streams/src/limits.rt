@@ -8,9 +8,9 @@ use xet_run::{BookView, BudgetSource};
 
 /// Where a stream's limits come from: a book, or the one limit of its settings.
 #[derive(Drop)]
-pub(crate) struct StreamLimits {
-    pub(crate) limit: u64,
-    pub(crate) book: Option<BookView>,
+pub struct StreamLimits {
+    pub limit: u64,
+    pub book: Option<BookView>,
 }
 
 impl BudgetSource for StreamLimits {

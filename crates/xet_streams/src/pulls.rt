@@ -11,7 +11,7 @@ ghost use Rattle.xet_stream_rules.specs.Streams.{IsAtEnd, IsOpen};
 ghost use Rattle.xet_streams.specs.Parts.{HoldsAt};
 ghost use Rattle.xet_streams.specs.steps.Pulling.{AsksFlag, BeginsCall, CanBegin, IsUnrefused, OpenPull, Refusal};
 ghost use Rattle.xet_streams.specs.steps.Pulling.{StepPull, StepsOver};
-ghost use Rattle.xet_streams.specs.steps.Stepping.{IsFit, IsPlaced};
+ghost use Rattle.xet_streams.specs.Places.{IsFit, IsPlaced};
 
 use crate::stepper::{Order, Stepper};
 use crate::stepping::take_step;
@@ -31,7 +31,7 @@ impl<P: FetchPolicy + Drop, E: EventLog> Stepper<P, E> {
     /// One pull: none where the stream isn't open, after its own flag was asked; else a setting refuses it, it is at
     /// its end, or a step is taken, where the caller has room for a piece. Every error is recorded and told. `start`
     /// becomes the place of a piece's first byte in the file.
-    pub(crate) fn pull<R: Wait, C: Client, K: ChunkCache>(
+    pub fn pull<R: Wait, C: Client, K: ChunkCache>(
         &mut self,
         rt: &R,
         alloc: Global,
@@ -55,7 +55,7 @@ impl<P: FetchPolicy + Drop, E: EventLog> Stepper<P, E> {
 
     /// Whether it isn't open: an error was told, it was cancelled, or its own flag is seen raised, which is asked once
     /// where it is open still.
-    fn ask_flag(&mut self) -> bool
+    pub(crate) fn ask_flag(&mut self) -> bool
         ensures { AsksFlag self.old self.new result }
     {
         if self.told_error.is_some() || self.cancelled || 0 < self.flag.seen {
@@ -87,7 +87,7 @@ impl<P: FetchPolicy + Drop, E: EventLog> Stepper<P, E> {
     }
 
     /// The setting that refuses a pull over so many connections.
-    fn refusal(&self, connections: usize) -> Option<Setting>
+    pub(crate) fn refusal(&self, connections: usize) -> Option<Setting>
         requires { IsOpen self.now }
         ensures { Refusal self.now connections result }
     {
@@ -101,7 +101,7 @@ impl<P: FetchPolicy + Drop, E: EventLog> Stepper<P, E> {
     }
 
     /// Whether all of the range was delivered: it has no bytes, or is planned to its end and no planned term is left.
-    fn is_at_end(&self) -> bool
+    pub(crate) fn is_at_end(&self) -> bool
         requires { IsOpen self.now }
         ensures yes { result ≡ true → IsAtEnd self.now.setup.range self.now.events }
         ensures no { result ≡ false → IsAtEnd self.now.setup.range self.now.events → ⊥ }
@@ -201,7 +201,7 @@ impl<P: FetchPolicy + Drop, E: EventLog> Stepper<P, E> {
 }
 
 /// Records an error, and keeps what that answers: it, or `OutOfMemory` where memory for the event was refused.
-fn tell<E: EventLog>(
+pub(crate) fn tell<E: EventLog>(
     core: &mut RunCore<E>,
     told_error: &mut Option<FileReconstructionError>,
     error: FileReconstructionError,

@@ -18,15 +18,15 @@ use xet_run::{Event, EventLog, KeptEvents, RunCore};
 
 /// What a leader is made of at the first step.
 #[derive(Drop)]
-pub(crate) struct Order<P> {
-    pub(crate) policy: P,
-    pub(crate) progress: Option<ItemProgressUpdater>,
+pub struct Order<P> {
+    pub policy: P,
+    pub progress: Option<ItemProgressUpdater>,
 }
 
 /// A stream between its pulls: its leader, which is made at its first step, and its history. Contracts see it as a
 /// `StreamView` of `specs/Streams`.
 #[derive(Drop)]
-pub(crate) struct Stepper<P: FetchPolicy, E: EventLog> {
+pub struct Stepper<P: FetchPolicy, E: EventLog> {
     pub(crate) job: Job,
     pub(crate) order: Option<Order<P>>,
     pub(crate) leader: Option<Leader<P>>,
@@ -66,7 +66,7 @@ impl<P: FetchPolicy, E: EventLog> Model for Stepper<P, E> {
 
 impl<P: FetchPolicy + Drop, E: EventLog> Stepper<P, E> {
     /// A stream of which nothing was pulled. `OutOfMemory` where an allocation was refused.
-    pub(crate) fn new(
+    pub fn new(
         alloc: Global,
         job: Job,
         order: Order<P>,
@@ -92,28 +92,28 @@ impl<P: FetchPolicy + Drop, E: EventLog> Stepper<P, E> {
 
 impl<P: FetchPolicy, E: EventLog> Stepper<P, E> {
     /// Ends it.
-    pub(crate) fn cancel(&mut self)
+    pub fn cancel(&mut self)
         ensures { self.new ≡ record self.old { cancelled = true } }
     {
         self.cancelled = true;
     }
 
     /// Whether it was cancelled, or its raised flag was seen by a pull.
-    pub(crate) fn is_cancelled(&self) -> bool
+    pub fn is_cancelled(&self) -> bool
         ensures { result ≡ is_closed self.now.cancelled self.now.seen }
     {
         self.cancelled || 0 < self.flag.seen
     }
 
     /// Where its range starts in the file.
-    pub(crate) fn range_start(&self) -> u64
+    pub fn range_start(&self) -> u64
         ensures { result ≡ self.now.setup.range.start }
     {
         self.job.byte_range.start
     }
 
     /// Whom it reports to.
-    pub(crate) fn progress(&self) -> Option<&ItemProgressUpdater> {
+    pub fn progress(&self) -> Option<&ItemProgressUpdater> {
         match (&self.leader, &self.order) {
             (Some(leader), _) => leader.progress.as_ref(),
             (None, Some(order)) => order.progress.as_ref(),
@@ -122,7 +122,7 @@ impl<P: FetchPolicy, E: EventLog> Stepper<P, E> {
     }
 
     /// Another owner of its flag.
-    pub(crate) fn abort_flag(&self) -> std::result::Result<FlagSignal, OutOfMemory>
+    pub fn abort_flag(&self) -> std::result::Result<FlagSignal, OutOfMemory>
         ensures { IfOk result (λ flag. flag.seen ≡ 0) }
     {
         self.flag.share()
@@ -131,7 +131,7 @@ impl<P: FetchPolicy, E: EventLog> Stepper<P, E> {
 
 impl<P: FetchPolicy> Stepper<P, KeptEvents> {
     /// What happened so far, oldest first.
-    pub(crate) fn history(&self) -> &[Event]
+    pub fn history(&self) -> &[Event]
         ensures events { result.now ≡ self.now.events }
         ensures allowed { IsAllowedHistory self.now.events }
     {

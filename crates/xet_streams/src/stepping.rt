@@ -6,7 +6,8 @@ ghost use Rattle.xet_stream_rules.specs.Moments.{at};
 ghost use Rattle.xet_stream_rules.specs.Streams.{Carries, nobody};
 ghost use Rattle.xet_stream_terms.specs.Handing.{IsOpenNext};
 ghost use Rattle.xet_stream_terms.specs.Planning.{IsMarked};
-ghost use Rattle.xet_streams.specs.steps.Stepping.{DeliversCall, IsPlaceOf, IsPlaced, ServesCall, TakesStep};
+ghost use Rattle.xet_streams.specs.Places.{IsPlaced};
+ghost use Rattle.xet_streams.specs.steps.Stepping.{DeliversCall, IsPlaceOf, ServesCall, TakesStep};
 
 use bytes::Bytes;
 use std::alloc::Global;

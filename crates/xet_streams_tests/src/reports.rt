@@ -63,7 +63,11 @@ fn blocks_and_pieces_are_reported(rt: HostRuntime) {
             4,
             "'d!' 'Hello' 'He' - - 4 4 11 11",
         ),
-        (PLACED, 0, "0 'd!' 2 'Hello' | 0 2 has 7/9 open 9 7 11 11"),
+        (
+            PLACED,
+            0,
+            "0 'd!' 2 'Hello' | 0 2 has 7/9 waits 0/0 open 9 7 11 11",
+        ),
     ] {
         let told = item(&rt, rt.alloc(), Row { text }, size);
         comes_to(&rt, text, told, wanted);

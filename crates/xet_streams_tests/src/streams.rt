@@ -64,13 +64,20 @@ const LIMITS: &str = "\
 file e; budget 0; history: 'Hello' '!' - - | P1:0..1048576 A0 F0:1.0 W5 A0 F0:1.1 W1
 file e; book 7; history: 'Hello' '!' - - | P1:0..1048576 A7 F0:1.0 W5 A7 F0:1.1 W1";
 
-/// Pieces at their places.
+/// Pieces at their places: in order where each block is missing; a block that the first and the last term share gives
+/// both at once; one that had expired is asked for after the others; and as the limit allows.
 const PLACED: &str = "\
-unordered; file b; from 4; to 13; history: 0 'd!' 2 'Hello' 7 'He' - - | 0 2 7 has 0/0 complete
+unordered; file b; from 4; to 13; history: 0 'd!' 2 'Hello' 7 'He' - - | 0 2 7 has 0/0 waits 0/0 complete
 unordered; file b; from 4; to 13; waits: 0 'd!' 2 'Hello' 7 'He' - -
-unordered; file b; from 4; to 13; cancel 1; history: 0 'd!' - - | 0 has 0/0 complete
-unordered; tries 2; lanes .x; pulls 1; history: . | has 0/0 open
-unordered; lanes .f; history: ClientError - | has 0/0 complete";
+unordered; file b; from 4; to 13; cancel 1; history: 0 'd!' - - | 0 has 0/0 waits 0/0 complete
+unordered; tries 2; lanes .x; pulls 1; history: . | has 0/0 waits 1/13 open
+unordered; lanes .f; history: ClientError - | has 0/0 waits 0/0 complete
+unordered; size 4; lent 1 0: 0 'Hell' ConfigurationError(NoConnection) -
+unordered; lanes p; plan 0;17 5 0 1 17 1 3 4 17 5 0 1;17:0 1,3 4; history: 0 'Hello' 6 'Hello' 5 '!' - - | 0 6 5 \
+has 0/0 waits 0/0 complete
+unordered; tries 2; lanes pxp; plan 0;17 5 0 1 17 1 3 4 17 5 0 1;17:0 1,3 4: . 5 '!' 0 'Hello' 6 'Hello' - -
+unordered; tries 2; waits; lanes pxp; plan 0;17 5 0 1 17 1 3 4 17 5 0 1;17:0 1,3 4: 5 '!' 0 'Hello' 6 'Hello' - -
+unordered; budget 5; lanes p; plan 0;17 5 0 1 17 1 3 4 17 5 0 1;17:0 1,3 4: 0 'Hello' 5 '!' 6 'Hello' - -";
 
 #[test]
 fn pulls_of_rows(rt: HostRuntime) {

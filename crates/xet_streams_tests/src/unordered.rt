@@ -11,7 +11,8 @@ use xet_blocks::Steady;
 use xet_connections::ScriptClient;
 use xet_error::Result;
 use xet_reconstruct::FileReconstructor;
-use xet_streams::{Step, UnorderedDownloadStream};
+use xet_streams::Step;
+use xet_unordered_streams::UnorderedDownloadStream;
 
 /// ` 2'Hello'`: a piece at its place.
 fn tell_item(text: &mut String, item: (u64, Bytes)) {
@@ -85,7 +86,8 @@ fn pull_all<R: Wait>(
     }
 }
 
-/// Adds the places that were delivered, how many bytes the item has of all that it expects, and whether it is complete.
+/// Adds the places that were delivered, how many bytes the item has of all that it expects, how many terms wait with
+/// how many bytes, and whether it is complete.
 fn tell_readers<R: Wait>(rt: &R, text: &mut String, stream: &UnorderedDownloadStream<Steady>) {
     put(text, " |");
     for place in stream.delivered() {
@@ -96,6 +98,10 @@ fn tell_readers<R: Wait>(rt: &R, text: &mut String, stream: &UnorderedDownloadSt
     put(text, stream.bytes_completed(rt));
     put(text, '/');
     put(text, stream.total_bytes_expected(rt));
+    put(text, " waits ");
+    put(text, stream.terms_in_progress());
+    put(text, '/');
+    put(text, stream.bytes_in_progress());
     put(
         text,
         if stream.is_complete() {

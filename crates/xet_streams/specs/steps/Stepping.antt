@@ -36,28 +36,6 @@ pub record IsPlaceOf (ls : List LedPlan) (n : NextTerm) (c : BlockAt) : Type 0 w
   pub plan_is : c.plan ≡ plan.number
   pub block_is : c.block ≡ n.term.xorb_block
 
--- the piece is of the next term of the history before it, which starts there in the file
-pub record Placed (fs : List Event) (start : ℕ) (piece : List ℕ) : Type 0 where
-  pub before : List Event
-  pub last : fs ≡ before ++ Wrote (length piece) ∷ []
-  pub term : Task
-  pub next : next_term before ≡ Some term
-  pub at : start ≡ term.term.byte_range.start
-
--- so where there is a piece
-abbrev pub IsPlaced : List Event → ℕ → StepAnswer → Type 0
-IsPlaced fs start (Ok (Ready (Some piece))) = Placed fs start piece
-IsPlaced fs start (Ok (Ready None)) = Unit {0}
-IsPlaced fs start (Ok Pending) = Unit {0}
-IsPlaced fs start (Err e) = Unit {0}
-
--- a piece comes only where there is room for it
-abbrev pub IsFit : Bool → StepAnswer → Type 0
-IsFit room (Ok (Ready (Some piece))) = room ≡ true
-IsFit room (Ok (Ready None)) = Unit {0}
-IsFit room (Ok Pending) = Unit {0}
-IsFit room (Err e) = Unit {0}
-
 -- how many steps may answer that the next term isn't there yet
 abbrev pub left_at : Setup → List Event → ℕ
 left_at g es = left_for g.tries es (next_term es)

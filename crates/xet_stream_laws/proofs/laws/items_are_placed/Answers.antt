@@ -1,5 +1,0 @@
-use Rattle.xet_stream_laws.proofs.Placed.{items_are_placed}
-use Rattle.xet_stream_laws.proofs.laws.items_are_placed.Goals as goal
-
-pub returns : goal.returns
-returns c = items_are_placed

@@ -1,0 +1,15 @@
+mod AheadTerms
+mod Awaiting
+mod Dues
+mod Early
+mod Given
+mod Gives
+mod Going
+mod Grown
+mod ItemWaiting
+mod Looking
+mod Ordered
+mod Placed
+mod Placings
+mod Steps
+mod TrueItems

@@ -1,0 +1,4 @@
+pub mod ItemLaws
+pub mod Items
+pub mod Placing
+pub mod steps
