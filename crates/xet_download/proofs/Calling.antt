@@ -43,14 +43,14 @@ flat : (f : Bool) (range : Result (Option FileRange) DataError) (r : Option File
 flat f range r rest ff ee = rw (ff, ee) refl
 
 -- of an open session over a range that isn't reversed a download is refused as its begin is
-refusal_is : (b : DownloadsTold) (range : Result (Option FileRange) DataError) (r : Option FileRange)
+pub refusal_is : (b : DownloadsTold) (range : Result (Option FileRange) DataError) (r : Option FileRange)
     (info : XetFileInfo) → b.finalized ≡ false → range ≡ Ok r → refusal_of b range info ≡ begin_refusal b info
 refusal_is b range r info opened forward = flat b.finalized range r _ opened forward
 
-same_some : (e f : DataError) → Some e ≡ Some f → e ≡ f
+pub same_some : (e f : DataError) → Some e ≡ Some f → e ≡ f
 same_some e f is = grind (arith, is)
 
-abbrev error_as : {A : Type 0} → DataError → Result A DataError
+abbrev pub error_as : {A : Type 0} → DataError → Result A DataError
 error_as e = Err e
 
 -- a refused call
@@ -112,7 +112,7 @@ if_ok P Q (Ok a) f p = f a p
 if_ok P Q (Err e) f p = tt
 
 -- a begin that gave a job wasn't refused
-began : (refusal : Option DataError) (b m : DownloadsTold) (info : XetFileInfo) (r : Option FileRange)
+pub began : (refusal : Option DataError) (b m : DownloadsTold) (info : XetFileInfo) (r : Option FileRange)
     (a : UniqueID × JobTold) → Begins refusal b m info r (Ok a) → refusal ≡ None
 began None b m info r a begin = refl
 began (Some e) b m info r a begin = absurd (grind (arith, (begin.refused e refl).0))

@@ -1,4 +1,6 @@
 mod Bounds
 mod Calling
 mod Exact
+mod Flags
 mod Refusals
+mod Streaming

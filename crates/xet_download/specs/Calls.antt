@@ -13,18 +13,13 @@ use Rattle.xet_ties.specs.Legal.{Legal}
 use Rattle.xet_ties.specs.Setup.{RunTold, Setup, setup_of}
 use Rattle.xet_reconstruct.specs.Ran.{RanUnder}
 use Rattle.xet_reconstruct.specs.ToFile.{ToFileCall}
-use Rattle.xet_upload.specs.DataErrors.{of_reconstruction_error}
 use Rattle.xet_upload.specs.declared.data_error.DataError.{DataError}
 use Rattle.xet_upload.specs.declared.data_error.DataError.TheVariants as data_error
-use Rattle.xet_download.specs.Downloads.{DownloadsTold, begin_refusal, counted, expected_of, lent, range_or_whole}
+pub use Rattle.xet_download_rules.specs.Answers.{answer_of}
+use Rattle.xet_download.specs.Downloads.{DownloadsTold, begin_refusal, expected_of, lent, range_or_whole}
 use Rattle.xet_download.specs.Downloads.{refusal_of, run_for}
 
 -- ---- runs
-
--- what is answered for a run: the run's error, or its count where it is the expected one
-abbrev pub answer_of : Option ℕ → Result ℕ FileReconstructionError → Result ℕ DataError
-answer_of expected (Ok n) = counted expected n
-answer_of expected (Err e) = Err (of_reconstruction_error e)
 
 -- memory was wanting before anything was asked
 abbrev pub AsksNothing : RunTold → RunTold → Result ℕ DataError → Type 0

@@ -1,10 +1,11 @@
 -- What a download session tells, what a download is for, and why one is refused.
-use Rattle.std.specs.Prelude.{ℕ, ◌-◌, ◌^◌, ◌==◌, Bool, true, false, cond, is_none, List, Option, Some, None}
+use Rattle.std.specs.Prelude.{ℕ, ◌-◌, ◌^◌, ◌==◌, Bool, true, false, cond, is_none, List, [], Option, Some, None}
 use Rattle.std.specs.Prelude.{unwrap_or, Result, Ok, Err}
 use Rattle.std.specs.Option.{option_or}
 use Rattle.std.specs.Result.{result_err}
 use Rattle.xet_base.specs.declared.cas_types.FileRange.{FileRange}
 use Rattle.xet_base.specs.declared.invalid.Invalid.TheVariants as invalid
+use Rattle.xet_base.specs.declared.item_id.UniqueID.{UniqueID}
 use Rattle.xet_base.specs.declared.merklehash.MerkleHash.{MerkleHash}
 use Rattle.xet_base.specs.HashText.{hash_of_text}
 use Rattle.xet_outside.specs.Told.{CacheTold, ClientTold, SinkTold}
@@ -15,6 +16,7 @@ use Rattle.xet_ties.specs.Setup.{RunTold, Setup, setup_of}
 use Rattle.xet_reconstruct.specs.Lent.{no_limits}
 use Rattle.xet_upload.specs.declared.data_error.DataError.{DataError}
 use Rattle.xet_upload.specs.declared.data_error.DataError.TheVariants as data_error
+pub use Rattle.xet_download_rules.specs.Answers.{counted}
 
 -- ---- a session
 
@@ -33,6 +35,8 @@ pub record DownloadsTold : Type 0 where
   pub limits : LimitTold
   -- the number of the next id
   pub ids : ℕ
+  -- the ids of the streams whose flags are registered, in order
+  pub streams : List UniqueID
   pub finalized : Bool
 
 -- a session that is new
@@ -43,6 +47,7 @@ new_session clients cache config ids = record {
   config = config;
   limits = limits_under None config;
   ids = ids;
+  streams = [];
   finalized = false;
 }
 
@@ -81,11 +86,6 @@ run_for t file range = setup_of file (range_or_whole range) t.config
 abbrev pub expected_of : Option FileRange → Option ℕ → Option ℕ
 expected_of None size = size
 expected_of (Some r) size = cond (r.end == 2 ^ 64 - 1) None (Some (r.end - r.start))
-
--- the count of the bytes that were written, or that another number was expected
-abbrev pub counted : Option ℕ → ℕ → Result ℕ DataError
-counted None n = Ok n
-counted (Some expected) n = cond (expected == n) (Ok n) (Err (data_error.SizeMismatch expected n))
 
 -- ---- refusals before anything is asked
 

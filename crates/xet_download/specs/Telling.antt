@@ -11,11 +11,12 @@ use Rattle.xet_download.specs.declared.session.FileDownloadSession.{FileDownload
 -- the session at this moment
 abbrev pub told_by : {C K : Type 0} → (C → ClientTold) → (K → CacheTold) → FileDownloadSession C K → DownloadsTold
 told_by c k s = record {
-  clients = map c s.clients.items;
-  cache = k s.chunk_cache;
+  clients = map c s.connections.clients.items;
+  cache = k s.connections.chunk_cache;
   config = s.config;
   limits = limits_under (option_map (λ b. (arc_value {X = BudgetBook} b).settings.limit) s.book) s.config;
   ids = s.ids;
+  streams = s.streams;
   finalized = s.finalized;
 }
 

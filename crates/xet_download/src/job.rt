@@ -2,8 +2,10 @@
 ghost use Rattle.std.specs.Prelude.{◌≡◌, IfOk, map, option_map};
 ghost use Rattle.std.specs.Arc.{arc_value};
 ghost use Rattle.xet_reconstruct.specs.Ran.{limit_of};
-ghost use Rattle.xet_download.specs.Calls.{FileRun, WriterRun, answer_of, job_setup};
-ghost use Rattle.xet_download.specs.Downloads.{counted, lent_by};
+ghost use Rattle.xet_stream_rules.specs.Streams.{new_stream};
+ghost use Rattle.xet_stream_rules.specs.Unordered.{new_unordered};
+ghost use Rattle.xet_download.specs.Calls.{FileRun, WriterRun, job_setup};
+ghost use Rattle.xet_download.specs.Downloads.{lent_by};
 ghost use Rattle.xet_download.specs.Telling.{job_of};
 
 use std::alloc::Global;
@@ -11,12 +13,14 @@ use std::sync::{Arc, Wait};
 use std::thread::Threads;
 use xet_base::{FileRange, MerkleHash, OutOfMemory};
 use xet_blocks::Steady;
-use xet_error::FileReconstructionError;
+use xet_download_rules::answer_of_run;
 use xet_events::{BookView, BudgetBook};
 use xet_outside::{ChunkCache, Client, NeverCancel, PlaceSink, Sink};
 use xet_progress::ItemProgressUpdater;
 use xet_reconstruct::FileReconstructor;
+use xet_streams::DownloadStream;
 use xet_terms::ReconstructionConfig;
+use xet_unordered_streams::UnorderedDownloadStream;
 use xet_upload::DataError;
 
 /// A download that a session began, with an item of its progress. It may run on any thread.
@@ -76,7 +80,7 @@ impl DownloadJob {
             true,
         );
         end(rt, &book);
-        answer(expected, run)
+        answer_of_run(expected, run)
     }
 
     /// The same of its range to a writer.
@@ -110,7 +114,30 @@ impl DownloadJob {
             writer,
         );
         end(rt, &book);
-        answer(expected, run)
+        answer_of_run(expected, run)
+    }
+
+    /// A stream of its range, of which nothing was pulled.
+    pub(crate) fn stream(self, alloc: Global) -> Result<DownloadStream<Steady>, OutOfMemory>
+        ensures { IfOk result (λ stream. stream ≡ new_stream (job_setup (job_of self)) (job_of self).limits) }
+    {
+        match self.reconstructor().reconstruct_to_stream(alloc) {
+            Ok(stream) => Ok(stream),
+            Err(_) => Err(OutOfMemory),
+        }
+    }
+
+    /// The same in any order.
+    pub(crate) fn unordered_stream(
+        self,
+        alloc: Global,
+    ) -> Result<UnorderedDownloadStream<Steady>, OutOfMemory>
+        ensures { IfOk result (λ stream. stream ≡ new_unordered (job_setup (job_of self)) (job_of self).limits) }
+    {
+        match self.reconstructor().reconstruct_to_unordered_stream(alloc) {
+            Ok(stream) => Ok(stream),
+            Err(_) => Err(OutOfMemory),
+        }
     }
 
     // The reconstruction that it runs.
@@ -142,42 +169,16 @@ pub(crate) fn shared(book: &Option<Arc<BudgetBook>>) -> Result<Option<Arc<Budget
     }
 }
 
-// One download more runs.
-fn start<W: Wait>(rt: &W, book: &Option<Arc<BudgetBook>>) {
+/// One download more runs.
+pub(crate) fn start<W: Wait>(rt: &W, book: &Option<Arc<BudgetBook>>) {
     if let Some(book) = book {
         book.start(rt);
     }
 }
 
-// One download less runs.
-fn end<W: Wait>(rt: &W, book: &Option<Arc<BudgetBook>>) {
+/// One download less runs.
+pub(crate) fn end<W: Wait>(rt: &W, book: &Option<Arc<BudgetBook>>) {
     if let Some(book) = book {
         book.end(rt);
-    }
-}
-
-// The count of bytes, where it is the expected one.
-fn count(expected: Option<u64>, count: u64) -> Result<u64, DataError>
-    ensures { result ≡ counted expected count }
-{
-    match expected {
-        Some(expected) if expected != count => Err(DataError::SizeMismatch {
-            expected,
-            actual: count,
-        }),
-        _ => Ok(count),
-    }
-}
-
-// What is answered for a run.
-fn answer(
-    expected: Option<u64>,
-    run: Result<u64, FileReconstructionError>,
-) -> Result<u64, DataError>
-    ensures { result ≡ answer_of expected run }
-{
-    match run {
-        Ok(written) => count(expected, written),
-        Err(error) => Err(DataError::from(error)),
     }
 }

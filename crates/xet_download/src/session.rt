@@ -10,13 +10,14 @@ ghost use Rattle.xet_download.specs.Downloads.{ended, expected_of, finalizing, n
 ghost use Rattle.xet_download.specs.Telling.{job_of, told_by};
 
 use crate::job::{DownloadJob, shared};
-use crate::range_bounds::range_bounds_to_file_range;
+use crate::stream_flags::StreamFlags;
 use std::alloc::Global;
 use std::collections::BTreeMap;
 use std::ops::Bound;
 use std::sync::{Arc, Wait};
 use std::thread::Threads;
 use xet_base::{FileRange, IdSource, Invalid, OutOfMemory, UniqueID};
+use xet_download_rules::range_bounds_to_file_range;
 use xet_events::BudgetBook;
 use xet_outside::{ChunkCache, Client, PlaceSink, Sink};
 use xet_pointer::XetFileInfo;
@@ -26,20 +27,30 @@ use xet_progress::{
 use xet_terms::ReconstructionConfig;
 use xet_upload::DataError;
 
+/// What a session's downloads run over, and what pulls of its streams are lent.
+#[derive(Drop)]
+pub struct Connections<C, K> {
+    /// The connections.
+    pub clients: Vec<C>,
+    /// The cache.
+    pub chunk_cache: K,
+}
+
 /// A download session: connections and a cache for many downloads, each of which has an item of the session's
 /// progress.
 ///
 /// In the Rust crate xet-data: `processing::file_download_session::FileDownloadSession`.
 #[derive(Drop)]
 pub struct FileDownloadSession<C, K> {
-    clients: Vec<C>,
-    chunk_cache: K,
+    pub(crate) connections: Connections<C, K>,
     config: ReconstructionConfig,
     // the ids of the items
     ids: IdSource,
     progress: Arc<GroupProgress>,
     // the book of running downloads, which has their limit
-    book: Option<Arc<BudgetBook>>,
+    pub(crate) book: Option<Arc<BudgetBook>>,
+    // the flags of the streams that count as running
+    pub(crate) streams: StreamFlags,
     finalized: bool,
 }
 
@@ -62,12 +73,15 @@ impl<C: Client + Drop, K: ChunkCache + Drop> FileDownloadSession<C, K> {
     {
         let progress = GroupProgress::new(alloc)?;
         Ok(FileDownloadSession {
-            clients,
-            chunk_cache,
+            connections: Connections {
+                clients,
+                chunk_cache,
+            },
             config,
             ids,
             progress,
             book: None,
+            streams: StreamFlags::new(alloc),
             finalized: false,
         })
     }
@@ -86,7 +100,7 @@ impl<C: Client + Drop, K: ChunkCache + Drop> FileDownloadSession<C, K> {
     }
 
     // Why no download is begun.
-    fn ended(&self) -> Result<(), DataError>
+    pub(crate) fn ended(&self) -> Result<(), DataError>
         ensures { result ≡ finalizing self.now.finalized }
     {
         if self.finalized {
@@ -118,7 +132,7 @@ impl<C: Client + Drop, K: ChunkCache + Drop> FileDownloadSession<C, K> {
     }
 
     // Begins a download of this range of a file, or of the whole of it, with an item of this name.
-    fn begin<W: Wait>(
+    pub(crate) fn begin<W: Wait>(
         &mut self,
         rt: &W,
         alloc: Global,
@@ -178,8 +192,9 @@ impl<C: Client + Drop, K: ChunkCache + Drop> FileDownloadSession<C, K> {
         self.ended()?;
         let range = range_bounds_to_file_range(source_range)?;
         let (id, job) = self.begin(rt, alloc, file_info, range, "")?;
-        let clients = self.clients.as_mut_slice();
-        let count = job.run_to_writer(rt, alloc, clients, &mut self.chunk_cache, writer)?;
+        let clients = self.connections.clients.as_mut_slice();
+        let cache = &mut self.connections.chunk_cache;
+        let count = job.run_to_writer(rt, alloc, clients, cache, writer)?;
         Ok((id, count))
     }
 
@@ -208,8 +223,9 @@ impl<C: Client + Drop, K: ChunkCache + Drop> FileDownloadSession<C, K> {
             (F.told file.old) (F.told file.new) file_info.now result }
     {
         let (id, job) = self.download_file_background(rt, alloc, file_info, name)?;
-        let clients = self.clients.as_mut_slice();
-        let count = job.run(rt, alloc, clients, &mut self.chunk_cache, file)?;
+        let clients = self.connections.clients.as_mut_slice();
+        let cache = &mut self.connections.chunk_cache;
+        let count = job.run(rt, alloc, clients, cache, file)?;
         Ok((id, count))
     }
 

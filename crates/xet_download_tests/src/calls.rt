@@ -4,11 +4,14 @@
 //! |---|---|
 //! | `write a 13 5 8` | `download_to_writer` of the file of 64 `a` and this declared size, from byte 5 to before 8 |
 //! | `file a 13 name` | `download_file` of it, with this name |
+//! | `stream a 13 5 8` | `download_stream` of it, and the first piece |
+//! | `unordered a 13 5 8` | `download_unordered_stream` of it, and the first piece with its place |
 //! | `item 1` | `item_report` of the item of this id |
 //! | `sums` | `report` |
 //! | `end` | `finalize` |
 //!
 //! In place of a size and of a bound `-` stands for none.
+use crate::streams::{first_item, first_piece};
 use std::alloc::Global;
 use std::ops::Bound::{self, Excluded, Included, Unbounded};
 use std::sync::Wait;
@@ -128,6 +131,8 @@ fn call<R: Threads + Wait + Sync>(
     match word {
         "write" => write_range(rt, alloc, session, text, rest),
         "file" => fill_file(rt, alloc, session, text, rest),
+        "stream" => first_piece(rt, alloc, session, text, rest),
+        "unordered" => first_item(rt, alloc, session, text, rest),
         "item" => {
             let item = session.item_report(rt, UniqueID(number(rest).unwrap_or(0)));
             tell_item(text, item);

@@ -10,6 +10,10 @@ mod ranges;
 #[cfg(test)]
 mod rows;
 #[cfg(test)]
+mod sendings;
+#[cfg(test)]
+mod streams;
+#[cfg(test)]
 mod uploaded;
 #[cfg(test)]
 mod watching;

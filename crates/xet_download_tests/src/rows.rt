@@ -48,7 +48,11 @@ write a 99 - - => SizeMismatch { expected: 99, actual: 13 } Hello, world!;
 write a 99 5 -; write a 99 7 9 => 1: 8 , world!; 2: 2 wo;
 write f - - - => FileReconstructionError(FileNotFound) ;
 file a 13 hello; item 1 => 1: 13 Hello, world!; hello 13 of 13;
-file a 12 hello; item 2 => SizeMismatch { expected: 12, actual: 13 } Hello, world!; no item;";
+file a 12 hello; item 2 => SizeMismatch { expected: 12, actual: 13 } Hello, world!; no item;
+stream a 13 5 8; item 1 => 1: , w ; stream 3 of 3;
+stream a 13 - -; item 1 => 1: Hello, world! ; stream 13 of 13;
+unordered b - 7 11; item 1 => 1: 0 ello ; unordered_stream 4 of 4;
+stream f - - - => 1: error ;";
 
 /// The same where no id is left.
 const REFUSED: &str = "\
@@ -56,6 +60,9 @@ write z - 7 3; end; write z - 7 3 => InvalidOperation(ReversedRange { start: 7, 
 InvalidOperation(Finalized) ;
 write z - 3 7; write a - 3 7 => HashStringParsingFailure ; InvalidOperation(IdsUsedUp) ;
 file z - x; file a - x => HashStringParsingFailure ; InvalidOperation(IdsUsedUp) ;
+stream z - 7 3; stream z - 3 7; stream a - 3 7 => InvalidOperation(ReversedRange { start: 7, end: 3 }) ; \
+HashStringParsingFailure ; InvalidOperation(IdsUsedUp) ;
+end; stream z - 7 3; unordered z - 7 3 => Ok(()); InvalidOperation(Finalized) ; InvalidOperation(Finalized) ;
 end; file z - x; end => Ok(()); InvalidOperation(Finalized) ; Err(InvalidOperation(Finalized));";
 
 #[test]

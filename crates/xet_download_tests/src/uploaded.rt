@@ -1,14 +1,12 @@
 //! A file that was uploaded, and comes back by its pointer record.
+use crate::calls::Session;
+use crate::rows::session;
 use std::alloc::Global;
 use std::ops::Bound::{self, Excluded, Included, Unbounded};
 use std::sync::Wait;
 use std::thread::Threads;
-use xet_base::IdSource;
-use xet_connections::MemClient;
-use xet_download::FileDownloadSession;
-use xet_outside::NoCache;
+use xet_pointer::XetFileInfo;
 use xet_sinks::{VecSink, VecSource};
-use xet_terms::ReconstructionConfig;
 use xet_upload::DataError;
 use xet_upload_laws::{SendError, Sent, send};
 
@@ -18,7 +16,21 @@ fn upload<W: Wait>(rt: &W, alloc: Global, bytes: Vec<u8>) -> Result<Sent, SendEr
     send(rt, alloc, VecSource::new(bytes), size, 5)
 }
 
-/// Downloads what of them is within these bounds, by their pointer record.
+/// Downloads what is within these bounds, by its pointer record, and ends the session.
+fn fetch<R: Threads + Wait + Sync>(
+    rt: &R,
+    alloc: Global,
+    session: &mut Session<'_>,
+    info: &XetFileInfo,
+    bounds: (Bound<u64>, Bound<u64>),
+    writer: &mut VecSink,
+) -> Result<u64, DataError> {
+    let (_, count) = session.download_to_writer(rt, alloc, info, bounds, writer)?;
+    session.finalize()?;
+    Ok(count)
+}
+
+/// Downloads what of an upload is within these bounds.
 fn download<R: Threads + Wait + Sync>(
     rt: &R,
     alloc: Global,
@@ -26,15 +38,8 @@ fn download<R: Threads + Wait + Sync>(
     bounds: (Bound<u64>, Bound<u64>),
     writer: &mut VecSink,
 ) -> Result<u64, DataError> {
-    let Ok(clients) = vec![in alloc; MemClient::new(alloc, &sent.store)] else {
-        return Err(DataError::OutOfMemory);
-    };
-    let config = ReconstructionConfig::new();
-    let ids = IdSource::new(1);
-    let mut session = FileDownloadSession::from_client(alloc, clients, NoCache, config, ids)?;
-    let (_, count) = session.download_to_writer(rt, alloc, &sent.info, bounds, writer)?;
-    session.finalize()?;
-    Ok(count)
+    let mut session = session(alloc, &sent.store, 1)?;
+    fetch(rt, alloc, &mut session, &sent.info, bounds, writer)
 }
 
 /// What comes back within these bounds.

@@ -19,6 +19,9 @@ impl Model for RepeatedXorbs {
     ghost also_owns = { λ _. ftrue };
 }
 
+// It owns nothing.
+unsafe impl Send for RepeatedXorbs {}
+
 impl RepeatedXorbs {
     /// No xorbs.
     pub fn new() -> RepeatedXorbs

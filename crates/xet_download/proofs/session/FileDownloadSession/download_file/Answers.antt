@@ -17,18 +17,18 @@ returns-in_err-count g c =
     let xs = c.as_mut_slice-clients.result.now in
     let ys = c.run.new.clients in
     let was : c.from_residual-in_err-count.result ≡ Err c.in_err-count.field-0.0 = search rules in
-    let same : xs ≡ held.clients.items = search rules in
+    let same : xs ≡ held.connections.clients.items = search rules in
     let few : length ys ≡ length xs = search rules in
-    let size : length ys ≡ held.clients.len = omega (arith, few, ap length same, held.clients.ok.0) in
-    let kept : (with_items held.clients ys).items ≡ ys = with_items_is held.clients ys size in
+    let size : length ys ≡ held.connections.clients.len = omega (arith, few, ap length same, held.connections.clients.ok.0) in
+    let kept : (with_items held.connections.clients ys).items ≡ ys = with_items_is held.connections.clients ys size in
     let call = rw c.in_ok-id.was at c.download_file_background.ensures in
     filed b (told_by clients cache held) _ (file c.args.file.now) (file c.run.new.file) c.args.file_info.now
     (c.in_ok-id.id, job_of c.in_ok-id.job) _ call
     (went FileRun _ b (told_by clients cache held) _ (file c.args.file.now) (file c.run.new.file) c.args.file_info.now
     None (c.in_ok-id.id, job_of c.in_ok-id.job) call (Err c.in_err-count.field-0.0) _
-    (lent_by (map clients xs) (cache held.chunk_cache) (file c.args.file.now))
+    (lent_by (map clients xs) (cache held.connections.chunk_cache) (file c.args.file.now))
     (lent_by (map clients ys) (cache c.run.new.cache) (file c.run.new.file))
-    (ap (λ zs. lent_by (map clients zs) (cache held.chunk_cache) (file c.args.file.now)) same)
+    (ap (λ zs. lent_by (map clients zs) (cache held.connections.chunk_cache) (file c.args.file.now)) same)
     (ap (λ zs. lent_by (map clients zs) (cache c.run.new.cache) (file c.run.new.file)) (sym kept))
     (rw c.in_err-count.was at c.run.ensures) refl (ap count_of was) (rw was tt))
 
@@ -41,17 +41,17 @@ returns g c =
     let held = c.download_file_background.new.self in
     let xs = c.as_mut_slice-clients.result.now in
     let ys = c.run.new.clients in
-    let same : xs ≡ held.clients.items = search rules in
+    let same : xs ≡ held.connections.clients.items = search rules in
     let few : length ys ≡ length xs = search rules in
-    let size : length ys ≡ held.clients.len = omega (arith, few, ap length same, held.clients.ok.0) in
-    let kept : (with_items held.clients ys).items ≡ ys = with_items_is held.clients ys size in
+    let size : length ys ≡ held.connections.clients.len = omega (arith, few, ap length same, held.connections.clients.ok.0) in
+    let kept : (with_items held.connections.clients ys).items ≡ ys = with_items_is held.connections.clients ys size in
     let call = rw c.in_ok-id.was at c.download_file_background.ensures in
     filed b (told_by clients cache held) _ (file c.args.file.now) (file c.run.new.file) c.args.file_info.now
     (c.in_ok-id.id, job_of c.in_ok-id.job) _ call
     (went FileRun _ b (told_by clients cache held) _ (file c.args.file.now) (file c.run.new.file) c.args.file_info.now
     None (c.in_ok-id.id, job_of c.in_ok-id.job) call (Ok c.in_ok-count.count) _
-    (lent_by (map clients xs) (cache held.chunk_cache) (file c.args.file.now))
+    (lent_by (map clients xs) (cache held.connections.chunk_cache) (file c.args.file.now))
     (lent_by (map clients ys) (cache c.run.new.cache) (file c.run.new.file))
-    (ap (λ zs. lent_by (map clients zs) (cache held.chunk_cache) (file c.args.file.now)) same)
+    (ap (λ zs. lent_by (map clients zs) (cache held.connections.chunk_cache) (file c.args.file.now)) same)
     (ap (λ zs. lent_by (map clients zs) (cache c.run.new.cache) (file c.run.new.file)) (sym kept))
     (rw c.in_ok-count.was at c.run.ensures) refl refl refl)

@@ -39,19 +39,19 @@ returns-in_err-count g c =
     let fin : finalizing b.finalized ≡ Ok tt = search rules in
     let forward : range_of c.args.source_range ≡ Ok c.in_ok-range.range = search rules in
     let was : c.from_residual-in_err-count.result ≡ Err c.in_err-count.field-0.0 = search rules in
-    let same : xs ≡ held.clients.items = search rules in
+    let same : xs ≡ held.connections.clients.items = search rules in
     let few : length ys ≡ length xs = search rules in
-    let size : length ys ≡ held.clients.len = omega (arith, few, ap length same, held.clients.ok.0) in
-    let kept : (with_items held.clients ys).items ≡ ys = with_items_is held.clients ys size in
+    let size : length ys ≡ held.connections.clients.len = omega (arith, few, ap length same, held.connections.clients.ok.0) in
+    let kept : (with_items held.connections.clients ys).items ≡ ys = with_items_is held.connections.clients ys size in
     let begin = rw c.in_ok-id.was at c.begin.ensures in
     wrote b (told_by clients cache held) _ (sink c.args.writer.now) (sink c.run_to_writer.new.writer)
     c.args.file_info.now c.in_ok-range.range (range_of c.args.source_range) (c.in_ok-id.id, job_of c.in_ok-id.job) _
     (is_open b tt fin) forward begin
     (went WriterRun _ b (told_by clients cache held) _ (sink c.args.writer.now) (sink c.run_to_writer.new.writer)
     c.args.file_info.now c.in_ok-range.range (c.in_ok-id.id, job_of c.in_ok-id.job) begin (Err c.in_err-count.field-0.0) _
-    (lent_by (map clients xs) (cache held.chunk_cache) (sink c.args.writer.now))
+    (lent_by (map clients xs) (cache held.connections.chunk_cache) (sink c.args.writer.now))
     (lent_by (map clients ys) (cache c.run_to_writer.new.cache) (sink c.run_to_writer.new.writer))
-    (ap (λ zs. lent_by (map clients zs) (cache held.chunk_cache) (sink c.args.writer.now)) same)
+    (ap (λ zs. lent_by (map clients zs) (cache held.connections.chunk_cache) (sink c.args.writer.now)) same)
     (ap (λ zs. lent_by (map clients zs) (cache c.run_to_writer.new.cache) (sink c.run_to_writer.new.writer)) (sym kept))
     (rw c.in_err-count.was at c.run_to_writer.ensures) refl (ap count_of was) (rw was tt))
 
@@ -66,18 +66,18 @@ returns g c =
     let ys = c.run_to_writer.new.clients in
     let fin : finalizing b.finalized ≡ Ok tt = search rules in
     let forward : range_of c.args.source_range ≡ Ok c.in_ok-range.range = search rules in
-    let same : xs ≡ held.clients.items = search rules in
+    let same : xs ≡ held.connections.clients.items = search rules in
     let few : length ys ≡ length xs = search rules in
-    let size : length ys ≡ held.clients.len = omega (arith, few, ap length same, held.clients.ok.0) in
-    let kept : (with_items held.clients ys).items ≡ ys = with_items_is held.clients ys size in
+    let size : length ys ≡ held.connections.clients.len = omega (arith, few, ap length same, held.connections.clients.ok.0) in
+    let kept : (with_items held.connections.clients ys).items ≡ ys = with_items_is held.connections.clients ys size in
     let begin = rw c.in_ok-id.was at c.begin.ensures in
     wrote b (told_by clients cache held) _ (sink c.args.writer.now) (sink c.run_to_writer.new.writer)
     c.args.file_info.now c.in_ok-range.range (range_of c.args.source_range) (c.in_ok-id.id, job_of c.in_ok-id.job) _
     (is_open b tt fin) forward begin
     (went WriterRun _ b (told_by clients cache held) _ (sink c.args.writer.now) (sink c.run_to_writer.new.writer)
     c.args.file_info.now c.in_ok-range.range (c.in_ok-id.id, job_of c.in_ok-id.job) begin (Ok c.in_ok-count.count) _
-    (lent_by (map clients xs) (cache held.chunk_cache) (sink c.args.writer.now))
+    (lent_by (map clients xs) (cache held.connections.chunk_cache) (sink c.args.writer.now))
     (lent_by (map clients ys) (cache c.run_to_writer.new.cache) (sink c.run_to_writer.new.writer))
-    (ap (λ zs. lent_by (map clients zs) (cache held.chunk_cache) (sink c.args.writer.now)) same)
+    (ap (λ zs. lent_by (map clients zs) (cache held.connections.chunk_cache) (sink c.args.writer.now)) same)
     (ap (λ zs. lent_by (map clients zs) (cache c.run_to_writer.new.cache) (sink c.run_to_writer.new.writer)) (sym kept))
     (rw c.in_ok-count.was at c.run_to_writer.ensures) refl refl refl)

@@ -1,6 +1,6 @@
 //! The range of bytes that two bounds spell.
 ghost use Rattle.std.specs.Prelude.{◌≡◌};
-ghost use Rattle.xet_download.specs.Bounds.{range_of};
+ghost use Rattle.xet_download_rules.specs.Bounds.{range_of};
 
 use std::ops::Bound;
 use xet_base::{FileRange, Invalid};
