@@ -4,7 +4,6 @@ mod Located
 mod Marking
 mod Members
 mod RawTexts
-mod Sizes
 mod Strict
 mod Tables
 mod TermStates

@@ -15,7 +15,7 @@ use Rattle.xet_base.specs.Hashes.{hash_eq}
 use Rattle.xet_base.specs.Store.{IsTermIn, IsValid, IsValidXorb, Store, bytes_of, chunks_of, chunks_of_term, file_of, xorb_of}
 use Rattle.xet_base.proofs.CallerLemmas.{hash_eq-own}
 use Rattle.xet_store.specs.Refusals.{is_term_in, term_length}
-use Rattle.xet_audit.specs.declared.finding.Finding.{Finding}
+use Rattle.xet_findings.specs.declared.finding.Finding.{Finding}
 use Rattle.xet_audit.specs.Findings.{each_at, each_part, each_within, faults, finding, is_later_file, is_later_xorb, is_outside, is_too_large, is_too_long, resolves}
 use Rattle.xet_audit.proofs.Tables.{any_at, find_first}
 

@@ -14,7 +14,7 @@ use Rattle.xet_base.specs.Digests.{file_hash_of, infos_of, xorb_hash_of}
 use Rattle.xet_base.specs.Hashes.{hash_eq}
 use Rattle.xet_base.specs.Store.{Store, chunks_of_term, xorb_of}
 use Rattle.xet_store.specs.Refusals.{is_term_in, term_length}
-use Rattle.xet_audit.specs.declared.finding.Finding.{Finding}
+use Rattle.xet_findings.specs.declared.finding.Finding.{Finding}
 
 -- ---- findings by places, which count from 0
 

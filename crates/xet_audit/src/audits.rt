@@ -4,10 +4,8 @@ ghost use Rattle.xet_audit.specs.Findings.{AreSpare, findings, misnamed};
 ghost use Rattle.xet_audit.specs.Raws.{store_of_raw};
 ghost use Rattle.xet_audit.specs.steps.Indexed.{IsIndexed};
 ghost use Rattle.xet_audit.specs.steps.Parts.{chunk_faults, term_faults, xorb_faults};
-ghost use Rattle.xet_audit.specs.steps.Tables.{places_of};
+ghost use Rattle.xet_findings.specs.Places.{places_of};
 
-use crate::chunk_places::all_places;
-use crate::finding::{AuditReport, Finding};
 use crate::first_places::{find_later_files, find_later_xorbs};
 use crate::hash_faults::find_misnamed;
 use crate::raw_store::{RawStore, RawXorb};
@@ -17,6 +15,7 @@ use crate::xorb_faults::{find_empty_chunks, find_large_xorbs};
 use crate::xorb_table::XorbTable;
 use std::alloc::Global;
 use xet_base::{List, MerkleHash, OutOfMemory};
+use xet_findings::{AuditReport, Finding, all_places};
 
 /// What is wrong with a store, and which of its xorbs no file names. With `hashes` the hashes of xorbs and files are
 /// computed too. Want of memory is the only error.

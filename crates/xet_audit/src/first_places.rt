@@ -7,11 +7,10 @@ ghost use Rattle.xet_audit.specs.Findings.{each_at, is_later_file, is_later_xorb
 ghost use Rattle.xet_audit.specs.Raws.{store_of_raw};
 ghost use Rattle.xet_audit.specs.steps.Tables.{IsTable};
 
-use crate::finding::Finding;
-use crate::found::add_if;
 use crate::raw_store::RawStore;
 use std::alloc::Global;
 use xet_base::{KeyIndex, MerkleHash, OutOfMemory};
+use xet_findings::{Finding, add_if};
 
 /// Different hashes, each with the place at which it stands first among some hashes.
 #[derive(Drop)]

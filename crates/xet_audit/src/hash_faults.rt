@@ -9,8 +9,6 @@ ghost use Rattle.xet_audit.specs.Raws.{file_of_raw, store_of_raw};
 ghost use Rattle.xet_audit.specs.steps.Indexed.{IsIndexed};
 ghost use Rattle.xet_audit.specs.steps.Records.{Fed, record_of};
 
-use crate::finding::Finding;
-use crate::found::add_if;
 use crate::raw_store::{RawFile, RawXorb};
 use crate::records::{Records, all_records, feed};
 use crate::term_state::TermState;
@@ -18,6 +16,7 @@ use crate::xorb_table::XorbTable;
 use sha2::{Digest, Sha256};
 use std::alloc::Global;
 use xet_base::{ChunkInfo, FileDataSequenceEntry, MerkleHash, OutOfMemory};
+use xet_findings::{Finding, add_if};
 
 /// Adds a finding of kind 8 for each xorb, and then one of kind 9 for each file, whose hash isn't that of its chunks.
 pub(crate) fn find_misnamed(

@@ -4,10 +4,8 @@
 #![tactic(auto)]
 
 mod audits;
-mod chunk_places;
 pub mod finding;
 mod first_places;
-mod found;
 mod hash_faults;
 pub mod laws;
 mod marks;

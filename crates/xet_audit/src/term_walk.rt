@@ -10,14 +10,13 @@ ghost use Rattle.xet_audit.specs.steps.Indexed.{IsIndexed};
 ghost use Rattle.xet_audit.specs.steps.Tables.{IsMarked, marked, place_of};
 ghost use Rattle.xet_audit.specs.steps.Terms.{length_of, state_of};
 
-use crate::finding::Finding;
-use crate::found::add_if;
 use crate::marks::{mark, no_marks};
 use crate::raw_store::RawFile;
 use crate::term_state::{TermState, is_long};
 use crate::xorb_table::XorbTable;
 use std::alloc::Global;
 use xet_base::{FileDataSequenceEntry, OutOfMemory};
+use xet_findings::{Finding, add_if};
 
 /// What the terms of files come to.
 #[derive(Drop)]

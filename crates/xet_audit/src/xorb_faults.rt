@@ -2,11 +2,10 @@
 ghost use Rattle.std.specs.Prelude.{◌≡◌, ◌++◌, ◌==◌, OnOk, length};
 ghost use Rattle.xet_audit.specs.Findings.{each_at, each_part, each_within, is_too_large};
 
-use crate::finding::Finding;
-use crate::found::add_if;
 use crate::raw_store::RawXorb;
 use bytes::Bytes;
 use xet_base::OutOfMemory;
+use xet_findings::{Finding, add_if};
 
 /// Adds a finding of kind 2 for each empty chunk.
 pub(crate) fn find_empty_chunks(

@@ -6,11 +6,11 @@ ghost use Rattle.xet_audit.specs.steps.Indexed.{IsIndexed};
 ghost use Rattle.xet_audit.specs.steps.Tables.{place_of};
 ghost use Rattle.xet_audit.specs.steps.Terms.{state_of};
 
-use crate::chunk_places::bytes_between;
 use crate::first_places::FirstPlaces;
 use crate::raw_store::RawStore;
 use crate::term_state::TermState;
 use xet_base::{FileDataSequenceEntry, List, MerkleHash};
+use xet_findings::bytes_between;
 
 /// The xorbs of a raw store, each with the places of its chunks. Of two with one hash the first is found.
 #[derive(Drop)]

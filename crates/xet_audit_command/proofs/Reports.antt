@@ -3,8 +3,8 @@ use Rattle.std.proofs.Common.{◌≡◌, ◌<◌, ℕ, Bool, List, [], ◌∷◌
 use Rattle.std.proofs.lemmas.List.{length-map, nil_from_length}
 use Rattle.xet_outside.specs.Told.{SinkTold}
 use Rattle.xet_base.specs.Store.{Store}
-use Rattle.xet_audit.specs.declared.finding.AuditReport.{AuditReport}
-use Rattle.xet_audit.specs.declared.finding.Finding.{Finding}
+use Rattle.xet_findings.specs.declared.finding.AuditReport.{AuditReport}
+use Rattle.xet_findings.specs.declared.finding.Finding.{Finding}
 use Rattle.xet_audit.specs.declared.raw_store.RawStore.{RawStore}
 use Rattle.xet_audit.specs.Findings.{AreSpare, findings}
 use Rattle.xet_audit.specs.Raws.{HasRaw, NoRaw, file_of_raw, store_of_raw}

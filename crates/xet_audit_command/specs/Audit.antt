@@ -7,7 +7,7 @@ use Rattle.std.specs.List.{flat_map}
 use Rattle.hex.specs.Hex.{encode_lower}
 use Rattle.xet_base.specs.declared.merklehash.MerkleHash.{MerkleHash}
 use Rattle.xet_base.specs.Store.{Store}
-use Rattle.xet_audit.specs.declared.finding.Finding.{Finding}
+use Rattle.xet_findings.specs.declared.finding.Finding.{Finding}
 use Rattle.xet_audit.specs.Findings.{AreSpare, findings}
 use Rattle.xet_audit.specs.Raws.{HasRaw, NoRaw}
 use Rattle.xet_room.specs.declared.status.Status.{Status}

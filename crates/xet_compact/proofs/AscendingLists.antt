@@ -47,6 +47,21 @@ same_from a b h k = go (hash_cmp a b) refl
 
 -- ---- sorted lists
 
+-- each hash is below the next one
+pub ascends_by : {A : Type 0} (key : A → MerkleHash) (xs : List A)
+    → ((k : ℕ) (d : A) → k + 1 < length xs → hash_cmp (key (get_or xs k d)) (key (get_or xs (k + 1) d)) ≡ Less)
+    → IsStrictlySortedBy hash_cmp (map key xs)
+unfolding IsStrictlySortedBy
+ascends_by key [] h = tt
+ascends_by key (x ∷ xs) h =
+    sorted_from_all_adjacent hash_total (map key (x ∷ xs)) (key x) (λ k l.
+    let long = length-map (x ∷ xs) key in
+    let at = get_or-map key (x ∷ xs) k x (key x) (omega (arith, l, long)) in
+    let at_next = get_or-map key (x ∷ xs) (k + 1) x (key x) (omega (arith, l, long)) in
+    ap (λ (h : MerkleHash). hash_cmp h (get_or (map key (x ∷ xs)) (k + 1) (key x))) at
+    ∙ ap (λ (h : MerkleHash). hash_cmp (key (get_or (x ∷ xs) k x)) h) at_next
+    ∙ h k x (omega (arith, l, long)))
+
 module _ {A : Type 0} (key : A → MerkleHash) where
   -- a sorted list whose hashes differ ascends
   pub ascends : (xs : List A) → IsSortedByKey key hash_cmp xs → AllPairs (λ a b. hash_eq (key a) (key b) ≡ false) xs

@@ -1,5 +1,5 @@
 -- A compacted store of its sorted parts.
-use Rattle.std.proofs.Common.{◌≡◌, ℕ, ◌<◌, Bool, false, List, [], ◌∷◌, length, map, get_or, refl, sym, ◌∙◌, ap, subst, arith, ◌↔◌, All, AllPairs, Contains, IsPermutation}
+use Rattle.std.proofs.Common.{◌≡◌, ℕ, ◌<◌, Bool, true, false, MatchBool, List, [], ◌∷◌, length, map, get_or, refl, sym, ◌∙◌, ap, subst, arith, ◌↔◌, All, AllPairs, Contains, IsPermutation}
 use Rattle.std.specs.List.Sorted.{IsStrictlySortedBy}
 use Rattle.std.proofs.lemmas.List.{get_or-map, length-map}
 use Rattle.std.proofs.lemmas.List.Sorted.{All-permutation, Contains-permutation, IsPermutation-map, IsPermutation-sym}
@@ -13,13 +13,14 @@ use Rattle.xet_audit.specs.declared.raw_store.RawFile.{RawFile}
 use Rattle.xet_audit.specs.declared.raw_store.RawStore.{RawStore}
 use Rattle.xet_audit.specs.Raws.{IsUncounted, file_of_raw, store_of_raw}
 use Rattle.xet_compact.specs.Compacts.{Clashes, IsCompacted, kept_file, kept_xorbs}
+use Rattle.xet_compact.specs.Documents.{IsInOrder}
 use Rattle.xet_compact.specs.Refusals.{CompactCause}
 use Rattle.xet_compact.specs.declared.compaction.CompactError.{CompactError}
 use Rattle.xet_compact.specs.declared.compaction.CompactError.TheVariants as compact_error
 use Rattle.xet_compact.specs.steps.Ascending.{AreFiles, AreXorbs, ClashCause}
 use Rattle.xet_compact.specs.steps.Kept.{AreAllFiles, AreKeptFiles}
 
-raw_hashes : (files : List RawFile) → map (λ (f : StoredFile). f.hash) (map file_of_raw files) ≡ map (λ (f : RawFile). f.hash) files
+pub raw_hashes : (files : List RawFile) → map (λ (f : StoredFile). f.hash) (map file_of_raw files) ≡ map (λ (f : RawFile). f.hash) files
 raw_hashes [] = refl
 raw_hashes (f ∷ fs) = ap (λ (hs : List MerkleHash). f.hash ∷ hs) (raw_hashes fs)
 
@@ -82,3 +83,11 @@ clash_cause s (compact_error.Clash h) valid c = (
     differ = c.differ;
   },
 )
+
+-- a store whose hashes ascend stands in order
+pub in_order : (raw : RawStore) (b : Bool) → IsStrictlySortedBy hash_cmp (map (λ (x : Xorb). x.hash) raw.xorbs)
+    → MatchBool b (IsStrictlySortedBy hash_cmp (map (λ (f : RawFile). f.hash) raw.files)) (Unit {0})
+    → MatchBool b (IsInOrder (store_of_raw raw)) (Unit {0})
+in_order raw true xorbs files =
+    record { xorbs = xorbs; files = subst (λ (hs : List MerkleHash). IsStrictlySortedBy hash_cmp hs) (sym (raw_hashes raw.files)) files }
+in_order raw false xorbs files = tt

@@ -12,9 +12,10 @@ use Rattle.xet_base.specs.Hashes.{hash_eq}
 use Rattle.xet_base.specs.Store.{IsTermIn, IsValid, Store, chunks_of, chunks_of_term, xorb_of}
 use Rattle.xet_base.proofs.CallerLemmas.{hash_eq-true, eq-hash_eq}
 use Rattle.xet_audit.specs.Findings.{is_named}
-use Rattle.xet_compact.specs.Compacts.{covers, held_before, held_chunks, is_held, kept_hash, kept_term}
+use Rattle.xet_held.specs.Held.{covers}
+use Rattle.xet_compact.specs.Compacts.{held_before, held_chunks, is_held, kept_hash, kept_term}
 use Rattle.xet_compact.proofs.Members.{Filled, Passes, any_of, filled, find_of, passes_of}
-use Rattle.xet_compact.proofs.Renumbered.{kept_between, length-kept, passed, passed-split, passed_all, passed_more}
+use Rattle.xet_held.proofs.CallerLemmas.{kept_between, length-kept, passed, passed-split, passed_all, passed_more}
 
 -- ---- which term holds a chunk
 

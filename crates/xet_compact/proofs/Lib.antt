@@ -1,3 +1,4 @@
+pub mod Alike
 pub mod AscendingLists
 pub mod Compacting
 pub mod DocumentValues
@@ -8,6 +9,6 @@ pub mod Members
 pub mod Placed
 pub mod RawFiles
 pub mod Reached
-pub mod Renumbered
 pub mod Serving
 pub mod ShortChunks
+pub mod Writes

@@ -22,9 +22,10 @@ use Rattle.xet_base.specs.HashText.{hash_of_text}
 use Rattle.xet_base.specs.Store.{Store}
 use Rattle.xet_document.specs.Document.{file_of_member, files_of_members, number_of_data, term_of_items, terms_of_items}
 use Rattle.xet_audit.specs.Findings.{hash_cmp}
-use Rattle.xet_audit.specs.Raws.{chunk_of, chunks_of_items, raw_listed, xorb_of_member, xorbs_of_members}
+use Rattle.xet_audit.specs.Raws.{Lists, chunk_of, chunks_of_items, raw_listed, xorb_of_member, xorbs_of_members}
 use Rattle.xet_compact.specs.Documents.{IsHash, IsInOrder, IsListable, IsListableFile, IsListableTerm, IsListableXorb}
 use Rattle.xet_compact.specs.Documents.{chunk_items, digits, document_data, file_members, term_data, term_items, xorb_members}
+use Rattle.xet_compact.proofs.DocumentValues.{document_no_float}
 
 -- ---- digits ascend with bytes
 
@@ -82,7 +83,7 @@ pair_less x y o less within =
     (digit_less (x % 16) (y % 16) low (omega arith))))
     (cases_lt (x / 16) (y / 16))
 
-encode_less : (xs ys : List ℕ) → All (λ b. b < 256) ys → slice_cmp nat_cmp xs ys ≡ Less
+pub encode_less : (xs ys : List ℕ) → All (λ b. b < 256) ys → slice_cmp nat_cmp xs ys ≡ Less
     → slice_cmp nat_cmp (encode_lower xs) (encode_lower ys) ≡ Less
 unfolding encode_with
 encode_less [] [] all h = h
@@ -123,11 +124,11 @@ put_first k d (member l e ms) h =
     ap (λ (o : Ordering). match_ordering o (member k d (member l e ms)) (member l d ms) (member l e (put k d ms))) h
 
 -- the members of xorbs and files, in a row
-abbrev xorb_row : List Xorb → Members
+abbrev pub xorb_row : List Xorb → Members
 xorb_row [] = no_members
 xorb_row (x ∷ xs) = member (encode_lower x.hash.0) (array (chunk_items x.chunks)) (xorb_row xs)
 
-abbrev file_row : List StoredFile → Members
+abbrev pub file_row : List StoredFile → Members
 file_row [] = no_members
 file_row (f ∷ fs) = member (encode_lower f.hash.0) (array (term_items f.terms)) (file_row fs)
 
@@ -143,7 +144,7 @@ below_file : (f : StoredFile) (fs : List StoredFile) → All IsListableFile fs
 below_file f [] all h = tt
 below_file f (g ∷ gs) all h = encode_less f.hash.0 g.hash.0 (All-head IsListableFile g gs all).0.bytes h.0
 
-xorbs_in_row : (xs : List Xorb) → All IsListableXorb xs → IsStrictlySortedBy hash_cmp (map (λ (x : Xorb). x.hash) xs)
+pub xorbs_in_row : (xs : List Xorb) → All IsListableXorb xs → IsStrictlySortedBy hash_cmp (map (λ (x : Xorb). x.hash) xs)
     → xorb_members xs ≡ xorb_row xs
 xorbs_in_row [] all h = refl
 xorbs_in_row (x ∷ xs) all h =
@@ -154,7 +155,7 @@ xorbs_in_row (x ∷ xs) all h =
     ∙ put_first (encode_lower x.hash.0) (array (chunk_items x.chunks)) (xorb_row xs) (below_xorb x xs rest_all
     (sorted_head hash_cmp x.hash keys h))
 
-files_in_row : (fs : List StoredFile) → All IsListableFile fs → IsStrictlySortedBy hash_cmp (map (λ (f : StoredFile). f.hash) fs)
+pub files_in_row : (fs : List StoredFile) → All IsListableFile fs → IsStrictlySortedBy hash_cmp (map (λ (f : StoredFile). f.hash) fs)
     → file_members fs ≡ file_row fs
 files_in_row [] all h = refl
 files_in_row (f ∷ fs) all h =
@@ -243,8 +244,8 @@ files_back (f ∷ fs) all =
     (files_of_members (file_row fs))) o) here
     ∙ ap (λ (o : Option (List StoredFile)). option_map (λ (gs : List StoredFile). f ∷ gs) o) rest
 
-pub document_lists : (s : Store) → IsListable s → IsInOrder s → raw_listed (document_data s) ≡ Some s
-document_lists s can order =
+listed_back : (s : Store) → IsListable s → IsInOrder s → raw_listed (document_data s) ≡ Some s
+listed_back s can order =
     let xs : xorbs_of_members (xorb_members s.xorbs) ≡ Some s.xorbs = ap xorbs_of_members (xorbs_in_row s.xorbs can.xorbs
     order.xorbs) ∙ xorbs_back s.xorbs can.xorbs in
     let fs : files_of_members (file_members s.files) ≡ Some s.files = ap files_of_members (files_in_row s.files can.files
@@ -253,3 +254,6 @@ document_lists s can order =
     let r : Store = record { xorbs = a; files = b } in r) (files_of_members (file_members s.files))) o) xs
     ∙ ap (λ (o : Option (List StoredFile)). option_map (λ (b : List StoredFile). let r : Store = record
     { xorbs = s.xorbs; files = b } in r) o) fs
+
+pub document_lists : (s : Store) → IsListable s → IsInOrder s → Lists (document_data s) s
+document_lists s can order = record { listed = listed_back s can order; no_float = document_no_float s }

@@ -27,8 +27,8 @@ use Rattle.xet_compact.proofs.HeldTerms.{kept_from_of, kept_hash_of, kept_to_of,
 use Rattle.xet_compact.proofs.HeldTerms.{term_of}
 use Rattle.xet_compact.proofs.Members.{MapOf, all_from_members, any_of, apart_found, apart_same, contains_filter}
 use Rattle.xet_compact.proofs.Members.{contains_map, filter_all, filter_of, find_of, flat_map_same, map_of, sum_none}
-use Rattle.xet_compact.proofs.Renumbered.{All-kept, PassedAt, concat_kept-le, count_numbered, kept_all, length-kept}
-use Rattle.xet_compact.proofs.Renumbered.{one_if, passed, passed-le, passed-split, passed_all, passed_at, passed_more, passed_none}
+use Rattle.xet_held.proofs.CallerLemmas.{All-kept, PassedAt, concat_kept-le, count_numbered, kept_all, length-kept}
+use Rattle.xet_held.proofs.CallerLemmas.{one_if, passed, passed-le, passed-split, passed_all, passed_at, passed_more, passed_none}
 
 -- ---- the order of hashes
 

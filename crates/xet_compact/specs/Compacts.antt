@@ -1,6 +1,5 @@
 -- What is left of a store when chunks that no term holds are dropped.
-use Rattle.std.specs.Prelude.{ℕ, ◌≡◌, ◌≢◌, ◌<◌, ◌==◌, ◌↔◌, Bool, cond, not, ◌&&◌, List, map, length, filter, nat_le}
-use Rattle.std.specs.Prelude.{nat_lt}
+use Rattle.std.specs.Prelude.{ℕ, ◌≡◌, ◌≢◌, ◌<◌, ◌==◌, ◌↔◌, Bool, cond, not, List, map, length, filter}
 use Rattle.std.specs.Prelude.{All, Contains, IsTrue, option_map, unwrap_or}
 use Rattle.std.specs.List.{count_by, enumerate_from, list_any, range_with_len, sum_by}
 use Rattle.std.specs.List.Sorted.{IsStrictlySortedBy}
@@ -9,17 +8,13 @@ use Rattle.xet_base.specs.declared.mdb_shard.Xorb.{Xorb}
 use Rattle.xet_base.specs.declared.stored.StoredFile.{StoredFile}
 use Rattle.xet_base.specs.declared.stored.StoredTerm.{StoredTerm}
 use Rattle.xet_base.specs.Digests.{infos_of, xorb_hash_of}
-use Rattle.xet_base.specs.Hashes.{hash_eq}
 use Rattle.xet_base.specs.Store.{IsValid, Store, bytes_of, xorb_of}
 use Rattle.xet_audit.specs.Findings.{hash_cmp, is_named}
+use Rattle.xet_held.specs.Held.{covers}
 
 -- ---- what is kept
 
--- the term holds the chunk of this number of this xorb
-abbrev pub covers : MerkleHash → ℕ → StoredTerm → Bool
-covers x k t = hash_eq t.xorb x && (nat_le t.from k && nat_lt k t.to)
-
--- a term of a file holds it
+-- a term of a file holds the chunk of this number of this xorb
 abbrev pub is_held : Store → MerkleHash → ℕ → Bool
 is_held s x k = list_any (λ f. list_any (covers x k) f.terms) s.files
 

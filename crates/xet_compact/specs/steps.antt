@@ -2,3 +2,4 @@
 pub mod Ascending
 pub mod Kept
 pub mod Reaches
+pub mod Writes

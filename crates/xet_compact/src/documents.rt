@@ -5,11 +5,13 @@ ghost use Rattle.serde_json.specs.Data.{array, object, put};
 ghost use Rattle.serde_json.specs.Read.{read};
 ghost use Rattle.serde_json.specs.View.{members_view, view};
 ghost use Rattle.xet_store.specs.Refusals.{stored_term};
-ghost use Rattle.xet_audit.specs.Raws.{file_of_raw, raw_listed, store_of_raw};
+ghost use Rattle.xet_audit.specs.Raws.{HasRaw, file_of_raw, store_of_raw};
 ghost use Rattle.xet_compact.specs.Documents.{IsHash, IsInOrder, IsListable, IsListableFile, IsListableTerm};
 ghost use Rattle.xet_compact.specs.Documents.{IsListableXorb, chunk_items, digits, document_data, document_text};
 ghost use Rattle.xet_compact.specs.Documents.{file_members, term_data, term_items, xorb_members};
 
+use crate::order::is_in_order;
+use crate::writing::text_in_order;
 use bytes::Bytes;
 use serde_json::{Map, Value};
 use std::alloc::Global;
@@ -18,18 +20,41 @@ use xet_base::{FileDataSequenceEntry, MerkleHash, OutOfMemory, Text};
 
 /// The document of a raw store, `{"files":{HASH:[[HASH,from,to],..]},"xorbs":{HASH:[HEXCHUNK,..]}}`: compact JSON with
 /// ascending keys, hashes and chunks in lower-case digits. Of two xorbs with one hash the first is in it, and of two
-/// files. Want of memory is the only error.
+/// files. That of a store whose xorbs and files stand by ascending hash, each hash once, reads back as this store. Want
+/// of memory is the only error.
 ///
-/// It makes the JSON value first, so it takes memory some three times that of the text.
+/// Of a store in that order it takes memory for the text alone; of any other the JSON value is made first, which takes
+/// some three times that.
 pub fn document(alloc: Global, raw: &RawStore) -> Result<Text, OutOfMemory>
     ensures text { IfOk result (λ text. text ≡ document_text (store_of_raw raw.now)) }
     ensures reads { IfOk result (λ text. read text ≡ Some (document_data (store_of_raw raw.now))) }
     ensures lists { OnOk result (IsInOrder (store_of_raw raw.now)
-        → raw_listed (document_data (store_of_raw raw.now)) ≡ Some (store_of_raw raw.now)) }
+        → HasRaw (document_text (store_of_raw raw.now)) (store_of_raw raw.now)) }
+{
+    let text = document_string(alloc, raw)?;
+    Ok(Text::from_string(text))
+}
+
+// The text of the document. That it was made tells that the store has hashes, bytes and numbers of chunks.
+fn document_string(alloc: Global, raw: &RawStore) -> Result<String, OutOfMemory>
+    ensures text { IfOk result (λ text. string_bytes text ≡ document_text (store_of_raw raw.now)) }
+    ensures reads { IfOk result (λ text. read (string_bytes text) ≡ Some (document_data (store_of_raw raw.now))) }
+    ensures told { OnOk result (IsListable (store_of_raw raw.now)) }
+{
+    if is_in_order(raw) {
+        return text_in_order(alloc, raw);
+    }
+    value_text(alloc, raw)
+}
+
+// The text of its value.
+fn value_text(alloc: Global, raw: &RawStore) -> Result<String, OutOfMemory>
+    ensures text { IfOk result (λ text. string_bytes text ≡ document_text (store_of_raw raw.now)) }
+    ensures reads { IfOk result (λ text. read (string_bytes text) ≡ Some (document_data (store_of_raw raw.now))) }
+    ensures told { OnOk result (IsListable (store_of_raw raw.now)) }
 {
     let value = document_value(alloc, raw)?;
-    let text = value.to_string(alloc)?;
-    Ok(Text::from_string(text))
+    Ok(value.to_string(alloc)?)
 }
 
 // The value of the document. That it was made tells that the store has hashes, bytes and numbers of chunks.
@@ -109,8 +134,8 @@ fn digits_value(alloc: Global, bytes: &[u8]) -> Result<Value, OutOfMemory>
     Ok(Value::String(digits_of(alloc, bytes)?))
 }
 
-// The digits of bytes.
-fn digits_of(alloc: Global, bytes: &[u8]) -> Result<String, OutOfMemory>
+/// The digits of bytes.
+pub(crate) fn digits_of(alloc: Global, bytes: &[u8]) -> Result<String, OutOfMemory>
     ensures text { IfOk result (λ text. string_bytes text ≡ encode_lower bytes.now) }
     ensures told { All (λ b. b < 256) bytes.now }
 {

@@ -8,11 +8,11 @@ ghost use Rattle.xet_compact.specs.steps.Kept.{AreKeptFiles, IsKept, IsKeptFile,
 ghost use Rattle.xet_compact.specs.steps.Reaches.{AreReached};
 
 use crate::kept_xorb::KeptXorb;
-use crate::reach::Reach;
 use crate::reaches::{index_of, reaches_of};
 use std::alloc::Global;
 use xet_audit::{RawFile, RawStore, RawXorb};
 use xet_base::{FileDataSequenceEntry, KeyIndex, List, MerkleHash, OutOfMemory, Xorb};
+use xet_held::Reach;
 
 /// A valid store, the number of each of its xorbs, and what each keeps.
 #[derive(Drop)]

@@ -1,15 +1,15 @@
 //! What a xorb keeps.
-ghost use Rattle.std.specs.Prelude.{◌≡◌, ◌++◌, ◌∷◌, ◌<◌, ◌^◌, [], All, IfOk, OnOk, cond, length};
+ghost use Rattle.std.specs.Prelude.{◌≡◌, ◌<◌, ◌^◌, All, IfOk, length};
 ghost use Rattle.xet_base.specs.Digests.{infos_of, xorb_hash_of};
 ghost use Rattle.xet_base.specs.Store.{IsValidXorb};
-ghost use Rattle.xet_compact.specs.steps.Kept.{hash_by, kept_by, new_numbers, passing};
-ghost use Rattle.xet_compact.specs.steps.Reaches.{is_reached};
+ghost use Rattle.xet_held.specs.Held.{is_reached};
+ghost use Rattle.xet_compact.specs.steps.Kept.{hash_by, kept_by};
 
-use crate::reach::Reach;
 use bytes::Bytes;
 use std::alloc::Global;
 use xet_audit::RawXorb;
 use xet_base::{ChunkInfo, List, MerkleHash, OutOfMemory};
+use xet_held::{Reach, held_chunks};
 
 /// The chunks of a xorb that terms hold.
 #[derive(Drop)]
@@ -38,39 +38,6 @@ impl KeptXorb {
             numbers,
         })
     }
-}
-
-// The chunks that are held, and the new numbers.
-fn held_chunks(
-    alloc: Global,
-    chunks: &[Bytes],
-    ends: &[u32],
-) -> Result<(List<Bytes>, List<u32>), OutOfMemory>
-    requires long { length ends.now ≡ length chunks.now }
-    requires few { length chunks.now < 2 ^ 32 }
-    ensures chunks { IfOk result (λ held. held.0 ≡ passing (is_reached ends.now) chunks.now) }
-    ensures numbers { IfOk result (λ held. held.1 ≡ new_numbers (is_reached ends.now) (length chunks.now)) }
-{
-    let mut held = List::new(alloc);
-    let mut numbers = List::with_capacity(alloc, chunks.len() + 1)?;
-    let mut end = 0u32;
-    for (i, chunk) in chunks.iter().enumerate() {
-        numbers.push(held.len() as u32)?;
-        end = end.max(ends[i]);
-        push_held(chunk, i < end as usize, &mut held)?;
-    }
-    numbers.push(held.len() as u32)?;
-    Ok((held, numbers))
-}
-
-// Adds a chunk where it is held.
-fn push_held(chunk: &Bytes, is_held: bool, held: &mut List<Bytes>) -> Result<(), OutOfMemory>
-    ensures { OnOk result (held.new ≡ held.old ++ cond is_held (chunk.now ∷ []) []) }
-{
-    if is_held {
-        held.push(chunk.clone()?)?;
-    }
-    Ok(())
 }
 
 // The hash of a xorb that keeps these chunks.

@@ -7,8 +7,9 @@ pub mod documents;
 mod kept_store;
 mod kept_xorb;
 pub mod laws;
-mod reach;
+mod order;
 mod reaches;
+mod writing;
 
 pub use compaction::{CompactError, Compacted, compact};
 pub use documents::document;

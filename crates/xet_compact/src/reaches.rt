@@ -1,15 +1,14 @@
 //! Which chunks of a store the terms of its files hold.
-ghost use Rattle.std.specs.Prelude.{◌≡◌, ◌∷◌, [], All, AllPairs, IfOk, IsFalse, false, map};
+ghost use Rattle.std.specs.Prelude.{◌≡◌, [], AllPairs, IfOk, IsFalse, map};
 ghost use Rattle.xet_base.specs.Hashes.{hash_eq};
 ghost use Rattle.xet_base.specs.Store.{IsValid};
-ghost use Rattle.xet_store.specs.Refusals.{stored_term};
 ghost use Rattle.xet_audit.specs.Raws.{store_of_raw};
-ghost use Rattle.xet_compact.specs.steps.Reaches.{AreReached, Extends, IsWithin};
+ghost use Rattle.xet_compact.specs.steps.Reaches.{AreReached};
 
-use crate::reach::Reach;
 use std::alloc::Global;
 use xet_audit::{RawStore, RawXorb};
-use xet_base::{FileDataSequenceEntry, KeyIndex, MerkleHash, OutOfMemory};
+use xet_base::{KeyIndex, MerkleHash, OutOfMemory};
+use xet_held::{Reach, extend_all};
 
 /// The number of each xorb, by its hash.
 pub(crate) fn index_of(
@@ -52,29 +51,4 @@ fn empty_reaches(alloc: Global, xorbs: &[RawXorb]) -> Result<Vec<Reach>, OutOfMe
         reaches.push(Reach::of_none(alloc, xorb.chunks.len())?)?;
     }
     Ok(reaches)
-}
-
-// The terms of one file more.
-fn extend_all(
-    index: &KeyIndex<MerkleHash>,
-    terms: &[FileDataSequenceEntry],
-    reaches: &mut Vec<Reach>,
-)
-    requires apart { AllPairs (λ a b. hash_eq a b ≡ false) index.now }
-    requires within { All (λ t. IsWithin index.now reaches.old.items (stored_term t)) terms.now }
-    ensures { Extends index.now reaches.old.items reaches.new.items (map stored_term terms.now) }
-{
-    for term in terms {
-        extend_one(index, term, reaches);
-    }
-}
-
-// One term more.
-fn extend_one(index: &KeyIndex<MerkleHash>, term: &FileDataSequenceEntry, reaches: &mut Vec<Reach>)
-    requires apart { AllPairs (λ a b. hash_eq a b ≡ false) index.now }
-    requires within { IsWithin index.now reaches.old.items (stored_term term.now) }
-    ensures { Extends index.now reaches.old.items reaches.new.items (stored_term term.now ∷ []) }
-{
-    let place = index.number_of(&term.xorb).unwrap();
-    reaches[place].extend(term.from, term.to);
 }

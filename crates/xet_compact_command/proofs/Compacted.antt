@@ -16,12 +16,12 @@ use Rattle.xet_room.specs.Inputs.{SomePrinted, TextPrinted}
 use Rattle.xet_room.specs.Outcome.{Finished}
 use Rattle.xet_room.specs.Texts.{hash_line, line}
 use Rattle.xet_compact_command.specs.Compact.{CompactPrints}
-use Rattle.xet_compact_command.specs.steps.Printing.{OnePrinted, StorePrints, counts_line}
+use Rattle.xet_compact_command.specs.steps.Printing.{OnePrinted, StorePrinted, StorePrints, counts_line}
 
 module _ (s : Store) (b n : SinkTold) (status : Status) where
   -- the store that it is compacted to
   pub compacted_printed : (c : Compacted) → faults s ≡ [] → IsCompacted s (store_of_raw c.store) → c.dropped_chunks ≡ dropped_count s
-      → OnePrinted (document_text (store_of_raw c.store) ++ 10 ∷ counts_line c) Done b n status → SomePrinted (StorePrints s) b n status
+      → StorePrinted c b n status → SomePrinted (StorePrints s) b n status
   compacted_printed c valid is dropped (inr h) = inr h
   compacted_printed c valid is dropped (inl h) =
       inl (
@@ -31,9 +31,10 @@ module _ (s : Store) (b n : SinkTold) (status : Status) where
           faultless = valid;
           compacted = store_of_raw c.store;
           is = is;
+          reads = h.0;
           whole_is = ap (λ (k : ℕ). document_text (store_of_raw c.store) ++ 10 ∷ (codes "ok " ++ decimal (length c.store.xorbs) ++ codes " " ++ decimal k ++ 10 ∷ [])) dropped;
         },
-        h,
+        h.1,
       )
 
   -- a clash

@@ -17,12 +17,13 @@ kept_line s t = codes "ok " ++ decimal (length t.xorbs) ++ codes " " ++ decimal 
 
 -- ---- by the status
 
--- 0: nothing of kinds 1 to 7 is wrong with the store, and this is the document of its compacted store, a line end, and
--- the last line
+-- 0: nothing of kinds 1 to 7 is wrong with the store, and this is the document of its compacted store, which reads as a
+-- value that lists that store, a line end, and the last line
 pub record CompactDone (s : Store) (whole : List ℕ) : Type 0 where
   pub faultless : faults s ≡ []
   pub compacted : Store
   pub is : IsCompacted s compacted
+  pub reads : HasRaw (document_text compacted) compacted
   pub whole_is : whole ≡ document_text compacted ++ 10 ∷ kept_line s compacted
 
 -- 2, `error hash`: nothing is wrong, and two lists of kept chunks that differ would stand under this hash

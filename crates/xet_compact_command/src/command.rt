@@ -2,14 +2,14 @@
 ghost use Rattle.std.specs.Prelude.{◌≡◌, ◌++◌, ◌∷◌, IfOk, List, string_bytes};
 ghost use Rattle.xet_store.specs.Taps.{TapTold};
 ghost use Rattle.xet_audit.specs.Raws.{store_of_raw};
-ghost use Rattle.xet_compact.specs.Documents.{document_text};
+ghost use Rattle.xet_compact.specs.Documents.{IsInOrder};
 ghost use Rattle.xet_room.specs.declared.status.Status.TheVariants.{BadHash, Done};
 ghost use Rattle.xet_room.specs.Ends.{input_limit};
 ghost use Rattle.xet_room.specs.Inputs.{InputOutcome, SomePrinted, TextPrinted};
 ghost use Rattle.xet_room.specs.Outcome.{Finished, IsFlushed, IsReadUnfailed, IsUnfailed, TellsFault};
 ghost use Rattle.xet_room.specs.Texts.{hash_line};
 ghost use Rattle.xet_compact_command.specs.Compact.{CompactPrints};
-ghost use Rattle.xet_compact_command.specs.steps.Printing.{OnePrinted, StorePrints, counts_line};
+ghost use Rattle.xet_compact_command.specs.steps.Printing.{OnePrinted, StorePrinted, StorePrints, counts_line};
 
 use std::alloc::Global;
 use std::mem::forget;
@@ -49,10 +49,10 @@ fn print_both<O: Sink>(text: &[u8], last: &[u8], out: &mut O) -> Status
     }
 }
 
-// Prints the document of a compacted store, and the last line.
+// Prints the document of a compacted store, which stands in order, and the last line.
 fn print_compacted<O: Sink>(alloc: Global, compacted: &Compacted, out: &mut O) -> Status
-    ensures text { OnePrinted (document_text (store_of_raw compacted.now.store) ++ 10 ∷ counts_line compacted.now)
-        Done (O.told out.old) (O.told out.new) result }
+    requires { IsInOrder (store_of_raw compacted.now.store) }
+    ensures text { StorePrinted compacted.now (O.told out.old) (O.told out.new) result }
     ensures flushed { IsFlushed result (O.told out.new) }
     ensures unfailed { IsUnfailed result (O.told out.old) (O.told out.new) }
     ensures short { TellsFault result (O.told out.old) (O.told out.new) }

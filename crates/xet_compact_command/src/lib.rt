@@ -1,4 +1,4 @@
-//! The command `compact`: the same files in the least store, as a document.
+//! The command `compact`: the same files without what no file needs, as a document.
 #![tactic(auto)]
 
 mod command;

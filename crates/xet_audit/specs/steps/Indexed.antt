@@ -1,7 +1,8 @@
 -- Tables of a raw store's xorbs.
 use Rattle.std.specs.Prelude.{◌≡◌, map}
 use Rattle.xet_audit.specs.declared.xorb_table.XorbTable.{XorbTable}
-use Rattle.xet_audit.specs.steps.Tables.{IsTable, places_of}
+use Rattle.xet_findings.specs.Places.{places_of}
+use Rattle.xet_audit.specs.steps.Tables.{IsTable}
 
 -- the table has the hashes of its raw store's xorbs, and the places of each one's chunks
 pub record IsIndexed (t : XorbTable) : Type 0 where

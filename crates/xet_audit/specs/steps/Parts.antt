@@ -2,7 +2,7 @@
 use Rattle.std.specs.Prelude.{◌==◌, ◌++◌, List, is_none, length}
 use Rattle.xet_base.specs.declared.mdb_shard.Xorb.{Xorb}
 use Rattle.xet_base.specs.Store.{Store, xorb_of}
-use Rattle.xet_audit.specs.declared.finding.Finding.{Finding}
+use Rattle.xet_findings.specs.declared.finding.Finding.{Finding}
 use Rattle.xet_audit.specs.Findings.{each_at, each_within, is_later_xorb, is_outside, is_too_large, is_too_long}
 
 -- kinds 2 and 3

@@ -1,7 +1,7 @@
 -- What look-ups of xorbs by their hashes keep.
-use Rattle.std.specs.Prelude.{ℕ, ◌≡◌, ◌+◌, ◌<◌, AllPairs, Bool, List, Option, Some, None, false, length, map}
-use Rattle.std.specs.Prelude.{option_map, position, slice_index_or, slice_set, take, true}
-use Rattle.std.specs.List.{concat, list_any, range_with_len}
+use Rattle.std.specs.Prelude.{ℕ, ◌≡◌, ◌<◌, AllPairs, Bool, List, Option, Some, None, false, length}
+use Rattle.std.specs.Prelude.{option_map, position, slice_index_or, slice_set, true}
+use Rattle.std.specs.List.{list_any}
 use Rattle.xet_base.specs.declared.merklehash.MerkleHash.{MerkleHash}
 use Rattle.xet_base.specs.Hashes.{hash_eq}
 
@@ -14,10 +14,6 @@ pub record IsTable (hs keys : List MerkleHash) (places : List ℕ) : Type 0 wher
   pub apart : AllPairs (λ a b. hash_eq a b ≡ false) keys
   pub count : length places ≡ length keys
   pub found : (h : MerkleHash) → option_map (λ n. slice_index_or places n 0) (place_of keys h) ≡ place_of hs h
-
--- how many bytes stand before each chunk, and behind the last
-abbrev pub places_of : List (List ℕ) → List ℕ
-places_of cs = map (λ k. length (concat (take k cs))) (range_with_len 0 (length cs + 1))
 
 -- the key of this number, where there is one, is marked too
 abbrev pub marked : Option ℕ → List Bool → List Bool

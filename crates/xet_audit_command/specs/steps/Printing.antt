@@ -3,7 +3,7 @@ use Rattle.std.specs.Prelude.{ℕ, ◌⊎◌, ◌++◌, Bool, List, [], ◌∷�
 use Rattle.std.specs.Fmt.{decimal}
 use Rattle.xet_outside.specs.Told.{SinkTold}
 use Rattle.xet_base.specs.Store.{Store}
-use Rattle.xet_audit.specs.declared.finding.AuditReport.{AuditReport}
+use Rattle.xet_findings.specs.declared.finding.AuditReport.{AuditReport}
 use Rattle.xet_audit.specs.declared.raw_store.RawStore.{RawStore}
 use Rattle.xet_room.specs.declared.status.Status.{Status}
 use Rattle.xet_room.specs.declared.status.Status.TheVariants.{Done, Faulty}

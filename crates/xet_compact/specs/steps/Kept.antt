@@ -1,7 +1,5 @@
 -- What xorbs keep.
-use Rattle.std.specs.Prelude.{ℕ, ◌≡◌, ◌+◌, ◌==◌, ◌↔◌, All, Bool, Contains, List, cond, count_by, filter, length}
-use Rattle.std.specs.Prelude.{map, nat_lt}
-use Rattle.std.specs.List.{enumerate_from, range_with_len}
+use Rattle.std.specs.Prelude.{ℕ, ◌≡◌, ◌==◌, ◌↔◌, All, Bool, Contains, List, cond, length, map, nat_lt}
 use Rattle.std.specs.List.Sorted.{IsStrictlySortedBy}
 use Rattle.xet_base.specs.declared.merklehash.MerkleHash.{MerkleHash}
 use Rattle.xet_base.specs.declared.mdb_shard.Xorb.{Xorb}
@@ -12,16 +10,9 @@ use Rattle.xet_audit.specs.Findings.{hash_cmp}
 use Rattle.xet_audit.specs.declared.raw_store.RawFile.{RawFile}
 use Rattle.xet_audit.specs.declared.raw_store.RawStore.{RawStore}
 use Rattle.xet_audit.specs.Raws.{file_of_raw, store_of_raw}
+use Rattle.xet_held.specs.Held.{new_numbers, passing}
 use Rattle.xet_compact.specs.Compacts.{is_held, kept_file}
 use Rattle.xet_compact.specs.declared.kept_xorb.KeptXorb.{KeptXorb}
-
--- the chunks whose numbers pass
-abbrev pub passing : (ℕ → Bool) → List (List ℕ) → List (List ℕ)
-passing p cs = map (λ q. q.1) (filter (λ q. p q.0) (enumerate_from 0 cs))
-
--- for each of so many chunks, and for the place behind them, how many before it pass
-abbrev pub new_numbers : (ℕ → Bool) → ℕ → List ℕ
-new_numbers p n = map (λ k. count_by p (range_with_len 0 k)) (range_with_len 0 (n + 1))
 
 -- the hash that a xorb keeps, or that of the chunks that it keeps
 abbrev pub hash_by : Xorb → List (List ℕ) → MerkleHash

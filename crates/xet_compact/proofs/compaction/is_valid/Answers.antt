@@ -1,7 +1,7 @@
 use Rattle.std.proofs.Common.{◌≡◌, ◌≢◌, ◌∙◌, ap, sym, List, [], length, refl, arith, Bool, true, false, ℕ, eqb, eqb-true, MatchBool}
 use Rattle.std.proofs.lemmas.Bool.{eqb-false}
 use Rattle.std.proofs.lemmas.List.{append-nil, nil_from_length}
-use Rattle.xet_audit.specs.declared.finding.Finding.{Finding}
+use Rattle.xet_findings.specs.declared.finding.Finding.{Finding}
 use Rattle.xet_audit.specs.Findings.{faults}
 use Rattle.xet_audit.specs.Raws.{store_of_raw}
 use Rattle.xet_compact.proofs.compaction.is_valid.Goals as goal

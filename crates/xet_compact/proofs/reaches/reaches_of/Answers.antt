@@ -7,7 +7,8 @@ use Rattle.xet_base.specs.Hashes.{hash_eq}
 use Rattle.xet_store.specs.Refusals.{stored_term}
 use Rattle.xet_audit.specs.declared.raw_store.RawFile.{RawFile}
 use Rattle.xet_audit.specs.Raws.{file_of_raw, store_of_raw}
-use Rattle.xet_compact.specs.steps.Reaches.{AreReached, Extends, IsWithin}
+use Rattle.xet_held.specs.Reaches.{Extends, IsWithin}
+use Rattle.xet_compact.specs.steps.Reaches.{AreReached}
 use Rattle.xet_compact.proofs.Placed.{hashes_apart}
 use Rattle.xet_compact.proofs.RawFiles.{terms_in}
 use Rattle.xet_compact.proofs.Reached.{reached_more, within_of}

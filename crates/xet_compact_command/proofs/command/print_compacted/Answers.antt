@@ -8,7 +8,7 @@ pub returns-in-Ok-line_of_kept-clause-text : goal.returns-in-Ok-line_of_kept-cla
 returns-in-Ok-line_of_kept-clause-text g c =
     let text : c.as_bytes.result.now ≡ document_text (store_of_raw c.args.compacted.now.store) = search rules in
     let last : c.as_bytes-in-Ok-line_of_kept.result.now ≡ counts_line c.args.compacted.now = search rules in
-    inl (rw (text, last) at c.print_both.ensures.text)
+    inl (c.in-Ok.ensures.lists c.requires, rw (text, last) at c.print_both.ensures.text)
 
 pub returns-clause-text : goal.returns-clause-text
 returns-clause-text g c = inr c.say-in-Err.ensures.text

@@ -3,6 +3,10 @@ use Rattle.xet_audit.specs.Raws.{store_of_raw}
 use Rattle.xet_compact_command.proofs.Compacted.{clash_printed, compacted_printed, invalid_printed}
 use Rattle.xet_compact_command.proofs.command.print_store.Goals as goal
 
+pub print_compacted-requires : goal.print_compacted-requires
+print_compacted-requires g c =
+    record { xorbs = c.in-Ok.ensures.compacted.xorbs_ascend; files = c.in-Ok.ensures.compacted.files_ascend }
+
 pub returns-in-Ok-clause-printed : goal.returns-in-Ok-clause-printed
 returns-in-Ok-clause-printed g c =
     let told = g.O.Sink.told in

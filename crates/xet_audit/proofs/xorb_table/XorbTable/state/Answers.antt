@@ -2,7 +2,7 @@ use Rattle.std.proofs.Common.{◌∙◌, None, Some, sym}
 use Rattle.xet_base.specs.declared.mdb_shard.Xorb.{Xorb}
 use Rattle.xet_store.specs.Refusals.{stored_term}
 use Rattle.xet_audit.specs.Raws.{store_of_raw}
-use Rattle.xet_audit.specs.steps.Tables.{places_of}
+use Rattle.xet_findings.specs.Places.{places_of}
 use Rattle.xet_audit.proofs.Located.{kept_at, located, xorb_at}
 use Rattle.xet_audit.proofs.Tables.{no_xorb_of}
 use Rattle.xet_audit.proofs.TermStates.{state_none, state_some}

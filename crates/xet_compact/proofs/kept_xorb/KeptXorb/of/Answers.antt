@@ -1,8 +1,7 @@
 use Rattle.std.proofs.Common.{◌≡◌, ◌∙◌, ap, sym, subst, List, ℕ, ◌<◌, ◌^◌, length, All}
-use Rattle.xet_compact.proofs.Renumbered.{All-kept}
+use Rattle.xet_held.proofs.CallerLemmas.{All-kept}
 use Rattle.xet_compact.proofs.ShortChunks.{chunks_short}
-use Rattle.xet_compact.specs.steps.Kept.{passing}
-use Rattle.xet_compact.specs.steps.Reaches.{is_reached}
+use Rattle.xet_held.specs.Held.{is_reached, passing}
 use Rattle.xet_compact.proofs.kept_xorb.KeptXorb.of.Goals as goal
 
 pub kept_hash-requires : goal.kept_hash-requires

@@ -1,6 +1,0 @@
-use Rattle.std.proofs.Common.{◌≡◌, map, take}
-use Rattle.xet_audit.specs.steps.Tables.{places_of}
-use Rattle.xet_audit.proofs.chunk_places.all_places.Given as goal
-
-abbrev pub invariant-loop-xorb : goal.invariant-loop-xorb
-invariant-loop-xorb l = l.all ≡ map (λ x. places_of x.chunks) (take l.xorb-index l.xorbs)

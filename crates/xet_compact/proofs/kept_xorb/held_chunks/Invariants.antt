@@ -1,5 +1,0 @@
-use Rattle.xet_compact.proofs.KeptXorbs.{HeldSoFar}
-use Rattle.xet_compact.proofs.kept_xorb.held_chunks.Given as goal
-
-abbrev pub invariant-loop-i : goal.invariant-loop-i
-invariant-loop-i l = HeldSoFar l.ends l.chunks l.i l.end l.held l.numbers
