@@ -17,6 +17,8 @@ use Rattle.xet_bench_command.specs.Bench.{BenchOutcome, bench_of}
 use Rattle.xet_roundtrip_command.specs.Roundtrip.{RoundtripOutcome, size_of}
 use Rattle.xet_audit_command.specs.Audit.{AuditPrints, hashes_of}
 use Rattle.xet_compact_command.specs.Compact.{CompactPrints}
+use Rattle.xet_resume_command.specs.Resume.{ResumePrints}
+use Rattle.xet_resume_command.specs.Words.{resume_of}
 
 -- the command of one word, of those over a store's document
 abbrev pub document_command_of_one : List ℕ → Option Command
@@ -30,11 +32,17 @@ command_of_one w =
     cond (bytes_eq w (codes "--help")) (Some command.Help) (cond (bytes_eq w (codes "--version")) (Some command.Version)
     (cond (bytes_eq w (codes "track")) (Some command.Track) (document_command_of_one w)))
 
+-- the command of this name, with the words after it, of those that fetch ranges that are listed
+abbrev pub last_command_with : List ℕ → List (List ℕ) → Option Command
+last_command_with name words =
+    cond (bytes_eq name (codes "resume")) (option_map command.Resume (resume_of words)) None
+
 -- the command of this name, with the words after it, of those that are neither `get` nor `bench`
 abbrev pub other_command_with : List ℕ → List (List ℕ) → Option Command
 other_command_with name words =
     cond (bytes_eq name (codes "roundtrip")) (option_map command.Roundtrip (size_of words))
-    (cond (bytes_eq name (codes "audit")) (option_map command.Audit (hashes_of words)) None)
+    (cond (bytes_eq name (codes "audit")) (option_map command.Audit (hashes_of words))
+    (last_command_with name words))
 
 -- the command of this name, with the words after it
 abbrev pub command_with : List ℕ → List (List ℕ) → Option Command
@@ -63,6 +71,8 @@ Outcome limit (Some command.Track) before after status = TrackOutcome limit befo
 Outcome limit (Some (command.Audit hashes)) before after status =
     InputOutcome (AuditPrints hashes) limit before after status
 Outcome limit (Some command.Compact) before after status = InputOutcome CompactPrints limit before after status
+Outcome limit (Some (command.Resume wanted)) before after status =
+    InputOutcome (ResumePrints wanted) limit before after status
 Outcome limit (Some command.Help) before after status = TextOutcome help_text Done before after status
 Outcome limit (Some command.Version) before after status = TextOutcome version_text Done before after status
 Outcome limit None before after status = TextOutcome (line BadWords) BadWords before after status

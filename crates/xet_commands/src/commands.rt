@@ -3,7 +3,7 @@ ghost use Rattle.std.specs.Prelude.{◌≡◌, IfSome, length, map, string_bytes
 ghost use Rattle.xet_room.specs.Ends.{input_limit};
 ghost use Rattle.xet_room.specs.Outcome.{IsFlushed, IsReadUnfailed, IsUnfailed};
 ghost use Rattle.xet_commands.specs.Commands.{IsWithinSize, Outcome, command_of, command_of_one, command_with};
-ghost use Rattle.xet_commands.specs.Commands.{document_command_of_one, other_command_with};
+ghost use Rattle.xet_commands.specs.Commands.{document_command_of_one, last_command_with, other_command_with};
 
 use crate::texts::{HELP, VERSION};
 use std::alloc::Global;
@@ -13,6 +13,7 @@ use xet_audit_command::{audit, read_hashes};
 use xet_bench_command::{BenchWanted, bench, read_bench};
 use xet_compact_command::compact;
 use xet_get_command::{Wanted, get, read_wanted};
+use xet_resume_command::{ResumeWanted, read_resume, resume};
 use xet_room::{Status, print_text, say};
 use xet_roundtrip_command::{read_size, roundtrip};
 use xet_store::{Sink, Source, Tap};
@@ -37,6 +38,8 @@ pub enum Command {
     Audit(bool),
     /// `compact`
     Compact,
+    /// `resume` with its words.
+    Resume(ResumeWanted),
 }
 
 // The command of one word.
@@ -77,6 +80,20 @@ fn read_more(name: &str, words: &[String]) -> Option<Command>
         "audit" => {
             let hashes = read_hashes(words)?;
             Some(Command::Audit(hashes))
+        }
+        _ => read_last(name, words),
+    }
+}
+
+// The command of this name, with the words after it, of those that fetch ranges that are listed.
+fn read_last(name: &str, words: &[String]) -> Option<Command>
+    ensures command { result ≡ last_command_with name.now (map string_bytes words.now) }
+    ensures within { IfSome result IsWithinSize }
+{
+    match name {
+        "resume" => {
+            let wanted = read_resume(words)?;
+            Some(Command::Resume(wanted))
         }
         _ => None,
     }
@@ -134,6 +151,7 @@ pub fn run_words<R: Threads + Wait + Sync, I: Source, O: Sink, T: Tap + Send>(
         Some(Command::Track) => track(alloc, input, out),
         Some(Command::Audit(hashes)) => audit(alloc, hashes, input, out),
         Some(Command::Compact) => compact(alloc, input, out),
+        Some(Command::Resume(wanted)) => resume(rt, alloc, wanted, input, out),
         Some(Command::Bench(wanted)) => bench(rt, alloc, wanted, out),
         Some(Command::Roundtrip(size)) => roundtrip(rt, alloc, size, out),
         Some(Command::Help) => print_text(out, Status::Done, HELP),

@@ -8,7 +8,9 @@ ghost use Rattle.xet_commands.specs.Completeness.{AnswersAreComplete};
 /// `track` it is 8 likewise, 2 where a line doesn't read, else 0. For `bench` it is 7 where a setting fails, else 0.
 /// For `roundtrip` it is 0. For `audit` it is 8 likewise, 2 where the input lists no store, 10 where something is found
 /// in it, else 0. For `compact` it is 8 likewise, 2 where the input lists no valid store or two lists of kept chunks
-/// would stand under one hash, else 0.
+/// that differ would stand under one hash, else 0. For `resume` it is 8 likewise, 2 where the input is no document of a
+/// valid store, 3 where a range has a byte of the file, by the length in the words, and the store has no such file, 9
+/// where the store's file ends inside a part that is still to be fetched, or before it, else 0.
 pub fn answers_are_complete()
     ensures { AnswersAreComplete }
 {}

@@ -2,15 +2,17 @@
 
 /// What `--help` prints.
 pub const HELP: &[u8] = b"\
-xet_tool: prints a range of a file of a Xet store, tells what is wrong with a store or drops what
-no file needs, runs a script of calls of a tracker, fetches a made file, or uploads one and
-downloads it
+xet_tool: prints a range of a file of a Xet store, fetches ranges of one in any order, tells what
+is wrong with a store or drops what no file needs, runs a script of calls of a tracker, fetches a
+made file, or uploads one and downloads it
 
 usage:
   xet_tool get HASH START END [OPTION ..]
                                 print bytes START to before END of the file HASH
   xet_tool audit [hashes]       print what is wrong with a store, and which xorbs no file names
   xet_tool compact              print a store without the xorbs and chunks that no file needs
+  xet_tool resume HASH LENGTH START END [START END ..]
+                                fetch ranges of a file, and print what is still missing
   xet_tool track                make the calls of a script, and print the reply to each
   xet_tool bench N [OPTION ..]  fetch a made file of N terms, and print what its bytes come to
   xet_tool roundtrip N          upload a made file of N bytes, and download it by its pointer
@@ -27,6 +29,12 @@ words of get:
 words of audit:
   hashes      compute the hashes of xorbs and files too, which takes as long as the files have
               chunks, each as often as terms have it
+
+words of resume:
+  HASH        the file's hash, as that of get
+  LENGTH      how many bytes the file has: a number as START is
+  START, END  a range of the file, as those of get: 1 to 16 pairs. What lies at or past LENGTH is
+              cut off
 
 words of bench:
   N           how many terms the file has: a number as START is, 1 to 100000
@@ -94,6 +102,16 @@ lines of compact:
   Of two xorbs with one hash then one stays. Then ok with the numbers of xorbs that are left and
   of chunks that no term holds.
 
+input of resume:
+  A document as that of get.
+
+lines of resume:
+  The ranges are fetched in their order into an empty file, of each what no earlier one has. Where
+  all are there the file's content is printed as digits, with zeros for what is missing before its
+  end; then the record of what is missing: xet-gaps 1, a line with HASH and LENGTH, and a line for
+  each gap with its start and the place after its end; and then ok with the number of bytes that
+  were fetched.
+
 input of track:
   A script on standard input, of at most 67108864 bytes: a call of a new tracker of uploads on
   each line, with one space between its words. N and ID are numbers as START is, and NAME is one
@@ -128,25 +146,27 @@ file of roundtrip:
 output:
   For get the bytes as lower-case hexadecimal digits, a line end, and a last line. The lines of
   1, 2, 4 and 8 stand alone, but that of 2 for track, which ends the lines of a script that does
-  not read; for bench that of 7 stands alone too. With 0 track, bench and roundtrip print their
-  lines alone, compact too, and audit with 0 and 10. All lines, those of errors too, go to standard
-  output. For the bytes themselves turn the digits of the first line back, as with
-  | head -n 1 | xxd -r -p.
+  not read; those of 3 and 9 for resume and that of 7 for bench stand alone too. With 0 track, bench
+  and roundtrip print their lines alone, compact and resume too, and audit with 0 and 10. All lines,
+  those of errors too, go to standard output. For the bytes themselves turn the digits of the first
+  line back, as with | head -n 1 | xxd -r -p.
 
 last line, and exit status:
-  ok N                    0  all N bytes of the range were printed, or came back
+  ok N                    0  all N bytes of the range were printed, or came back, or were fetched
   error words             1  the words do not read; nothing was read of the input
   error store             2  the input is no document of a valid store; for audit, of any
   error hash H            2  lists of chunks that differ would stand under the hash H in what
                              compact leaves
   error script            2  a line of the script does not read, and no later one was run
-  error file not found    3  the range is not empty, and the store has no such file
+  error file not found    3  the range is not empty, and the store has no such file; for resume, one
+                             of the ranges, cut at LENGTH
   error read              4  standard input failed
   (none)                  5  standard output failed
   error memory            6  an allocation was refused
   error settings K        7  K is 1 for lanes=0, 3 for least=0, 4 for a greatest below the least;
                              nothing was fetched
   error input             8  the input is longer than the limit
+  error short N           9  the file has N bytes of a part that resume is to fetch, not all
   bad N                  10  N things are wrong with the store
   After 5 and 6 the digits may be cut short, and lines may be missing.
 
@@ -163,6 +183,16 @@ examples of the options, after the words of that one:
   budget=1000 perfile=500 limit=1200
                                     with 1200 bytes at most that are not written
   multi vectored                    whole fetch entries, and several pieces a write
+
+example of resume, with the same store:
+  xet_tool resume aaaaaaaaaaaaaaaaaaaaaaaaaaaaaaaaaaaaaaaaaaaaaaaaaaaaaaaaaaaaaaaa 13 9 13 0 5 \\
+    <hello.json
+prints, where the bytes 5 to 8 are still missing,
+  48656c6c6f00000000726c6421
+  xet-gaps 1
+  aaaaaaaaaaaaaaaaaaaaaaaaaaaaaaaaaaaaaaaaaaaaaaaaaaaaaaaaaaaaaaaa 13
+  5 9
+  ok 9
 
 example of bench:
   xet_tool bench 3 lanes=4

@@ -1,17 +1,18 @@
 //! Reads the text of a record, piece by piece. Each piece has to be written as it is printed.
-ghost use Rattle.std.specs.Prelude.{◌≡◌, ◌<◌, ◌≤◌, ◌∷◌, ◌++◌, Decides, IfErr, IfOk, MatchOption};
+ghost use Rattle.std.specs.Prelude.{◌≡◌, ◌<◌, ◌∷◌, ◌++◌, Decides, IfErr, IfOk, MatchOption};
 ghost use Rattle.std.specs.Fmt.{decimal};
 ghost use Rattle.std.specs.List.{flat_map};
 ghost use Rattle.hex.specs.Hex.{encode_lower};
 ghost use Rattle.xet_gaps.specs.Gaps.{AreGaps};
 ghost use Rattle.xet_gaps.specs.Texts.{gap_line, head_text};
 ghost use Rattle.xet_gaps.specs.declared.gap_text_error.GapTextError.TheVariants as gap_text_error;
-ghost use Rattle.xet_gaps.specs.steps.Reading.{NoGap, NoGaps, NoHash, NoHead, NoNumber, low_of};
+ghost use Rattle.xet_gaps.specs.steps.Reading.{NoGap, NoGaps, NoHash, NoHead, NoNumber};
 
 use crate::gap_text_error::GapTextError;
 use itoa::Buffer;
 use std::alloc::Global;
 use xet_base::{FileRange, MerkleHash};
+use xet_gap_order::is_next;
 
 /// Whether a word is the number as it is printed.
 fn is_printed(word: &str, number: u64) -> bool
@@ -82,18 +83,6 @@ fn read_gap(text: &str) -> Option<(FileRange, &str)>
     let (start, number) = read_number(text, ' ')?;
     let (end, rest) = read_number(number, '\n')?;
     Some((FileRange { start, end }, rest))
-}
-
-/// Whether a gap of a file of so many bytes is one behind the last gap's end.
-fn is_next(last: Option<u64>, gap: FileRange, length: u64) -> bool
-    ensures { Decides result ((low_of last ≤ gap.start) × (gap.start < gap.end) × (gap.end ≤ length)) }
-{
-    if let Some(end) = last {
-        if gap.start <= end {
-            return false;
-        }
-    }
-    gap.start < gap.end && gap.end <= length
 }
 
 /// The gaps of a text, of a file of so many bytes.

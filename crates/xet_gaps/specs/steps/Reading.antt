@@ -1,10 +1,11 @@
 -- What reading a text piece by piece answers.
-use Rattle.std.specs.Prelude.{ℕ, ◌≡◌, ◌+◌, ◌<◌, ◌^◌, List, ◌∷◌, ◌++◌, length, All, Option, None, Some}
+use Rattle.std.specs.Prelude.{ℕ, ◌≡◌, ◌+◌, ◌<◌, ◌^◌, List, ◌∷◌, ◌++◌, length, All, Option}
 use Rattle.std.specs.Fmt.{decimal}
 use Rattle.std.specs.List.{flat_map}
 use Rattle.hex.specs.Hex.{encode_lower}
 use Rattle.xet_base.specs.declared.cas_types.FileRange.{FileRange}
 use Rattle.xet_base.specs.declared.merklehash.MerkleHash.{MerkleHash}
+pub use Rattle.xet_gap_order.specs.Order.{low_of}
 use Rattle.xet_gaps.specs.Gaps.{AreGaps}
 use Rattle.xet_gaps.specs.Texts.{gap_line, head_text}
 
@@ -30,11 +31,6 @@ IsSmall g = (g.start < 2 ^ 64) × (g.end < 2 ^ 64)
 -- nor with the line of a gap
 abbrev pub NoGap : List ℕ → Type 0
 NoGap text = (g : FileRange) (rest : List ℕ) → IsSmall g → text ≡ gap_line g ++ rest → ⊥
-
--- where the next gap starts at least, behind the last one
-abbrev pub low_of : Option ℕ → ℕ
-low_of None = 0
-low_of (Some end) = end + 1
 
 -- what is left of a text after some gaps is the text of the other gaps, if it is the text of any
 pub record LeftOf (size : ℕ) (rest : List ℕ) (read : List FileRange) (last : Option ℕ) (gs : List FileRange)

@@ -1,0 +1,4 @@
+mod Filled
+mod HonestParts
+mod Printed
+mod WordPairs

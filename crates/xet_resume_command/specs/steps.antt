@@ -1,0 +1,3 @@
+-- Working words of private functions.
+pub mod Filling
+pub mod Printing
