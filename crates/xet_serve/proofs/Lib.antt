@@ -1,0 +1,10 @@
+mod Calm
+mod Fails
+mod Fetches
+mod Goings
+mod Lines
+mod Ranges
+mod Requests
+mod Sessions
+mod Standings
+mod Turns

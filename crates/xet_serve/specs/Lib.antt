@@ -1,0 +1,4 @@
+pub mod Laws
+pub mod Replies
+pub mod Sessions
+pub mod steps

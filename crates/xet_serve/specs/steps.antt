@@ -1,0 +1,5 @@
+-- Working words of private functions.
+pub mod Answering
+pub mod Errors
+pub mod Fetching
+pub mod Turning

@@ -1,0 +1,5 @@
+mod Buffers
+pub mod CallerLemmas
+mod DigitTexts
+mod Lines
+mod Ranges

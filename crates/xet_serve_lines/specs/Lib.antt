@@ -1,0 +1,5 @@
+pub mod Lines
+pub mod Reading
+pub mod Replies
+pub mod Requests
+pub mod steps
