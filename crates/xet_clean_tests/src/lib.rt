@@ -12,8 +12,6 @@ mod managers;
 #[cfg(test)]
 mod scripts;
 #[cfg(test)]
-mod sendings;
-#[cfg(test)]
 mod sessions;
 #[cfg(test)]
 mod settings;

@@ -24,10 +24,15 @@ pub fn number(text: &str) -> Option<u64> {
     text.parse::<u64>().ok()
 }
 
+/// The name of a word, and what it has, `1` where it stands alone.
+fn said(word: &str) -> (&str, &str) {
+    word.split_once('=').unwrap_or((word, "1"))
+}
+
 /// The number that a word of this name has, 1 where it stands alone, or none where there is no such word.
 pub fn setting(words: &str, name: &str) -> Option<u64> {
     for word in words.split(' ') {
-        let (key, value) = word.split_once('=').unwrap_or((word, "1"));
+        let (key, value) = said(word);
         if key == name {
             return number(value);
         }

@@ -14,15 +14,19 @@ use xet_upload_files::{UploadFile, upload_files};
 /// A file from a scripted source, cut into chunks of one length.
 type Upload = UploadFile<ScriptSource, FixedCutter>;
 
+/// `7`, `!`: how many bytes a read gives, or that it fails.
+fn step(word: &str) -> SourceStep {
+    match number(word) {
+        Some(count) => SourceStep::Give(count as usize),
+        None => SourceStep::Fail,
+    }
+}
+
 /// `7,1,!`: how many bytes each read gives, and one that fails.
 fn steps(alloc: Global, words: &str) -> Vec<SourceStep> {
     let mut steps = Vec::new(alloc);
     for word in words.split(',') {
-        let step = match number(word) {
-            Some(count) => SourceStep::Give(count as usize),
-            None => SourceStep::Fail,
-        };
-        let _ = steps.push(step);
+        let _ = steps.push(step(word));
     }
     steps
 }

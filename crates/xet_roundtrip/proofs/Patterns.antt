@@ -6,14 +6,10 @@ use Rattle.std.specs.List.{concat}
 use Rattle.std.proofs.lemmas.List.{append-nil, length-append, take_all}
 use Rattle.std.proofs.lemmas.List.Elements.{All-head, All-tail}
 use Rattle.std.proofs.lemmas.List.Folds.{concat-append}
-use Rattle.std.proofs.lemmas.List.FromFn.{length-map-range_with_len, map-range_with_len_more}
+use Rattle.std.proofs.lemmas.List.FromFn.{length-map-range_with_len}
 use Rattle.xet_clean_parts.specs.Places.{IsInChunks}
 use Rattle.xet_waiting.specs.Waitings.{IsWithin}
-use Rattle.xet_roundtrip.specs.Roundtrip.{pattern}
-
--- one byte more
-pub pattern_more : (n : ℕ) → pattern (n + 1) ≡ pattern n ++ n % 251 ∷ []
-pattern_more n = map-range_with_len_more (λ p. p % 251) 0 n n (omega arith)
+use Rattle.xet_pattern.specs.Patterns.{pattern}
 
 pub pattern_length : (n : ℕ) → length (pattern n) ≡ n
 pattern_length n = length-map-range_with_len (λ p. p % 251) 0 n

@@ -9,7 +9,7 @@ use Rattle.xet_outside.specs.Told.{SinkTold, SourceTold}
 use Rattle.xet_pointer.specs.declared.xet_file_info.XetFileInfo.{XetFileInfo}
 use Rattle.xet_upload_laws.specs.Sending.{Clashes, Sends}
 use Rattle.xet_download.specs.Downloads.{whole}
-use Rattle.xet_roundtrip.specs.Roundtrip.{pattern}
+use Rattle.xet_pattern.specs.Patterns.{pattern}
 use Rattle.xet_roundtrip.specs.steps.Trips.{Downloaded, GivesBack}
 use Rattle.xet_roundtrip.proofs.HashTexts.{read_back}
 use Rattle.xet_roundtrip.proofs.Patterns.{pattern_length, pattern_whole, within}

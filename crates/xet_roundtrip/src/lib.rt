@@ -2,7 +2,6 @@
 #![tactic(auto)]
 
 pub mod laws;
-mod pattern;
 mod trip;
 
 pub use trip::roundtrip;

@@ -1,13 +1,11 @@
 //! The made file on its way.
-ghost use Rattle.std.specs.Prelude.{◌≡◌, ◌≤◌, ◌++◌, ◌∷◌, [], IfOk, IsSome, OnOk, Some, codes, string_bytes, true};
-ghost use Rattle.std.specs.Fmt.{decimal};
+ghost use Rattle.std.specs.Prelude.{◌≡◌, ◌≤◌, IfOk, IsSome, OnOk, Some, string_bytes, true};
 ghost use Rattle.xet_pointer.specs.Pointers.{pointer_of};
 ghost use Rattle.xet_roundtrip.specs.Roundtrip.{IsRoundtrip};
 ghost use Rattle.xet_roundtrip.specs.steps.Trips.{Downloaded, GivesBack, IsOverStore, IsSent};
 ghost use Rattle.xet_upload.specs.declared.data_error.DataError.TheVariants as data_error;
 ghost use Rattle.xet_download.specs.Telling.{told_by};
 
-use crate::pattern::pattern;
 use std::alloc::Global;
 use std::ops::Bound::Unbounded;
 use std::sync::{Arc, Wait};
@@ -18,6 +16,7 @@ use xet_download::FileDownloadSession;
 use xet_download::laws::downloads_are_exact;
 use xet_events::{BudgetBook, BudgetSettings};
 use xet_outside::{ChunkCache, Client, NoCache, Sink};
+use xet_pattern::{counted_lines, pattern};
 use xet_pointer::{PointerError, XetFileInfo};
 use xet_reconstruct::laws::calls_are_complete;
 use xet_sinks::{VecSink, VecSource};
@@ -137,15 +136,6 @@ fn read_again(alloc: Global, text: &Text) -> Result<XetFileInfo, OutOfMemory>
     }
 }
 
-// The text of a pointer, and that so many bytes came back.
-fn told(alloc: Global, pointer: &Text, size: u32) -> Result<String, OutOfMemory>
-    ensures { IfOk result (λ text.
-        string_bytes text ≡ pointer.now ++ 10 ∷ (codes "ok " ++ decimal size ++ 10 ∷ [])) }
-{
-    let pointer = pointer.as_str();
-    Ok(format!(in alloc; "{pointer}\nok {size}\n")?)
-}
-
 /// Uploads a file of so many bytes to an empty store in memory, in chunks of 1000 bytes, reads the text of its pointer
 /// record again, downloads the file by it, and compares the bytes, which are the same. It answers the text of the
 /// record, and a line that says how many bytes came back.
@@ -167,5 +157,5 @@ pub fn roundtrip<R: Threads + Wait + Sync>(
     if !comes_back(rt, alloc, &sent.store, &info, size)? {
         unreachable!()
     }
-    told(alloc, &pointer, size)
+    counted_lines(alloc, &pointer, size)
 }

@@ -11,7 +11,7 @@ use Rattle.xet_pointer.specs.declared.xet_file_info.XetFileInfo.{XetFileInfo}
 use Rattle.xet_terms.specs.Settings.{first_config}
 use Rattle.xet_upload_laws.specs.Sending.{content_pointer}
 use Rattle.xet_download.specs.Downloads.{DownloadsTold, whole}
-use Rattle.xet_roundtrip.specs.Roundtrip.{pattern}
+use Rattle.xet_pattern.specs.Patterns.{pattern}
 
 -- the pointer record is that of the file of so many bytes, which the store has and gives
 pub record GivesBack (size : ℕ) (info : XetFileInfo) (store : Store) : Type 0 where

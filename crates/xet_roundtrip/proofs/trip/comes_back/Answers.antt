@@ -1,7 +1,7 @@
 use Rattle.std.proofs.Common.{rules, ◌≡◌, [], Some, ap}
 use Rattle.xet_outside.specs.Told.{SinkTold}
 use Rattle.xet_sinks.specs.declared.vec_sink.VecSink.{VecSink}
-use Rattle.xet_roundtrip.specs.Roundtrip.{pattern}
+use Rattle.xet_pattern.specs.Patterns.{pattern}
 use Rattle.xet_roundtrip.proofs.Trips.{took_pattern}
 use Rattle.xet_roundtrip.proofs.trip.comes_back.Goals as goal
 
