@@ -5,7 +5,7 @@ use Rattle.std.proofs.lemmas.List.{append-nil}
 use Rattle.xet_base.specs.declared.cas_types.FileRange.{FileRange}
 use Rattle.xet_events.specs.declared.event.Event.{Event}
 use Rattle.xet_events.specs.declared.event.Event.TheVariants.{Admit}
-use Rattle.xet_events.specs.Events.{Task, planned}
+use Rattle.xet_events.specs.Events.{Task}
 use Rattle.xet_history.specs.TrueHistory.{queries}
 use Rattle.xet_parts.specs.Admissions.{admits}
 use Rattle.xet_parts.proofs.CallerLemmas.{admits_planned}

@@ -271,5 +271,6 @@ module _ (g : Setup) (es : List Event) (l : Led) (c : Carries nobody g es l) (cs
         lasts = subst (λ (v : List Event). Lasts g (at es l cs kk) (at v k cs kk)) (sym a.err.admits.admitted.events)
             (lasts_admits g es l k cs kk a.err.admits.admitted.limits);
       },
+      a.err.led,
     );
   }

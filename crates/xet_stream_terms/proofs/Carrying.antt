@@ -1,5 +1,5 @@
 -- A stream's leader after a plan was asked for and taken, and after its next piece.
-use Rattle.std.proofs.Common.{◌≡◌, ℕ, ◌+◌, ◌-◌, ◌≤◌, Bool, false, cond, List, [], ◌∷◌, ◌++◌, length, take, refl, sym, subst, ◌∙◌, ap, arith, Option, Some, Ok, length-append}
+use Rattle.std.proofs.Common.{◌≡◌, ℕ, ◌+◌, ◌≤◌, Bool, false, cond, List, [], ◌∷◌, ◌++◌, length, take, refl, sym, subst, ◌∙◌, ap, arith, Option, Some, Ok, length-append}
 use Rattle.std.specs.Prelude.{count_by, filter, map}
 use Rattle.std.proofs.lemmas.List.{append-nil, length-take-le, map-append, take-append-le}
 use Rattle.xet_base.specs.declared.cas_types.FileRange.{FileRange}

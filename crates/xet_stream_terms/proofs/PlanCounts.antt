@@ -6,7 +6,6 @@ use Rattle.xet_base.specs.declared.cas_types.FileRange.{FileRange}
 use Rattle.xet_events.specs.declared.event.Event.{Event}
 use Rattle.xet_events.specs.declared.event.Event.TheVariants.{Planned}
 use Rattle.xet_ties.specs.declared.lane_step.LaneStep.{LaneStep}
-use Rattle.xet_ties.specs.declared.lane_step.LaneStep.TheVariants as step
 use Rattle.xet_ties.specs.History.{limits_of}
 use Rattle.xet_ties.specs.Lanes.{Ask}
 use Rattle.xet_ties.specs.Setup.{Setup}

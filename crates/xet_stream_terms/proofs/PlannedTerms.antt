@@ -21,7 +21,7 @@ use Rattle.xet_stream_rules.specs.Streams.{Carries, nobody}
 use Rattle.xet_stream_rules.specs.Moments.{At, Goes, at}
 use Rattle.xet_stream_terms.specs.Planning.{Plans, PlansNext}
 use Rattle.xet_stream_terms.specs.steps.Asking.{AsksNext, ThenNext, never, is_last}
-use Rattle.xet_stream_rules.proofs.CallerLemmas.{each_same, goes_nowhere, lasts_quiet, next_is}
+use Rattle.xet_stream_rules.proofs.CallerLemmas.{each_same, goes_nowhere, lasts_quiet}
 use Rattle.xet_stream_terms.proofs.NextPlans.{marked, none_reaches, planned_once}
 use Rattle.xet_stream_rules.proofs.CallerLemmas.{same_rest}
 

@@ -45,4 +45,5 @@ pub record AdmitsSome (g : Setup) (x y : At) (before after : LimitTold) : Type 0
 pub record AheadCall (g : Setup) (x y : At) (before after : LimitTold)
     (answer : Result (Unit {0}) FileReconstructionError) : Type 0 where
   pub ok : OnOk answer (AdmitsSome g x y before after)
-  pub err : IfErr answer (λ e. (e ≡ error.OutOfMemory) × (last : ℕ) × Admits g x y before after (last ∷ []))
+  pub err : IfErr answer (λ e. (e ≡ error.OutOfMemory) × (last : ℕ) × Admits g x y before after (last ∷ [])
+      × (y.led ≡ x.led))

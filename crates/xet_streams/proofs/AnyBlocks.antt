@@ -1,6 +1,6 @@
 -- A block that is provided, for a stream.
-use Rattle.std.proofs.Common.{◌≡◌, ◌⊎◌, ⊎_elim, inl, inr, ℕ, ◌+◌, ◌<◌, ◌≤◌, Bool, true, false, List, [], ◌∷◌, ◌++◌, length, refl, sym, subst, ◌∙◌, ap, arith, Option, Some, None, Ok, Err}
-use Rattle.std.specs.Prelude.{IfErr, IfSome, OnOk, Result}
+use Rattle.std.proofs.Common.{◌≡◌, inl, inr, ℕ, ◌+◌, Bool, true, false, List, [], ◌++◌, refl, sym, subst, ◌∙◌, ap, arith, Option, Some, None, Ok, Err}
+use Rattle.std.specs.Prelude.{IfErr, IfSome, OnOk, Result, count_by}
 use Rattle.std.proofs.lemmas.List.{append-nil}
 use Rattle.std.proofs.lemmas.List.Elements.{All-nil}
 use Rattle.xet_base.specs.declared.cas_types.FileRange.{FileRange}
@@ -11,20 +11,20 @@ use Rattle.xet_events.specs.Events.{is_kept}
 use Rattle.xet_events.specs.Allowed.{IsRunning}
 use Rattle.xet_parts.specs.Stops.{IsStopped}
 use Rattle.xet_ties.specs.declared.lane_step.LaneStep.{LaneStep}
+use Rattle.xet_ties.specs.History.{is_fetch}
 use Rattle.xet_ties.specs.Lanes.{Ask}
 use Rattle.xet_ties.specs.Setup.{Setup}
 use Rattle.xet_leader.specs.declared.missing_blocks.BlockAt.{BlockAt}
 use Rattle.xet_leader.specs.Led.{Led}
-use Rattle.xet_stream_rules.specs.Counts.{has}
-use Rattle.xet_stream_rules.specs.Moments.{At, Goes, at}
-use Rattle.xet_stream_rules.specs.Pulls.{IsSpent, IsTold, StepFails, StepWork}
-use Rattle.xet_stream_rules.specs.StepTold.{IsOf, counted_fetches}
-use Rattle.xet_stream_rules.specs.Streams.{Carries, IsOpen, StandsStill, StreamView, fetches_in, nobody}
+use Rattle.xet_stream_rules.specs.Moments.{At, at}
+use Rattle.xet_stream_rules.specs.Pulls.{IsTold, StepFails}
+use Rattle.xet_stream_rules.specs.StepTold.{IsOf, counted_fetches, is_cached}
+use Rattle.xet_stream_rules.specs.Streams.{Carries, IsOpen, StandsStill, StreamView, nobody}
 use Rattle.xet_stream_rules.proofs.CallerLemmas.{lasts_same, no_counts, running_both, tells_nobody}
 use Rattle.xet_stream_terms.specs.PlanParts.{PlanPart}
 use Rattle.xet_stream_terms.specs.Planning.{IsMarked}
 use Rattle.xet_stream_terms.proofs.CallerLemmas.{marks_on}
-use Rattle.xet_stream_blocks.specs.BlockParts.{BlockFails, BlockPart}
+use Rattle.xet_stream_blocks.specs.BlockParts.{BlockFails}
 use Rattle.xet_stream_blocks.specs.Providing.{IsProvision, Provides}
 use Rattle.xet_stream_blocks.proofs.CallerLemmas.{block_part, counts_block}
 use Rattle.xet_streams.specs.AnyOrder.{ProvidesBlock}
@@ -32,7 +32,7 @@ use Rattle.xet_streams.specs.Parts.{HoldsAt}
 use Rattle.xet_streams.specs.steps.Ahead.{ProvidesAt, ProvidesOver}
 use Rattle.xet_streams.specs.steps.Pulling.{IsStart}
 use Rattle.xet_streams.specs.steps.Stepping.{StepFailed}
-use Rattle.xet_streams.specs.steps.Working.{Worked, WorkedWell}
+use Rattle.xet_streams.specs.steps.Working.{WorkedWell}
 use Rattle.xet_streams.proofs.AnyParts.{held_led, held_mark}
 use Rattle.xet_streams.proofs.Pulled.{event_of, fails_stands, stands_then, step_fails, stopped_told, work_of}
 use Rattle.xet_streams.proofs.Starting.{old_start}
@@ -66,19 +66,23 @@ same_fetches : {A : Type 0} (o : Option A) (n : ℕ) → IfSome o (λ _. n ≡ n
 same_fetches None n = tt
 same_fetches (Some b) n = refl
 
--- a block that wasn't kept is, or its URL had expired: there is an event
-some_event : (lane : ℕ) (c : BlockAt) (block : Option (Ask × LaneStep)) (again : Option FileRange) (new : List Event)
+-- how often the cache gave a block, and how often a connection was asked for one
+abbrev provisions : List Event → ℕ
+provisions new = count_by is_cached new + count_by is_fetch new
+
+-- a block that wasn't kept is, or its URL had expired: there is one
+one_provision : (lane : ℕ) (c : BlockAt) (block : Option (Ask × LaneStep)) (again : Option FileRange) (new : List Event)
     (es fs : List Event) → IsProvision lane c block again new → fs ≡ es ++ new
-    → is_kept es c.plan c.block ≡ false → (again ≡ None → is_kept fs c.plan c.block ≡ true) → 0 < length new
-some_event lane c None None new es fs (inl e) added absent kept =
+    → is_kept es c.plan c.block ≡ false → (again ≡ None → is_kept fs c.plan c.block ≡ true) → provisions new ≡ 1
+one_provision lane c None None new es fs (inl e) added absent kept =
     let same : fs ≡ es = added ∙ ap (λ (v : List Event). es ++ v) e ∙ append-nil es in
     let z : true ≡ false =
     sym (kept refl) ∙ ap (λ (v : List Event). is_kept v c.plan c.block) same ∙ absent in
     absurd (cc)
-some_event lane c None None new es fs (inr e) added absent kept = let z = ap length e in omega (arith, z)
-some_event lane c (Some a) None new es fs e added absent kept = let z = ap length e.6 in omega (arith, z)
-some_event lane c (Some a) (Some q) new es fs e added absent kept = let z = ap length e.1 in omega (arith, z)
-some_event lane c None (Some q) new es fs e added absent kept = absurd e
+one_provision lane c None None new es fs (inr e) added absent kept = ap provisions e
+one_provision lane c (Some a) None new es fs e added absent kept = ap provisions e.6
+one_provision lane c (Some a) (Some q) new es fs e added absent kept = ap provisions e.1
+one_provision lane c None (Some q) new es fs e added absent kept = absurd e
 
 module _ (v : StreamView) (still : IsOpen v) (reached : Bool) (holds : HoldsAt v.setup v.events v.led reached)
     (led now : Led) (is : v.led ≡ Some led) (fs : List Event) (cs ds : List ClientTold) (k l : CacheTold) where
@@ -119,7 +123,9 @@ module _ (v : StreamView) (still : IsOpen v) (reached : Bool) (holds : HoldsAt v
       counted = w.counted ∙ ap (λ (n : ℕ). counted_fetches n w.work.asks.block) start.fetches;
       stands = λ store entries tells s.
           stands_then v still led start cs k v.limits y p.goes store entries tells s;
-      moved = some_event p.lane place p.block p.again p.new v.events fs p.is p.added absent p.kept;
+      unplanned = refl;
+      unadmitted = (block_part g x y place p).no_limits;
+      moved = one_provision p.lane place p.block p.again p.new v.events fs p.is p.added absent p.kept;
       unspent = λ s.
           let under = under_now.led.under s.plan s.block in
           let reached = s.reached in

@@ -1,35 +1,33 @@
 -- Parts of a pull in any order, for a stream.
-use Rattle.std.proofs.Common.{◌≡◌, ◌⊎◌, ⊎_elim, inl, inr, ℕ, ◌+◌, ◌<◌, ◌≤◌, Bool, true, false, List, [], ◌∷◌, ◌++◌, length, refl, sym, subst, ◌∙◌, ap, arith, Option, Some, None, Ok, Err}
+use Rattle.std.proofs.Common.{◌≡◌, ℕ, Bool, true, false, List, [], ◌∷◌, ◌++◌, refl, sym, subst, ◌∙◌, ap, arith, Option, Some, None, Ok, Err}
 use Rattle.std.specs.Prelude.{IfSome, Result, slice_get}
 use Rattle.std.proofs.lemmas.List.{append-nil}
-use Rattle.xet_base.specs.Store.{Store}
-use Rattle.xet_outside.specs.Told.{CacheEntry, CacheTold, ClientTold}
+use Rattle.xet_outside.specs.Told.{CacheTold, ClientTold}
 use Rattle.xet_error.specs.declared.error.FileReconstructionError.{FileReconstructionError}
 use Rattle.xet_error.specs.declared.error.FileReconstructionError.TheVariants as error
 use Rattle.xet_events.specs.declared.event.Event.{Event}
 use Rattle.xet_events.specs.declared.event.Event.TheVariants.{Fail, Wrote}
 use Rattle.xet_events.specs.Events.{is_kept}
 use Rattle.xet_events.specs.Limits.{LimitTold}
-use Rattle.xet_parts.specs.Admissions.{GaveLimits, admits}
+use Rattle.xet_parts.specs.Admissions.{admits}
 use Rattle.xet_parts.specs.Stops.{IsStopped}
 use Rattle.xet_ties.specs.PartCalls.{stop_event}
 use Rattle.xet_ties.specs.Setup.{RunTold, Setup}
 use Rattle.xet_leader.specs.declared.ahead.NextTerm.{NextTerm}
-use Rattle.xet_leader.specs.Advances.{advanced}
 use Rattle.xet_leader.specs.Led.{Led}
 use Rattle.xet_leader.specs.declared.leader.LedPlan.{LedPlan}
-use Rattle.xet_leader.specs.LedTerms.{IsNextTerm, of_plan, size_in}
+use Rattle.xet_leader.specs.LedTerms.{of_plan, size_in}
 use Rattle.xet_leader.proofs.CallerLemmas.{same_found}
-use Rattle.xet_stream_rules.specs.Moments.{At, Goes, Lasts, at}
+use Rattle.xet_stream_rules.specs.Moments.{Goes, at}
 use Rattle.xet_stream_rules.specs.Pulls.{IsTold}
-use Rattle.xet_stream_rules.specs.Streams.{Carries, IsOpen, Stands, StreamView, TellsAs, nobody, telling_so}
+use Rattle.xet_stream_rules.specs.Streams.{Carries, IsOpen, Stands, StreamView, TellsAs, fetches_in, nobody, telling_so}
 use Rattle.xet_events.specs.Allowed.{IsRunning}
 use Rattle.xet_stream_rules.proofs.CallerLemmas.{admits_running, tells_nobody}
-use Rattle.xet_stream_terms.specs.Admitting.{Admits, AdmitsSome, AheadCall}
+use Rattle.xet_stream_terms.specs.Admitting.{AdmitsSome, AheadCall}
 use Rattle.xet_stream_terms.specs.Handing.{IsOpenNext, RecordsTerm}
 use Rattle.xet_stream_terms.specs.Planning.{IsMarked}
 use Rattle.xet_stream_terms.proofs.CallerLemmas.{goes_wrote, marks_on}
-use Rattle.xet_streams.specs.AnyOrder.{AdmitsAhead, AdmitsAheadCall, CanStep, CanStepCall, GivenCall, MaySteps, RecordsGiven, StandsOn}
+use Rattle.xet_streams.specs.AnyOrder.{AdmitsAhead, CanStep, CanStepCall, GivenCall, MaySteps, RecordsGiven, StandsOn}
 use Rattle.xet_streams.specs.steps.Pulling.{AsksFlag}
 use Rattle.xet_streams.specs.Parts.{HoldsAt}
 use Rattle.xet_streams.specs.steps.Ahead.{AdmitsLed, AdmitsOver, GivenOver, GivesOver}
@@ -206,6 +204,11 @@ led_admits : (g : Setup) (es fs : List Event) (o q : Option Led) (l : Led) (befo
 led_admits g es fs None q l before after answer e h = absurd (cc)
 led_admits g es fs (Some z) q l before after answer e h = h
 
+-- no block was asked for
+same_fetches : (o q : Option Led) (l k : Led) → o ≡ Some l → q ≡ Some k → k.fetches ≡ l.fetches
+    → fetches_in q ≡ fetches_in o
+same_fetches o q l k had has same = ap fetches_in has ∙ same ∙ sym (ap fetches_in had)
+
 -- nothing was asked
 none_admits : (g : Setup) (es fs : List Event) (o q : Option Led) (before after : LimitTold) → o ≡ None
     → AdmitsOver g es fs o q before after (Ok tt) → (fs ≡ es) × (q ≡ None) × (after ≡ before)
@@ -256,6 +259,7 @@ module _ (v : StreamView) (still : IsOpen v) (reached : Bool) (holds : HoldsAt v
         few = one.few;
         added = one.admits.added;
         given = one.admits.given;
+        fetches = same_fetches v.led q a.led a.now a.had a.has (ap (λ (z : Led). z.fetches) one.led);
         rest = refl;
       }
 
@@ -275,6 +279,7 @@ module _ (v : StreamView) (still : IsOpen v) (reached : Bool) (holds : HoldsAt v
       few = omega arith;
       added = sym (append-nil v.events);
       given = refl;
+      fetches = refl;
       rest = refl;
     })
     admits_ahead (Some l) e = ahead_led l e
@@ -304,13 +309,15 @@ module _ (v : StreamView) (still : IsOpen v) (reached : Bool) (holds : HoldsAt v
     pub vain_ahead : (o : Option Led) → v.led ≡ o → AdmitsAhead v p
     vain_ahead None is = absurd (none_fails v.setup v.events fs v.led q v.limits after e is h)
     vain_ahead (Some l) is =
-        let z = ((vain l is).call [] nobody.cache).err in
+        let w = vain l is in
+        let z = (w.call [] nobody.cache).err in
         record {
           limits = z.2.limits;
           unused = z.1 ∷ [];
           few = omega arith;
           added = z.2.added;
           given = z.2.given;
+          fetches = same_fetches v.led q w.led w.now w.had w.has (ap (λ (y : Led). y.fetches) z.3);
           rest = refl;
         }
 

@@ -1,5 +1,5 @@
 -- The ways of one pull, by what its parts answered.
-use Rattle.std.proofs.Common.{◌≡◌, ◌⊎◌, ⊎_elim, inl, inr, ℕ, ◌≤◌, Bool, true, false, List, refl, sym, subst, ◌∙◌, ap, arith, Option, Some, None, Ok, Err}
+use Rattle.std.proofs.Common.{◌≡◌, ⊎_elim, inl, inr, ℕ, ◌≤◌, Bool, true, false, List, refl, sym, subst, ◌∙◌, ap, arith, Option, Some, None, Ok, Err}
 use Rattle.std.proofs.lemmas.Bool.Decides.{nat_tests}
 use Rattle.xet_outside.specs.Told.{CacheTold, ClientTold}
 use Rattle.xet_error.specs.declared.error.FileReconstructionError.{FileReconstructionError}

@@ -10,7 +10,6 @@ use Rattle.xet_events.specs.declared.event.Event.TheVariants.{Admit}
 use Rattle.xet_events.specs.Events.{is_plan}
 use Rattle.xet_events.specs.Limits.{LimitTold}
 use Rattle.xet_parts.specs.Admissions.{GaveLimits, admits}
-use Rattle.xet_ties.specs.declared.lane_step.LaneStep.TheVariants as step
 use Rattle.xet_ties.specs.History.{is_expiry, is_fetch, is_refresh, limit_in, limits_of}
 use Rattle.xet_ties.specs.declared.lane_step.LaneStep.{LaneStep}
 use Rattle.xet_ties.specs.Lanes.{Ask}

@@ -1,6 +1,6 @@
 -- What the parts of a pull do for a stream that hands its terms over in any order.
-use Rattle.std.specs.Prelude.{ℕ, ◌≡◌, ◌+◌, ◌<◌, ◌≤◌, ◌++◌, Bool, true, false, List, [], ◌∷◌, length, Option, Some, None}
-use Rattle.std.specs.Prelude.{IfSome, Result, Ok, Err}
+use Rattle.std.specs.Prelude.{ℕ, ◌≡◌, ◌+◌, ◌≤◌, ◌++◌, Bool, true, false, List, [], ◌∷◌, count_by, length, Option, Some}
+use Rattle.std.specs.Prelude.{None, IfSome, Result, Ok, Err}
 use Rattle.xet_base.specs.Store.{Store}
 use Rattle.xet_outside.specs.Told.{CacheEntry, CacheTold, ClientTold}
 use Rattle.xet_error.specs.declared.error.FileReconstructionError.{FileReconstructionError}
@@ -10,12 +10,13 @@ use Rattle.xet_events.specs.declared.event.Event.{Event}
 use Rattle.xet_events.specs.declared.event.Event.TheVariants.{Wrote}
 use Rattle.xet_events.specs.Events.{is_kept}
 use Rattle.xet_parts.specs.Admissions.{GaveLimits, admits}
+use Rattle.xet_ties.specs.History.{is_fetch, limits_of}
 use Rattle.xet_leader.specs.declared.ahead.NextTerm.{NextTerm}
 use Rattle.xet_leader.specs.Advances.{advanced}
 use Rattle.xet_leader.specs.Led.{Led}
 use Rattle.xet_leader.specs.LedTerms.{IsNextTerm, of_plan, size_in}
 use Rattle.xet_stream_rules.specs.Pulls.{IsRefused, IsSpent, IsTold, StepFails, StepWork, pulled_once}
-use Rattle.xet_stream_rules.specs.StepTold.{IsRecorded, counted_fetches}
+use Rattle.xet_stream_rules.specs.StepTold.{IsRecorded, counted_fetches, is_cached}
 use Rattle.xet_stream_rules.specs.Streams.{IsAtEnd, IsOpen, Stands, StandsStill, StreamView, fetches_in, telling_so}
 use Rattle.xet_stream_terms.specs.Handing.{IsOpenNext}
 
@@ -74,13 +75,15 @@ GivenCall v n next (Err e) = IsTold v n error.OutOfMemory e
 
 -- ---- admissions
 
--- terms were admitted, one under each limit that was given; the one that was given last may have refused one
+-- terms were admitted, one under each limit that was given; the one that was given last may have refused one, and no
+-- block was asked for
 pub record AdmitsAhead (v n : StreamView) : Type 0 where
   pub limits : List ℕ
   pub unused : List ℕ
   pub few : length unused ≤ 1
   pub added : n.events ≡ v.events ++ admits limits
   pub given : GaveLimits v.limits n.limits (limits ++ unused)
+  pub fetches : fetches_in n.led ≡ fetches_in v.led
   pub rest : n ≡ record v { events = n.events; led = n.led; limits = n.limits }
 
 -- one call of `admit_ahead`
@@ -90,14 +93,17 @@ AdmitsAheadCall v n (Err e) = (m : StreamView) × AdmitsAhead v m × IsTold m n 
 
 -- ---- a block
 
--- it was looked for and asked for, and is kept, or its URL had expired
+-- it was looked for and asked for, and is kept, or its URL had expired; no plan was asked for and no term admitted
 pub record ProvidesBlock (b n : StreamView) (cs ds : List ClientTold) (k l : CacheTold) : Type 0 where
   pub work : StepWork b n cs ds k l
   pub recorded : IsRecorded work.asks work.new
   pub used : work.unused ≡ []
   pub counted : fetches_in n.led ≡ counted_fetches (fetches_in b.led) work.asks.block
   pub stands : StandsStill cs k b n
-  pub moved : 0 < length work.new
+  pub unplanned : work.asks.plan ≡ None
+  pub unadmitted : limits_of work.new ≡ []
+  -- the cache gave it or a connection was asked for it, once
+  pub moved : count_by is_cached work.new + count_by is_fetch work.new ≡ 1
   pub unspent : IsSpent n work.new → ⊥
 
 -- one call of `provide`

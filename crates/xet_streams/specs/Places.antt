@@ -1,5 +1,5 @@
 -- Where the piece of a pull stands in the file, and that it comes only where there is room for it.
-use Rattle.std.specs.Prelude.{ℕ, ◌≡◌, ◌++◌, Bool, true, List, [], ◌∷◌, length, Option, Some, None, Ok, Err}
+use Rattle.std.specs.Prelude.{ℕ, ◌≡◌, ◌++◌, Bool, true, List, [], ◌∷◌, length, Some, None, Ok, Err}
 use Rattle.xet_events.specs.declared.event.Event.{Event}
 use Rattle.xet_events.specs.declared.event.Event.TheVariants.{Wrote}
 use Rattle.xet_events.specs.Events.{Task}

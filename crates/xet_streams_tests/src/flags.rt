@@ -3,7 +3,6 @@ use crate::told::{comes_to, put};
 use std::alloc::Global;
 use std::sync::Wait;
 use std::thread::{Threads, join_mut};
-use xet_base::OutOfMemory;
 use xet_blocks::Steady;
 use xet_connections::MemClient;
 use xet_outside::{CancelSignal, NoCache};
@@ -34,32 +33,54 @@ fn tell_pull<R: Wait>(
     put(text, if stream.is_cancelled() { "!" } else { "" });
 }
 
-/// A flag says no until one of its owners raises it; a stream whose flag another thread raised answers none.
-fn told<R: Threads + Wait + Sync>(
+/// Adds whether one of the owners of a flag sees it raised, and whether both do once one of them raised it.
+fn tell_owners<R: Threads>(
+    rt: &R,
+    text: &mut String,
+    flag: &mut FlagSignal,
+    other: &mut FlagSignal,
+) {
+    put(text, flag.asked() || other.asked());
+    raise_beside(rt, flag);
+    put(text, flag.asked() && other.asked());
+}
+
+/// The same of a flag and another owner of it.
+fn tell_flag<R: Threads>(rt: &R, text: &mut String, flag: &mut FlagSignal) {
+    if let Ok(mut other) = flag.share() {
+        tell_owners(rt, text, flag, &mut other);
+    }
+}
+
+/// Adds what two pulls answer, between which another thread raises the stream's flag.
+fn tell_stream<R: Threads + Wait>(
     rt: &R,
     alloc: Global,
     text: &mut String,
-) -> Result<(), OutOfMemory> {
-    let mut flag = FlagSignal::new(alloc)?;
-    let mut other = flag.share()?;
-    put(text, flag.asked() || other.asked());
-    raise_beside(rt, &flag);
-    put(text, flag.asked() && other.asked());
+    stream: &mut DownloadStream<Steady>,
+) {
     let store = worked_store(alloc).unwrap_or(MemStore::new(alloc));
+    if let Ok(end) = stream.abort_flag() {
+        tell_pull(rt, alloc, stream, &store, text);
+        raise_beside(rt, &end);
+        tell_pull(rt, alloc, stream, &store, text);
+    }
+}
+
+/// A flag says no until one of its owners raises it; a stream whose flag another thread raised answers none.
+fn told<R: Threads + Wait + Sync>(rt: &R, alloc: Global) -> String {
+    let mut text = String::new(alloc);
+    if let Ok(mut flag) = FlagSignal::new(alloc) {
+        tell_flag(rt, &mut text, &mut flag);
+    }
     let wanted = FileReconstructor::new(FILE_OF_ALL, Steady { size: 0 });
-    let Ok(mut stream) = wanted.reconstruct_to_stream(alloc) else {
-        return Err(OutOfMemory);
-    };
-    let end = stream.abort_flag()?;
-    tell_pull(rt, alloc, &mut stream, &store, text);
-    raise_beside(rt, &end);
-    tell_pull(rt, alloc, &mut stream, &store, text);
-    Ok(())
+    if let Ok(mut stream) = wanted.reconstruct_to_stream(alloc) {
+        tell_stream(rt, alloc, &mut text, &mut stream);
+    }
+    text
 }
 
 #[test]
 fn a_yes_means_a_raise(rt: HostRuntime) {
-    let mut text = String::new(rt.alloc());
-    let _ = told(&rt, rt.alloc(), &mut text);
-    comes_to(&rt, "flags", text, "falsetrue some none!");
+    comes_to(&rt, "flags", told(&rt, rt.alloc()), "falsetrue some none!");
 }

@@ -113,22 +113,20 @@ fn pull<R: Wait>(
     }
 }
 
-/// All pulls of a row.
+/// All pulls of a row, whose flag this is.
 fn pull_all<R: Wait>(
     rt: &R,
     alloc: Global,
     row: Row<'_>,
     stream: &mut DownloadStream<Steady>,
+    flag: &FlagSignal,
     clients: &mut [ScriptClient<'_>; 3],
     cache: &mut Cache,
     text: &mut String,
 ) {
-    let Ok(flag) = stream.abort_flag() else {
-        return;
-    };
     let mut over = 0u64;
     for number in 0..row.number("pulls", MOST_PULLS) {
-        may_raise(row, number, &flag);
+        may_raise(row, number, flag);
         if is_cancelled(row, number) {
             stream.cancel();
         }
@@ -143,6 +141,40 @@ fn pull_all<R: Wait>(
     }
 }
 
+/// What the pulls of this stream tell.
+fn play_stream<R: Wait>(
+    rt: &R,
+    alloc: Global,
+    row: Row<'_>,
+    stream: &mut DownloadStream<Steady>,
+    clients: &mut [ScriptClient<'_>; 3],
+    cache: &mut Cache,
+    text: &mut String,
+) {
+    stream.start();
+    if let Ok(flag) = stream.abort_flag() {
+        pull_all(rt, alloc, row, stream, &flag, clients, cache, text);
+    }
+    if row.has("history") {
+        tell_history(text, stream.history());
+    }
+}
+
+/// What the pulls of an ordered stream tell.
+fn play_ordered<R: Wait>(
+    rt: &R,
+    alloc: Global,
+    row: Row<'_>,
+    wanted: FileReconstructor<Steady>,
+    clients: &mut [ScriptClient<'_>; 3],
+    cache: &mut Cache,
+    text: &mut String,
+) {
+    if let Ok(mut stream) = wanted.reconstruct_to_stream(alloc) {
+        play_stream(rt, alloc, row, &mut stream, clients, cache, text);
+    }
+}
+
 /// What the pulls of a stream tell, over this store.
 fn play<R: Wait>(
     rt: &R,
@@ -152,18 +184,12 @@ fn play<R: Wait>(
     wanted: FileReconstructor<Steady>,
     text: &mut String,
 ) {
-    let (mut clients, mut cache) = (connections(alloc, row, store), Cache::new(alloc, row));
+    let mut clients = connections(alloc, row, store);
+    let mut cache = Cache::new(alloc, row);
     if row.has("unordered") {
         play_unordered(rt, alloc, row, wanted, &mut clients, &mut cache, text);
-        return;
-    }
-    let Ok(mut stream) = wanted.reconstruct_to_stream(alloc) else {
-        return;
-    };
-    stream.start();
-    pull_all(rt, alloc, row, &mut stream, &mut clients, &mut cache, text);
-    if row.has("history") {
-        tell_history(text, stream.history());
+    } else {
+        play_ordered(rt, alloc, row, wanted, &mut clients, &mut cache, text);
     }
 }
 

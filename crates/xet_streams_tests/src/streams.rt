@@ -5,7 +5,8 @@ use crate::pulled::come_to;
 /// of no bytes, and ranges of none. A stream that is cancelled, or whose flag is raised, answers none.
 const WORKED: &str = "\
 file b; from 4; to 13; history: 'd!' 'Hello' 'He' - - | P1:4..13 A67108864 F0:1.0 W2 A67108864 F0:1.1 W5 A67108864 W2
-file b; from 4; to 13; waits: 'd!' 'Hello' 'He' - -
+file b; from 4; to 13; waits; history: 'd!' 'Hello' 'He' - - | P1:4..13 A67108864 F0:1.0 W2 A67108864 F0:1.1 W5 \
+A67108864 W2
 file b; from 4; to 13; size 4: 'd!' 'He' 'llo' 'He' - -
 file c; history: - - | P1:0..1048576
 from 3; to 3; history: - - |
@@ -48,8 +49,8 @@ tries 1; lanes .x: UrlExpired -";
 
 /// Three connections, then two, then one: the fetches go round, those that are made again too, and plans to the first.
 const ROUND: &str = "\
-size 4; lanes .,.,.; lent 3 3 2 2 1; history: 'Hell' 'o, w' 'orld' '!' - - | P1:0..4 A67108864 F0:1.0 W4 P2:4..8 \
-A67108864 F1:2.0 W4 P3:8..12 A67108864 F0:3.0 W4 P4:12..16 A67108864 F1:4.0 W1
+size 4; lanes .,.,.; lent 3 3 2 1; history: 'Hell' 'o, w' 'orld' '!' - - | P1:0..4 A67108864 F0:1.0 W4 P2:4..8 \
+A67108864 F1:2.0 W4 P3:8..12 A67108864 F0:3.0 W4 P4:12..16 A67108864 F0:4.0 W1
 tries 2; lanes .x,.,.; history: . 'Hello, world!' - - | P1:0..1048576 A67108864 X0:1.0 R1 F1:1.0 W13";
 
 /// A cache that holds the block, lies, or fails.
@@ -64,14 +65,17 @@ const LIMITS: &str = "\
 file e; budget 0; history: 'Hello' '!' - - | P1:0..1048576 A0 F0:1.0 W5 A0 F0:1.1 W1
 file e; book 7; history: 'Hello' '!' - - | P1:0..1048576 A7 F0:1.0 W5 A7 F0:1.1 W1";
 
-/// Pieces at their places: in order where each block is missing; a block that the first and the last term share gives
-/// both at once; one that had expired is asked for after the others; and as the limit allows.
+/// Pieces at their places: in order where each block is missing; none after a cancel or a raised flag; the second block
+/// from the second connection; a block that the first and the last term share gives both at once; one that had expired
+/// is asked for after the others; and as the limit allows.
 const PLACED: &str = "\
 unordered; file b; from 4; to 13; history: 0 'd!' 2 'Hello' 7 'He' - - | 0 2 7 has 0/0 waits 0/0 complete
 unordered; file b; from 4; to 13; waits: 0 'd!' 2 'Hello' 7 'He' - -
 unordered; file b; from 4; to 13; cancel 1; history: 0 'd!' - - | 0 has 0/0 waits 0/0 complete
+unordered; file b; from 4; to 13; raise 1: 0 'd!' - -
 unordered; tries 2; lanes .x; pulls 1; history: . | has 0/0 waits 1/13 open
 unordered; lanes .f; history: ClientError - | has 0/0 waits 0/0 complete
+unordered; size 4; lanes .,f: 0 'Hell' ClientError -
 unordered; size 4; lent 1 0: 0 'Hell' ConfigurationError(NoConnection) -
 unordered; lanes p; plan 0;17 5 0 1 17 1 3 4 17 5 0 1;17:0 1,3 4; history: 0 'Hello' 6 'Hello' 5 '!' - - | 0 6 5 \
 has 0/0 waits 0/0 complete

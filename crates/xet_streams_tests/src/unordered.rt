@@ -11,7 +11,7 @@ use xet_blocks::Steady;
 use xet_connections::ScriptClient;
 use xet_error::Result;
 use xet_reconstruct::FileReconstructor;
-use xet_streams::Step;
+use xet_streams::{FlagSignal, Step};
 use xet_unordered_streams::UnorderedDownloadStream;
 
 /// ` 2'Hello'`: a piece at its place.
@@ -56,22 +56,20 @@ fn pull<R: Wait>(
     }
 }
 
-/// All pulls of a row.
+/// All pulls of a row, whose flag this is.
 fn pull_all<R: Wait>(
     rt: &R,
     alloc: Global,
     row: Row<'_>,
     stream: &mut UnorderedDownloadStream<Steady>,
+    flag: &FlagSignal,
     clients: &mut [ScriptClient<'_>; 3],
     cache: &mut Cache,
     text: &mut String,
 ) {
-    let Ok(flag) = stream.abort_flag() else {
-        return;
-    };
     let mut over = 0u64;
     for number in 0..row.number("pulls", 40) {
-        may_raise(row, number, &flag);
+        may_raise(row, number, flag);
         if is_cancelled(row, number) {
             stream.cancel();
         }
@@ -112,6 +110,25 @@ fn tell_readers<R: Wait>(rt: &R, text: &mut String, stream: &UnorderedDownloadSt
     );
 }
 
+/// What the pulls of this stream tell.
+fn play_stream<R: Wait>(
+    rt: &R,
+    alloc: Global,
+    row: Row<'_>,
+    stream: &mut UnorderedDownloadStream<Steady>,
+    clients: &mut [ScriptClient<'_>; 3],
+    cache: &mut Cache,
+    text: &mut String,
+) {
+    stream.start();
+    if let Ok(flag) = stream.abort_flag() {
+        pull_all(rt, alloc, row, stream, &flag, clients, cache, text);
+    }
+    if row.has("history") {
+        tell_readers(rt, text, stream);
+    }
+}
+
 /// What the pulls of an unordered stream tell.
 pub(crate) fn play_unordered<R: Wait>(
     rt: &R,
@@ -122,12 +139,7 @@ pub(crate) fn play_unordered<R: Wait>(
     cache: &mut Cache,
     text: &mut String,
 ) {
-    let Ok(mut stream) = wanted.reconstruct_to_unordered_stream(alloc) else {
-        return;
-    };
-    stream.start();
-    pull_all(rt, alloc, row, &mut stream, clients, cache, text);
-    if row.has("history") {
-        tell_readers(rt, text, &stream);
+    if let Ok(mut stream) = wanted.reconstruct_to_unordered_stream(alloc) {
+        play_stream(rt, alloc, row, &mut stream, clients, cache, text);
     }
 }

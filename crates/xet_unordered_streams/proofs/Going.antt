@@ -21,7 +21,7 @@ use Rattle.xet_leader.specs.declared.ahead.NextTerm.{NextTerm}
 use Rattle.xet_leader.specs.Led.{Led}
 use Rattle.xet_leader.specs.LedTerms.{IsNextTerm, NoneHas, PlanTerm, ahead, of_plan, size_in, task_of}
 use Rattle.xet_stream_rules.specs.Pulls.{IsTold}
-use Rattle.xet_stream_rules.specs.Streams.{Carries, IsOpen, Stands, StreamView, delivered, is_wrote, next_term, nobody}
+use Rattle.xet_stream_rules.specs.Streams.{Carries, IsOpen, Stands, StreamView, delivered, fetches_in, is_wrote, next_term, nobody}
 use Rattle.xet_stream_rules.specs.Unordered.{IsIn, UnorderedView, offset_of}
 use Rattle.xet_stream_rules.proofs.CallerLemmas.{count_by-append, none_next, none_some, some-append, some_next}
 use Rattle.xet_stream_terms.specs.Handing.{IsOpenNext}
@@ -106,6 +106,7 @@ module _ (v : StreamView) (ds : List ℕ) (e : EarlyPlaces) (h : IsPlacing v ds 
         taken = size_in (of_plan r.term.plan next.term);
         events = recorded_events;
         waited = slice_get_within (some_of v.events) (delivered v.events) (task_of t) is_next;
+        fetches = ap (λ (z : StreamView). fetches_in z.led) r.is ∙ sym (ap fetches_in r.is_led);
         rest = ap (λ (z : StreamView). record { stream = z; delivered = ds; ended = ended })
             (r.is ∙ sym (ap (λ (z : StreamView). record v { events = z.events; led = z.led }) r.is));
         stands = stands;
@@ -183,6 +184,7 @@ recorded_none b = record {
   new = [];
   events = sym (append-nil b.stream.events);
   each = All-nil (λ e. is_wrote e ≡ true);
+  fetches = refl;
   rest = refl;
   stands = λ store entries s. s;
 }
@@ -194,6 +196,7 @@ recorded_more b m n r o = record {
       ∙ append_assoc b.stream.events r.new (Wrote o.taken ∷ []);
   each = All-append (λ e. is_wrote e ≡ true) r.new (Wrote o.taken ∷ []) r.each
       (All-cons (λ e. is_wrote e ≡ true) (Wrote o.taken) [] refl (All-nil (λ e. is_wrote e ≡ true)));
+  fetches = o.fetches ∙ r.fetches;
   rest = o.rest ∙ ap (λ (z : UnorderedView). record z {
     stream = record z.stream { events = n.stream.events; led = n.stream.led };
   }) r.rest;
@@ -277,6 +280,7 @@ ahead_none v = record {
   unused = [];
   few = omega arith;
   given = refl;
+  fetches = refl;
   rest = refl;
 }
 
@@ -294,6 +298,7 @@ recorded_ahead b m r =
       given = subst (λ (us : List ℕ). GaveLimits b.stream.limits m.stream.limits us)
           (sym (append-nil (limits_of r.new) ∙ wrote_limits r.new r.each))
           (ap (λ (z : StreamView). z.limits) same);
+      fetches = r.fetches;
       rest = same ∙ ap (λ (x : LimitTold). record b.stream { events = m.stream.events; led = m.stream.led; limits = x })
           (sym (ap (λ (z : StreamView). z.limits) same));
     }
@@ -317,6 +322,7 @@ both_ahead b m n r a =
       given = subst (λ (x : LimitTold). GaveLimits x n.limits (limits_of (r.new ++ admits a.limits) ++ a.unused))
           (ap (λ (z : StreamView). z.limits) same)
           (subst (λ (l : List ℕ). GaveLimits m.stream.limits n.limits (l ++ a.unused)) (sym limits) a.given);
+      fetches = a.fetches ∙ r.fetches;
       rest = a.rest ∙ ap (λ (z : StreamView). record z { events = n.events; led = n.led; limits = n.limits }) same;
     }
 

@@ -86,7 +86,7 @@ order_falls b n cs ds k l p = by p.asked p.pull p.after
     by : (a : Answer) → PullCall b.stream p.middle cs ds k l a → AfterPull b n p.middle a (Ok Pending)
         → waits_left n.stream < waits_left b.stream
     by (Ok Pending) call after =
-        subst (λ (z : UnorderedView). waits_left z.stream < waits_left b.stream) (sym after.1)
+        subst (λ (z : UnorderedView). waits_left z.stream < waits_left b.stream) (sym after.2)
         (pull_falls b.stream p.middle cs ds k l call)
     by (Ok (Ready None)) call after = absurd (let e = after.0 in cc)
     by (Ok (Ready (Some piece))) call after = absurd (let e = after.1 in cc)

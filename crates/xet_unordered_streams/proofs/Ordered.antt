@@ -1,7 +1,8 @@
 -- A pull in order, and a block that is provided, of a stream that keeps its places.
-use Rattle.std.proofs.Common.{◌≡◌, ℕ, ◌-◌, Bool, true, false, List, [], ◌∷◌, ◌++◌, length, refl, sym, subst, ◌∙◌, ap, Option, Some, None, Ok, Err}
+use Rattle.std.proofs.Common.{◌≡◌, ℕ, ◌-◌, Bool, true, false, List, [], ◌∷◌, ◌++◌, length, refl, sym, subst, ◌∙◌, ap, arith, Option, Some, None, Ok, Err}
 use Rattle.std.specs.Prelude.{IfSome, MatchOption, Result}
 use Rattle.std.proofs.lemmas.List.{append-nil}
+use Rattle.std.proofs.lemmas.Option.{slice_get_within}
 use Rattle.xet_base.specs.declared.cas_types.FileRange.{FileRange}
 use Rattle.xet_outside.specs.Told.{CacheTold, ClientTold}
 use Rattle.xet_error.specs.declared.error.FileReconstructionError.{FileReconstructionError}
@@ -10,15 +11,17 @@ use Rattle.xet_events.specs.declared.event.Event.TheVariants.{Wrote}
 use Rattle.xet_events.specs.Allowed.{AllowedAfter, IsAllowedHistory, IsMissing}
 use Rattle.xet_events.specs.Events.{Task, is_kept, planned}
 use Rattle.xet_events.proofs.CallerLemmas.{planned-push}
+use Rattle.xet_ties.specs.Saids.{some_of}
 use Rattle.xet_ties.specs.Ties.{FirstStarts}
 use Rattle.xet_leader.specs.Led.{Led}
+use Rattle.xet_leader.specs.LedTerms.{task_of}
 use Rattle.xet_leader.specs.declared.missing_blocks.BlockAt.{BlockAt}
 use Rattle.xet_stream_rules.specs.declared.step.Step.{Step}
 use Rattle.xet_stream_rules.specs.declared.step.Step.TheVariants.{Pending, Ready}
 use Rattle.xet_stream_rules.specs.Pulls.{Answer, IsTold, PullCall, StepFails}
-use Rattle.xet_stream_rules.specs.Streams.{Carries, IsOpen, Stands, StandsStill, StreamView, next_term, nobody}
+use Rattle.xet_stream_rules.specs.Streams.{Carries, IsOpen, MayGoOn, Stands, StandsStill, StreamView, delivered, is_wrote, next_term, nobody}
 use Rattle.xet_stream_rules.specs.Unordered.{IsIn, UnorderedView, offset_of}
-use Rattle.xet_stream_rules.proofs.CallerLemmas.{tells_nobody}
+use Rattle.xet_stream_rules.proofs.CallerLemmas.{count_by-append, get_none, tells_nobody}
 use Rattle.xet_stream_terms.proofs.CallerLemmas.{term_missing}
 use Rattle.xet_parts.specs.Admissions.{admits}
 use Rattle.xet_error.specs.declared.error.FileReconstructionError.TheVariants as error
@@ -29,7 +32,8 @@ use Rattle.xet_unordered_streams.specs.Items.{GivesNext, IsCaught}
 use Rattle.xet_unordered_streams.specs.Placing.{AreGiven, IsPlacing, is_early}
 use Rattle.xet_unordered_streams.specs.steps.Dues.{IsAwaited}
 use Rattle.xet_unordered_streams.specs.steps.Pulling.{AwaitedView, IsAwaitedIn, IsDone}
-use Rattle.xet_unordered_streams.proofs.Given.{caught_more, given_more, given_next}
+use Rattle.xet_unordered_streams.proofs.Dues.{stands_at}
+use Rattle.xet_unordered_streams.proofs.Given.{caught_more, given_more, given_next, some_more}
 use Rattle.xet_unordered_streams.proofs.Going.{admits_no_piece, caught_on, placing_more}
 use Rattle.xet_unordered_streams.proofs.Grown.{Grew, front_same, grew, grew_failed, grew_told, pulled_stands, seen_open, seen_stands, stepped_pending, stepped_piece}
 
@@ -64,12 +68,12 @@ module _ (v n : StreamView) (ds : List ℕ) (e : EarlyPlaces) (ended : Bool) (h 
       let g = grew v n cs xs k l (Err x) c in
       placing_more v n ds e g.new h g.setup g.events g.none c.allowed (stands_now (Err x) c)
 
-  -- one that isn't there yet leaves an open stream
-  pub pending_open : PullCall v n cs xs k l (Ok Pending) → IsOpen n
-  pending_open c =
+  -- one that isn't there yet leaves a stream that may go on
+  pub pending_goes_on : PullCall v n cs xs k l (Ok Pending) → MayGoOn n
+  pending_goes_on c =
       let o = stepped_pending v n cs xs k l c in
       let hands = o.done.hands in
-      subst IsOpen (sym hands.2) hands.0.still
+      subst MayGoOn (sym hands.2) hands.0
 
   pub pending_caught : PullCall v n cs xs k l (Ok Pending)
       → IsCaught (record { stream = n; delivered = ds; ended = ended })
@@ -160,7 +164,7 @@ provided_caught v n ds e ended h cs xs k l p allowed caught =
     caught_on v n ds e ended ended p.work.new h (ap (λ (z : StreamView). z.setup) p.work.rest) p.work.added
     p.work.few.pieces allowed (p.stands None None (tells_nobody cs k) h.stands) caught
 
-pub provided_open : (v n : StreamView) (cs xs : List ClientTold) (k l : CacheTold) → ProvidesBlock v n cs xs k l
+provided_open : (v n : StreamView) (cs xs : List ClientTold) (k l : CacheTold) → ProvidesBlock v n cs xs k l
     → IsOpen v → IsOpen n
 provided_open v n cs xs k l p o = subst IsOpen (sym p.work.rest)
     (record { untold = o.untold; uncancelled = o.uncancelled })
@@ -185,6 +189,29 @@ awaited_missing v ds e ended c h still a =
     subst (λ (p : ℕ). IsMissing v.events p c.block) (sym w.plan_is)
     (subst (λ (q : ℕ). IsMissing v.events w.term.plan.number q) (sym w.block_is)
     (term_missing v.setup v.events a.led carries w.skip w.term w.there w.some w.opens absent))
+
+-- and after it is provided the stream may go on: the term that waited for it isn't recorded as written
+pub provided_goes_on : (v n : StreamView) (ds : List ℕ) (e : EarlyPlaces) (ended : Bool) (c : BlockAt) → IsPlacing v ds e
+    → (cs xs : List ClientTold) (k l : CacheTold) → ProvidesBlock v n cs xs k l → IsOpen v
+    → IsAwaitedIn (record { stream = v; delivered = ds; ended = ended }) c → MayGoOn n
+provided_goes_on v n ds e ended c h cs xs k l p still a =
+    let w = a.awaits in
+    let new = p.work.new in
+    let carries : Carries nobody v.setup v.events a.led =
+    subst (λ (o : Option Led). IfSome o (Carries nobody v.setup v.events)) a.is_led (h.stands.led still) in
+    let s = stands_at nobody v.setup v.events a.led carries w.skip w.term w.there w.some w.opens in
+    let within = slice_get_within (some_of (v.events ++ new)) s.place (task_of w.term)
+    (some_more v.events new s.place (task_of w.term) s.at) in
+    let counted = count_by-append is_wrote v.events new in
+    let pieces = p.work.few.pieces in
+    let past = s.past in
+    record {
+      still = provided_open v n cs xs k l p still;
+      before = λ at_end.
+          let none = get_none (some_of (v.events ++ new)) (delivered (v.events ++ new))
+          (subst (λ (es : List Event). next_term es ≡ None) p.work.added at_end.all) in
+          omega (arith, within, counted, pieces, past, none);
+    }
 
 -- ---- the flag, and an error
 

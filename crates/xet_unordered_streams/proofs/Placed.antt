@@ -314,9 +314,9 @@ module _ (s : Store) (valid : IsValid s) where
 
     after_step : (answer : ItemAnswer) → Stands (everybody s) v.stream → AfterStep v n answer → Adds s b n answer
     after_step (Ok Pending) stands h =
-        adds_none b n (Ok Pending) refl more (ap (λ (z : UnorderedView). z.stream.setup) h.1 ∙ setup)
-        (ap (λ (z : UnorderedView). z.stream.events) h.1 ∙ events)
-        (ap (λ (z : UnorderedView). z.delivered) h.1 ∙ places)
+        adds_none b n (Ok Pending) refl more (ap (λ (z : UnorderedView). z.stream.setup) h.2 ∙ setup)
+        (ap (λ (z : UnorderedView). z.stream.events) h.2 ∙ events)
+        (ap (λ (z : UnorderedView). z.delivered) h.2 ∙ places)
     after_step (Ok (Ready None)) stands h = absurd h
     after_step (Ok (Ready (Some item))) stands h = adds_due b v n item more setup events places stands h
     after_step (Err e) stands h = fails_due e h
@@ -330,9 +330,9 @@ module _ (s : Store) (valid : IsValid s) where
             → m.stream.events ≡ b.stream.events ++ new → m.delivered ≡ b.delivered → Stands (everybody s) m.stream
             → (a : ItemAnswer) → AfterStep m n a → Adds s b n a
         middle_step m new same grown listed stood (Ok Pending) x =
-            adds_none b n (Ok Pending) refl new (ap (λ (z : UnorderedView). z.stream.setup) x.1 ∙ same)
-            (ap (λ (z : UnorderedView). z.stream.events) x.1 ∙ grown)
-            (ap (λ (z : UnorderedView). z.delivered) x.1 ∙ listed)
+            adds_none b n (Ok Pending) refl new (ap (λ (z : UnorderedView). z.stream.setup) x.2 ∙ same)
+            (ap (λ (z : UnorderedView). z.stream.events) x.2 ∙ grown)
+            (ap (λ (z : UnorderedView). z.delivered) x.2 ∙ listed)
         middle_step m new same grown listed stood (Ok (Ready None)) x = absurd x
         middle_step m new same grown listed stood (Ok (Ready (Some item))) x =
             adds_due b m n item new same grown listed stood x
@@ -384,9 +384,9 @@ module _ (s : Store) (valid : IsValid s) where
             → m.stream.events ≡ b.stream.events ++ new → m.delivered ≡ b.delivered → Stands (everybody s) m.stream
             → (a : ItemAnswer) → AfterStep m n a → Adds s b n a
         after_so m new same grown listed stood (Ok Pending) x =
-            adds_none b n (Ok Pending) refl new (ap (λ (z : UnorderedView). z.stream.setup) x.1 ∙ same)
-            (ap (λ (z : UnorderedView). z.stream.events) x.1 ∙ grown)
-            (ap (λ (z : UnorderedView). z.delivered) x.1 ∙ listed)
+            adds_none b n (Ok Pending) refl new (ap (λ (z : UnorderedView). z.stream.setup) x.2 ∙ same)
+            (ap (λ (z : UnorderedView). z.stream.events) x.2 ∙ grown)
+            (ap (λ (z : UnorderedView). z.delivered) x.2 ∙ listed)
         after_so m new same grown listed stood (Ok (Ready None)) x = absurd x
         after_so m new same grown listed stood (Ok (Ready (Some item))) x =
             adds_due b m n item new same grown listed stood x

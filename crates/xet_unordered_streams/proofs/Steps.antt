@@ -8,7 +8,7 @@ use Rattle.xet_error.specs.declared.error.Setting.TheVariants.{NoConnection}
 use Rattle.xet_events.specs.Allowed.{IsAllowedHistory}
 use Rattle.xet_stream_rules.specs.declared.step.Step.TheVariants.{Pending, Ready}
 use Rattle.xet_stream_rules.specs.Pulls.{Answer, IsRefused, PullCall, pulled_once}
-use Rattle.xet_stream_rules.specs.Streams.{IsAtEnd, IsOpen, StandsStill, StreamView, telling_so}
+use Rattle.xet_stream_rules.specs.Streams.{IsAtEnd, IsOpen, MayGoOn, StandsStill, StreamView, telling_so}
 use Rattle.xet_stream_rules.specs.Unordered.{Item, ItemAnswer, UnorderedView}
 use Rattle.xet_streams.specs.AnyOrder.{CanStep, StandsOn}
 use Rattle.xet_unordered_streams.specs.Items.{AfterStep, ArePassed, GivesNow, IsCaught, ItemCall, PullsItem, ServesItem, ServesVain, StepsItem, seen_so}
@@ -39,7 +39,7 @@ pulled_on v store entries h = pulled_stands (telling_so store entries) v h
 -- a pending answer leaves it as it was
 after_caught : (m n : UnorderedView) (answer : ItemAnswer) → AfterStep m n answer → IsCaught m → answer ≡ Ok Pending
     → IsCaught n
-after_caught m n (Ok Pending) a c e = subst IsCaught (sym a.1) c
+after_caught m n (Ok Pending) a c e = subst IsCaught (sym a.2) c
 after_caught m n (Ok (Ready None)) a c e = absurd a
 after_caught m n (Ok (Ready (Some item))) a c e = absurd (cc)
 after_caught m n (Err x) a c e = absurd (cc)
@@ -90,7 +90,7 @@ module _ (b n : UnorderedView) (cs ds : List ClientTold) (k l : CacheTold) where
 pub record PendingPull (b m : UnorderedView) (cs ds : List ClientTold) (k l : CacheTold) : Type 0 where
   pub call : PullCall b.stream m.stream cs ds k l (Ok Pending)
   pub rest : m ≡ record b { stream = m.stream }
-  pub still : IsOpen m.stream
+  pub goes_on : MayGoOn m.stream
   pub caught : IsCaught m
 
 pub pending_pull : (b m : UnorderedView) (cs ds : List ClientTold) (k l : CacheTold)
@@ -99,7 +99,7 @@ pending_pull b m cs ds k l c = by c.asked c.call c.after
   where
     by : (a : Answer) → PullCall b.stream m.stream cs ds k l a → OrderedAfter b m a (Ok Pending)
         → PendingPull b m cs ds k l
-    by (Ok Pending) call x = record { call = call; rest = x.1; still = x.2; caught = x.3 }
+    by (Ok Pending) call x = record { call = call; rest = x.1; goes_on = x.2; caught = x.3 }
     by (Ok (Ready (Some piece))) call x = absurd (let z = x.1 in cc)
     by (Ok (Ready None)) call x = absurd (let z = x.0 in cc)
     by (Err e) call x = absurd (let z = x.0 in cc)
@@ -255,6 +255,7 @@ short_item b n cs k e g allowed passed = record {
   seen = g.ready.seen;
   later = omega arith;
   way = inl (record {
+    still = g.still;
     told_error = e;
     is_error = refl;
     told = g.told;
@@ -305,25 +306,27 @@ pub ahead_short : (b n : UnorderedView) (e : FileReconstructionError) → Record
 ahead_short b n e r = record {
   ready = r.middle.stream;
   first = recorded_ahead b r.middle r.recorded;
+  still = r.still;
   told = r.short.fails.told;
   rest = r.short.fails.rest ∙ ap (λ (z : UnorderedView). record z { stream = n.stream }) r.recorded.rest;
   stands = λ store entries h. r.short.stands store entries (r.recorded.stands store entries h);
 }
 
-pub ahead_unadmitted : (b m n : UnorderedView) (e : FileReconstructionError) → RecordedSo b m → AdmitCall m n (Err e)
-    → AheadShort b n e
-ahead_unadmitted b m n e r a = record {
+pub ahead_unadmitted : (b m n : UnorderedView) (e : FileReconstructionError) → RecordedSo b m → IsOpen m.stream
+    → AdmitCall m n (Err e) → AheadShort b n e
+ahead_unadmitted b m n e r o a = record {
   ready = a.call.0;
   first = both_ahead b m a.call.0 r a.call.1;
+  still = subst IsOpen (sym a.call.1.rest) (record { untold = o.untold; uncancelled = o.uncancelled });
   told = a.call.2;
   rest = a.rest ∙ ap (λ (z : UnorderedView). record z { stream = n.stream }) r.rest;
   stands = λ store entries h. a.stands store entries (r.stands store entries h);
 }
 
 pub ahead_admit : (b m n : UnorderedView) (answer : Result (Unit {0}) FileReconstructionError) → RecordedSo b m
-    → IsCaught m → AdmitCall m n answer → AheadCall b n answer
-ahead_admit b m n (Ok tt) r c a = ahead_both b m n r c a
-ahead_admit b m n (Err e) r c a = ahead_unadmitted b m n e r a
+    → IsOpen m.stream → IsCaught m → AdmitCall m n answer → AheadCall b n answer
+ahead_admit b m n (Ok tt) r o c a = ahead_both b m n r c a
+ahead_admit b m n (Err e) r o c a = ahead_unadmitted b m n e r o a
 
 -- the flag was asked, and the next term wasn't given
 pub free_asked : (b m : UnorderedView) (connections : ℕ) (answer : Bool) → MayStepCall b m connections answer

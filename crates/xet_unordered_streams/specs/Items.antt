@@ -19,8 +19,8 @@ use Rattle.xet_leader.specs.Led.{Led}
 use Rattle.xet_leader.specs.LedTerms.{IsPieceIn, PlanTerm, ahead, size_in, task_of}
 use Rattle.xet_stream_rules.specs.declared.step.Step.TheVariants.{Pending, Ready}
 use Rattle.xet_stream_rules.specs.Pulls.{Answer, IsRefused, IsTold, IsUnasked, PullCall, StepFails, pulled_once}
-use Rattle.xet_stream_rules.specs.Streams.{IsAtEnd, IsOpen, KeptFails, Stands, StandsStill, StreamView, connections}
-use Rattle.xet_stream_rules.specs.Streams.{delivered, next_term}
+use Rattle.xet_stream_rules.specs.Streams.{IsAtEnd, IsOpen, KeptFails, MayGoOn, Stands, StandsStill, StreamView}
+use Rattle.xet_stream_rules.specs.Streams.{connections, delivered, fetches_in, next_term}
 use Rattle.xet_stream_rules.specs.Unordered.{IsIn, Item, ItemAnswer, UnorderedView, offset_of}
 use Rattle.xet_streams.specs.AnyOrder.{ProvidesBlock, StandsOn}
 
@@ -85,9 +85,9 @@ GivesNow v n (Ok (Ready None)) = ⊥
 GivesNow v n (Ok (Ready (Some item))) = GivesDue v n item
 GivesNow v n (Err e) = FailsDue v n e
 
--- so at a step's end, or none is due
+-- so at a step's end, or none is due and there may be further terms
 abbrev pub AfterStep : UnorderedView → UnorderedView → ItemAnswer → Type 0
-AfterStep v n (Ok Pending) = NoneIsDue v × (n ≡ v)
+AfterStep v n (Ok Pending) = MayGoOn v.stream × NoneIsDue v × (n ≡ v)
 AfterStep v n (Ok (Ready None)) = ⊥
 AfterStep v n (Ok (Ready (Some item))) = GivesDue v n item
 AfterStep v n (Err e) = FailsDue v n e
@@ -121,7 +121,7 @@ is_ahead (Admit limit) = true
 is_ahead _ = false
 
 -- terms that were given are recorded as written, and terms admitted, each under a limit that is asked for it; the limit
--- that was given last may have refused one
+-- that was given last may have refused one, and no block was asked for
 pub record GoesAhead (v n : StreamView) : Type 0 where
   pub new : List Event
   pub added : n.events ≡ v.events ++ new
@@ -129,11 +129,13 @@ pub record GoesAhead (v n : StreamView) : Type 0 where
   pub unused : List ℕ
   pub few : length unused ≤ 1
   pub given : GaveLimits v.limits n.limits (limits_of new ++ unused)
+  pub fetches : fetches_in n.led ≡ fetches_in v.led
   pub rest : n ≡ record v { events = n.events; led = n.led; limits = n.limits }
 
--- memory was wanting for that
+-- memory was wanting for that, in an open stream
 pub record GoesShort (v n : UnorderedView) (cs ds : List ClientTold) (k l : CacheTold) (answer : ItemAnswer) : Type 0
   where
+    pub still : IsOpen v.stream
     pub told_error : FileReconstructionError
     pub is_error : answer ≡ Err told_error
     pub told : IsTold v.stream n.stream error.OutOfMemory told_error

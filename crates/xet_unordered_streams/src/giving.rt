@@ -1,7 +1,7 @@
 //! Items of due terms.
 ghost use Rattle.std.specs.Prelude.{◌≡◌};
 ghost use Rattle.xet_events.specs.declared.event.Event.TheVariants.{Fail};
-ghost use Rattle.xet_stream_rules.specs.Streams.{IsOpen};
+ghost use Rattle.xet_stream_rules.specs.Streams.{IsOpen, MayGoOn};
 ghost use Rattle.xet_ties.specs.PartCalls.{stop_event};
 ghost use Rattle.xet_unordered_streams.specs.Items.{AfterStep, GivesNow};
 ghost use Rattle.xet_unordered_streams.specs.Placing.{is_early};
@@ -108,13 +108,13 @@ impl<P: FetchPolicy + Drop> UnorderedDownloadStream<P> {
         any_due(alloc, &self.stepper, &self.early, &mut self.terms)
     }
 
-    /// An item of a due term at a step's end, else that none is there yet.
+    /// An item of a due term at a step's end, else that none is there yet of a stream that may go on.
     pub(crate) fn after_step<R: Wait>(
         &mut self,
         rt: &R,
         alloc: Global,
     ) -> Result<Step<Option<(u64, Bytes)>>>
-        requires { IsOpen self.old.stream }
+        requires { MayGoOn self.old.stream }
         ensures after { AfterStep self.old self.new result }
         ensures stands { KeepsOn self.old self.new }
     {

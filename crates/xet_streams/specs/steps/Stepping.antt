@@ -1,12 +1,11 @@
 -- What one step of a stream does to its parts.
-use Rattle.std.specs.Prelude.{ℕ, ◌≡◌, ◌⊎◌, ◌+◌, ◌<◌, ◌++◌, Bool, true, false, List, [], ◌∷◌, All, length, take}
+use Rattle.std.specs.Prelude.{ℕ, ◌≡◌, ◌⊎◌, ◌+◌, ◌<◌, ◌++◌, Bool, false, List, [], ◌∷◌, All, length, take}
 use Rattle.std.specs.Prelude.{slice_get}
-use Rattle.std.specs.Prelude.{Option, Some, None, Result, Ok, Err, IfOk, IfErr}
+use Rattle.std.specs.Prelude.{Option, Some, None, Result, IfOk, IfErr}
 use Rattle.xet_error.specs.declared.error.FileReconstructionError.{FileReconstructionError}
 use Rattle.xet_error.specs.declared.error.FileReconstructionError.TheVariants as error
 use Rattle.xet_events.specs.declared.event.Event.{Event}
 use Rattle.xet_events.specs.declared.event.Event.TheVariants.{Wrote}
-use Rattle.xet_events.specs.Events.{Task}
 use Rattle.xet_events.specs.Limits.{LimitTold}
 use Rattle.xet_ties.specs.Setup.{Setup}
 use Rattle.xet_leader.specs.declared.ahead.NextTerm.{NextTerm}

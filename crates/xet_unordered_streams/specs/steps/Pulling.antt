@@ -13,7 +13,8 @@ use Rattle.xet_leader.specs.Led.{Led}
 use Rattle.xet_leader.specs.LedTerms.{IsNextTerm, NoneHas, ahead}
 use Rattle.xet_stream_rules.specs.declared.step.Step.TheVariants.{Pending, Ready}
 use Rattle.xet_stream_rules.specs.Pulls.{Answer, IsTold, PullCall, StepFails}
-use Rattle.xet_stream_rules.specs.Streams.{IsAtEnd, IsOpen, StandsStill, StreamView, delivered, is_wrote}
+use Rattle.xet_stream_rules.specs.Streams.{IsAtEnd, IsOpen, MayGoOn, StandsStill, StreamView, delivered, fetches_in}
+use Rattle.xet_stream_rules.specs.Streams.{is_wrote}
 use Rattle.xet_stream_rules.specs.Unordered.{ItemAnswer, UnorderedView}
 use Rattle.xet_streams.specs.AnyOrder.{AdmitsAheadCall, MaySteps, ProvidesBlock}
 use Rattle.xet_unordered_streams.specs.declared.pulling.EarlyTerm.{EarlyTerm}
@@ -57,6 +58,7 @@ pub record RecordsOne (b n : UnorderedView) : Type 0 where
   pub taken : ℕ
   pub events : n.stream.events ≡ b.stream.events ++ Wrote taken ∷ []
   pub waited : delivered b.stream.events < length (some_of b.stream.events)
+  pub fetches : fetches_in n.stream.led ≡ fetches_in b.stream.led
   pub rest : n ≡ record b { stream = record b.stream { events = n.stream.events; led = n.stream.led } }
   pub stands : KeepsOn b n
 
@@ -76,12 +78,14 @@ pub record RecordedSo (b n : UnorderedView) : Type 0 where
   pub new : List Event
   pub events : n.stream.events ≡ b.stream.events ++ new
   pub each : All (λ e. is_wrote e ≡ true) new
+  pub fetches : fetches_in n.stream.led ≡ fetches_in b.stream.led
   pub rest : n ≡ record b { stream = record b.stream { events = n.stream.events; led = n.stream.led } }
   pub stands : KeepsOn b n
 
 pub record RecordedShort (b n : UnorderedView) (e : FileReconstructionError) : Type 0 where
   pub middle : UnorderedView
   pub recorded : RecordedSo b middle
+  pub still : IsOpen middle.stream
   pub short : EndsShort middle n e
 
 -- one call of `record_early`
@@ -116,6 +120,7 @@ pub record GoneAhead (b n : UnorderedView) : Type 0 where
 pub record AheadShort (b n : UnorderedView) (e : FileReconstructionError) : Type 0 where
   pub ready : StreamView
   pub first : GoesAhead b.stream ready
+  pub still : IsOpen ready
   pub told : IsTold ready n.stream error.OutOfMemory e
   pub rest : n ≡ record b { stream = n.stream }
   pub stands : KeepsOn b n
@@ -129,7 +134,7 @@ AheadCall b n (Err e) = AheadShort b n e
 -- what is answered by that, where none is pending
 abbrev pub OrderedAfter : UnorderedView → UnorderedView → Answer → ItemAnswer → Type 0
 OrderedAfter b n (Ok Pending) answer = (answer ≡ Ok Pending) × (n ≡ record b { stream = n.stream })
-    × IsOpen n.stream × IsCaught n
+    × MayGoOn n.stream × IsCaught n
 OrderedAfter b n (Ok (Ready o)) answer = AfterPull b n n.stream (Ok (Ready o)) answer
 OrderedAfter b n (Err e) answer = AfterPull b n n.stream (Err e) answer
 
@@ -175,7 +180,7 @@ AwaitedView v o = MatchOption o (Unit {0}) (λ c. (l : Led) × (v.led ≡ Some l
 abbrev pub BlockCall : UnorderedView → UnorderedView → List ClientTold → List ClientTold → CacheTold → CacheTold
     → Result (Unit {0}) FileReconstructionError → Type 0
 BlockCall b n cs ds k l (Ok tt) = ProvidesBlock b.stream n.stream cs ds k l × (n ≡ record b { stream = n.stream })
-    × IsOpen n.stream × IsCaught n
+    × MayGoOn n.stream × IsCaught n
 BlockCall b n cs ds k l (Err e) = StepFails b.stream n.stream cs ds k l e × StandsStill cs k b.stream n.stream
     × (n ≡ record b { stream = n.stream })
 

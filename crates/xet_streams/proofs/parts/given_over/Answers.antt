@@ -1,4 +1,4 @@
-use Rattle.std.proofs.Common.{refl, subst, sym, ◌∙◌, Option, Some, Ok}
+use Rattle.std.proofs.Common.{refl, subst, sym, ◌∙◌, Option, Some}
 use Rattle.std.specs.Prelude.{IfSome}
 use Rattle.xet_leader.specs.Led.{Led, setup_of_job}
 use Rattle.xet_stream_rules.specs.Streams.{Carries, nobody}

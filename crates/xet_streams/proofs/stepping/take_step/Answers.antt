@@ -1,7 +1,5 @@
 use Rattle.std.proofs.Common.{refl}
-use Rattle.std.specs.Prelude.{map}
 use Rattle.xet_leader.specs.Led.{setup_of_job}
-use Rattle.xet_stream_rules.specs.Moments.{at}
 use Rattle.xet_streams.proofs.Stepped.{step_served}
 use Rattle.xet_streams.proofs.Steps.{planned_carries, planned_some, some_on, step_none, step_vain}
 use Rattle.xet_streams.proofs.stepping.take_step.Goals as goal

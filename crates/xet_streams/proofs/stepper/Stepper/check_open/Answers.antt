@@ -1,14 +1,8 @@
-use Rattle.std.proofs.Common.{◌≡◌, subst, sym, ◌∙◌, ap, refl, Option, None, Some, Ok, Err}
-use Rattle.std.specs.Prelude.{IfSome, map}
-use Rattle.xet_error.specs.declared.error.FileReconstructionError.{FileReconstructionError}
-use Rattle.xet_error.specs.declared.error.FileReconstructionError.TheVariants as error
-use Rattle.xet_leader.specs.Led.{Led, setup_of_job}
-use Rattle.xet_stream_rules.specs.Pulls.{IsTold}
-use Rattle.xet_stream_rules.specs.Streams.{Carries, IsOpen, StandsStill, StreamView, nobody}
-use Rattle.xet_stream_terms.specs.Handing.{IsOpenNext}
-use Rattle.xet_streams.specs.AnyOrder.{AdmitsAheadCall, GivenCall, IsLedNext, StandsOn}
-use Rattle.xet_streams.specs.Parts.{limits_told}
-use Rattle.xet_streams.proofs.Pulled.{held_carries, held_running}
+use Rattle.std.proofs.Common.{subst, sym, ◌∙◌, ap}
+use Rattle.std.specs.Prelude.{IfSome}
+use Rattle.xet_leader.specs.Led.{setup_of_job}
+use Rattle.xet_stream_rules.specs.Streams.{Carries, StreamView, nobody}
+use Rattle.xet_streams.proofs.Pulled.{held_carries}
 use Rattle.xet_streams.proofs.AnyParts.{held_none}
 use Rattle.xet_streams.proofs.stepper.Stepper.check_open.Goals as goal
 

@@ -1,13 +1,9 @@
-use Rattle.std.proofs.Common.{◌≡◌, true, false, subst, sym, ◌∙◌, ap, refl, Option, None, Some, Ok, Err}
-use Rattle.std.specs.Prelude.{map}
+use Rattle.std.proofs.Common.{subst, sym, ◌∙◌, ap, refl, Option, Some}
 use Rattle.xet_error.specs.declared.error.FileReconstructionError.{FileReconstructionError}
-use Rattle.xet_events.specs.declared.event.Event.{Event}
-use Rattle.xet_events.specs.Allowed.{IsMissing}
-use Rattle.xet_leader.specs.Led.{Led, setup_of_job}
-use Rattle.xet_stream_rules.specs.Pulls.{IsTold, pulled_once}
-use Rattle.xet_stream_rules.specs.Streams.{IsAtEnd, IsOpen, StreamView}
+use Rattle.xet_leader.specs.Led.{setup_of_job}
+use Rattle.xet_stream_rules.specs.Pulls.{IsTold}
+use Rattle.xet_stream_rules.specs.Streams.{StreamView}
 use Rattle.xet_streams.specs.Parts.{limits_told}
-use Rattle.xet_stream_rules.specs.Streams.{nobody}
 use Rattle.xet_streams.specs.AnyOrder.{StandsOn}
 use Rattle.xet_streams.proofs.AnyParts.{told_on}
 use Rattle.xet_streams.proofs.Pulled.{held_running, stopped_told}

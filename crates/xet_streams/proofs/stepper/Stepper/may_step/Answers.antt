@@ -1,4 +1,4 @@
-use Rattle.std.proofs.Common.{false, subst}
+use Rattle.std.proofs.Common.{subst}
 use Rattle.xet_streams.specs.steps.Pulling.{AsksFlag}
 use Rattle.xet_streams.proofs.AnyParts.{asked_closed, asked_not, asked_so}
 use Rattle.xet_streams.proofs.stepper.Stepper.may_step.Goals as goal

@@ -1,4 +1,4 @@
-use Rattle.std.proofs.Common.{◌≡◌, true, List, length, subst, sym, Option, None, Some, Ok, Err}
+use Rattle.std.proofs.Common.{true, length, subst, sym, Option, Ok, Err}
 use Rattle.std.specs.Prelude.{map}
 use Rattle.std.proofs.lemmas.List.{length-map}
 use Rattle.xet_error.specs.declared.error.FileReconstructionError.{FileReconstructionError}

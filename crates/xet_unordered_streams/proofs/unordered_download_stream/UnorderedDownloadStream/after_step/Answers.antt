@@ -6,9 +6,12 @@ use Rattle.xet_unordered_streams.specs.steps.Giving.{AnyDue, DueFor, KeepsOn}
 use Rattle.xet_unordered_streams.proofs.Gives.{fails_it, fails_plain, gives_after}
 use Rattle.xet_unordered_streams.proofs.unordered_download_stream.UnorderedDownloadStream.after_step.Goals as goal
 
+pub find_any-requires : goal.find_any-requires
+find_any-requires g c = c.requires.still
+
 pub give-requires-clause-still : goal.give-requires-clause-still
 give-requires-clause-still g c =
-    subst (λ (z : UnorderedView). IsOpen z.stream) (sym c.in-Ok-Some.ensures.same) c.requires
+    subst (λ (z : UnorderedView). IsOpen z.stream) (sym c.in-Ok-Some.ensures.same) c.requires.still
 
 pub give-requires-clause-due : goal.give-requires-clause-due
 give-requires-clause-due g c =
@@ -17,7 +20,7 @@ give-requires-clause-due g c =
 
 pub fail-requires-clause-still : goal.fail-requires-clause-still
 fail-requires-clause-still g c =
-    subst (λ (z : UnorderedView). IsOpen z.stream) (sym c.in-Err.ensures.same) c.requires
+    subst (λ (z : UnorderedView). IsOpen z.stream) (sym c.in-Err.ensures.same) c.requires.still
 
 pub fail-requires-clause-plain : goal.fail-requires-clause-plain
 fail-requires-clause-plain g c = fails_plain c.args.self.now c.in-Err.error c.in-Err.ensures.any
@@ -32,7 +35,8 @@ returns-in-Ok-Some-clause-stands g c =
     subst (λ (z : UnorderedView). KeepsOn z c.give.new.self) c.in-Ok-Some.ensures.same c.give.ensures.stands
 
 pub returns-in-Ok-None-clause-after : goal.returns-in-Ok-None-clause-after
-returns-in-Ok-None-clause-after g c = (rw c.in-Ok-None.field-0-is at c.in-Ok-None.ensures.any, c.in-Ok-None.ensures.same)
+returns-in-Ok-None-clause-after g c =
+    (c.requires, rw c.in-Ok-None.field-0-is at c.in-Ok-None.ensures.any, c.in-Ok-None.ensures.same)
 
 pub returns-in-Ok-None-clause-stands : goal.returns-in-Ok-None-clause-stands
 returns-in-Ok-None-clause-stands g c =

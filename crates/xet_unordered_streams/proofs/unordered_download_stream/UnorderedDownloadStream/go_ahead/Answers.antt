@@ -17,7 +17,7 @@ admit-requires g c = c.in-Ok.ensures.1
 
 pub returns-in-Ok : goal.returns-in-Ok
 returns-in-Ok g c = ahead_admit c.args.self.now c.record_early.new.self c.admit.new.self c.admit.result
-    c.in-Ok.ensures.0 c.in-Ok.ensures.2 c.admit.ensures
+    c.in-Ok.ensures.0 c.in-Ok.ensures.1 c.in-Ok.ensures.2 c.admit.ensures
 
 pub returns-in-Err : goal.returns-in-Err
 returns-in-Err g c = ahead_short c.args.self.now c.record_early.new.self c.in-Err.error c.in-Err.ensures

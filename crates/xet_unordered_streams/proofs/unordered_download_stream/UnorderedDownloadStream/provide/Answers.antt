@@ -2,7 +2,7 @@ use Rattle.std.proofs.Common.{refl, subst, sym, Ok, Err}
 use Rattle.std.specs.Prelude.{length, map}
 use Rattle.xet_stream_rules.specs.Unordered.{UnorderedView}
 use Rattle.xet_unordered_streams.specs.steps.Pulling.{BlockCall, IsAwaitedIn, IsFreeStep}
-use Rattle.xet_unordered_streams.proofs.Ordered.{awaited_missing, provided_caught, provided_open, provided_placing, vain_placing}
+use Rattle.xet_unordered_streams.proofs.Ordered.{awaited_missing, provided_caught, provided_goes_on, provided_placing, vain_placing}
 use Rattle.xet_unordered_streams.proofs.unordered_download_stream.UnorderedDownloadStream.provide.Goals as goal
 
 pub provide-requires-clause-still : goal.provide-requires-clause-still
@@ -55,7 +55,9 @@ returns-in-Ok g c =
     subst (λ (z : UnorderedView). BlockCall z n cs ds k l (Ok tt)) c.self.view_is (
       c.in-Ok.ensures,
       refl,
-      provided_open i.stepper c.provide.new.self cs ds k l c.in-Ok.ensures free.still,
+      provided_goes_on i.stepper c.provide.new.self i.delivered.items i.early i.ended c.args.place c.self.invariant cs ds
+          k l c.in-Ok.ensures free.still
+          (subst (λ (z : UnorderedView). IsAwaitedIn z c.args.place) (sym c.self.view_is) c.requires.awaited),
       provided_caught i.stepper c.provide.new.self i.delivered.items i.early i.ended c.self.invariant cs ds k l
           c.in-Ok.ensures c.check_history.ensures free.caught,
     )

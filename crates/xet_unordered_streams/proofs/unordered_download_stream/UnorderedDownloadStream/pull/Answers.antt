@@ -7,7 +7,7 @@ use Rattle.xet_streams.specs.Places.{IsPlaced}
 use Rattle.xet_unordered_streams.specs.Items.{IsCaught}
 use Rattle.xet_unordered_streams.specs.Placing.{IsPlacing}
 use Rattle.xet_unordered_streams.specs.steps.Pulling.{IsFreeCaught, OrderedCall}
-use Rattle.xet_unordered_streams.proofs.Ordered.{as_none, as_pending, as_piece, ordered_error, ordered_gives, ordered_none, ordered_pending, ordered_piece, pending_caught, pending_open}
+use Rattle.xet_unordered_streams.proofs.Ordered.{as_none, as_pending, as_piece, ordered_error, ordered_gives, ordered_none, ordered_pending, ordered_piece, pending_caught, pending_goes_on}
 use Rattle.xet_unordered_streams.proofs.unordered_download_stream.UnorderedDownloadStream.pull.Goals as goal
 
 pub invariant_of-self : goal.invariant_of-self
@@ -155,7 +155,7 @@ returns-in-Ok-Pending g c =
       after = (
         refl,
         same,
-        pending_open i.stepper c.pull.new.self i.delivered.items i.early i.ended c.self.invariant caught cs ds k l call,
+        pending_goes_on i.stepper c.pull.new.self i.delivered.items i.early i.ended c.self.invariant caught cs ds k l call,
         subst IsCaught (sym same) (pending_caught i.stepper c.pull.new.self i.delivered.items i.early i.ended
             c.self.invariant caught cs ds k l call),
       );

@@ -1,6 +1,6 @@
 use Rattle.std.proofs.Common.{subst, sym}
 use Rattle.std.specs.Prelude.{map}
-use Rattle.xet_stream_rules.specs.Streams.{IsOpen}
+use Rattle.xet_stream_rules.specs.Streams.{MayGoOn}
 use Rattle.xet_stream_rules.specs.Unordered.{UnorderedView}
 use Rattle.xet_unordered_streams.specs.Items.{AfterStep}
 use Rattle.xet_unordered_streams.specs.steps.Giving.{KeepsOn}
@@ -9,9 +9,9 @@ use Rattle.xet_unordered_streams.proofs.unordered_download_stream.UnorderedDownl
 
 pub after_step-requires : goal.after_step-requires
 after_step-requires g c =
-    subst (λ (z : UnorderedView). IsOpen z.stream) (sym c.mark_late.ensures) (pending_pull c.args.self.now c.pull.new.self (map g.C.Client.told c.args.clients.now)
+    subst (λ (z : UnorderedView). MayGoOn z.stream) (sym c.mark_late.ensures) (pending_pull c.args.self.now c.pull.new.self (map g.C.Client.told c.args.clients.now)
     (map g.C.Client.told c.pull.new.clients) (g.K.ChunkCache.told c.args.cache.now)
-    (g.K.ChunkCache.told c.pull.new.cache) (rw c.in-Ok-Pending.field-0-is at c.in-Ok-Pending.ensures)).still
+    (g.K.ChunkCache.told c.pull.new.cache) (rw c.in-Ok-Pending.field-0-is at c.in-Ok-Pending.ensures)).goes_on
 
 pub returns-in-Ok-Ready : goal.returns-in-Ok-Ready
 returns-in-Ok-Ready g c = in_order_ready c.args.self.now c.pull.new.self (map g.C.Client.told c.args.clients.now)

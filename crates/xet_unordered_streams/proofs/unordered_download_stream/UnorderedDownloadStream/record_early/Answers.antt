@@ -27,5 +27,6 @@ pub returns-in-Err : goal.returns-in-Err
 returns-in-Err g c = record {
   middle = c.early.self;
   recorded = c.early.invariant.0;
+  still = c.early.invariant.1;
   short = c.in-Err.ensures;
 }
