@@ -2,11 +2,15 @@
 use Rattle.std.proofs.Common.{◌≡◌, ℕ, ◌<◌, ◌≤◌, List, [], ◌∷◌, length, take, refl, sym, ◌∙◌, ap, subst, arith}
 use Rattle.std.specs.Prelude.{Option, Some, None, option_map, Result, Ok, Err}
 use Rattle.std.proofs.lemmas.List.{length-take-le}
+use Rattle.xet_outside.specs.Told.{ReadCall}
+use Rattle.xet_outside.specs.declared.source.SourceFault.{SourceFault}
 use Rattle.xet_upload.specs.declared.data_error.DataError.{DataError}
+use Rattle.xet_upload.specs.declared.data_error.DataError.TheVariants as data_error
 use Rattle.xet_upload_session.specs.Calls.{Backs}
 use Rattle.xet_upload_session.specs.Sessions.{HasListed}
 use Rattle.xet_clean.specs.Cleaners.{Cleaner}
-use Rattle.xet_jobs.specs.Jobs.{Ended, EndsJob, FeedsPiece, JobTold, Seen, StepCall, Steps, ends_with}
+use Rattle.xet_job_steps.specs.Pieces.{ReadsPiece}
+use Rattle.xet_jobs.specs.Jobs.{Ended, EndsJob, FeedsPiece, FillCall, JobTold, Seen, StepCall, Steps, ends_with, piece_size}
 
 -- what is told of a value that is there
 pub mapped : {A B : Type 0} (f : A → B) (o p : Option A) (x : A) → p ≡ o → p ≡ Some x → option_map f o ≡ Some (f x)
@@ -19,8 +23,44 @@ gone f o e = ap (λ z. option_map f z) e
 pub none-read : (count : ℕ) (xs : List ℕ) → count ≡ 0 → length (take count xs) ≡ 0
 none-read count xs e = let P : ℕ → Type 0 = λ k. length (take k xs) ≡ 0 in subst P (sym e) refl
 
-pub some-read : (count : ℕ) (xs : List ℕ) → (count ≡ 0 → ⊥) → count ≤ length xs → 0 < length (take count xs)
+pub some-read : (count : ℕ) (xs : List ℕ) → 0 < count → count ≤ length xs → 0 < length (take count xs)
 some-read count xs some within = let is = length-take-le count xs within in omega (arith, is, some)
+
+-- ---- reading
+
+-- a piece was read, and waits for a step
+pub filled : (j m : JobTold) (buffer : List ℕ) (ready : Option ℕ) → length buffer ≡ piece_size
+    → ReadsPiece j.source m.source buffer ready
+    → m ≡ record j { source = m.source; ready = option_map (λ k. take k buffer) ready } → FillCall j m (Ok tt)
+filled j m buffer ready room (count, is, call) same =
+    let within : count ≤ length buffer = call.count in
+    let size : length (take count buffer) ≡ count = length-take-le count buffer within in
+    record {
+      ok = (
+        take count buffer,
+        record {
+          same = same
+              ∙ ap (λ (o : Option ℕ). record j { source = m.source; ready = option_map (λ k. take k buffer) o }) is;
+          taken = record { left = call.took; faults = call.faults };
+          short = omega (arith, size, within, room);
+          end = λ none.
+              let zero : count ≡ 0 = sym size ∙ ap length none in
+              call.end (omega (arith, room)) (ap (λ (k : ℕ). Ok k) zero);
+          unfailed = call.unfailed;
+        },
+      );
+      ended = tt;
+      kept = tt;
+      why = tt;
+    }
+
+-- the source failed
+pub unfilled : (j m : JobTold) (buffer : List ℕ) (fault : SourceFault)
+    → ReadCall j.source m.source buffer (Err fault) → m ≡ record j { source = m.source; cleaner = None }
+    → FillCall j m (Err data_error.IOError)
+unfilled j m buffer fault call same = record { ok = tt; ended = same; kept = call.kept; why = (refl, call.failed) }
+
+-- ---- steps
 
 module _ (now : ℕ) (b n : Seen) (c : Cleaner) where
   steps-fed : (piece : List ℕ) (d : Cleaner) (kept : Option Cleaner) → 0 < length piece

@@ -7,6 +7,7 @@ use std::alloc::Global;
 use std::sync::{Mutex, Wait};
 use xet_base::OutOfMemory;
 use xet_clean::SingleFileCleaner;
+use xet_job_steps::{read_piece, ready_piece};
 use xet_outside::Source;
 use xet_pointer::XetFileInfo;
 use xet_shards::ShardStore;
@@ -68,15 +69,10 @@ impl<I: Source, T: Cutter + Drop> UploadJob<I, T> {
         ensures call { FillCall (job_of self.old) (job_of self.new) result }
         ensures piece { OnOk result (HasPiece self.new) }
     {
-        match self.source.read(self.buffer.as_mut_slice()) {
-            Ok(count) => {
-                self.ready = Some(count);
-                Ok(())
-            }
-            Err(fault) => {
-                self.cleaner = None;
-                Err(DataError::from(fault))
-            }
+        let buffer = self.buffer.as_mut_slice();
+        match read_piece(&mut self.source, &mut self.cleaner, buffer, &mut self.ready) {
+            Ok(()) => Ok(()),
+            Err(fault) => Err(DataError::from(fault)),
         }
     }
 
@@ -105,12 +101,14 @@ impl<I: Source, T: Cutter + Drop> UploadJob<I, T> {
         let (Some(mut cleaner), Some(count)) = (self.cleaner.take(), self.ready.take()) else {
             unreachable!()
         };
-        if count == 0 {
-            return Ok(Some(cleaner.finish(session, rt, alloc, now)?));
+        match ready_piece(&self.buffer, count) {
+            None => Ok(Some(cleaner.finish(session, rt, alloc, now)?)),
+            Some(piece) => {
+                cleaner.add_data(session, rt, alloc, piece, now)?;
+                self.cleaner = Some(cleaner);
+                Ok(None)
+            }
         }
-        cleaner.add_data(session, rt, alloc, &self.buffer[..count], now)?;
-        self.cleaner = Some(cleaner);
-        Ok(None)
     }
 
     // A step under one hold of the lock.

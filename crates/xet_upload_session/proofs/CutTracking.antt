@@ -6,6 +6,7 @@ use Rattle.std.proofs.lemmas.Bool.{false≢true}
 use Rattle.xet_base.specs.declared.error.OutOfMemory.{OutOfMemory}
 use Rattle.xet_base.specs.declared.merklehash.MerkleHash.{MerkleHash}
 use Rattle.xet_base.specs.declared.mdb_shard.Xorb.{Xorb}
+use Rattle.xet_base.specs.declared.mdb_shard.MDBFileInfo.{MDBFileInfo}
 use Rattle.xet_base.specs.Records.{Describes}
 use Rattle.xet_outside.specs.declared.client.ClientError.{ClientError}
 use Rattle.xet_progress_state.specs.declared.step.FileXorbDependency.{FileXorbDependency}
@@ -14,6 +15,8 @@ use Rattle.xet_progress_state.specs.declared.step.TrackerStep.TheVariants.{Regis
 use Rattle.xet_upload.specs.Waitings.{IsPending, Waiting, no_waiting, xorb_of_chunks}
 use Rattle.xet_upload.specs.declared.data_error.DataError.{DataError}
 use Rattle.xet_upload.specs.declared.data_error.DataError.TheVariants as data_error
+use Rattle.xet_upload.specs.declared.metrics.DeduplicationMetrics.{DeduplicationMetrics}
+use Rattle.xet_session_end.specs.Ends.{EndsBehind}
 use Rattle.xet_waiting.specs.declared.raw_xorb.PendingFile.{PendingFile}
 use Rattle.xet_waiting.specs.declared.raw_xorb.RawXorbData.{RawXorbData}
 use Rattle.xet_waiting.specs.declared.waiting.WaitingFile.{WaitingFile}
@@ -27,6 +30,7 @@ use Rattle.xet_upload_parts.specs.CutNotes.{NotesCut, note_calls, part_of, parts
 use Rattle.xet_upload_session.specs.steps.SessionSteps.{PutCounted, TookWaiting}
 use Rattle.xet_upload_parts.proofs.CallerLemmas.{called-none}
 use Rattle.xet_upload_session.proofs.Cuts.{count-infos, map-infos}
+use Rattle.xet_upload_session.proofs.Ends.{end_of}
 use Rattle.xet_upload_session.proofs.Tracking.{counts-err, counts-ok, not-longer}
 
 -- ---- what a tracker is told of a xorb that is cut
@@ -201,32 +205,30 @@ cut-told b t n r took sound before told (Err e) notes after count is low memory 
 pub first-end : {P : Type 0} (ended : Bool) → ended ≡ false → ended ≡ true → P
 first-end ended first again = absurd (false≢true (sym first ∙ again))
 
-module _ (b m n : SessionTold) (before after : List TrackerStep) where
-  -- the cut succeeded, and what came then put no xorb
-  pub ends-tracked : {A B : Type 0} (u : A) (answer : Result B DataError) → n.registered ≡ m.registered → TracksCut (as_finalized b) m before after (Ok u) → TracksCut b n before after answer
-  ends-tracked u answer put t = record {
-    told = t.told;
-    some = t.some;
-    all = on_ok answer (λ q. t.all (sym put ∙ q));
-    unput = λ q. t.unput (sym put ∙ q);
-    put = λ q. counts-ok t.told after (waiting_hash b) u answer (t.put (sym put ∙ q));
-    kept = t.kept;
-    empty = t.empty;
-  }
+-- the end behind the cut put no xorb, and answers the cut's error
+pub ends-tracked : (b m n : SessionTold) (fs : List MDBFileInfo) (before after : List TrackerStep) (cut : Result (Unit {0}) DataError) (answer : Result DeduplicationMetrics DataError) → n.registered ≡ m.registered → EndsBehind (end_of m) (end_of n) fs cut answer → TracksCut (as_finalized b) m before after cut → TracksCut b n before after answer
+ends-tracked b m n fs before after (Ok u) answer put h t = record {
+  told = t.told;
+  some = t.some;
+  all = on_ok answer (λ q. t.all (sym put ∙ q));
+  unput = λ q. t.unput (sym put ∙ q);
+  put = λ q. counts-ok t.told after (waiting_hash b) u answer (t.put (sym put ∙ q));
+  kept = t.kept;
+  empty = t.empty;
+}
+ends-tracked b m n fs before after (Err e) answer put h t =
+    let P : Result DeduplicationMetrics DataError → Type 0 = λ r. TracksCut b n before after r in
+    subst P (sym h.uncut.1) (record {
+      told = t.told;
+      some = t.some;
+      all = tt;
+      unput = λ q. t.unput (sym put ∙ q);
+      put = λ q. counts-err t.told after (waiting_hash b) e (t.put (sym put ∙ q));
+      kept = t.kept;
+      empty = t.empty;
+    })
 
 module _ (b n : SessionTold) (before after : List TrackerStep) where
-  -- the cut failed
-  pub ends-untracked : {A B : Type 0} (e : DataError) → TracksCut {A = A} (as_finalized b) n before after (Err e) → TracksCut {A = B} b n before after (Err e)
-  ends-untracked e t = record {
-    told = t.told;
-    some = t.some;
-    all = tt;
-    unput = t.unput;
-    put = λ q. counts-err t.told after (waiting_hash b) e (t.put q);
-    kept = t.kept;
-    empty = t.empty;
-  }
-
   -- the same, of an answer of another kind
   pub tracks-err : {A B : Type 0} (e : DataError) → TracksCut {A = A} b n before after (Err e) → TracksCut {A = B} b n before after (Err e)
   tracks-err e t = record {

@@ -16,9 +16,10 @@ use Rattle.xet_outside.specs.Told.{Rose}
 use Rattle.xet_uploader.specs.declared.uploader.Put.{Put}
 use Rattle.xet_uploader.specs.declared.uploader.Put.TheVariants as put
 use Rattle.xet_uploader.specs.Uploads.{UploaderTold}
-use Rattle.xet_shards.specs.Shards.{ShardsTold, no_records}
+use Rattle.xet_shards.specs.Shards.{ShardsTold, no_records, with_records}
 use Rattle.xet_shard_interface.specs.Fillings.{shards_in}
-use Rattle.xet_shard_interface.specs.Interfaces.{InterfaceTold, LaterFaults, ListsFiles, StoreFails, StoresTell, known_told, known_xorbs, records_of, resumed_records}
+use Rattle.xet_session_end.specs.Ends.{CountsBehind, EndTold, EndsAdded, EndsBehind, EndsUnadded, end_counts}
+use Rattle.xet_shard_interface.specs.Interfaces.{AddsRecords, InterfaceTold, LaterFaults, ListsFiles, StoreFails, StoresTell, known_told, known_xorbs, records_of, resumed_records}
 use Rattle.xet_shard_interface.specs.Puts.{all_with_shards, FailsSo, Forgot, StopsAtFailure, UploadFails, Uploads, forgotten, puts_of, shards_of, sizes, with_puts, with_shards}
 use Rattle.xet_shard_interface.specs.declared.shard_interface.ShardRules.{ShardRules}
 use Rattle.xet_shard_interface.proofs.CallerLemmas.{files-in, files_of, in-shard, log-grown, names-take, ordered-shards}
@@ -29,11 +30,11 @@ use Rattle.xet_upload.specs.declared.data_error.DataError.{DataError}
 use Rattle.xet_upload.specs.declared.metrics.DeduplicationMetrics.{DeduplicationMetrics}
 use Rattle.xet_upload.proofs.CallerLemmas.{ordered-none, ordered-xorb}
 use Rattle.xet_upload_parts.specs.declared.cut_thresholds.CutThresholds.{CutThresholds}
-use Rattle.xet_upload_session.specs.Calls.{AllPut, Backs, Counted, Cut, EndsCut, EndsSo, EndsUncut, Finalizes, GrewByXorbs, GrewToEnd, HasFiles, IsPut, Keeps, KeepsFailed, NoQueries, PutsFail, ResumedKept, Says, SomePut, StoresFail, RepeatsGrow, end_counts, finalized_error, new_session, waiting_records}
+use Rattle.xet_upload_session.specs.Calls.{AllPut, Backs, Counted, Cut, EndsCut, EndsSo, EndsUncut, Finalizes, GrewByXorbs, GrewToEnd, HasFiles, IsPut, Keeps, KeepsFailed, NoQueries, PutsFail, ResumedKept, Says, SomePut, StoresFail, RepeatsGrow, as_finalized, finalized_error, finished_records, new_session, waiting_records}
 use Rattle.xet_upload_session.specs.Sessions.{HasListed, IsBackedSession, IsListed, SessionTold, Stands, Tells, known_of, log_of, waiting_names}
-use Rattle.xet_upload_session.specs.steps.SessionSteps.{AddedFinished, PutRecords}
 use Rattle.xet_upload_parts.specs.Storable.{IsStorable}
 use Rattle.xet_upload_session.proofs.Keeping.{failed-same, keeps-refl, later-both, later-same, queries-same, repeats-same, stores-later}
+use Rattle.xet_upload_session.proofs.Recording.{map-some}
 use Rattle.xet_upload_session.proofs.Tests.{tested-storable, waits-empty}
 
 -- ---- the order
@@ -96,10 +97,6 @@ Contains-shards ss s c =
 
 -- ---- stores that tell
 
-map-some : {A B : Type 0} (f : A → B) (o : Option A) → IsSome o → IsSome (option_map f o)
-map-some f (Some x) s = refl
-map-some f None s = absurd (false≢true s)
-
 forgotten-tells : (o : Option (Option ShardRecord)) → IfSome o (λ r. IsSome r) → IfSome (forgotten o) (λ r. IsSome r)
 forgotten-tells None t = tt
 forgotten-tells (Some r) t = map-some (λ (s : ShardRecord). no_records) r t
@@ -122,6 +119,77 @@ uploads-tell u v b n x z a h puts t = (
     go : (resumed_records n.resumed ≡ resumed_records b.resumed) ⊎ (resumed_records n.resumed ≡ forgotten (resumed_records b.resumed)) → P (resumed_records n.resumed)
     go (inl e) = subst P (sym e) t.resumed
     go (inr e) = subst P (sym e) (forgotten-tells (resumed_records b.resumed) t.resumed)
+
+-- ---- what comes behind the cut
+
+-- the records of the finished files were added to those of the session
+record AddedFinished (b n : SessionTold) (answer : Result (Unit {0}) DataError) : Type 0 where
+  same : n ≡ record b { shards = n.shards }
+  tells : Tells b → StoresTell n.shards
+  known : known_told n.shards ≡ known_told b.shards
+  rules : n.shards.rules ≡ b.shards.rules
+  files : Tells b → OnOk answer ((records_of n.shards.session).files ≡ (records_of b.shards.session).files ++ b.finished)
+  stores : n.shards ≡ record b.shards { session = n.shards.session }
+  recorded : OnOk answer (n.shards.session.records ≡ option_map (λ r. with_records r (finished_records b)) b.shards.session.records)
+  kept : OnErr answer (n.shards.session.records ≡ b.shards.session.records)
+  faults : LaterFaults b.shards n.shards
+  why : IfErr answer (StoresFail b.shards n.shards)
+
+-- the records of the session were put as shards, or some of the first of these
+record PutRecords (b n : SessionTold) (answer : Result ℕ DataError) : Type 0 where
+  same : n ≡ record b { uploader = n.uploader; shards = n.shards; failed = n.failed }
+  uploads : Uploads b.uploader n.uploader b.shards n.shards b.failed n.failed answer
+
+-- what came behind the records of the session, or was refused
+module _ (b : SessionTold) (i : InterfaceTold) (answer : Result (Unit {0}) DataError) (a : AddsRecords b.shards i (finished_records b) answer) where
+  added-some : IsSome b.shards.session.records → IsSome i.session.records
+  added-some s = go answer a.added a.kept
+    where
+      go : (r : Result (Unit {0}) DataError) → OnOk r (i.session.records ≡ option_map (λ t. with_records t (finished_records b)) b.shards.session.records) → OnErr r (i.session.records ≡ b.shards.session.records) → IsSome i.session.records
+      go (Ok u) e k = subst (λ (o : Option ShardRecord). IsSome o) (sym e) (map-some (λ (t : ShardRecord). with_records t (finished_records b)) b.shards.session.records s)
+      go (Err x) e k = subst (λ (o : Option ShardRecord). IsSome o) (sym k) s
+
+  added-tells : Tells b → StoresTell i
+  added-tells t =
+      let P : InterfaceTold → Type 0 = λ j. StoresTell j in
+      subst P (sym a.same) (record { resumed = t.shards.resumed; session = added-some t.shards.session; cache = t.shards.cache; staging = t.shards.staging })
+
+  added-files : Tells b → OnOk answer ((records_of i.session).files ≡ (records_of b.shards.session).files ++ b.finished)
+  added-files t = go answer a.added
+    where
+      some : (o : Option ShardRecord) → IsSome o → (unwrap_or (option_map (λ r. with_records r (finished_records b)) o) no_records).files ≡ (unwrap_or o no_records).files ++ b.finished
+      some (Some r) s = refl
+      some None s = absurd (false≢true s)
+
+      go : (r : Result (Unit {0}) DataError) → OnOk r (i.session.records ≡ option_map (λ t. with_records t (finished_records b)) b.shards.session.records) → OnOk r ((records_of i.session).files ≡ (records_of b.shards.session).files ++ b.finished)
+      go (Ok u) e = ap (λ (o : Option ShardRecord). (unwrap_or o no_records).files) e ∙ some b.shards.session.records t.shards.session
+      go (Err x) e = tt
+
+  added-later : LaterFaults b.shards i
+  added-later =
+      let P : InterfaceTold → Type 0 = λ j. LaterFaults b.shards j in
+      subst P (sym a.same) (record { resumed = omega arith; session = a.faults; cache = omega arith; staging = omega arith })
+
+  added-why : IfErr answer (StoresFail b.shards i)
+  added-why = go answer a.why
+    where
+      go : (r : Result (Unit {0}) DataError) → IfErr r (StoreFails b.shards.session.faults i.session.faults) → IfErr r (StoresFail b.shards i)
+      go (Ok u) w = tt
+      go (Err e) w = inr (inl w)
+
+  added : AddedFinished b (record b { shards = i }) answer
+  added = record {
+    same = refl;
+    tells = added-tells;
+    known = ap known_told a.same;
+    rules = ap (λ (j : InterfaceTold). j.rules) a.same;
+    files = added-files;
+    stores = a.same;
+    recorded = a.added;
+    kept = a.kept;
+    faults = added-later;
+    why = added-why;
+  }
 
 -- ---- the exits
 
@@ -200,7 +268,7 @@ module _ (b n1 : SessionTold) (now : ℕ) (first : b.finalized ≡ false) where
   }
 
   -- the cut failed
-  pub finalizes-cut : {A : Type 0} (e : DataError) → Cut (record b { finalized = true }) n1 now (Err e) → Finalizes {A = A} b n1 now (Err e)
+  finalizes-cut : {A : Type 0} (e : DataError) → Cut (record b { finalized = true }) n1 now (Err e) → Finalizes {A = A} b n1 now (Err e)
   finalizes-cut e c = record {
     ends = λ f. inl (e, refl, c);
     tells = λ t. c.keeps.tells (begun t);
@@ -259,7 +327,7 @@ module _ (b n1 : SessionTold) (now : ℕ) (first : b.finalized ≡ false) where
     repeats-so n e = (cut.keeps.repeated.0, e ∙ cut.keeps.repeated.1)
 
     -- the records could not be added
-    pub finalizes-added : {A : Type 0} (e : DataError) → AddedFinished n1 n2 (Err e) → Finalizes {A = A} b n2 now (Err e)
+    finalizes-added : {A : Type 0} (e : DataError) → AddedFinished n1 n2 (Err e) → Finalizes {A = A} b n2 now (Err e)
     finalizes-added {A = A} e a =
         let same = a.same in
         let uncached : EndsCut {A = A} n1 n2 (Err e) = record {
@@ -616,11 +684,11 @@ module _ (b n1 : SessionTold) (now : ℕ) (first : b.finalized ≡ false) where
 
     module _ (v : Unit {0}) (a : AddedFinished n1 n2 (Ok v)) (n : SessionTold) where
       -- a put of records failed
-      pub finalizes-unput : {A : Type 0} (e : DataError) → PutRecords n2 n (Err e) → Finalizes {A = A} b n now (Err e)
+      finalizes-unput : {A : Type 0} (e : DataError) → PutRecords n2 n (Err e) → Finalizes {A = A} b n now (Err e)
       finalizes-unput e p = finalizes-err v a n n (Err e) p refl refl e refl
 
       -- all was put, and then the counts were taken
-      pub finalizes-put : (z : SessionTold) (k : ℕ) → PutRecords n2 n (Ok k) → z ≡ record n { metrics = end_counts n.metrics k } → (m : DeduplicationMetrics) → m ≡ z.metrics → Finalizes b z now (Ok m) × Counted b z m
+      finalizes-put : (z : SessionTold) (k : ℕ) → PutRecords n2 n (Ok k) → z ≡ record n { metrics = end_counts n.metrics k } → (m : DeduplicationMetrics) → m ≡ z.metrics → Finalizes b z now (Ok m) × Counted b z m
       finalizes-put z k p is m taken =
           let counts : z.metrics ≡ end_counts n.metrics k = ap (λ (s : SessionTold). s.metrics) is in
           let ends : z ≡ record n { metrics = z.metrics } = is ∙ ap (λ (c : DeduplicationMetrics). record n { metrics = c }) (sym counts) in
@@ -642,6 +710,61 @@ module _ (b n1 : SessionTold) (now : ℕ) (first : b.finalized ≡ false) where
           rest m k e w =
               let f = w ∙ ap (λ (c : DeduplicationMetrics). end_counts c k) e in
               f ∙ sym (ap (λ (c : DeduplicationMetrics). record b.metrics { xorb_bytes_uploaded = c.xorb_bytes_uploaded; shard_bytes_uploaded = c.shard_bytes_uploaded; total_bytes_uploaded = c.total_bytes_uploaded }) f)
+
+-- what the end reads and changes of a session
+abbrev pub end_of : SessionTold → EndTold
+end_of t = record { uploader = t.uploader; shards = t.shards; metrics = t.metrics; failed = t.failed }
+
+-- a session of which the end changed this much
+abbrev with_end : SessionTold → EndTold → SessionTold
+with_end t e = record t { uploader = e.uploader; shards = e.shards; metrics = e.metrics; failed = e.failed }
+
+-- the end behind the cut, by the answer of both
+module _ (b m n : SessionTold) (now : ℕ) (first : b.finalized ≡ false) (is : n ≡ with_end m (end_of n)) (answer : Result DeduplicationMetrics DataError) where
+  abbrev Ends : SessionTold → Result DeduplicationMetrics DataError → Type 0
+  Ends z r = Finalizes b z now r × IfOk r (Counted b z)
+
+  -- the same of these
+  ends-at : (z : SessionTold) (r : Result DeduplicationMetrics DataError) → n ≡ z → answer ≡ r → Ends z r → Ends n answer
+  ends-at z r e said h = subst (λ (s : SessionTold). Ends s answer) (sym e) (subst (λ (t : Result DeduplicationMetrics DataError). Ends z t) (sym said) h)
+
+  -- the cut failed
+  behind-uncut : (e : DataError) → Cut (as_finalized b) m now (Err e) → end_of n ≡ end_of m → answer ≡ Err e → Ends n answer
+  behind-uncut e cut same said = ends-at m (Err e) (is ∙ ap (with_end m) same) said (finalizes-cut b m now first e cut, tt)
+
+  module _ (u : Unit {0}) (cut : Cut (as_finalized b) m now (Ok u)) where
+    -- the records of the files were refused
+    behind-unadded : EndsUnadded (end_of m) (end_of n) m.finished answer → Ends n answer
+    behind-unadded (e, said, same, adds) =
+        let z : SessionTold = record m { shards = n.shards } in
+        ends-at z (Err e) (is ∙ ap (with_end m) same) said (finalizes-added b m now first z u cut e (added m n.shards (Err e) adds), tt)
+
+    -- they were added, and all records were put, or a put failed
+    module _ (i : InterfaceTold) (adds : AddsRecords m.shards i (finished_records m) (Ok tt)) where
+      abbrev second : SessionTold
+      second = record m { shards = i }
+
+      abbrev third : SessionTold
+      third = record m { uploader = n.uploader; shards = n.shards; failed = n.failed }
+
+      behind-put : (put : Result ℕ DataError) → Uploads m.uploader n.uploader i n.shards m.failed n.failed put → CountsBehind put (end_of m) (end_of n) answer → Ends n answer
+      behind-put (Ok bytes) up (counts, said) =
+          let p : PutRecords second third (Ok bytes) = record { same = refl; uploads = up } in
+          let whole : n ≡ record third { metrics = end_counts m.metrics bytes } = is ∙ ap (λ (c : DeduplicationMetrics). record third { metrics = c }) counts in
+          ends-at n (Ok n.metrics) refl said (finalizes-put b m now first second u cut tt (added m i (Ok tt) adds) third n bytes p whole n.metrics refl)
+      behind-put (Err e) up (counts, said) =
+          let p : PutRecords second third (Err e) = record { same = refl; uploads = up } in
+          let whole : n ≡ third = is ∙ ap (λ (c : DeduplicationMetrics). record third { metrics = c }) counts in
+          ends-at third (Err e) whole said (finalizes-unput b m now first second u cut tt (added m i (Ok tt) adds) third e p, tt)
+
+    behind-cut : EndsUnadded (end_of m) (end_of n) m.finished answer ⊎ EndsAdded (end_of m) (end_of n) m.finished answer → Ends n answer
+    behind-cut (inl h) = behind-unadded h
+    behind-cut (inr h) = behind-put h.added h.adds h.put h.uploads h.counts
+
+pub finalizes-behind : (b m n : SessionTold) (now : ℕ) (cut : Result (Unit {0}) DataError) (answer : Result DeduplicationMetrics DataError) → b.finalized ≡ false → n ≡ with_end m (end_of n) → Cut (as_finalized b) m now cut → EndsBehind (end_of m) (end_of n) m.finished cut answer
+    → Finalizes b n now answer × IfOk answer (Counted b n)
+finalizes-behind b m n now (Ok u) answer first is cut h = behind-cut b m n now first is answer u cut h.so
+finalizes-behind b m n now (Err e) answer first is cut h = behind-uncut b m n now first is answer e cut h.uncut.0 h.uncut.1
 
 -- the same error, of an answer of another kind
 pub retold : {A B : Type 0} (b n : SessionTold) (now : ℕ) (e : DataError) → Finalizes {A = A} b n now (Err e) → Finalizes {A = B} b n now (Err e)

@@ -16,12 +16,12 @@ use Rattle.xet_outside.specs.declared.client.ClientError.TheVariants as client_e
 use Rattle.xet_outside.specs.Told.{Rose}
 use Rattle.xet_uploader.specs.declared.uploader.Put.{Put}
 use Rattle.xet_uploader.specs.declared.uploader.Put.TheVariants as put
-use Rattle.xet_uploader.specs.Uploads.{PutXorbCall, UploaderTold, xorbs_in}
+use Rattle.xet_uploader.specs.Uploads.{UploaderTold, xorbs_in}
 use Rattle.xet_shards.specs.Shards.{no_records, with_records}
+use Rattle.xet_session_end.specs.Puts.{KeepsRefusal}
 use Rattle.xet_shard_interface.specs.Interfaces.{InterfaceTold, LaterFaults, StoresTell, known_told, known_xorbs, records_of, resumed_faults}
 use Rattle.xet_shard_interface.specs.Puts.{PutFailed, puts_of}
 use Rattle.xet_shard_interface.proofs.CallerLemmas.{store-later}
-use Rattle.xet_upload.specs.DataErrors.{of_client_error}
 use Rattle.xet_upload.specs.Orders.{IsBacked, IsThere, names_of}
 use Rattle.xet_upload.specs.declared.data_error.DataError.{DataError}
 use Rattle.xet_upload.specs.declared.metrics.DeduplicationMetrics.{DeduplicationMetrics}
@@ -272,17 +272,17 @@ keeps-unput b n x e r =
     stayed p (inl q) = never-kept n.failed (q ∙ r.unfailed) (ap (λ (z : Option ClientError). is_some z) p.kept)
     stayed p (inr q) = p.memory (let both : Some p.error ≡ Some client_error.OutOfMemory = sym p.kept ∙ q in cc)
 
--- the uploader refused it
-pub put-refused : (b n : SessionTold) (x : Xorb) (e : DataError) (f : ClientError) → PutXorbCall b.uploader n.uploader x (Err f) → n ≡ record b { uploader = n.uploader; failed = Some f } → b.failed ≡ None → e ≡ of_client_error f → PutRaw b n x (Err e)
-put-refused b n x e f c is none told =
-    let kept : n.failed ≡ Some f = ap (λ (z : SessionTold). z.failed) is in
+-- the uploader refused it, which is kept
+pub put-refused : (b n : SessionTold) (x : Xorb) (e : DataError) → KeepsRefusal b.uploader n.uploader n.failed x e → n ≡ record b { uploader = n.uploader; failed = n.failed } → b.failed ≡ None → PutRaw b n x (Err e)
+put-refused b n x e k is none =
+    let c = k.call in
     let refused : n.uploader.puts ≡ b.uploader.puts = c.refused in
     record {
       tells = λ t. record { puts = subst (λ (o : Option (List Put)). IsSome o) (sym refused) t.puts; shards = subst (λ (i : InterfaceTold). StoresTell i) (sym (ap (λ (z : SessionTold). z.shards) is)) t.shards };
       sent = 0;
       ok = tt;
       bytes = λ t. tt;
-      err = is ∙ ap (λ (o : Option ClientError). record b { uploader = n.uploader; failed = o }) (sym kept);
+      err = is;
       grew = tt;
       put = λ t. tt;
       queries = record { first = c.first; asked = c.asked; answered = c.answered };
@@ -290,7 +290,7 @@ put-refused b n x e f c is none told =
       unfailed = none;
       faults = c.faults;
       steady = tt;
-      failed = record { error = f; kept = kept; told = told; rose = λ q. c.failed (ap (λ (g : ClientError). Err g) q); memory = λ q. c.memory (ap (λ (g : ClientError). Err g) q) };
+      failed = record { error = k.refusal; kept = k.kept; told = k.told; rose = λ q. c.failed (ap (λ (g : ClientError). Err g) q); memory = λ q. c.memory (ap (λ (g : ClientError). Err g) q) };
     }
 
 pub put-why : (b n : SessionTold) (x : Xorb) (e : DataError) → PutRaw b n x (Err e) → PutsFail b n e

@@ -32,7 +32,7 @@ pub record IsRecorded (b n : InterfaceTold) (x : MDBXorbInfo) (answer : Result (
   pub stores : LaterFaults b n
   pub why : IfErr answer (StoresFail b n)
 
-map-some : {A B : Type 0} (f : A → B) (o : Option A) → IsSome o → IsSome (option_map f o)
+pub map-some : {A B : Type 0} (f : A → B) (o : Option A) → IsSome o → IsSome (option_map f o)
 map-some f (Some x) s = refl
 map-some f None s = absurd (false≢true s)
 

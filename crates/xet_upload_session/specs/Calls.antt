@@ -24,6 +24,7 @@ use Rattle.xet_shards.specs.Shards.{ShardsTold, with_records}
 use Rattle.xet_shard_interface.specs.Interfaces.{AddsRecords, FailsInOrder, InterfaceTold, LaterFaults, SearchFails}
 use Rattle.xet_shard_interface.specs.Interfaces.{SearchTells, Searches, StagesXorb, StoreFails, found_in, known_told}
 use Rattle.xet_shard_interface.specs.Interfaces.{records_of, resumed_faults, resumed_records}
+use Rattle.xet_session_end.specs.Ends.{end_counts}
 use Rattle.xet_shard_interface.specs.Puts.{Forgot, StopsAtFailure, all_with_shards, forgotten, shards_of, sizes}
 use Rattle.xet_upload.specs.DataErrors.{of_client_error}
 use Rattle.xet_upload.specs.Metrics.{no_counts}
@@ -331,13 +332,6 @@ pub record GrewToEnd (b n : SessionTold) : Type 0 where
   pub resumed : ResumedKept b.shards n.shards
   pub sent : b.metrics.xorb_bytes_uploaded < 2 ^ 64 → n.metrics.xorb_bytes_uploaded
       ≡ min (b.metrics.xorb_bytes_uploaded + sum_by xorb_bytes xorbs) (2 ^ 64 - 1)
-
--- the counts at the end: the bytes of the xorbs, those of the shards, and both
-abbrev pub end_counts : DeduplicationMetrics → ℕ → DeduplicationMetrics
-end_counts m bytes = record m {
-  shard_bytes_uploaded = bytes;
-  total_bytes_uploaded = min (m.xorb_bytes_uploaded + bytes) (2 ^ 64 - 1);
-}
 
 -- unless this is a dry run, all records were put as shards, and the cache has them
 abbrev pub AllPut : SessionTold → SessionTold → Type 0

@@ -12,16 +12,16 @@ ghost use Rattle.xet_upload.specs.Orders.{names_of};
 ghost use Rattle.xet_upload.specs.Waitings.{IsWithin, merged};
 ghost use Rattle.xet_shards.specs.Shards.{no_records};
 ghost use Rattle.xet_upload_session.specs.Calls.{Backs, Counted, Cut, Finalizes, HasFiles, Keeps, PutsFail, Queries};
-ghost use Rattle.xet_upload_session.specs.Calls.{Registers, SearchesInOrder, end_counts, new_session};
+ghost use Rattle.xet_upload_session.specs.Calls.{Registers, SearchesInOrder, new_session};
 ghost use Rattle.xet_upload_parts.specs.Storable.{IsStorable};
 ghost use Rattle.xet_upload_parts.specs.Thresholds.{thresholds_of};
 ghost use Rattle.xet_upload_session.specs.Completions.{with_file_counts};
 ghost use Rattle.xet_upload_session.specs.Sessions.{HasListed, IsBackedSession, waiting_names};
 ghost use Rattle.xet_upload_session.specs.Trackings.{CountsPut, StartsFile, Tracks, TracksCut, TracksXorb};
 ghost use Rattle.xet_upload_session.specs.steps.Listings.{AreListed, AreStorable};
-ghost use Rattle.xet_upload_session.specs.steps.SessionSteps.{AddedFinished, AddedRecord, GivenCounted, OnList};
+ghost use Rattle.xet_upload_session.specs.steps.SessionSteps.{AddedRecord, GivenCounted, OnList};
 ghost use Rattle.xet_upload_session.specs.Calls.{AsksFor};
-ghost use Rattle.xet_upload_session.specs.steps.SessionSteps.{PutCounted, PutFinished, PutRaw, PutRecords, Repeats};
+ghost use Rattle.xet_upload_session.specs.steps.SessionSteps.{PutCounted, PutFinished, PutRaw, Repeats};
 ghost use Rattle.xet_upload_session.specs.steps.SessionSteps.{TookWaiting};
 
 use std::alloc::Global;
@@ -35,6 +35,7 @@ use xet_base::{
 use xet_outside::ClientError;
 use xet_pointer::TranslatorConfig;
 use xet_progress::{FileXorbDependency, GroupProgress, GroupProgressReport, ItemProgressReport};
+use xet_session_end::{end_session, put_xorb};
 use xet_shard_interface::{SessionShardInterface, SessionStores};
 use xet_shards::ShardStore;
 use xet_upload::{DataAggregator, DataError, DeduplicationMetrics, PendingFile, RawXorbData};
@@ -213,7 +214,7 @@ impl<U: Uploader, R: ShardStore> FileUploadSession<U, R> {
     {
         let size = raw.num_bytes();
         let _ = self.progress.add_transfer(rt, size, 0);
-        match self.uploader.put_xorb(alloc, &raw.xorb) {
+        match put_xorb(alloc, &mut self.uploader, &mut self.failed, &raw.xorb) {
             Ok(sent) => {
                 let _ = self.progress.add_transfer(rt, 0, size);
                 self.listed.push_reserved(raw.xorb.hash);
@@ -222,10 +223,7 @@ impl<U: Uploader, R: ShardStore> FileUploadSession<U, R> {
                 self.metrics.xorb_bytes_uploaded = bytes;
                 Ok(())
             }
-            Err(refused) => {
-                self.failed = Some(refused);
-                Err(DataError::from(refused))
-            }
+            Err(error) => Err(error),
         }
     }
 
@@ -688,39 +686,6 @@ impl<U: Uploader, R: ShardStore> FileUploadSession<U, R> {
             .query_dedup_shard_by_chunk(alloc, &mut self.uploader, chunk)
     }
 
-    // Adds the records of the finished files to those of the session.
-    fn add_finished(&mut self, alloc: Global) -> Result<(), DataError>
-        ensures call { AddedFinished (told_by self.old) (told_by self.new) result }
-        ensures untold { self.new.files.tracker ≡ self.old.files.tracker }
-        ensures group { KeepsGroup self.old self.new }
-    {
-        let records = file_records(alloc, self.finished.as_slice())?;
-        self.shards.add_files(alloc, records)
-    }
-
-    // The counts at the end of the session, whose shards have so many bytes.
-    fn count_shards(&mut self, bytes: u64) -> DeduplicationMetrics
-        ensures counted { told_by self.new
-            ≡ record (told_by self.old) { metrics = end_counts self.old.metrics bytes } }
-        ensures is { result ≡ self.new.metrics }
-        ensures untold { self.new.files.tracker ≡ self.old.files.tracker }
-        ensures group { KeepsGroup self.old self.new }
-    {
-        self.metrics.shard_bytes_uploaded = bytes;
-        self.metrics.total_bytes_uploaded = self.metrics.xorb_bytes_uploaded.saturating_add(bytes);
-        self.metrics
-    }
-
-    // Puts the records of the session as shards. It tells how many bytes these count for.
-    fn put_records(&mut self, alloc: Global) -> Result<u64, DataError>
-        ensures call { PutRecords (told_by self.old) (told_by self.new) result }
-        ensures untold { self.new.files.tracker ≡ self.old.files.tracker }
-        ensures group { KeepsGroup self.old self.new }
-    {
-        self.shards
-            .upload_shards(alloc, &mut self.uploader, &mut self.failed)
-    }
-
     /// Puts what waits, and then the records of all that was put and finished, and takes the counts last. The session
     /// is finalized then, whatever it answers: no call puts anything after it but `checkpoint`, which puts what waits
     /// on, and the end of a file, where that cuts. A dry run puts no records, and answers the same counts. `now` is a
@@ -748,10 +713,16 @@ impl<U: Uploader, R: ShardStore> FileUploadSession<U, R> {
             return Err(DataError::InvalidOperation(Invalid::Finalized));
         }
         self.finalized = true;
-        self.checkpoint(rt, alloc, now)?;
-        self.add_finished(alloc)?;
-        let bytes = self.put_records(alloc)?;
-        Ok(self.count_shards(bytes))
+        let cut = self.checkpoint(rt, alloc, now);
+        end_session(
+            alloc,
+            &mut self.uploader,
+            &mut self.shards,
+            self.finished.as_slice(),
+            &mut self.metrics,
+            &mut self.failed,
+            cut,
+        )
     }
 
     /// The same as `finalize`, with the file records of the session, in the order in which they were added.
@@ -870,15 +841,4 @@ fn append_reserved<T>(to: &mut Vec<T>, from: &mut Vec<T>)
     ensures { to.new.items ≡ to.old.items ++ from.old.items }
 {
     let _ = to.append(from);
-}
-
-// The records of the files.
-fn file_records(alloc: Global, files: &[PendingFile]) -> Result<List<MDBFileInfo>, OutOfMemory>
-    ensures { IfOk result (λ records. records ≡ map (λ p. p.info) files.now) }
-{
-    let mut infos = List::new(alloc);
-    for file in files {
-        infos.push(file.info.copied(alloc)?)?;
-    }
-    Ok(infos)
 }

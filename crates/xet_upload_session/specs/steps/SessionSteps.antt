@@ -12,15 +12,14 @@ use Rattle.xet_uploader.specs.declared.uploader.Put.TheVariants as put
 use Rattle.xet_progress_state.specs.declared.step.TrackerStep.{TrackerStep}
 use Rattle.xet_progress_state.specs.declared.step.TrackerStep.TheVariants.{RegisterXorbUploadCompletion}
 use Rattle.xet_shards.specs.Shards.{with_records}
-use Rattle.xet_shard_interface.specs.Interfaces.{LaterFaults, StoresTell, known_told, records_of}
-use Rattle.xet_shard_interface.specs.Puts.{Asks, PutFailed, Uploads}
+use Rattle.xet_shard_interface.specs.Puts.{PutFailed}
 use Rattle.xet_upload.specs.Waitings.{no_waiting, record_of_file, xorb_of_chunks}
 use Rattle.xet_upload.specs.declared.data_error.DataError.{DataError}
 use Rattle.xet_upload.specs.declared.metrics.DeduplicationMetrics.{DeduplicationMetrics}
 use Rattle.xet_waiting.specs.declared.raw_xorb.PendingFile.{PendingFile}
 use Rattle.xet_waiting.specs.declared.raw_xorb.RawXorbData.{RawXorbData}
 use Rattle.xet_upload_session.specs.Calls.{CountsSent, Keeps, NoQueries, PutsFail, Recorded, RegisterStopped, Says}
-use Rattle.xet_upload_session.specs.Calls.{StoresFail, WasPut, WasRefused, finished_records, one_xorb, waiting_hash}
+use Rattle.xet_upload_session.specs.Calls.{WasPut, WasRefused, one_xorb, waiting_hash}
 use Rattle.xet_upload_session.specs.Calls.{xorb_bytes}
 use Rattle.xet_upload_session.specs.Sessions.{IsListed, SessionTold, Tells, log_of}
 use Rattle.xet_upload_session.specs.Trackings.{CountsPut, own_part}
@@ -92,26 +91,6 @@ pub record PutGiven (b n : SessionTold) (x : Xorb) (now : ℕ) (answer : Result 
   pub said : b.failed ≡ None → Says n answer
   pub counts : CountsSent b n
   pub why : IfErr answer (PutsFail b n)
-
--- the records of the finished files were added to those of the session
-pub record AddedFinished (b n : SessionTold) (answer : Result (Unit {0}) DataError) : Type 0 where
-  pub same : n ≡ record b { shards = n.shards }
-  pub tells : Tells b → StoresTell n.shards
-  pub known : known_told n.shards ≡ known_told b.shards
-  pub rules : n.shards.rules ≡ b.shards.rules
-  pub files : Tells b → OnOk answer ((records_of n.shards.session).files
-      ≡ (records_of b.shards.session).files ++ b.finished)
-  pub stores : n.shards ≡ record b.shards { session = n.shards.session }
-  pub recorded : OnOk answer (n.shards.session.records
-      ≡ option_map (λ r. with_records r (finished_records b)) b.shards.session.records)
-  pub kept : OnErr answer (n.shards.session.records ≡ b.shards.session.records)
-  pub faults : LaterFaults b.shards n.shards
-  pub why : IfErr answer (StoresFail b.shards n.shards)
-
--- the records of the session were put as shards, or some of the first of these
-pub record PutRecords (b n : SessionTold) (answer : Result ℕ DataError) : Type 0 where
-  pub same : n ≡ record b { uploader = n.uploader; shards = n.shards; failed = n.failed }
-  pub uploads : Uploads b.uploader n.uploader b.shards n.shards b.failed n.failed answer
 
 -- the xorb is on the list, which has it more at its end or is as it was
 pub record OnList (b n : SessionTold) (x : MerkleHash) : Type 0 where
