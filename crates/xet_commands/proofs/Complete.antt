@@ -19,6 +19,7 @@ use Rattle.xet_roundtrip_command.specs.Roundtrip.{RoundtripPrinted}
 use Rattle.xet_audit_command.specs.Audit.{AuditPrints}
 use Rattle.xet_compact_command.specs.Compact.{CompactPrints}
 use Rattle.xet_resume_command.specs.Resume.{ResumePrints}
+use Rattle.xet_serve_command.specs.Serve.{ServePrints}
 use Rattle.xet_commands.specs.declared.commands.Command.{Command}
 use Rattle.xet_commands.specs.declared.commands.Command.TheVariants as command
 use Rattle.xet_commands.specs.Commands.{Outcome, command_of}
@@ -110,6 +111,7 @@ module _ (limit : ℕ) (text : List ℕ) (b n : Told) (f : NothingFails text b n
   outcome_by (Some (command.Audit hashes)) s o = input_by (AuditPrints hashes) s o.printed
   outcome_by (Some command.Compact) s o = input_by CompactPrints s o.printed
   outcome_by (Some (command.Resume wanted)) s o = input_by (ResumePrints wanted) s o.printed
+  outcome_by (Some (command.Serve options)) s o = input_by (ServePrints options) s o.printed
   outcome_by (Some command.Help) s o = text_by status.Done s o.text_is
   outcome_by (Some command.Version) s o = text_by status.Done s o.text_is
   outcome_by None s o = text_by status.BadWords s o.text_is

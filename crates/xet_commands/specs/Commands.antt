@@ -19,12 +19,14 @@ use Rattle.xet_audit_command.specs.Audit.{AuditPrints, hashes_of}
 use Rattle.xet_compact_command.specs.Compact.{CompactPrints}
 use Rattle.xet_resume_command.specs.Resume.{ResumePrints}
 use Rattle.xet_resume_command.specs.Words.{resume_of}
+use Rattle.xet_serve_command.specs.Serve.{ServePrints, serve_options}
 
 -- the command of one word, of those over a store's document
 abbrev pub document_command_of_one : List ℕ → Option Command
 document_command_of_one w =
     cond (bytes_eq w (codes "audit")) (Some (command.Audit false))
-    (cond (bytes_eq w (codes "compact")) (Some command.Compact) None)
+    (cond (bytes_eq w (codes "compact")) (Some command.Compact)
+    (cond (bytes_eq w (codes "serve")) (option_map command.Serve (serve_options [])) None))
 
 -- the command of one word
 abbrev pub command_of_one : List ℕ → Option Command
@@ -32,10 +34,18 @@ command_of_one w =
     cond (bytes_eq w (codes "--help")) (Some command.Help) (cond (bytes_eq w (codes "--version")) (Some command.Version)
     (cond (bytes_eq w (codes "track")) (Some command.Track) (document_command_of_one w)))
 
+-- the command of this name, with the words after it, if it is `serve`
+abbrev pub serve_named : List ℕ → List (List ℕ) → Option Command
+serve_named name words = cond (bytes_eq name (codes "serve")) (option_map command.Serve (serve_options words)) None
+
+-- the same, as one word: what is searched for doesn't look into it
+unfoldable pub session_command_with : List ℕ → List (List ℕ) → Option Command
+session_command_with name words = serve_named name words
+
 -- the command of this name, with the words after it, of those that fetch ranges that are listed
 abbrev pub last_command_with : List ℕ → List (List ℕ) → Option Command
 last_command_with name words =
-    cond (bytes_eq name (codes "resume")) (option_map command.Resume (resume_of words)) None
+    cond (bytes_eq name (codes "resume")) (option_map command.Resume (resume_of words)) (session_command_with name words)
 
 -- the command of this name, with the words after it, of those that are neither `get` nor `bench`
 abbrev pub other_command_with : List ℕ → List (List ℕ) → Option Command
@@ -73,6 +83,8 @@ Outcome limit (Some (command.Audit hashes)) before after status =
 Outcome limit (Some command.Compact) before after status = InputOutcome CompactPrints limit before after status
 Outcome limit (Some (command.Resume wanted)) before after status =
     InputOutcome (ResumePrints wanted) limit before after status
+Outcome limit (Some (command.Serve options)) before after status =
+    InputOutcome (ServePrints options) limit before after status
 Outcome limit (Some command.Help) before after status = TextOutcome help_text Done before after status
 Outcome limit (Some command.Version) before after status = TextOutcome version_text Done before after status
 Outcome limit None before after status = TextOutcome (line BadWords) BadWords before after status

@@ -16,6 +16,7 @@ use Rattle.xet_bench_command.specs.Bench.{end_by, unmet_bench}
 use Rattle.xet_audit_command.specs.Audit.{AuditPrints}
 use Rattle.xet_compact_command.specs.Compact.{CompactPrints}
 use Rattle.xet_resume_command.specs.Resume.{ResumePrints}
+use Rattle.xet_serve_command.specs.Serve.{ServePrints}
 use Rattle.xet_commands.specs.declared.commands.Command.{Command}
 use Rattle.xet_commands.specs.declared.commands.Command.TheVariants as command
 use Rattle.xet_commands.specs.Commands.{Answers, command_of}
@@ -67,6 +68,7 @@ StatusBy limit (Some command.Track) text status = TrackBy limit text status
 StatusBy limit (Some (command.Audit hashes)) text status = InputBy (AuditPrints hashes) limit text status
 StatusBy limit (Some command.Compact) text status = InputBy CompactPrints limit text status
 StatusBy limit (Some (command.Resume wanted)) text status = InputBy (ResumePrints wanted) limit text status
+StatusBy limit (Some (command.Serve options)) text status = InputBy (ServePrints options) limit text status
 StatusBy limit (Some command.Help) text status = status ≡ Done
 StatusBy limit (Some command.Version) text status = status ≡ Done
 StatusBy limit None text status = status ≡ BadWords

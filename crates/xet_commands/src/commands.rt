@@ -3,7 +3,7 @@ ghost use Rattle.std.specs.Prelude.{◌≡◌, IfSome, length, map, string_bytes
 ghost use Rattle.xet_room.specs.Ends.{input_limit};
 ghost use Rattle.xet_room.specs.Outcome.{IsFlushed, IsReadUnfailed, IsUnfailed};
 ghost use Rattle.xet_commands.specs.Commands.{IsWithinSize, Outcome, command_of, command_of_one, command_with};
-ghost use Rattle.xet_commands.specs.Commands.{document_command_of_one, last_command_with, other_command_with};
+ghost use Rattle.xet_commands.specs.Commands.{document_command_of_one, last_command_with, other_command_with, serve_named};
 
 use crate::texts::{HELP, VERSION};
 use std::alloc::Global;
@@ -12,10 +12,11 @@ use std::thread::Threads;
 use xet_audit_command::{audit, read_hashes};
 use xet_bench_command::{BenchWanted, bench, read_bench};
 use xet_compact_command::compact;
-use xet_get_command::{Wanted, get, read_wanted};
+use xet_get_command::{Options, Wanted, get, read_wanted};
 use xet_resume_command::{ResumeWanted, read_resume, resume};
 use xet_room::{Status, print_text, say};
 use xet_roundtrip_command::{read_size, roundtrip};
+use xet_serve_command::{read_serve, serve};
 use xet_store::{Sink, Source, Tap};
 use xet_track_command::track;
 
@@ -40,6 +41,8 @@ pub enum Command {
     Compact,
     /// `resume` with its words.
     Resume(ResumeWanted),
+    /// `serve` with its options.
+    Serve(Options),
 }
 
 // The command of one word.
@@ -63,6 +66,10 @@ fn read_one_more(word: &str) -> Option<Command>
     match word {
         "audit" => Some(Command::Audit(false)),
         "compact" => Some(Command::Compact),
+        "serve" => {
+            let options = read_serve(&[])?;
+            Some(Command::Serve(options))
+        }
         _ => None,
     }
 }
@@ -85,7 +92,21 @@ fn read_more(name: &str, words: &[String]) -> Option<Command>
     }
 }
 
-// The command of this name, with the words after it, of those that fetch ranges that are listed.
+// The command of this name, with the words after it, if it is `serve`.
+fn read_session(name: &str, words: &[String]) -> Option<Command>
+    ensures command { result ≡ serve_named name.now (map string_bytes words.now) }
+    ensures within { IfSome result IsWithinSize }
+{
+    match name {
+        "serve" => {
+            let options = read_serve(words)?;
+            Some(Command::Serve(options))
+        }
+        _ => None,
+    }
+}
+
+// The command of this name, with the words after it, of those that fetch or serve ranges.
 fn read_last(name: &str, words: &[String]) -> Option<Command>
     ensures command { result ≡ last_command_with name.now (map string_bytes words.now) }
     ensures within { IfSome result IsWithinSize }
@@ -95,7 +116,7 @@ fn read_last(name: &str, words: &[String]) -> Option<Command>
             let wanted = read_resume(words)?;
             Some(Command::Resume(wanted))
         }
-        _ => None,
+        _ => read_session(name, words),
     }
 }
 
@@ -152,6 +173,7 @@ pub fn run_words<R: Threads + Wait + Sync, I: Source, O: Sink, T: Tap + Send>(
         Some(Command::Audit(hashes)) => audit(alloc, hashes, input, out),
         Some(Command::Compact) => compact(alloc, input, out),
         Some(Command::Resume(wanted)) => resume(rt, alloc, wanted, input, out),
+        Some(Command::Serve(options)) => serve(rt, alloc, options, input, out),
         Some(Command::Bench(wanted)) => bench(rt, alloc, wanted, out),
         Some(Command::Roundtrip(size)) => roundtrip(rt, alloc, size, out),
         Some(Command::Help) => print_text(out, Status::Done, HELP),

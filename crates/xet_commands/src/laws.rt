@@ -10,7 +10,9 @@ ghost use Rattle.xet_commands.specs.Completeness.{AnswersAreComplete};
 /// in it, else 0. For `compact` it is 8 likewise, 2 where the input lists no valid store or two lists of kept chunks
 /// that differ would stand under one hash, else 0. For `resume` it is 8 likewise, 2 where the input is no document of a
 /// valid store, 3 where a range has a byte of the file, by the length in the words, and the store has no such file, 9
-/// where the store's file ends inside a part that is still to be fetched, or before it, else 0.
+/// where the store's file ends inside a part that is still to be fetched, or before it, else 0. For `serve` it is 8
+/// likewise, 2 where the first line of the input is no document of a valid store, 7 where a setting fails, 11 where a
+/// line that is to be answered has more than 1,024 bytes, else 0.
 pub fn answers_are_complete()
     ensures { AnswersAreComplete }
 {}

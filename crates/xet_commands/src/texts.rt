@@ -2,9 +2,9 @@
 
 /// What `--help` prints.
 pub const HELP: &[u8] = b"\
-xet_tool: prints a range of a file of a Xet store, fetches ranges of one in any order, tells what
-is wrong with a store or drops what no file needs, runs a script of calls of a tracker, fetches a
-made file, or uploads one and downloads it
+xet_tool: prints a range of a file of a Xet store, fetches ranges of one in any order or answers a
+session of requests for ranges, tells what is wrong with a store or drops what no file needs, runs
+a script of calls of a tracker, fetches a made file, or uploads one and downloads it
 
 usage:
   xet_tool get HASH START END [OPTION ..]
@@ -13,6 +13,7 @@ usage:
   xet_tool compact              print a store without the xorbs and chunks that no file needs
   xet_tool resume HASH LENGTH START END [START END ..]
                                 fetch ranges of a file, and print what is still missing
+  xet_tool serve [OPTION ..]    answer a session of requests for ranges of files
   xet_tool track                make the calls of a script, and print the reply to each
   xet_tool bench N [OPTION ..]  fetch a made file of N terms, and print what its bytes come to
   xet_tool roundtrip N          upload a made file of N bytes, and download it by its pointer
@@ -33,8 +34,10 @@ words of audit:
 words of resume:
   HASH        the file's hash, as that of get
   LENGTH      how many bytes the file has: a number as START is
-  START, END  a range of the file, as those of get: 1 to 16 pairs. What lies at or past LENGTH is
-              cut off
+  START, END  a range of the file, 1 to 16 pairs: numbers as START of get is, and END may be the
+              word end. What lies at or past LENGTH is cut off, and END at or before START is an
+              empty range. A part that is below LENGTH and past the file's end is not cut off: the
+              status is 9 then
 
 words of bench:
   N           how many terms the file has: a number as START is, 1 to 100000
@@ -42,7 +45,8 @@ words of bench:
 words of roundtrip:
   N           how many bytes the file has: a number as START is, 0 to 1000000
 
-options of get and bench, in any order and each at most once; N is a number as START is:
+options of get, bench and serve, in any order and each at most once, but perfile and limit not for
+serve; N is a number as START is:
   lanes=N     fetch over N connections side by side, 0 to 64, else over 1
   least=N     ask for plans of N bytes of the file at least, else 1048576
   greatest=N  and of less than N and the least together, else 67108864
@@ -112,6 +116,27 @@ lines of resume:
   each gap with its start and the place after its end; and then ok with the number of bytes that
   were fetched.
 
+input of serve:
+  On the first line a document as that of get, which has no line end within. Each line behind it
+  is of the session, has at most 1024 bytes, and one space between its words:
+    GET HASH RANGES         HASH as that of get; RANGES are 1 to 16 ranges START-END with a comma
+                            between, START and END as START of get, but without leading zeros
+    QUIT                    ends the session; what stands behind this line is passed over
+  The last line may lack its line end.
+
+lines of serve:
+  The reply to each line, up to the end of the input or QUIT:
+    OK K                    to GET of K ranges, and then for each, in order: a line with its START
+                            and a number of bytes, and so many bytes of the file as they are, and
+                            a line end. The number is 0 where END is at or before START, and
+                            what lies past the file's end is cut off
+    LONG I                  range I, counted from 0, is the first whose END is more than 1048576
+                            past its START
+    NONE                    a range that is not empty is of a file that the store does not have
+    BYE                     to QUIT
+    BAD                     to any other line
+    OVER                    the line is longer than 1024 bytes, and no later one is answered
+
 input of track:
   A script on standard input, of at most 67108864 bytes: a call of a new tracker of uploads on
   each line, with one space between its words. N and ID are numbers as START is, and NAME is one
@@ -146,15 +171,16 @@ file of roundtrip:
 output:
   For get the bytes as lower-case hexadecimal digits, a line end, and a last line. The lines of
   1, 2, 4 and 8 stand alone, but that of 2 for track, which ends the lines of a script that does
-  not read; those of 3 and 9 for resume and that of 7 for bench stand alone too. With 0 track, bench
-  and roundtrip print their lines alone, compact and resume too, and audit with 0 and 10. All lines,
-  those of errors too, go to standard output. For the bytes themselves turn the digits of the first
-  line back, as with | head -n 1 | xxd -r -p.
+  not read; those of 3 and 9 for resume and that of 7 for bench and serve stand alone too. With 0
+  track, bench and roundtrip print their lines alone, compact and resume too, audit with 0 and 10,
+  and serve with 0 and 11. All lines, those of errors too, go to standard output. For the bytes
+  themselves turn the digits of the first line of get back, as with | head -n 1 | xxd -r -p.
 
 last line, and exit status:
   ok N                    0  all N bytes of the range were printed, or came back, or were fetched
   error words             1  the words do not read; nothing was read of the input
-  error store             2  the input is no document of a valid store; for audit, of any
+  error store             2  the input is no document of a valid store; for audit, of any; for serve,
+                             its first line
   error hash H            2  lists of chunks that differ would stand under the hash H in what
                              compact leaves
   error script            2  a line of the script does not read, and no later one was run
@@ -168,7 +194,9 @@ last line, and exit status:
   error input             8  the input is longer than the limit
   error short N           9  the file has N bytes of a part that resume is to fetch, not all
   bad N                  10  N things are wrong with the store
-  After 5 and 6 the digits may be cut short, and lines may be missing.
+  OVER                   11  a line of a session is longer than 1024 bytes
+  After 5 and 6 the digits may be cut short, and lines may be missing. After 6 in a session nothing
+  more is printed.
 
 example, with the store in the file hello.json:
   xet_tool get aaaaaaaaaaaaaaaaaaaaaaaaaaaaaaaaaaaaaaaaaaaaaaaaaaaaaaaaaaaaaaaa 3 9 <hello.json
@@ -193,6 +221,17 @@ prints, where the bytes 5 to 8 are still missing,
   aaaaaaaaaaaaaaaaaaaaaaaaaaaaaaaaaaaaaaaaaaaaaaaaaaaaaaaaaaaaaaaa 13
   5 9
   ok 9
+
+example of serve: with that store on the first line of the input, the session
+  GET aaaaaaaaaaaaaaaaaaaaaaaaaaaaaaaaaaaaaaaaaaaaaaaaaaaaaaaaaaaaaaaa 0-5,7-9
+  QUIT
+prints
+  OK 2
+  0 5
+  Hello
+  7 2
+  wo
+  BYE
 
 example of bench:
   xet_tool bench 3 lanes=4

@@ -24,12 +24,14 @@ use xet_store::{Sink, Source, Tap};
 ///   document of a valid store, and the ranges of the words were fetched from its file in their order, each part once,
 ///   into an empty file: the digits of its content were printed, a line end, the record of what is missing then, and
 ///   `ok n` with how many bytes were fetched. The store has the file, unless no range has a byte of it by the length in
-///   the words.
+///   the words. For `serve` the first line of the input is a document of a valid store, no setting fails, and exactly
+///   the reply to each line behind it was printed, up to the input's end or `QUIT`.
 /// - 1, `error words`: exactly where the words don't read. Nothing was read.
 /// - 2, `error store` for `get` and `resume`: exactly where the input is within the limit and is no document of a valid
 ///   store; for `audit`: exactly where it is within the limit and lists no store, valid or not; for `compact`: exactly
 ///   where it is within the limit and lists no valid store. `error hash H` for `compact`: exactly where it lists a
-///   valid store, and two lists of kept chunks that differ would stand under the hash H.
+///   valid store, and two lists of kept chunks that differ would stand under the hash H. `error store` for `serve`:
+///   exactly where it is within the limit and its first line is no document of a valid store.
 ///   `error script` for `track`, after the lines of the calls before it: exactly where a line of it doesn't read.
 /// - 3, a line end and `error file not found`: exactly where the input is a document of a valid store, no setting
 ///   fails, the range isn't empty and the store has no such file; that, and that with 0 the store has the file, is said
@@ -41,17 +43,21 @@ use xet_store::{Sink, Source, Tap};
 /// - 6, `error memory`: where an allocation was refused; after some first digits, or all, a line end comes before it.
 /// - 7, a line end and `error settings K`: exactly where the input is a document of a valid store and setting K of the
 ///   words fails first, whatever the file and the range are. Nothing passed the taps of the lanes, where these tell it:
-///   all taps are as before. For `bench` that line alone, exactly where setting K of the words fails first.
+///   all taps are as before. For `bench` that line alone, exactly where setting K of the words fails first; for `serve`
+///   that line alone, exactly where the first line is a document of a valid store and that setting fails first.
 /// - 8, `error input`: exactly where the input has more than 67,108,864 bytes, which is the limit.
 /// - 9, `error short n` for `resume`, that line alone: exactly where the input is a document of a valid store with the
 ///   file, and a part that is still to be fetched has fewer bytes in it than the words say: the first such part has n.
 /// - 10, `bad n` for `audit`, after a line for each finding and for each spare xorb: exactly where the input lists a
 ///   store in which so many things are found.
+/// - 11 for `serve`, after the replies to the lines before one of more than 1,024 bytes, and `OVER`: exactly where the
+///   first line is a document of a valid store, no setting fails, and such a line comes before the input's end or
+///   `QUIT`.
 /// - 12, `error block K` after the digits of some bytes and a line end: over a tap that isn't honest. Where the taps of
 ///   the lanes tell what passed and what they handed on, K is the test that a block of a plan of the store's, or a term
 ///   in one, fails in what they handed on. Never over taps that hand each block on as it came.
 ///
-/// "Exactly" yields to 5 and 6, and for 2, 3, 7, 8, 9 and 10 to 4 too: a read may fail first. There are 64 taps: while
+/// "Exactly" yields to 5 and 6, and for 2, 3, 7, 8, 9, 10 and 11 to 4 too: a read may fail first. There are 64 taps: while
 /// a run of `get` goes on each is owned by a connection, the first by those of the lanes, and handed back then; the
 /// others are as before, and with 1, 2, 4, 7 and 8 and for the other commands all are; `bench` and `roundtrip` read
 /// nothing.
@@ -66,7 +72,7 @@ use xet_store::{Sink, Source, Tap};
 /// With 1, 2, 4, 8 and 9, but 2 of `track`, that line and nothing else was printed. With 5 and 6 a prefix of one text
 /// was printed: of the text of another status, of which all that is said here holds; or of `error memory`, for `get`
 /// with no digits, or with the digits of some first bytes of the range and a line end before it, and for `track` after
-/// some first lines. With all others what was printed is flushed and no call of the output failed, and but for 4 no
+/// some first lines. After want of memory in a session nothing more is printed. With all others what was printed is flushed and no call of the output failed, and but for 4 no
 /// read of the input did, by their counts of faults.
 pub fn run_tool<R: Threads + Wait + Sync, I: Source, O: Sink + Send, T: Tap + Send>(
     rt: &R,

@@ -1,6 +1,6 @@
 use Rattle.std.proofs.Common.{map, rules, ◌≡◌}
 use Rattle.std.specs.Prelude.{Some, string_bytes}
-use Rattle.xet_commands.specs.declared.commands.Command.TheVariants.{Audit, Bench, Compact, Resume, Roundtrip, Track}
+use Rattle.xet_commands.specs.declared.commands.Command.TheVariants.{Audit, Bench, Compact, Resume, Roundtrip, Serve, Track}
 use Rattle.xet_commands.specs.Commands.{command_of}
 use Rattle.xet_commands.proofs.commands.run_words.Goals as goal
 
@@ -23,6 +23,11 @@ pub returns-in-Some-Resume-clause-outcome : goal.returns-in-Some-Resume-clause-o
 returns-in-Some-Resume-clause-outcome g c =
     let is : command_of (map string_bytes c.args.words.now) ≡ Some (Resume c.in-Some-Resume.wanted) = search rules in
     rw is (c.resume.ensures.outcome (map g.T.Tap.told c.args.taps.now.items))
+
+pub returns-in-Some-Serve-clause-outcome : goal.returns-in-Some-Serve-clause-outcome
+returns-in-Some-Serve-clause-outcome g c =
+    let is : command_of (map string_bytes c.args.words.now) ≡ Some (Serve c.in-Some-Serve.options) = search rules in
+    rw is (c.serve.ensures.outcome (map g.T.Tap.told c.args.taps.now.items))
 
 pub returns-in-Some-Bench-clause-outcome : goal.returns-in-Some-Bench-clause-outcome
 returns-in-Some-Bench-clause-outcome g c =

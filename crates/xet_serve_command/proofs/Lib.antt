@@ -1,0 +1,4 @@
+mod Clients
+mod Parts
+mod Printed
+mod Sessions
