@@ -1,7 +1,9 @@
-//! Ranges that are fetched into a file that fails once: the errors, and what the file holds once nothing is missing.
+//! Ranges that are fetched into a file that fails once: the errors, what the rest asks for, and what the file holds once
+//! nothing is missing.
 use crate::caller::fetch_rest;
+use crate::connection::Connection;
 use crate::failing_file::FailingFile;
-use crate::told::{comes_to, put};
+use crate::told::{comes_to, put, put_range};
 use std::alloc::Global;
 use std::process::Abort;
 use std::sync::Wait;
@@ -29,8 +31,8 @@ fn tell<T: Drop>(text: &mut String, answer: Result<T, ResumeError>) {
     }
 }
 
-/// Fetches the ranges and then the rest, and adds each error.
-fn fetch_all<R: Threads + Wait + Sync>(
+/// Fetches the ranges, and adds each error.
+fn fetch_ranges<R: Threads + Wait + Sync>(
     rt: &R,
     alloc: Global,
     row: Row,
@@ -55,11 +57,49 @@ fn fetch_all<R: Threads + Wait + Sync>(
         );
         tell(text, answer);
     }
-    let rest = fetch_rest(rt, alloc, gaps, clients, &mut NoCache, file);
+}
+
+/// Adds a gap in pieces of four bytes, the last one maybe shorter.
+fn put_pieces(text: &mut String, gap: FileRange) {
+    for number in 0..gap.end.saturating_sub(gap.start).div_ceil(4) {
+        let start = gap.start.saturating_add(number.saturating_mul(4));
+        let end = start.saturating_add(4).min(gap.end);
+        put_range(text, FileRange { start, end });
+    }
+}
+
+/// What is missing, as the caller that fetches the rest asks for it where nothing fails: each byte once.
+fn pieces_of(alloc: Global, gaps: &GapRecord) -> String {
+    let mut text = String::new(alloc);
+    for gap in gaps.gaps() {
+        put_pieces(&mut text, *gap);
+    }
+    text
+}
+
+/// Fetches the rest over a connection of its own, and adds the error. Where nothing fails each missing byte is asked for
+/// once and no other byte at all; else what was asked for is added.
+fn fetch_missing<R: Threads + Wait + Sync>(
+    rt: &R,
+    alloc: Global,
+    store: &MemStore,
+    gaps: &mut GapRecord,
+    file: &mut FailingFile,
+    text: &mut String,
+) {
+    let missing = pieces_of(alloc, gaps);
+    let mut clients = [Connection::new(alloc, store)];
+    let rest = fetch_rest(rt, alloc, gaps, &mut clients, &mut NoCache, file);
+    let asked = clients[0].asked.as_str();
+    if rest.is_ok() && asked != missing.as_str() {
+        put(text, "asked for ");
+        put(text, asked);
+    }
     tell(text, rest);
 }
 
-/// The errors of a row over a file that fails at this call, and its content; `unfinished` where the record says so.
+/// What a row tells over a file that fails at this call: each error, and the file's content; `unfinished` where the
+/// record says so.
 fn told<R: Threads + Wait + Sync>(rt: &R, alloc: Global, row: Row, fails: u32) -> String {
     let mut text = String::new(alloc);
     let store = worked_store(alloc).unwrap_or(MemStore::new(alloc));
@@ -68,7 +108,8 @@ fn told<R: Threads + Wait + Sync>(rt: &R, alloc: Global, row: Row, fails: u32) -
         return text;
     };
     let clients = &mut [MemClient::new(alloc, &store)];
-    fetch_all(rt, alloc, row, &mut gaps, clients, &mut file, &mut text);
+    fetch_ranges(rt, alloc, row, &mut gaps, clients, &mut file, &mut text);
+    fetch_missing(rt, alloc, &store, &mut gaps, &mut file, &mut text);
     put(
         &mut text,
         str::from_utf8(file.content()).unwrap_or("no text"),
@@ -79,7 +120,8 @@ fn told<R: Threads + Wait + Sync>(rt: &R, alloc: Global, row: Row, fails: u32) -
     text
 }
 
-/// A file that fails at any of so many calls tells it once, and holds all bytes in the end.
+/// A file that fails at any of so many calls tells it once, and holds all bytes in the end. Where none fails there are
+/// no more calls than these.
 fn holds<R: Threads + Wait + Sync + Abort>(
     rt: &R,
     alloc: Global,
@@ -100,9 +142,9 @@ fn each_call_of_the_file_may_fail(rt: HostRuntime) {
     let all = Row {
         file: FILE_OF_ALL,
         content: "Hello, world!",
-        ranges: [(2, 4), (0, 9)],
+        ranges: [(9, 13), (0, 5)],
     };
-    holds(&rt, rt.alloc(), all, 10, "Run(IoError): Hello, world!");
+    holds(&rt, rt.alloc(), all, 9, "Run(IoError): Hello, world!");
     let repeats = Row {
         file: FILE_OF_REPEATS,
         content: "world!HelloHello, world",

@@ -5,24 +5,26 @@ use std::alloc::Global;
 use xet_base::MerkleHash;
 use xet_resume::GapRecord;
 
-/// Texts by what stands behind the first line, the hash and a space, with a stroke for each line end. Each is read
-/// again as it stands, or begun anew.
+/// Texts by the digit of which the hash has 64, and by what stands behind the hash and a space, with a stroke for each
+/// line end. Each is read again as it stands, or begun anew.
 const ROWS: &str = "\
-0/: kept
-13/: kept
-13/0 13/: kept
-13/0 1/2 3/12 13/: kept
-18446744073709551615/0 18446744073709551615/: kept
-13/5 9/9 10/: new
-13/5 9/7 10/: new
-13/5 5/: new
-13/5 14/: new
-13/05 9/: new
-+13/: new
-18446744073709551616/: new
-13/5 9: new
-13//: new
-: new";
+a 0/: kept
+a 13/: kept
+a 13/0 13/: kept
+a 13/0 1/2 3/12 13/: kept
+a 18446744073709551615/0 18446744073709551615/: kept
+a 13/5 9/9 10/: new
+a 13/5 9/7 10/: new
+a 13/5 5/: new
+a 13/5 14/: new
+a 13/05 9/: new
+a +13/: new
+a 18446744073709551616/: new
+a 13/5 9: new
+a 13//: new
+a : new
+g 13/: new
+A 13/: new";
 
 /// What is marked where nothing was kept.
 const NEW: MerkleHash = MerkleHash([0xcc; 32]);
@@ -39,12 +41,13 @@ fn put_letter(text: &mut String, letter: char) {
 /// The text of a row.
 fn text_of(alloc: Global, row: &str) -> String {
     let mut text = String::new(alloc);
+    let (digit, rest) = row.split_once(' ').unwrap_or((row, ""));
     put(&mut text, "xet-gaps 1\n");
     for _ in 0..64 {
-        put(&mut text, 'a');
+        put(&mut text, digit);
     }
     put(&mut text, ' ');
-    for letter in row.chars() {
+    for letter in rest.chars() {
         put_letter(&mut text, letter);
     }
     text
