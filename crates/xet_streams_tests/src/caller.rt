@@ -10,83 +10,45 @@ use xet_outside::NoCache;
 use xet_reconstruct::FileReconstructor;
 use xet_store::MemStore;
 use xet_store::worked::{FILE_OF_ALL, FILE_OF_REPEATS, worked_store};
-use xet_streams::DownloadStream;
-use xet_unordered_streams::UnorderedDownloadStream;
 
-/// Adds the pieces of a stream to a text.
-fn add<R: Wait>(
-    rt: &R,
-    alloc: Global,
-    stream: &mut DownloadStream<Steady>,
-    clients: &mut [MemClient<'_>],
-    text: &mut String,
-) -> Result<()> {
+/// Adds the bytes 3 to 9 of a file to a text, piece by piece.
+fn read<R: Wait>(rt: &R, alloc: Global, store: &MemStore, text: &mut String) -> Result<()> {
+    let mut stream = FileReconstructor::new(FILE_OF_ALL, Steady { size: 0 })
+        .with_byte_range(FileRange::new(3, 9))
+        .reconstruct_to_stream(alloc)?;
+    let mut clients = [MemClient::new(alloc, store)];
     for _ in rt.forever() {
-        match stream.blocking_next(rt, alloc, clients, &mut NoCache)? {
+        match stream.blocking_next(rt, alloc, &mut clients, &mut NoCache)? {
             Some(piece) => put(text, str::from_utf8(&piece).unwrap_or("no text")),
-            None => return Ok(()),
+            None => break,
         }
     }
     Ok(())
 }
 
-/// Adds a range of a file to a text, piece by piece.
-fn read<R: Wait>(
-    rt: &R,
-    alloc: Global,
-    store: &MemStore,
-    range: FileRange,
-    text: &mut String,
-) -> Result<()> {
-    let mut stream = FileReconstructor::new(FILE_OF_ALL, Steady { size: 0 })
-        .with_byte_range(range)
-        .reconstruct_to_stream(alloc)?;
+/// Adds the pieces of the bytes 4 to 13 of a file to a text, each behind its place.
+fn place<R: Wait>(rt: &R, alloc: Global, store: &MemStore, text: &mut String) -> Result<()> {
+    let mut stream = FileReconstructor::new(FILE_OF_REPEATS, Steady { size: 0 })
+        .with_byte_range(FileRange::new(4, 13))
+        .reconstruct_to_unordered_stream(alloc)?;
     let mut clients = [MemClient::new(alloc, store)];
-    add(rt, alloc, &mut stream, &mut clients, text)
-}
-
-/// Adds the pieces of a stream to a text, each behind its place.
-fn add_placed<R: Wait>(
-    rt: &R,
-    alloc: Global,
-    stream: &mut UnorderedDownloadStream<Steady>,
-    clients: &mut [MemClient<'_>],
-    text: &mut String,
-) -> Result<()> {
     for _ in rt.forever() {
-        match stream.blocking_next(rt, alloc, clients, &mut NoCache)? {
+        match stream.blocking_next(rt, alloc, &mut clients, &mut NoCache)? {
             Some((place, piece)) => {
                 put(text, place);
                 put(text, str::from_utf8(&piece).unwrap_or("no text"));
             }
-            None => return Ok(()),
+            None => break,
         }
     }
     Ok(())
-}
-
-/// Adds the pieces of a range of a file to a text, each behind its place.
-fn place<R: Wait>(
-    rt: &R,
-    alloc: Global,
-    store: &MemStore,
-    range: FileRange,
-    text: &mut String,
-) -> Result<()> {
-    let mut stream = FileReconstructor::new(FILE_OF_REPEATS, Steady { size: 0 })
-        .with_byte_range(range)
-        .reconstruct_to_unordered_stream(alloc)?;
-    let mut clients = [MemClient::new(alloc, store)];
-    add_placed(rt, alloc, &mut stream, &mut clients, text)
 }
 
 /// The bytes 3 to 9 of a file, and the bytes 4 to 13 of another by their places.
 fn told<R: Wait>(rt: &R, alloc: Global) -> String {
     let mut text = String::new(alloc);
     let store = worked_store(alloc).unwrap_or(MemStore::new(alloc));
-    if read(rt, alloc, &store, FileRange::new(3, 9), &mut text).is_err()
-        || place(rt, alloc, &store, FileRange::new(4, 13), &mut text).is_err()
-    {
+    if read(rt, alloc, &store, &mut text).is_err() || place(rt, alloc, &store, &mut text).is_err() {
         put(&mut text, " failed");
     }
     text

@@ -20,11 +20,11 @@ use Rattle.xet_leader.specs.Led.{Led}
 use Rattle.xet_leader.specs.LedTerms.{FailsIn, OneFails, PlanTerm, TermRefused, ahead, first_number, kept_in, led_terms, some_in, task_of}
 use Rattle.xet_leader.proofs.CallerLemmas.{IsLedTerm, is_kept_there, led_each, next_tasks, sound_passes, some_tasks, term_at, unkept_there}
 use Rattle.xet_stream_rules.specs.Streams.{Carries, IsOpen, connections, delivered, nobody}
-use Rattle.xet_stream_rules.specs.Unordered.{UnorderedView, offset_of}
+use Rattle.xet_stream_rules.specs.Unordered.{UnorderedView}
 use Rattle.xet_unordered_streams.specs.Items.{DueCorrupted, IsDue, NoneIsDue}
 use Rattle.xet_unordered_streams.specs.Placing.{AreGiven}
 use Rattle.xet_unordered_streams.specs.steps.Dues.{IsWanted, NoneDue}
-use Rattle.xet_unordered_streams.proofs.Given.{fresh_due, passed_at}
+use Rattle.xet_unordered_streams.proofs.Given.{fresh_due, in_filter, passed_at, was_term}
 
 -- ---- lists
 
@@ -100,57 +100,6 @@ take_both (suc k) m [] h = absurd (omega (arith, h))
 take_both (suc k) m (x ∷ xs) h =
     let e : suc k + m ≡ suc (k + m) = omega arith in
     ap (λ (j : ℕ). take j (x ∷ xs)) e ∙ ap (λ l. x ∷ l) (take_both k m xs (omega (arith, h)))
-
--- where an element stands among those that pass a test
-pub record InFilter {A : Type 0} (p : A → Bool) (xs : List A) (i : ℕ) (x : A) : Type 0 where
-  pub place : ℕ
-  pub at : slice_get (filter p xs) place ≡ Some x
-  pub within : (m : ℕ) → i < m → place < length (filter p (take m xs))
-
-pub in_filter : {A : Type 0} (p : A → Bool) (xs : List A) (i : ℕ) (x : A) → slice_get xs i ≡ Some x → p x ≡ true
-    → InFilter p xs i x
-in_filter p [] i x h t = absurd (cc)
-in_filter p (y ∷ xs) zero x h t =
-    let e : y ≡ x = cc in
-    let yes_it : p y ≡ true = ap p e ∙ t in
-    record {
-      place = 0;
-      at = ap (λ (v : Bool). slice_get (cond v (y ∷ filter p xs) (filter p xs)) 0) yes_it ∙ ap (λ z. Some z) e;
-      within = λ m b. first m b yes_it;
-    }
-  where
-    first : (m : ℕ) → 0 < m → p y ≡ true → 0 < length (filter p (take m (y ∷ xs)))
-    first zero b e = absurd (omega (arith, b))
-    first (suc m) b e =
-        let z = ap (λ (v : Bool). length (cond v (y ∷ filter p (take m xs)) (filter p (take m xs)))) e in
-        omega (arith, z)
-in_filter p (y ∷ xs) (suc i) x h t = by (in_filter p xs i x h t) (p y) refl
-  where
-    by : InFilter p xs i x → (v : Bool) → p y ≡ v → InFilter p (y ∷ xs) (suc i) x
-    by r true e = record {
-      place = suc r.place;
-      at = ap (λ (v : Bool). slice_get (cond v (y ∷ filter p xs) (filter p xs)) (suc r.place)) e ∙ r.at;
-      within = λ m b. more m b;
-    }
-      where
-        more : (m : ℕ) → suc i < m → suc r.place < length (filter p (take m (y ∷ xs)))
-        more zero b = absurd (omega (arith, b))
-        more (suc m) b =
-            let z = ap (λ (v : Bool). length (cond v (y ∷ filter p (take m xs)) (filter p (take m xs)))) e in
-            let w = r.within m (omega (arith, b)) in
-            omega (arith, z, w)
-    by r false e = record {
-      place = r.place;
-      at = ap (λ (v : Bool). slice_get (cond v (y ∷ filter p xs) (filter p xs)) r.place) e ∙ r.at;
-      within = λ m b. more m b;
-    }
-      where
-        more : (m : ℕ) → suc i < m → r.place < length (filter p (take m (y ∷ xs)))
-        more zero b = absurd (omega (arith, b))
-        more (suc m) b =
-            let z = ap (λ (v : Bool). length (cond v (y ∷ filter p (take m xs)) (filter p (take m xs)))) e in
-            let w = r.within m (omega (arith, b)) in
-            omega (arith, z, w)
 
 map_take : {A B : Type 0} (f : A → B) (n : ℕ) (xs : List A) → take n (map f xs) ≡ map f (take n xs)
 map_take f zero xs = refl
@@ -295,11 +244,8 @@ module _ (v : UnorderedView) (early : ℕ → Bool) (l : Led) (is : v.stream.led
   abbrev es : List Event
   es = v.stream.events
 
-  abbrev from : ℕ
-  from = v.stream.setup.range.start
-
-  -- an admitted one with bytes whose block keeps something, and whose place isn't early
-  pub due_is : (skip : ℕ) (t : PlanTerm) → l.finished + skip < l.admitted → IsWanted l early from skip t
+  -- an admitted one with bytes whose block keeps something, and that isn't early
+  pub due_is : (skip : ℕ) (t : PlanTerm) → l.finished + skip < l.admitted → IsWanted l early skip t
       → is_kept es t.plan.number t.term.xorb_block ≡ true → IsDue v (task_of t)
   due_is skip t opens w kept =
       let s = stands_at nobody v.stream.setup es l c skip t w.there w.some opens in
@@ -308,12 +254,12 @@ module _ (v : UnorderedView) (early : ℕ → Bool) (l : Led) (is : v.stream.led
         at = admitted_at nobody v.stream.setup es l c skip t w.there opens;
         some = w.some;
         kept = kept;
-        new = fresh_due v.stream.setup.range es early v.delivered given allowed starts s.place (task_of t) s.at s.past
-            w.new;
+        new = fresh_due v.stream.setup.range es early v.delivered given allowed starts (l.finished + skip) s.place
+            (task_of t) (task_at nobody v.stream.setup es l c skip t w.there) s.at s.past w.new;
       }
 
   -- where none is found none is due
-  pub none_is_due : NoneDue l early from → NoneIsDue v
+  pub none_is_due : NoneDue l early → NoneIsDue v
   none_is_due none t d =
       let at = take_get (planned es) (count_by is_admit es) d.place t d.at in
       ⊎_elim
@@ -333,10 +279,11 @@ module _ (v : UnorderedView) (early : ℕ → Bool) (l : Led) (is : v.stream.led
           let u = m.from in
           let a = c.led.counted.admitted_are in
           let b = at.before in
-          let w : IsWanted l early from skip u = record {
+          let w : IsWanted l early skip u = record {
             there = m.at;
             some = ap has_bytes m.is ∙ d.some;
-            new = unearly u m.is (early (u.term.byte_range.start - from)) refl;
+            new = unearly (l.finished + skip) (ap (λ (n : ℕ). slice_get (planned es) n) (sym same) ∙ at.at)
+                (early (l.finished + skip)) refl;
           } in
           let absent = unkept_there v.stream.setup nobody es c.slack [] u
           (led_term nobody v.stream.setup es l c skip u m.at) (none skip (omega (arith, same, a, b)) u w) in
@@ -345,11 +292,10 @@ module _ (v : UnorderedView) (early : ℕ → Bool) (l : Led) (is : v.stream.led
           let z : true ≡ false = sym kept ∙ absent in
           cc
         where
-          unearly : (u : PlanTerm) → task_of u ≡ t → (v : Bool) → early (u.term.byte_range.start - from) ≡ v
-              → early (u.term.byte_range.start - from) ≡ false
-          unearly u e true f = absurd (d.new (given.there (offset_of v.stream.setup.range t)
-              (ap (λ (x : Task). early (offset_of v.stream.setup.range x)) (sym e) ∙ f)))
-          unearly u e false f = f
+          unearly : (n : ℕ) → slice_get (planned es) n ≡ Some t → (b : Bool) → early n ≡ b → early n ≡ false
+          unearly n planned_at true f =
+              absurd (d.new (was_term v.stream.setup.range es v.delivered n t planned_at (given.there n f)))
+          unearly n planned_at false f = f
 
 -- ---- errors
 

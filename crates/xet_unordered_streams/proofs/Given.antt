@@ -1,6 +1,6 @@
 -- The places that were given.
-use Rattle.std.proofs.Common.{◌≡◌, ◌⊎◌, ⊎_elim, inl, inr, ℕ, zero, suc, ◌+◌, ◌≤◌, ◌<◌, ◌==◌, ◌||◌, ◌&&◌, Bool, true, false, cond, List, [], ◌∷◌, ◌++◌, length, take, refl, sym, subst, ◌∙◌, ap, arith, length-append, Some}
-use Rattle.std.specs.Prelude.{All, count_by, filter, not, slice_get}
+use Rattle.std.proofs.Common.{◌≡◌, ◌⊎◌, ⊎_elim, inl, inr, ℕ, zero, suc, ◌+◌, ◌≤◌, ◌<◌, ◌==◌, ◌||◌, Bool, true, false, cond, List, [], ◌∷◌, ◌++◌, length, take, refl, sym, subst, ◌∙◌, ap, arith, length-append, Some}
+use Rattle.std.specs.Prelude.{All, count_by, filter, slice_get}
 use Rattle.std.specs.List.{list_any, sum_by}
 use Rattle.std.proofs.lemmas.Bool.{cases_lt, eq-eqb, eqb-true, ltb-true}
 use Rattle.std.proofs.lemmas.List.{append-nil, take-append-le}
@@ -18,7 +18,7 @@ use Rattle.xet_ties.specs.Ties.{FirstStarts}
 use Rattle.xet_stream_rules.specs.Streams.{delivered, is_wrote, next_term}
 use Rattle.xet_stream_rules.specs.Unordered.{IsIn, offset_of}
 use Rattle.xet_stream_rules.proofs.CallerLemmas.{count_by-append, some-append, starts_at, take_one}
-use Rattle.xet_unordered_streams.specs.Placing.{AreGiven, IsGiven}
+use Rattle.xet_unordered_streams.specs.Placing.{AreGiven, IsGiven, WasGiven}
 
 -- ---- lists
 
@@ -55,6 +55,95 @@ filtered {A} p (x ∷ xs) i t h = by (filtered p xs) (p x) refl i h
     by rest true e zero k = let is : x ≡ t = cc in ap p (sym is) ∙ e
     by rest true e (suc j) k = rest j t k
     by rest false e j k = rest j t k
+
+-- where an element stands among those that pass a test
+pub record InFilter {A : Type 0} (p : A → Bool) (xs : List A) (i : ℕ) (x : A) : Type 0 where
+  pub place : ℕ
+  pub at : slice_get (filter p xs) place ≡ Some x
+  pub within : (m : ℕ) → i < m → place < length (filter p (take m xs))
+  pub past : (m : ℕ) → m ≤ i → length (filter p (take m xs)) ≤ place
+
+pub in_filter : {A : Type 0} (p : A → Bool) (xs : List A) (i : ℕ) (x : A) → slice_get xs i ≡ Some x → p x ≡ true
+    → InFilter p xs i x
+in_filter p [] i x h t = absurd (cc)
+in_filter p (y ∷ xs) zero x h t =
+    let e : y ≡ x = cc in
+    let yes_it : p y ≡ true = ap p e ∙ t in
+    record {
+      place = 0;
+      at = ap (λ (v : Bool). slice_get (cond v (y ∷ filter p xs) (filter p xs)) 0) yes_it ∙ ap (λ z. Some z) e;
+      within = λ m b. first m b yes_it;
+      past = none;
+    }
+  where
+    none : (m : ℕ) → m ≤ 0 → length (filter p (take m (y ∷ xs))) ≤ 0
+    none zero b = omega arith
+    none (suc m) b = absurd (omega (arith, b))
+
+    first : (m : ℕ) → 0 < m → p y ≡ true → 0 < length (filter p (take m (y ∷ xs)))
+    first zero b e = absurd (omega (arith, b))
+    first (suc m) b e =
+        let z = ap (λ (v : Bool). length (cond v (y ∷ filter p (take m xs)) (filter p (take m xs)))) e in
+        omega (arith, z)
+in_filter p (y ∷ xs) (suc i) x h t = by (in_filter p xs i x h t) (p y) refl
+  where
+    by : InFilter p xs i x → (v : Bool) → p y ≡ v → InFilter p (y ∷ xs) (suc i) x
+    by r true e = record {
+      place = suc r.place;
+      at = ap (λ (v : Bool). slice_get (cond v (y ∷ filter p xs) (filter p xs)) (suc r.place)) e ∙ r.at;
+      within = λ m b. more m b;
+      past = λ m b. back m b;
+    }
+      where
+        more : (m : ℕ) → suc i < m → suc r.place < length (filter p (take m (y ∷ xs)))
+        more zero b = absurd (omega (arith, b))
+        more (suc m) b =
+            let z = ap (λ (v : Bool). length (cond v (y ∷ filter p (take m xs)) (filter p (take m xs)))) e in
+            let w = r.within m (omega (arith, b)) in
+            omega (arith, z, w)
+
+        back : (m : ℕ) → m ≤ suc i → length (filter p (take m (y ∷ xs))) ≤ suc r.place
+        back zero b = omega arith
+        back (suc m) b =
+            let z = ap (λ (v : Bool). length (cond v (y ∷ filter p (take m xs)) (filter p (take m xs)))) e in
+            let w = r.past m (omega (arith, b)) in
+            omega (arith, z, w)
+    by r false e = record {
+      place = r.place;
+      at = ap (λ (v : Bool). slice_get (cond v (y ∷ filter p xs) (filter p xs)) r.place) e ∙ r.at;
+      within = λ m b. more m b;
+      past = λ m b. back m b;
+    }
+      where
+        more : (m : ℕ) → suc i < m → r.place < length (filter p (take m (y ∷ xs)))
+        more zero b = absurd (omega (arith, b))
+        more (suc m) b =
+            let z = ap (λ (v : Bool). length (cond v (y ∷ filter p (take m xs)) (filter p (take m xs)))) e in
+            let w = r.within m (omega (arith, b)) in
+            omega (arith, z, w)
+
+        back : (m : ℕ) → m ≤ suc i → length (filter p (take m (y ∷ xs))) ≤ r.place
+        back zero b = omega arith
+        back (suc m) b =
+            let z = ap (λ (v : Bool). length (cond v (y ∷ filter p (take m xs)) (filter p (take m xs)))) e in
+            let w = r.past m (omega (arith, b)) in
+            omega (arith, z, w)
+
+-- where one that passes a test comes from
+pub record FromFilter {A : Type 0} (xs : List A) (x : A) : Type 0 where
+  pub number : ℕ
+  pub at : slice_get xs number ≡ Some x
+
+pub from_filter : {A : Type 0} (p : A → Bool) (xs : List A) (i : ℕ) (x : A) → slice_get (filter p xs) i ≡ Some x
+    → FromFilter xs x
+from_filter p [] i x h = absurd (cc)
+from_filter {A} p (y ∷ xs) i x h = by (from_filter p xs) (p y) i h
+  where
+    by : ((j : ℕ) (u : A) → slice_get (filter p xs) j ≡ Some u → FromFilter xs u) → (v : Bool) → (j : ℕ)
+        → slice_get (cond v (y ∷ filter p xs) (filter p xs)) j ≡ Some x → FromFilter (y ∷ xs) x
+    by rest true zero k = record { number = 0; at = k }
+    by rest true (suc j) k = let f = rest j x k in record { number = suc f.number; at = f.at }
+    by rest false j k = let f = rest j x k in record { number = suc f.number; at = f.at }
 
 pub in_left : {A : Type 0} (x : A) (xs ys : List A) → IsIn x xs → IsIn x (xs ++ ys)
 in_left x [] ys h = absurd h
@@ -120,6 +209,23 @@ some_more es new i t h =
     subst (λ (ts : List Task). slice_get ts i ≡ Some t) (sym (some-append es new))
     (get_left (some_of es) (some_of new) i t h)
 
+pub planned_more : (es new : List Event) (i : ℕ) (t : Task) → slice_get (planned es) i ≡ Some t
+    → slice_get (planned (es ++ new)) i ≡ Some t
+planned_more es new i t h =
+    let both : planned (es ++ new) ≡ planned es ++ planned new = flat_map-append tasks_in es new in
+    subst (λ (ts : List Task). slice_get ts i ≡ Some t) (sym both) (get_left (planned es) (planned new) i t h)
+
+pub was_more : (r : FileRange) (es new : List Event) (ds : List ℕ) (n : ℕ) → WasGiven r es ds n
+    → WasGiven r (es ++ new) ds n
+was_more r es new ds n w = record { term = w.term; at = planned_more es new n w.term w.at; given = w.given }
+
+-- the term of a number is this one
+pub was_term : (r : FileRange) (es : List Event) (ds : List ℕ) (n : ℕ) (t : Task) → slice_get (planned es) n ≡ Some t
+    → WasGiven r es ds n → IsIn (offset_of r t) ds
+was_term r es ds n t at w =
+    let same : w.term ≡ t = (let z = sym w.at ∙ at in cc) in
+    subst (λ (u : Task). IsIn (offset_of r u) ds) same w.given
+
 -- ---- where terms stand
 
 module _ (r : FileRange) (es : List Event) (allowed : IsAllowedHistory es)
@@ -142,6 +248,19 @@ module _ (r : FileRange) (es : List Event) (allowed : IsAllowedHistory es)
       (λ (k : i ≤ j). omega (arith, h, k)) (cases_lt j i))
       (cases_lt i j)
 
+  -- and those of one place have one number
+  pub same_number : (i j : ℕ) (t u : Task) → slice_get (planned es) i ≡ Some t → slice_get (planned es) j ≡ Some u
+      → has_bytes t ≡ true → has_bytes u ≡ true → offset_of r t ≡ offset_of r u → i ≡ j
+  same_number i j t u a b p q e =
+      let f = in_filter has_bytes (planned es) i t a p in
+      let g = in_filter has_bytes (planned es) j u b q in
+      let s = same_place f.place g.place t u f.at g.at e in
+      ⊎_elim (λ (h : i < j). absurd (let w = f.within j h in let k = g.past j (omega arith) in omega (arith, w, k, s)))
+      (λ (h : j ≤ i). ⊎_elim
+      (λ (k : j < i). absurd (let w = g.within i k in let m = f.past i (omega arith) in omega (arith, w, m, s)))
+      (λ (k : i ≤ j). omega (arith, h, k)) (cases_lt j i))
+      (cases_lt i j)
+
 -- ---- more events
 
 module _ (r : FileRange) (es new : List Event) (early : ℕ → Bool) (ds : List ℕ) (none : delivered new ≡ 0)
@@ -161,15 +280,17 @@ module _ (r : FileRange) (es new : List Event) (early : ℕ → Bool) (ds : List
     each = λ o i.
         let g = h.each o i in
         record {
-          place = g.place;
           term = g.term;
+          number = g.number;
+          planned_at = planned_more es new g.number g.term g.planned_at;
+          place = g.place;
           at = some_more es new g.place g.term g.at;
           is = g.is;
           late = λ e. let l = g.late e in let s = same_count in omega (arith, l, s);
           kept = λ e. kept_more es new g.term.plan g.term.term.block (g.kept e);
           opens = λ e. let l = g.opens e in let m = admitted_more es new in omega (arith, l, m);
         };
-    there = h.there;
+    there = λ n e. was_more r es new ds n (h.there n e);
     passed = subst (λ (ts : List Task). All (λ t. IsIn (offset_of r t) ds) ts) (sym same_front) h.passed;
     few =
         let f = h.few in
@@ -222,60 +343,41 @@ module _ (r : FileRange) (es : List Event) (early : ℕ → Bool) (ds : List ℕ
       let o = one_more in
       omega (arith, w, l, o)
 
-  -- it was given before, and its place isn't early any more
-  pub given_recorded : IsAllowedHistory es → FirstStarts r.start (planned es) → (later : ℕ → Bool)
-      → ((o : ℕ) → later o ≡ (not (o == offset_of r t) && early o)) → early (offset_of r t) ≡ true
-      → AreGiven r fs later ds
-  given_recorded allowed starts later is was = record {
-    each = λ o i.
-        let g = h.each o i in
-        record {
-          place = g.place;
-          term = g.term;
-          at = some_more es (Wrote taken ∷ []) g.place g.term g.at;
-          is = g.is;
-          late = λ e. late_now o g (o == offset_of r t) refl e;
-          kept = λ e. kept_more es (Wrote taken ∷ []) g.term.plan g.term.term.block (g.kept (early_then o e));
-          opens = λ e. let l = g.opens (early_then o e) in let m = admitted_more es (Wrote taken ∷ []) in
-              omega (arith, l, m);
-        };
-    there = λ o e. h.there o (early_then o e);
+  -- a place that was given before
+  given_on : (o : ℕ) → IsGiven r es early o → IsGiven r fs early o
+  given_on o g = record {
+    term = g.term;
+    number = g.number;
+    planned_at = planned_more es (Wrote taken ∷ []) g.number g.term g.planned_at;
+    place = g.place;
+    at = some_more es (Wrote taken ∷ []) g.place g.term g.at;
+    is = g.is;
+    late = λ e. let l = g.late e in let m = one_more in omega (arith, l, m);
+    kept = λ e. kept_more es (Wrote taken ∷ []) g.term.plan g.term.term.block (g.kept e);
+    opens = λ e. let l = g.opens e in let m = admitted_more es (Wrote taken ∷ []) in omega (arith, l, m);
+  }
+
+  -- it was given before
+  pub given_recorded : (k : ℕ) → slice_get (planned es) k ≡ Some t → early k ≡ true → AreGiven r fs early ds
+  given_recorded k at was = record {
+    each = λ o i. given_on o (h.each o i);
+    there = λ n e. was_more r es (Wrote taken ∷ []) ds n (h.there n e);
     passed = subst (λ (ts : List Task). All (λ u. IsIn (offset_of r u) ds) ts) (sym front_after)
         (All-append (λ u. IsIn (offset_of r u) ds) (take (delivered es) (some_of es)) (t ∷ []) h.passed
-        (All-cons (λ u. IsIn (offset_of r u) ds) t [] (h.there (offset_of r t) was)
+        (All-cons (λ u. IsIn (offset_of r u) ds) t [] (was_term r es ds k t at (h.there k was))
         (All-nil (λ u. IsIn (offset_of r u) ds))));
     few = few_after;
   }
-    where
-      and_right : (a b : Bool) → (a && b) ≡ true → b ≡ true
-      and_right true b e = e
-      and_right false b e = absurd (cc)
-
-      early_then : (o : ℕ) → later o ≡ true → early o ≡ true
-      early_then o e = and_right (not (o == offset_of r t)) (early o) (sym (is o) ∙ e)
-
-      late_now : (o : ℕ) → (g : IsGiven r es early o) → (v : Bool) → (o == offset_of r t) ≡ v → later o ≡ false
-          → g.place < delivered fs
-      late_now o g true e f =
-          let same : o ≡ offset_of r t = eqb-true o (offset_of r t) e in
-          let j : delivered es ≡ g.place =
-          same_place r es allowed starts (delivered es) g.place t g.term next g.at (sym same ∙ g.is) in
-          let m = one_more in
-          omega (arith, j, m)
-      late_now o g false e f =
-          let z : early o ≡ false =
-          sym (ap (λ (v : Bool). not v && early o) e) ∙ sym (is o) ∙ f in
-          let l = g.late z in
-          let m = one_more in
-          omega (arith, l, m)
 
   -- it is given now
   pub given_next : (IsIn (offset_of r t) ds → ⊥) → AreGiven r fs early (ds ++ offset_of r t ∷ [])
   given_next fresh = record {
-    each = λ o i. ⊎_elim (λ (j : IsIn o ds). old o (h.each o j))
+    each = λ o i. ⊎_elim (λ (j : IsIn o ds). given_on o (h.each o j))
         (λ (j : IsIn o (offset_of r t ∷ [])). ⊎_elim (λ (e : o ≡ offset_of r t). own o e) (λ (z : ⊥). absurd z) j)
         (in_append o ds (offset_of r t ∷ []) i);
-    there = λ o e. in_left o ds (offset_of r t ∷ []) (h.there o e);
+    there = λ n e.
+        let w = was_more r es (Wrote taken ∷ []) ds n (h.there n e) in
+        record { term = w.term; at = w.at; given = in_left (offset_of r w.term) ds (offset_of r t ∷ []) w.given };
     passed = subst (λ (ts : List Task). All (λ u. IsIn (offset_of r u) (ds ++ offset_of r t ∷ [])) ts) (sym front_after)
         (All-append (λ u. IsIn (offset_of r u) (ds ++ offset_of r t ∷ [])) (take (delivered es) (some_of es)) (t ∷ [])
         (all_weaker (λ u. IsIn (offset_of r u) ds) (λ u. IsIn (offset_of r u) (ds ++ offset_of r t ∷ []))
@@ -285,99 +387,115 @@ module _ (r : FileRange) (es : List Event) (early : ℕ → Bool) (ds : List ℕ
     few = few_after;
   }
     where
-      old : (o : ℕ) → IsGiven r es early o → IsGiven r fs early o
-      old o g = record {
-        place = g.place;
-        term = g.term;
-        at = some_more es (Wrote taken ∷ []) g.place g.term g.at;
-        is = g.is;
-        late = λ e. let l = g.late e in let m = one_more in omega (arith, l, m);
-        kept = λ e. kept_more es (Wrote taken ∷ []) g.term.plan g.term.term.block (g.kept e);
-        opens = λ e. let l = g.opens e in let m = admitted_more es (Wrote taken ∷ []) in omega (arith, l, m);
-      }
+      from : FromFilter (planned es) t
+      from = from_filter has_bytes (planned es) (delivered es) t next
 
-      unearly : (o : ℕ) → o ≡ offset_of r t → early o ≡ true → ⊥
-      unearly o e f = fresh (subst (λ (x : ℕ). IsIn x ds) e (h.there o f))
+      unearly : early from.number ≡ true → ⊥
+      unearly e = fresh (was_term r es ds from.number t from.at (h.there from.number e))
 
       own : (o : ℕ) → o ≡ offset_of r t → IsGiven r fs early o
       own o e = record {
-        place = delivered es;
         term = t;
+        number = from.number;
+        planned_at = planned_more es (Wrote taken ∷ []) from.number t from.at;
+        place = delivered es;
         at = some_more es (Wrote taken ∷ []) (delivered es) t next;
         is = e;
         late = λ f. let m = one_more in omega (arith, m);
-        kept = λ f. absurd (unearly o e f);
-        opens = λ f. absurd (unearly o e f);
+        kept = λ f. absurd (unearly f);
+        opens = λ f. absurd (unearly f);
       }
 
 -- ---- a due term is given
 
 module _ (r : FileRange) (es : List Event) (early : ℕ → Bool) (ds : List ℕ) (h : AreGiven r es early ds) (t : Task)
-    (place : ℕ) (at : slice_get (some_of es) place ≡ Some t) (kept : is_kept es t.plan t.term.block ≡ true)
-    (opens : place < length (filter has_bytes (admitted es))) (fresh : IsIn (offset_of r t) ds → ⊥) where
-  pub given_due : (later : ℕ → Bool) → ((o : ℕ) → later o ≡ ((o == offset_of r t) || early o))
-      → AreGiven r es later (ds ++ offset_of r t ∷ [])
-  given_due later is = record {
+    (number place : ℕ) (planned_at : slice_get (planned es) number ≡ Some t) (at : slice_get (some_of es) place ≡ Some t)
+    (kept : is_kept es t.plan t.term.block ≡ true) (opens : place < length (filter has_bytes (admitted es)))
+    (fresh : IsIn (offset_of r t) ds → ⊥) (later : ℕ → Bool)
+    (is : (n : ℕ) → later n ≡ cond (number == n) true (early n)) where
+  later_so : (n : ℕ) (v : Bool) → (number == n) ≡ v → later n ≡ cond v true (early n)
+  later_so n v e = is n ∙ ap (λ (w : Bool). cond w true (early n)) e
+
+  there_now : (n : ℕ) (v : Bool) → (number == n) ≡ v → later n ≡ true → WasGiven r es (ds ++ offset_of r t ∷ []) n
+  there_now n true e f = record {
+    term = t;
+    at = ap (λ (m : ℕ). slice_get (planned es) m) (sym (eqb-true number n e)) ∙ planned_at;
+    given = in_end ds (offset_of r t);
+  }
+  there_now n false e f =
+      let w = h.there n (sym (later_so n false e) ∙ f) in
+      record { term = w.term; at = w.at; given = in_left (offset_of r w.term) ds (offset_of r t ∷ []) w.given }
+
+  unlate : (n : ℕ) (v : Bool) → (number == n) ≡ v → later n ≡ false → early n ≡ false
+  unlate n true e f = absurd (let z : true ≡ false = sym (later_so n true e) ∙ f in cc)
+  unlate n false e f = sym (later_so n false e) ∙ f
+
+  -- one that was given before has another number
+  early_then : (o : ℕ) → IsIn o ds → (g : IsGiven r es early o) → (v : Bool) → (number == g.number) ≡ v
+      → later g.number ≡ true → early g.number ≡ true
+  early_then o i g true e f =
+      let there : slice_get (planned es) number ≡ Some g.term =
+      ap (λ (m : ℕ). slice_get (planned es) m) (eqb-true number g.number e) ∙ g.planned_at in
+      let same : g.term ≡ t = (let z = sym there ∙ planned_at in cc) in
+      absurd (fresh (subst (λ (u : Task). IsIn (offset_of r u) ds) same (subst (λ (x : ℕ). IsIn x ds) g.is i)))
+  early_then o i g false e f = sym (later_so g.number false e) ∙ f
+
+  old : (o : ℕ) → IsIn o ds → IsGiven r es early o → IsGiven r es later o
+  old o i g = record {
+    term = g.term;
+    number = g.number;
+    planned_at = g.planned_at;
+    place = g.place;
+    at = g.at;
+    is = g.is;
+    late = λ e. g.late (unlate g.number (number == g.number) refl e);
+    kept = λ e. g.kept (early_then o i g (number == g.number) refl e);
+    opens = λ e. g.opens (early_then o i g (number == g.number) refl e);
+  }
+
+  own : (o : ℕ) → o ≡ offset_of r t → IsGiven r es later o
+  own o e = record {
+    term = t;
+    number = number;
+    planned_at = planned_at;
+    place = place;
+    at = at;
+    is = e;
+    late = λ f. absurd (let z : true ≡ false = sym (later_so number true (eq-eqb number number refl)) ∙ f in cc);
+    kept = λ f. kept;
+    opens = λ f. opens;
+  }
+
+  pub given_due : AreGiven r es later (ds ++ offset_of r t ∷ [])
+  given_due = record {
     each = λ o i. ⊎_elim (λ (j : IsIn o ds). old o j (h.each o j))
         (λ (j : IsIn o (offset_of r t ∷ [])). ⊎_elim (λ (e : o ≡ offset_of r t). own o e) (λ (z : ⊥). absurd z) j)
         (in_append o ds (offset_of r t ∷ []) i);
-    there = λ o e. there_now o (o == offset_of r t) refl e;
+    there = λ n e. there_now n (number == n) refl e;
     passed = all_weaker (λ u. IsIn (offset_of r u) ds) (λ u. IsIn (offset_of r u) (ds ++ offset_of r t ∷ []))
         (take (delivered es) (some_of es)) (λ u k. in_left (offset_of r u) ds (offset_of r t ∷ []) k) h.passed;
     few = h.few;
   }
-    where
-      there_now : (o : ℕ) → (v : Bool) → (o == offset_of r t) ≡ v → later o ≡ true
-          → IsIn o (ds ++ offset_of r t ∷ [])
-      there_now o true e f =
-          subst (λ (x : ℕ). IsIn x (ds ++ offset_of r t ∷ [])) (sym (eqb-true o (offset_of r t) e))
-          (in_end ds (offset_of r t))
-      there_now o false e f =
-          let z : early o ≡ true = sym (ap (λ (v : Bool). v || early o) e) ∙ sym (is o) ∙ f in
-          in_left o ds (offset_of r t ∷ []) (h.there o z)
-
-      or_none : (a b : Bool) → (a || b) ≡ false → b ≡ false
-      or_none true b e = absurd (cc)
-      or_none false b e = e
-
-      early_then : (o : ℕ) → IsIn o ds → (v : Bool) → (o == offset_of r t) ≡ v → later o ≡ true → early o ≡ true
-      early_then o i true e f = absurd (fresh (subst (λ (x : ℕ). IsIn x ds) (eqb-true o (offset_of r t) e) i))
-      early_then o i false e f = sym (ap (λ (v : Bool). v || early o) e) ∙ sym (is o) ∙ f
-
-      old : (o : ℕ) → IsIn o ds → IsGiven r es early o → IsGiven r es later o
-      old o i g = record {
-        place = g.place;
-        term = g.term;
-        at = g.at;
-        is = g.is;
-        late = λ e. g.late (or_none (o == offset_of r t) (early o) (sym (is o) ∙ e));
-        kept = λ e. g.kept (early_then o i (o == offset_of r t) refl e);
-        opens = λ e. g.opens (early_then o i (o == offset_of r t) refl e);
-      }
-
-      own : (o : ℕ) → o ≡ offset_of r t → IsGiven r es later o
-      own o e = record {
-        place = place;
-        term = t;
-        at = at;
-        is = e;
-        late = λ f. absurd (let z : true ≡ false =
-            sym (ap (λ (v : Bool). v || early o) (eq-eqb o (offset_of r t) e)) ∙ sym (is o) ∙ f in cc);
-        kept = λ f. kept;
-        opens = λ f. opens;
-      }
 
 -- ---- what isn't given
 
 module _ (r : FileRange) (es : List Event) (early : ℕ → Bool) (ds : List ℕ) (h : AreGiven r es early ds)
     (allowed : IsAllowedHistory es) (starts : FirstStarts r.start (planned es)) where
-  -- a term that isn't recorded, and whose place isn't early
-  pub fresh_due : (place : ℕ) (t : Task) → slice_get (some_of es) place ≡ Some t → delivered es ≤ place
-      → early (offset_of r t) ≡ false → IsIn (offset_of r t) ds → ⊥
-  fresh_due place t at past none i =
+  -- a term has the number of the one that was given at its place
+  number_is : (number place : ℕ) (t : Task) → slice_get (planned es) number ≡ Some t
+      → slice_get (some_of es) place ≡ Some t → (g : IsGiven r es early (offset_of r t)) → number ≡ g.number
+  number_is number place t planned_at at g =
+      same_number r es allowed starts number g.number t g.term planned_at g.planned_at
+      (filtered has_bytes (planned es) place t at) (filtered has_bytes (planned es) g.place g.term g.at) g.is
+
+  -- a term that isn't recorded, and isn't early
+  pub fresh_due : (number place : ℕ) (t : Task) → slice_get (planned es) number ≡ Some t
+      → slice_get (some_of es) place ≡ Some t → delivered es ≤ place → early number ≡ false → IsIn (offset_of r t) ds
+      → ⊥
+  fresh_due number place t planned_at at past none i =
       let g = h.each (offset_of r t) i in
       let j = same_place r es allowed starts place g.place t g.term at g.at g.is in
-      let l = g.late none in
+      let l = g.late (ap early (sym (number_is number place t planned_at at g)) ∙ none) in
       omega (arith, j, l, past)
 
   -- one that is recorded was given
@@ -398,39 +516,44 @@ module _ (r : FileRange) (es : List Event) (early : ℕ → Bool) (ds : List ℕ
       all_at P (y ∷ xs) zero x a e = let s : y ≡ x = cc in subst P s (All-head P y xs a)
       all_at P (y ∷ xs) (suc i) x a e = all_at P xs i x (All-tail P y xs a) e
 
-  -- where the next one was given, its place is early
-  pub next_early : (t : Task) → next_term es ≡ Some t → IsIn (offset_of r t) ds → early (offset_of r t) ≡ false → ⊥
-  next_early t next i none = fresh_due (delivered es) t next (omega arith) none i
+  -- where the next one was given it is early
+  pub next_early : (number : ℕ) (t : Task) → slice_get (planned es) number ≡ Some t → next_term es ≡ Some t
+      → IsIn (offset_of r t) ds → early number ≡ false → ⊥
+  next_early number t planned_at next i none = fresh_due number (delivered es) t planned_at next (omega arith) none i
 
   -- and then it is admitted, and its block kept
-  pub early_next : (t : Task) → next_term es ≡ Some t → early (offset_of r t) ≡ true
+  pub early_next : (number : ℕ) (t : Task) → slice_get (planned es) number ≡ Some t → next_term es ≡ Some t
+      → early number ≡ true
       → (is_kept es t.plan t.term.block ≡ true) × (delivered es < length (filter has_bytes (admitted es)))
-  early_next t next was =
-      let g = h.each (offset_of r t) (h.there (offset_of r t) was) in
+  early_next number t planned_at next was =
+      let g = h.each (offset_of r t) (was_term r es ds number t planned_at (h.there number was)) in
       let j : delivered es ≡ g.place = same_place r es allowed starts (delivered es) g.place t g.term next g.at g.is in
       let here : slice_get (some_of es) (delivered es) ≡ Some g.term =
       ap (λ (n : ℕ). slice_get (some_of es) n) j ∙ g.at in
       let e : t ≡ g.term = let z = sym next ∙ here in cc in
-      let o = g.opens was in
-      (ap (λ (u : Task). is_kept es u.plan u.term.block) e ∙ g.kept was, omega (arith, o, j))
+      let now : early g.number ≡ true = ap early (sym (number_is number (delivered es) t planned_at next g)) ∙ was in
+      let o = g.opens now in
+      (ap (λ (u : Task). is_kept es u.plan u.term.block) e ∙ g.kept now, omega (arith, o, j))
 
--- ---- the same places
+-- ---- the same terms
 
 pub given_same : (r : FileRange) (es : List Event) (early later : ℕ → Bool) (ds : List ℕ)
-    → ((o : ℕ) → later o ≡ early o) → AreGiven r es early ds → AreGiven r es later ds
+    → ((n : ℕ) → later n ≡ early n) → AreGiven r es early ds → AreGiven r es later ds
 given_same r es early later ds same h = record {
   each = λ o i.
       let g = h.each o i in
       record {
-        place = g.place;
         term = g.term;
+        number = g.number;
+        planned_at = g.planned_at;
+        place = g.place;
         at = g.at;
         is = g.is;
-        late = λ e. g.late (sym (same o) ∙ e);
-        kept = λ e. g.kept (sym (same o) ∙ e);
-        opens = λ e. g.opens (sym (same o) ∙ e);
+        late = λ e. g.late (sym (same g.number) ∙ e);
+        kept = λ e. g.kept (sym (same g.number) ∙ e);
+        opens = λ e. g.opens (sym (same g.number) ∙ e);
       };
-  there = λ o e. h.there o (sym (same o) ∙ e);
+  there = λ n e. h.there n (sym (same n) ∙ e);
   passed = h.passed;
   few = h.few;
 }

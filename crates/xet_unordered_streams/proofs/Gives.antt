@@ -1,11 +1,11 @@
 -- Due terms of a stream are found and given.
-use Rattle.std.proofs.Common.{◌≡◌, ◌⊎◌, ℕ, ◌==◌, ◌||◌, Bool, true, false, List, [], ◌∷◌, ◌++◌, refl, sym, subst, ◌∙◌, Option, Some, None, Ok, Err}
+use Rattle.std.proofs.Common.{◌≡◌, ◌⊎◌, ℕ, ◌==◌, Bool, true, false, cond, List, [], ◌∷◌, ◌++◌, refl, sym, subst, ◌∙◌, ap, Option, Some, None, Ok, Err}
 use Rattle.std.specs.Prelude.{IfSome, Result, slice_get}
 use Rattle.xet_error.specs.declared.error.FileReconstructionError.{FileReconstructionError}
 use Rattle.xet_error.specs.declared.error.FileReconstructionError.TheVariants as error
 use Rattle.xet_events.specs.declared.event.Event.TheVariants.{Fail}
 use Rattle.xet_events.specs.declared.event.Event.{Event}
-use Rattle.xet_events.specs.Events.{Task, admitted}
+use Rattle.xet_events.specs.Events.{Task, admitted, planned}
 use Rattle.xet_ties.specs.PartCalls.{stop_event}
 use Rattle.xet_leader.specs.Led.{Led}
 use Rattle.xet_leader.specs.LedTerms.{task_of}
@@ -13,13 +13,13 @@ use Rattle.xet_stream_rules.specs.declared.step.Step.TheVariants.{Pending, Ready
 use Rattle.xet_stream_rules.specs.Streams.{Carries, IsOpen, StreamView, nobody}
 use Rattle.xet_stream_rules.specs.Unordered.{ItemAnswer, UnorderedView, offset_of}
 use Rattle.xet_stream_terms.proofs.CallerLemmas.{piece_sized}
-use Rattle.xet_unordered_streams.specs.declared.early_places.EarlyPlaces.{EarlyPlaces}
+use Rattle.xet_unordered_streams.specs.declared.early_terms.EarlyTerms.{EarlyTerms}
 use Rattle.xet_unordered_streams.specs.declared.due_terms.Due.{Due}
 use Rattle.xet_unordered_streams.specs.Items.{AfterStep, DueCorrupted, FailsDue, GivesDue, GivesNow, NoneIsDue}
 use Rattle.xet_unordered_streams.specs.Placing.{AreGiven, IsPlacing, is_early}
 use Rattle.xet_unordered_streams.specs.steps.Dues.{FirstDue, HintedDue, NoneDue}
 use Rattle.xet_unordered_streams.specs.steps.Giving.{AddsPlace, AnyDue, AnyView, DueFails, DueFor, FailsSo, FoundDue, FoundRefused, HintView, KeepsOn, KnownDue, PlaceFor}
-use Rattle.xet_unordered_streams.proofs.Dues.{due_cause, due_event, due_is, kept_is, none_is_due, stands_at}
+use Rattle.xet_unordered_streams.proofs.Dues.{due_cause, due_event, due_is, kept_is, none_is_due, stands_at, task_at}
 use Rattle.xet_unordered_streams.proofs.Given.{given_due}
 
 -- ---- what is found
@@ -31,7 +31,7 @@ hint_view v early l is from e (Ok (Some d)) h =
     record { led = l; is_led = is; due = subst (λ (n : ℕ). HintedDue l early n (Ok (Some d))) e h }
 hint_view v early l is from e (Ok None) h = tt
 hint_view v early l is from e (Err x) h =
-    record { led = l; is_led = is; refused = subst (λ (n : ℕ). HintedDue l early n (Err x)) e h }
+    record { led = l; is_led = is; refused = h }
 
 pub any_view : (v : StreamView) (early : ℕ → Bool) (l : Led) → v.led ≡ Some l → (from : ℕ)
     → from ≡ v.setup.range.start → (answer : Result (Option Due) FileReconstructionError) → FirstDue l early from answer
@@ -40,12 +40,12 @@ any_view v early l is from e (Ok (Some d)) h =
     record { led = l; is_led = is; due = subst (λ (n : ℕ). FirstDue l early n (Ok (Some d))) e h }
 any_view v early l is from e (Ok None) h = (led_none, λ none. absurd (let z = sym is ∙ none in cc))
   where
-    led_none : (m : Led) → v.led ≡ Some m → NoneDue m early v.setup.range.start
+    led_none : (m : Led) → v.led ≡ Some m → NoneDue m early
     led_none m same =
         let eq : l ≡ m = (let z : ◌≡◌ {A = Option Led} (Some l) (Some m) = sym is ∙ same in cc) in
-        subst (λ (k : Led). NoneDue k early v.setup.range.start) eq (subst (λ (n : ℕ). NoneDue l early n) e h)
+        subst (λ (k : Led). NoneDue k early) eq h
 any_view v early l is from e (Err x) h =
-    record { led = l; is_led = is; refused = subst (λ (n : ℕ). FirstDue l early n (Err x)) e h }
+    record { led = l; is_led = is; refused = h }
 
 -- without a leader
 pub any_none : (v : StreamView) (early : ℕ → Bool) → v.led ≡ None → v.events ≡ [] → AnyView v early (Ok None)
@@ -53,7 +53,7 @@ any_none v early none empty = ((λ l is. absurd (let z = sym none ∙ is in cc))
 
 -- ---- in a stream that keeps its places
 
-module _ (v : StreamView) (ds : List ℕ) (e : EarlyPlaces) (ended : Bool) (h : IsPlacing v ds e) (still : IsOpen v) where
+module _ (v : StreamView) (ds : List ℕ) (e : EarlyTerms) (ended : Bool) (h : IsPlacing v ds e) (still : IsOpen v) where
   abbrev u : UnorderedView
   u = record { stream = v; delivered = ds; ended = ended }
 
@@ -70,6 +70,7 @@ module _ (v : StreamView) (ds : List ℕ) (e : EarlyPlaces) (ended : Bool) (h : 
           led = f.led;
           is_led = f.is_led;
           skip = f.due.skip;
+          numbered = f.due.due.numbered;
           opens = f.due.opens;
           term = f.due.due.term;
           there = w.there;
@@ -113,20 +114,21 @@ module _ (v : StreamView) (ds : List ℕ) (e : EarlyPlaces) (ended : Bool) (h : 
   any_is (Ok None) f = found_none f
   any_is (Err x) f = refused_cause x f
 
-  -- the place of one is added
-  pub placing_added : (place : ℕ) → PlaceFor u place → (later : EarlyPlaces)
-      → ((o : ℕ) → is_early later o ≡ ((o == place) || is_early e o)) → IsPlacing v (ds ++ place ∷ []) later
-  placing_added place p later is =
+  -- one is added, and its place
+  pub placing_added : (number place : ℕ) → PlaceFor u number place → (later : EarlyTerms)
+      → ((n : ℕ) → is_early later n ≡ cond (number == n) true (is_early e n)) → IsPlacing v (ds ++ place ∷ []) later
+  placing_added number place p later is =
       let c = carries_now p.led p.is_led in
       let s = stands_at nobody v.setup v.events p.led c p.skip p.term p.there p.due.some p.opens in
+      let planned_at = ap (λ (n : ℕ). slice_get (planned v.events) n) p.numbered
+      ∙ task_at nobody v.setup v.events p.led c p.skip p.term p.there in
       let at : place ≡ offset_of v.setup.range (task_of p.term) = p.at in
       record {
         allowed = h.allowed;
         stands = h.stands;
         given = subst (λ (o : ℕ). AreGiven v.setup.range v.events (is_early later) (ds ++ o ∷ [])) (sym at)
-            (given_due v.setup.range v.events (is_early e) ds h.given (task_of p.term) s.place s.at p.due.kept s.opens
-            p.due.new (is_early later)
-            (λ o. subst (λ (n : ℕ). is_early later o ≡ ((o == n) || is_early e o)) at (is o)));
+            (given_due v.setup.range v.events (is_early e) ds h.given (task_of p.term) number s.place planned_at s.at
+            p.due.kept s.opens p.due.new (is_early later) is);
       }
 
 -- ---- what is given

@@ -1,13 +1,12 @@
 -- Terms that were given are recorded, and terms admitted.
-use Rattle.std.proofs.Common.{◌≡◌, ⊎_elim, ℕ, ◌-◌, ◌<◌, ◌==◌, ◌&&◌, Bool, true, false, List, [], ◌∷◌, ◌++◌, length, take, refl, sym, subst, ◌∙◌, ap, arith, append_assoc, Option, Some, None, Ok}
-use Rattle.std.specs.Prelude.{All, IfSome, count_by, not}
+use Rattle.std.proofs.Common.{◌≡◌, ⊎_elim, inr, ℕ, ◌+◌, ◌-◌, ◌<◌, Bool, true, false, List, [], ◌∷◌, ◌++◌, length, take, refl, sym, subst, ◌∙◌, ap, arith, append_assoc, Option, Some, None, Ok, Err}
+use Rattle.std.specs.Prelude.{All, IfSome, Result, count_by, slice_get}
 use Rattle.std.proofs.lemmas.Grind.{flat_map-append}
 use Rattle.std.proofs.lemmas.List.{append-nil}
 use Rattle.std.proofs.lemmas.Option.{slice_get_within}
 use Rattle.std.proofs.lemmas.List.Elements.{All-append, All-cons, All-head, All-nil, All-tail}
 use Rattle.xet_base.specs.declared.cas_types.FileRange.{FileRange}
 use Rattle.xet_error.specs.declared.error.FileReconstructionError.{FileReconstructionError}
-use Rattle.xet_error.specs.declared.error.FileReconstructionError.TheVariants as error
 use Rattle.xet_events.specs.declared.event.Event.{Event}
 use Rattle.xet_events.specs.declared.event.Event.TheVariants.{Admit, Cached, Cancel, Expired, Fail, Fetched, Planned, Refreshed, Wrote}
 use Rattle.xet_events.specs.Allowed.{IsAllowedHistory}
@@ -20,32 +19,40 @@ use Rattle.xet_ties.specs.Ties.{FirstStarts}
 use Rattle.xet_leader.specs.declared.ahead.NextTerm.{NextTerm}
 use Rattle.xet_leader.specs.Led.{Led}
 use Rattle.xet_leader.specs.LedTerms.{IsNextTerm, NoneHas, PlanTerm, ahead, of_plan, size_in, task_of}
-use Rattle.xet_stream_rules.specs.Pulls.{IsTold}
 use Rattle.xet_stream_rules.specs.Streams.{Carries, IsOpen, Stands, StreamView, delivered, fetches_in, is_wrote, next_term, nobody}
 use Rattle.xet_stream_rules.specs.Unordered.{IsIn, UnorderedView, offset_of}
 use Rattle.xet_stream_rules.proofs.CallerLemmas.{count_by-append, none_next, none_some, some-append, some_next}
 use Rattle.xet_stream_terms.specs.Handing.{IsOpenNext}
 use Rattle.xet_stream_terms.proofs.CallerLemmas.{empties_are}
 use Rattle.xet_streams.specs.AnyOrder.{AdmitsAhead, GivenCall, IsLedNext, IsUnkept, RecordsGiven, StandsOn}
-use Rattle.xet_unordered_streams.specs.declared.early_places.EarlyPlaces.{EarlyPlaces}
-use Rattle.xet_unordered_streams.specs.declared.pulling.EarlyTerm.{EarlyTerm}
+use Rattle.xet_unordered_streams.specs.declared.early_terms.EarlyTerms.{EarlyTerms}
 use Rattle.xet_unordered_streams.specs.Items.{GoesAhead, IsCaught, is_ahead}
 use Rattle.xet_unordered_streams.specs.Placing.{AreGiven, IsPlacing, is_early}
-use Rattle.xet_unordered_streams.specs.steps.Pulling.{EarlyFor, EarlyIn, EarlyNext, EarlyOf, EndsShort, OneCall, NoEarly, NotEarly, RecordedSo, RecordsOne}
-use Rattle.xet_unordered_streams.proofs.Dues.{next_opens}
+use Rattle.xet_unordered_streams.specs.steps.Pulling.{EarlyIn, EarlyNext, EarlyOf, OneCall, NoEarly, NotEarly, RecordedSo, RecordsOne, number_of}
+use Rattle.xet_unordered_streams.proofs.Dues.{next_opens, task_at}
 use Rattle.xet_unordered_streams.proofs.Given.{caught_more, early_next, given_more, given_recorded, next_early}
 
 -- ---- the next term, in a stream that keeps its places
 
-module _ (v : StreamView) (ds : List ℕ) (e : EarlyPlaces) (h : IsPlacing v ds e) (still : IsOpen v) where
+module _ (v : StreamView) (ds : List ℕ) (e : EarlyTerms) (h : IsPlacing v ds e) (still : IsOpen v) where
   carries_now : (l : Led) → v.led ≡ Some l → Carries nobody v.setup v.events l
   carries_now l is = subst (λ (o : Option Led). IfSome o (Carries nobody v.setup v.events)) is (h.stands.led still)
 
-  -- one that was given
-  module _ (x : EarlyTerm) (f : EarlyOf v (is_early e) x) where
-    abbrev next : NextTerm
-    next = x.next
+  -- it has this number among the planned ones
+  numbered : (l : Led) → (is : v.led ≡ Some l) → (n : NextTerm) → (x : IsNextTerm l n)
+      → slice_get (planned v.events) (number_of l n) ≡ Some (task_of (of_plan x.plan n.term))
+  numbered l is n x =
+      let c = carries_now l is in
+      let at = task_at nobody v.setup v.events l c x.count (of_plan x.plan n.term) x.first.there in
+      let within = slice_get_within (planned v.events) (l.finished + x.count) (task_of (of_plan x.plan n.term)) at in
+      let p = c.led.counted.planned_are in
+      let f = c.led.counted.planned_fits in
+      let same = empties_are v.setup v.events l c n x in
+      let number : number_of l n ≡ l.finished + x.count = omega (arith, within, p, f, same) in
+      ap (λ (k : ℕ). slice_get (planned v.events) k) number ∙ at
 
+  -- one that was given
+  module _ (next : NextTerm) (f : EarlyOf v (is_early e) next) where
     c : Carries nobody v.setup v.events f.led
     c = carries_now f.led f.is_led
 
@@ -55,13 +62,13 @@ module _ (v : StreamView) (ds : List ℕ) (e : EarlyPlaces) (h : IsPlacing v ds 
     is_next : next_term v.events ≡ Some (task_of t)
     is_next = some_next nobody v.setup v.events f.led c f.early_for.next_is.count t f.early_for.next_is.first
 
-    was : is_early e (offset_of v.setup.range (task_of t)) ≡ true
-    was = ap (is_early e) (sym f.early_for.at) ∙ f.early_for.there
+    planned_at : slice_get (planned v.events) (number_of f.led next) ≡ Some (task_of t)
+    planned_at = numbered f.led f.is_led next f.early_for.next_is
 
     pub opens_next : IsLedNext v next
     opens_next =
-        let two = early_next v.setup.range v.events (is_early e) ds h.given h.allowed h.stands.starts (task_of t) is_next
-        was in
+        let two = early_next v.setup.range v.events (is_early e) ds h.given h.allowed h.stands.starts
+        (number_of f.led next) (task_of t) planned_at is_next f.early_for.there in
         let within = next_opens nobody v.setup v.events f.led c f.early_for.next_is.count t f.early_for.next_is.first.there
         (none_some (take f.early_for.next_is.count (ahead f.led)) f.early_for.next_is.first.before) two.1 in
         let same = empties_are v.setup v.events f.led c next f.early_for.next_is in
@@ -71,8 +78,8 @@ module _ (v : StreamView) (ds : List ℕ) (e : EarlyPlaces) (h : IsPlacing v ds 
     -- its block is kept
     pub kept_next : IsUnkept v.events v.led next → ⊥
     kept_next absent =
-        let two = early_next v.setup.range v.events (is_early e) ds h.given h.allowed h.stands.starts (task_of t) is_next
-        was in
+        let two = early_next v.setup.range v.events (is_early e) ds h.given h.allowed h.stands.starts
+        (number_of f.led next) (task_of t) planned_at is_next f.early_for.there in
         let z : true ≡ false = sym two.0 ∙ absent f.led f.is_led f.early_for.next_is in
         cc
 
@@ -84,19 +91,17 @@ module _ (v : StreamView) (ds : List ℕ) (e : EarlyPlaces) (h : IsPlacing v ds 
       recorded_setup : n.setup ≡ v.setup
       recorded_setup = ap (λ (z : StreamView). z.setup) r.is
 
-      pub recorded_placing : IsAllowedHistory n.events → StandsOn v n → (later : EarlyPlaces)
-          → ((o : ℕ) → is_early later o ≡ (not (o == x.place) && is_early e o)) → IsPlacing n ds later
-      recorded_placing allowed stands later is =
+      pub recorded_placing : IsAllowedHistory n.events → StandsOn v n → IsPlacing n ds e
+      recorded_placing allowed stands =
           let taken = size_in (of_plan r.term.plan next.term) in
-          let g = given_recorded v.setup.range v.events (is_early e) ds h.given (task_of t) is_next taken h.allowed
-          h.stands.starts (is_early later)
-          (λ o. subst (λ (q : ℕ). is_early later o ≡ (not (o == q) && is_early e o)) f.early_for.at (is o)) was in
+          let g = given_recorded v.setup.range v.events (is_early e) ds h.given (task_of t) is_next taken
+          (number_of f.led next) planned_at f.early_for.there in
           record {
             allowed = allowed;
             stands = stands None None h.stands;
-            given = subst (λ (es : List Event). AreGiven n.setup.range es (is_early later) ds) (sym recorded_events)
+            given = subst (λ (es : List Event). AreGiven n.setup.range es (is_early e) ds) (sym recorded_events)
                 (subst (λ (r : FileRange).
-                AreGiven r (v.events ++ Wrote taken ∷ []) (is_early later) ds)
+                AreGiven r (v.events ++ Wrote taken ∷ []) (is_early e) ds)
                 (sym (ap (λ (s : _). s.range) recorded_setup)) g);
           }
 
@@ -112,18 +117,12 @@ module _ (v : StreamView) (ds : List ℕ) (e : EarlyPlaces) (h : IsPlacing v ds 
         stands = stands;
       }
 
-    -- by whether it was
-    pub recorded_so : (n : StreamView) (is_recorded : Bool) → GivenCall v n next (Ok is_recorded)
-        → IsAllowedHistory n.events → StandsOn v n → (later : EarlyPlaces)
-        → ((o : ℕ) → is_early later o ≡ (not (o == x.place) && is_early e o)) → IsPlacing n ds later
-    recorded_so n true r allowed stands later is = recorded_placing n r allowed stands later is
-    recorded_so n false r allowed stands later is = absurd (kept_next r.1)
-
-    pub one_call : (n : StreamView) (is_recorded : Bool) → GivenCall v n next (Ok is_recorded) → StandsOn v n
-        → (ended : Bool) → OneCall (record { stream = v; delivered = ds; ended = ended })
-        (record { stream = n; delivered = ds; ended = ended }) (Ok is_recorded)
-    one_call n true r stands ended = records_one n r stands ended
-    one_call n false r stands ended = absurd (kept_next r.1)
+    pub one_call : (n : StreamView) (answer : Result Bool FileReconstructionError) → GivenCall v n next answer
+        → StandsOn v n → (ended : Bool) → OneCall (record { stream = v; delivered = ds; ended = ended })
+        (record { stream = n; delivered = ds; ended = ended }) answer
+    one_call n (Ok true) r stands ended = records_one n r stands ended
+    one_call n (Ok false) r stands ended = absurd (kept_next r.1)
+    one_call n (Err x) said stands ended = record { fails = record { told = said; rest = refl }; stands = stands }
 
   -- it wasn't
   pub unearly_caught : (ended : Bool) → NoEarly v (is_early e) → (v.led ≡ None → v.events ≡ [])
@@ -141,19 +140,19 @@ module _ (v : StreamView) (ds : List ℕ) (e : EarlyPlaces) (h : IsPlacing v ds 
               let z : None ≡ Some t = sym (none_next nobody v.setup v.events l (carries_now l is) a) ∙ next in
               cc
 
-          one : (l : Led) → v.led ≡ Some l → ((n : NextTerm) × IsNextTerm l n
-              × (is_early e (n.term.byte_range.start - v.setup.range.start) ≡ false)) → ⊥
+          one : (l : Led) → v.led ≡ Some l
+              → ((n : NextTerm) × IsNextTerm l n × (is_early e (number_of l n) ≡ false)) → ⊥
           one l is x =
               let n = x.0 in
               let u = of_plan x.1.plan n.term in
               let there = some_next nobody v.setup v.events l (carries_now l is) x.1.count u x.1.first in
-              let same : t ≡ task_of u = (let z = sym next ∙ there in cc) in
-              next_early v.setup.range v.events (is_early e) ds h.given h.allowed h.stands.starts t next i
-              (ap (λ (z : Task). is_early e (offset_of v.setup.range z)) same ∙ x.2)
+              let same : task_of u ≡ t = (let z = sym there ∙ next in cc) in
+              next_early v.setup.range v.events (is_early e) ds h.given h.allowed h.stands.starts (number_of l n) t
+              (numbered l is n x.1 ∙ ap (λ z. Some z) same) next i x.2
 
 -- ---- more events without a piece
 
-pub placing_more : (v n : StreamView) (ds : List ℕ) (e : EarlyPlaces) (new : List Event) → IsPlacing v ds e
+pub placing_more : (v n : StreamView) (ds : List ℕ) (e : EarlyTerms) (new : List Event) → IsPlacing v ds e
     → n.setup ≡ v.setup → n.events ≡ v.events ++ new → delivered new ≡ 0 → IsAllowedHistory n.events
     → Stands nobody n → IsPlacing n ds e
 placing_more v n ds e new h setup events none allowed stands = record {
@@ -165,7 +164,7 @@ placing_more v n ds e new h setup events none allowed stands = record {
       (given_more v.setup.range v.events new (is_early e) ds none h.given));
 }
 
-pub caught_on : (v n : StreamView) (ds : List ℕ) (e : EarlyPlaces) (ended after : Bool) (new : List Event)
+pub caught_on : (v n : StreamView) (ds : List ℕ) (e : EarlyTerms) (ended after : Bool) (new : List Event)
     → IsPlacing v ds e → n.setup ≡ v.setup → n.events ≡ v.events ++ new → delivered new ≡ 0
     → IsAllowedHistory n.events → Stands nobody n → IsCaught (record { stream = v; delivered = ds; ended = ended })
     → IsCaught (record { stream = n; delivered = ds; ended = after })
@@ -328,24 +327,27 @@ both_ahead b m n r a =
 
 -- ---- by what the next term of a leader is
 
-pub early_view : (v : StreamView) (early : ℕ → Bool) (l : Led) → v.led ≡ Some l → (from : ℕ)
-    → from ≡ v.setup.range.start → (o : Option EarlyTerm) → EarlyIn l early from o → EarlyNext v early o
-early_view v early l is from e None h = no_early
+pub early_view : (v : StreamView) (early : ℕ → Bool) (l : Led) → v.led ≡ Some l → (o : Option NextTerm)
+    → EarlyIn l early o → EarlyNext v early o
+early_view v early l is None h = no_early
   where
-    no_early : (m : Led) → v.led ≡ Some m → NotEarly m early v.setup.range.start
+    no_early : (m : Led) → v.led ≡ Some m → NotEarly m early
     no_early m same =
         let eq : l ≡ m = (let z : ◌≡◌ {A = Option Led} (Some l) (Some m) = sym is ∙ same in cc) in
-        subst (λ (k : Led). NotEarly k early v.setup.range.start) eq (subst (λ (n : ℕ). NotEarly l early n) e h)
-early_view v early l is from e (Some f) h =
-    record { led = l; is_led = is; early_for = subst (λ (n : ℕ). EarlyFor l early n f) e h }
+        subst (λ (k : Led). NotEarly k early) eq h
+early_view v early l is (Some next) h = record { led = l; is_led = is; early_for = h }
 
 pub early_none : (v : StreamView) (early : ℕ → Bool) → v.led ≡ None → EarlyNext v early None
 early_none v early none l is = absurd (let z = sym none ∙ is in cc)
 
-pub one_short : (v : StreamView) (ds : List ℕ) (ended : Bool) (n : StreamView) (x : FileReconstructionError)
-    → IsTold v n error.OutOfMemory x → StandsOn v n → EndsShort (record { stream = v; delivered = ds; ended = ended })
-    (record { stream = n; delivered = ds; ended = ended }) x
-one_short v ds ended n x t stands = record { fails = record { told = t; rest = refl }; stands = stands }
+-- by whether it is early, under a number that is its own
+pub early_here : (l : Led) (early : ℕ → Bool) (next : NextTerm) → IsNextTerm l next → (number : ℕ)
+    → number ≡ number_of l next → early number ≡ true → EarlyIn l early (Some next)
+early_here l early next x number is there = record { next_is = x; there = ap early (sym is) ∙ there }
+
+pub unearly_here : (l : Led) (early : ℕ → Bool) (next : NextTerm) → IsNextTerm l next → (number : ℕ)
+    → number ≡ number_of l next → early number ≡ false → EarlyIn l early None
+unearly_here l early next x number is there = inr (next, x, ap early (sym is) ∙ there)
 
 -- the next one wasn't given
 pub recorded_end : (b m n : UnorderedView) → RecordedSo b m → IsOpen m.stream → n ≡ m → IsCaught m

@@ -1,7 +1,6 @@
 mod AheadTerms
 mod Awaiting
 mod Dues
-mod Early
 mod Given
 mod Gives
 mod Going

@@ -30,55 +30,51 @@ module _ (l : Led) (early : ℕ → Bool) (from skip : ℕ) (n : AheadTerm) (x :
       let z = ltb-true 0 (term_size n.term) s in
       absurd (omega (arith, z, h))
 
-  -- an item was given at its place
-  pub early_there : (place : ℕ) → place ≡ n.term.byte_range.start - from → early place ≡ true
-      → DueCall l early from skip (Ok None)
-  early_there place at there t w =
-      let same : early (t.term.byte_range.start - from) ≡ early place =
-      ap (λ (u : PlanTerm). early (u.term.byte_range.start - from)) (term_found l skip n x t w.there)
-      ∙ ap early (sym at) in
-      absurd (let z : false ≡ true = sym w.new ∙ same ∙ there in cc)
+  module _ (number : ℕ) (is : number ≡ l.finished + skip) where
+    -- it was given
+    pub early_there : early number ≡ true → DueCall l early from skip (Ok None)
+    early_there there t w = absurd (let z : false ≡ true = sym w.new ∙ ap early (sym is) ∙ there in cc)
 
-  module _ (place : ℕ) (at : place ≡ n.term.byte_range.start - from)
-      (some : n.term.byte_range.start < n.term.byte_range.end) (new : early place ≡ false) where
-    wanted_there : IsWanted l early from skip (of_plan x.plan n.term)
-    wanted_there = record {
-      there = x.there;
-      some = lt-ltb 0 (term_size n.term) (omega (arith, some));
-      new = ap early (sym at) ∙ new;
-    }
+    module _ (some : n.term.byte_range.start < n.term.byte_range.end) (new : early number ≡ false) where
+      wanted_there : IsWanted l early skip (of_plan x.plan n.term)
+      wanted_there = record {
+        there = x.there;
+        some = lt-ltb 0 (term_size n.term) (omega (arith, some));
+        new = ap early (sym is) ∙ new;
+      }
 
-    pub due_there : (bytes : List ℕ) → IsPieceIn (of_plan x.plan n.term) bytes → (d : Due) → d.place ≡ place
-        → d.bytes ≡ bytes → IsDueAt l early from skip d
-    due_there bytes piece d place_is bytes_is = record {
-      term = of_plan x.plan n.term;
-      wanted = wanted_there;
-      bytes = subst (λ (b : List ℕ). IsPieceIn (of_plan x.plan n.term) b) (sym bytes_is) piece;
-      at = place_is ∙ at;
-    }
+      pub due_there : (bytes : List ℕ) → IsPieceIn (of_plan x.plan n.term) bytes → (d : Due) → d.number ≡ number
+          → d.place ≡ n.term.byte_range.start - from → d.bytes ≡ bytes → IsDueAt l early from skip d
+      due_there bytes piece d number_is place_is bytes_is = record {
+        term = of_plan x.plan n.term;
+        wanted = wanted_there;
+        bytes = subst (λ (b : List ℕ). IsPieceIn (of_plan x.plan n.term) b) (sym bytes_is) piece;
+        numbered = number_is ∙ is;
+        at = place_is;
+      }
 
-    pub unkept_now : kept_in (of_plan x.plan n.term) ≡ None → DueCall l early from skip (Ok None)
-    unkept_now unkept t w = ap kept_in (term_found l skip n x t w.there) ∙ unkept
+      pub unkept_now : kept_in (of_plan x.plan n.term) ≡ None → DueCall l early from skip (Ok None)
+      unkept_now unkept t w = ap kept_in (term_found l skip n x t w.there) ∙ unkept
 
-    pub refused_there : (e : FileReconstructionError) → TermRefused (of_plan x.plan n.term) e
-        → IsRefusedAt l early from skip e
-    refused_there e refused = record { term = of_plan x.plan n.term; wanted = wanted_there; refused = refused }
+      pub refused_there : (e : FileReconstructionError) → TermRefused (of_plan x.plan n.term) e
+          → IsRefusedAt l early skip e
+      refused_there e refused = record { term = of_plan x.plan n.term; wanted = wanted_there; refused = refused }
 
 -- ---- the admitted ones
 
 pub none_so_far : (l : Led) (early : ℕ → Bool) (from skip : ℕ)
-    → ((i : ℕ) → i < skip → (t : PlanTerm) → IsWanted l early from i t → kept_in t ≡ None)
-    → DueCall l early from skip (Ok None) → (i : ℕ) → i < skip + 1 → (t : PlanTerm) → IsWanted l early from i t
+    → ((i : ℕ) → i < skip → (t : PlanTerm) → IsWanted l early i t → kept_in t ≡ None)
+    → DueCall l early from skip (Ok None) → (i : ℕ) → i < skip + 1 → (t : PlanTerm) → IsWanted l early i t
     → kept_in t ≡ None
 none_so_far l early from skip so now i h =
     ⊎_elim (λ (b : i < skip). so i b)
     (λ (b : skip ≤ i).
     let e : skip ≡ i = omega (arith, h, b) in
-    subst (λ (j : ℕ). (t : PlanTerm) → IsWanted l early from j t → kept_in t ≡ None) e now) (cases_lt i skip)
+    subst (λ (j : ℕ). (t : PlanTerm) → IsWanted l early j t → kept_in t ≡ None) e now) (cases_lt i skip)
 
-pub none_of_all : (l : Led) (early : ℕ → Bool) (from count : ℕ) → count ≡ l.admitted - l.finished
-    → ((i : ℕ) → i < count → (t : PlanTerm) → IsWanted l early from i t → kept_in t ≡ None) → NoneDue l early from
-none_of_all l early from count is so skip opens = so skip (omega (arith, is, opens))
+pub none_of_all : (l : Led) (early : ℕ → Bool) (count : ℕ) → count ≡ l.admitted - l.finished
+    → ((i : ℕ) → i < count → (t : PlanTerm) → IsWanted l early i t → kept_in t ≡ None) → NoneDue l early
+none_of_all l early count is so skip opens = so skip (omega (arith, is, opens))
 
 pub due_first : (l : Led) (early : ℕ → Bool) (from skip : ℕ) (d : Due) → l.finished + skip < l.admitted
     → DueCall l early from skip (Ok (Some d)) → FirstDue l early from (Ok (Some d))

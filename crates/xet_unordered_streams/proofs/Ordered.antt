@@ -14,6 +14,7 @@ use Rattle.xet_events.proofs.CallerLemmas.{planned-push}
 use Rattle.xet_ties.specs.Saids.{some_of}
 use Rattle.xet_ties.specs.Ties.{FirstStarts}
 use Rattle.xet_leader.specs.Led.{Led}
+use Rattle.xet_leader.specs.declared.ahead.NextTerm.{NextTerm}
 use Rattle.xet_leader.specs.LedTerms.{task_of}
 use Rattle.xet_leader.specs.declared.missing_blocks.BlockAt.{BlockAt}
 use Rattle.xet_stream_rules.specs.declared.step.Step.{Step}
@@ -25,16 +26,16 @@ use Rattle.xet_stream_rules.proofs.CallerLemmas.{count_by-append, get_none, tell
 use Rattle.xet_stream_terms.proofs.CallerLemmas.{term_missing}
 use Rattle.xet_parts.specs.Admissions.{admits}
 use Rattle.xet_error.specs.declared.error.FileReconstructionError.TheVariants as error
-use Rattle.xet_streams.specs.AnyOrder.{AdmitsAhead, AdmitsAheadCall, MaySteps, ProvidesBlock, StandsOn}
+use Rattle.xet_streams.specs.AnyOrder.{AdmitsAhead, AdmitsAheadCall, GivenCall, MaySteps, ProvidesBlock, StandsOn}
 use Rattle.xet_streams.specs.Places.{Placed}
-use Rattle.xet_unordered_streams.specs.declared.early_places.EarlyPlaces.{EarlyPlaces}
+use Rattle.xet_unordered_streams.specs.declared.early_terms.EarlyTerms.{EarlyTerms}
 use Rattle.xet_unordered_streams.specs.Items.{GivesNext, IsCaught}
 use Rattle.xet_unordered_streams.specs.Placing.{AreGiven, IsPlacing, is_early}
 use Rattle.xet_unordered_streams.specs.steps.Dues.{IsAwaited}
-use Rattle.xet_unordered_streams.specs.steps.Pulling.{AwaitedView, IsAwaitedIn, IsDone}
+use Rattle.xet_unordered_streams.specs.steps.Pulling.{AwaitedView, EarlyOf, IsAwaitedIn, IsDone}
 use Rattle.xet_unordered_streams.proofs.Dues.{stands_at}
 use Rattle.xet_unordered_streams.proofs.Given.{caught_more, given_more, given_next, some_more}
-use Rattle.xet_unordered_streams.proofs.Going.{admits_no_piece, caught_on, placing_more}
+use Rattle.xet_unordered_streams.proofs.Going.{admits_no_piece, caught_on, kept_next, placing_more, recorded_placing}
 use Rattle.xet_unordered_streams.proofs.Grown.{Grew, front_same, grew, grew_failed, grew_told, pulled_stands, seen_open, seen_stands, stepped_pending, stepped_piece}
 
 allowed_front : (before xs ys : List Event) → AllowedAfter before (xs ++ ys) → AllowedAfter before xs
@@ -43,7 +44,7 @@ allowed_front before (x ∷ xs) ys a = (a.0, allowed_front (before ++ x ∷ []) 
 
 -- ---- a pull in order
 
-module _ (v n : StreamView) (ds : List ℕ) (e : EarlyPlaces) (ended : Bool) (h : IsPlacing v ds e)
+module _ (v n : StreamView) (ds : List ℕ) (e : EarlyTerms) (ended : Bool) (h : IsPlacing v ds e)
     (caught : IsOpen v → IsCaught (record { stream = v; delivered = ds; ended = ended })) (cs xs : List ClientTold)
     (k l : CacheTold) where
   abbrev b : UnorderedView
@@ -150,13 +151,13 @@ module _ (v n : StreamView) (ds : List ℕ) (e : EarlyPlaces) (ended : Bool) (h 
 
 -- ---- a block
 
-pub provided_placing : (v n : StreamView) (ds : List ℕ) (e : EarlyPlaces) → IsPlacing v ds e → (cs xs : List ClientTold)
+pub provided_placing : (v n : StreamView) (ds : List ℕ) (e : EarlyTerms) → IsPlacing v ds e → (cs xs : List ClientTold)
     (k l : CacheTold) → ProvidesBlock v n cs xs k l → IsAllowedHistory n.events → IsPlacing n ds e
 provided_placing v n ds e h cs xs k l p allowed =
     placing_more v n ds e p.work.new h (ap (λ (z : StreamView). z.setup) p.work.rest) p.work.added p.work.few.pieces
     allowed (p.stands None None (tells_nobody cs k) h.stands)
 
-pub provided_caught : (v n : StreamView) (ds : List ℕ) (e : EarlyPlaces) (ended : Bool) → IsPlacing v ds e
+pub provided_caught : (v n : StreamView) (ds : List ℕ) (e : EarlyTerms) (ended : Bool) → IsPlacing v ds e
     → (cs xs : List ClientTold) (k l : CacheTold) → ProvidesBlock v n cs xs k l → IsAllowedHistory n.events
     → IsCaught (record { stream = v; delivered = ds; ended = ended })
     → IsCaught (record { stream = n; delivered = ds; ended = ended })
@@ -169,7 +170,7 @@ provided_open : (v n : StreamView) (cs xs : List ClientTold) (k l : CacheTold) �
 provided_open v n cs xs k l p o = subst IsOpen (sym p.work.rest)
     (record { untold = o.untold; uncancelled = o.uncancelled })
 
-pub vain_placing : (v n : StreamView) (ds : List ℕ) (e : EarlyPlaces) → IsPlacing v ds e → (cs xs : List ClientTold)
+pub vain_placing : (v n : StreamView) (ds : List ℕ) (e : EarlyTerms) → IsPlacing v ds e → (cs xs : List ClientTold)
     (k l : CacheTold) (x : FileReconstructionError) → StepFails v n cs xs k l x → StandsStill cs k v n
     → IsAllowedHistory n.events → IsPlacing n ds e
 vain_placing v n ds e h cs xs k l x f stands allowed =
@@ -177,7 +178,7 @@ vain_placing v n ds e h cs xs k l x f stands allowed =
     placing_more v n ds e g.new h g.setup g.events g.none allowed (stands None None (tells_nobody cs k) h.stands)
 
 -- a block that is awaited is missing
-pub awaited_missing : (v : StreamView) (ds : List ℕ) (e : EarlyPlaces) (ended : Bool) (c : BlockAt) → IsPlacing v ds e
+pub awaited_missing : (v : StreamView) (ds : List ℕ) (e : EarlyTerms) (ended : Bool) (c : BlockAt) → IsPlacing v ds e
     → IsOpen v → IsAwaitedIn (record { stream = v; delivered = ds; ended = ended }) c
     → IsMissing v.events c.plan c.block
 awaited_missing v ds e ended c h still a =
@@ -191,7 +192,7 @@ awaited_missing v ds e ended c h still a =
     (term_missing v.setup v.events a.led carries w.skip w.term w.there w.some w.opens absent))
 
 -- and after it is provided the stream may go on: the term that waited for it isn't recorded as written
-pub provided_goes_on : (v n : StreamView) (ds : List ℕ) (e : EarlyPlaces) (ended : Bool) (c : BlockAt) → IsPlacing v ds e
+pub provided_goes_on : (v n : StreamView) (ds : List ℕ) (e : EarlyTerms) (ended : Bool) (c : BlockAt) → IsPlacing v ds e
     → (cs xs : List ClientTold) (k l : CacheTold) → ProvidesBlock v n cs xs k l → IsOpen v
     → IsAwaitedIn (record { stream = v; delivered = ds; ended = ended }) c → MayGoOn n
 provided_goes_on v n ds e ended c h cs xs k l p still a =
@@ -215,7 +216,7 @@ provided_goes_on v n ds e ended c h cs xs k l p still a =
 
 -- ---- the flag, and an error
 
-pub asked_placing : (v n : StreamView) (ds : List ℕ) (e : EarlyPlaces) (connections : ℕ) (answer : Bool)
+pub asked_placing : (v n : StreamView) (ds : List ℕ) (e : EarlyTerms) (connections : ℕ) (answer : Bool)
     → IsPlacing v ds e → MaySteps v n connections answer → IsPlacing n ds e
 asked_placing v n ds e connections true h m =
     subst (λ (z : StreamView). IsPlacing z ds e) (sym m.2.is) (record {
@@ -230,19 +231,19 @@ asked_placing v n ds e connections false h m =
       given = h.given;
     })
 
-pub told_placing : (v n : StreamView) (ds : List ℕ) (e : EarlyPlaces) (cause x : FileReconstructionError)
+pub told_placing : (v n : StreamView) (ds : List ℕ) (e : EarlyTerms) (cause x : FileReconstructionError)
     → IsPlacing v ds e → IsTold v n cause x → StandsOn v n → IsAllowedHistory n.events → IsPlacing n ds e
 told_placing v n ds e cause x h t stands allowed =
     let g = grew_told v v n [] cause x refl refl (sym (append-nil v.events)) t in
     placing_more v n ds e g.new h g.setup g.events g.none allowed (stands None None h.stands)
 
-pub admitted_placing : (v n : StreamView) (ds : List ℕ) (e : EarlyPlaces) → IsPlacing v ds e → AdmitsAhead v n
+pub admitted_placing : (v n : StreamView) (ds : List ℕ) (e : EarlyTerms) → IsPlacing v ds e → AdmitsAhead v n
     → StandsOn v n → IsAllowedHistory n.events → IsPlacing n ds e
 admitted_placing v n ds e h a stands allowed =
     placing_more v n ds e _ h (ap (λ (z : StreamView). z.setup) a.rest) a.added (admits_no_piece a.limits) allowed
     (stands None None h.stands)
 
-pub admitted_caught : (v n : StreamView) (ds : List ℕ) (e : EarlyPlaces) (ended : Bool) → IsPlacing v ds e
+pub admitted_caught : (v n : StreamView) (ds : List ℕ) (e : EarlyTerms) (ended : Bool) → IsPlacing v ds e
     → AdmitsAhead v n → StandsOn v n → IsAllowedHistory n.events
     → IsCaught (record { stream = v; delivered = ds; ended = ended })
     → IsCaught (record { stream = n; delivered = ds; ended = ended })
@@ -259,7 +260,7 @@ awaited_view v l is (Some c) h = (l, is, h)
 
 -- ---- admissions, by what they answered
 
-pub admit_placing : (v n : StreamView) (ds : List ℕ) (e : EarlyPlaces)
+pub admit_placing : (v n : StreamView) (ds : List ℕ) (e : EarlyTerms)
     (answer : Result (Unit {0}) FileReconstructionError) → IsPlacing v ds e → AdmitsAheadCall v n answer
     → StandsOn v n → IsAllowedHistory n.events → IsPlacing n ds e
 admit_placing v n ds e (Ok tt) h a stands allowed = admitted_placing v n ds e h a stands allowed
@@ -268,7 +269,7 @@ admit_placing v n ds e (Err x) h a stands allowed =
     (admits_no_piece a.1.limits) a.1.added a.2 in
     placing_more v n ds e g.new h g.setup g.events g.none allowed (stands None None h.stands)
 
-pub admit_caught : (v n : StreamView) (ds : List ℕ) (e : EarlyPlaces) (ended : Bool)
+pub admit_caught : (v n : StreamView) (ds : List ℕ) (e : EarlyTerms) (ended : Bool)
     (answer : Result (Unit {0}) FileReconstructionError) → IsPlacing v ds e → AdmitsAheadCall v n answer
     → StandsOn v n → IsAllowedHistory n.events → IsDone answer
     → IsCaught (record { stream = v; delivered = ds; ended = ended })
@@ -296,3 +297,14 @@ as_none P a o e f h = subst (λ (x : Option (List ℕ)). P (Ok (Ready x))) f
 
 pub as_pending : (P : Answer → Type 0) (a : Step (Option (List ℕ))) → a ≡ Pending → P (Ok a) → P (Ok Pending)
 as_pending P a e h = subst (λ (x : Step (Option (List ℕ))). P (Ok x)) e h
+
+-- ---- a term that was given before is recorded
+
+pub recorded_any : (v n : StreamView) (ds : List ℕ) (e : EarlyTerms) (h : IsPlacing v ds e) (still : IsOpen v)
+    (next : NextTerm) (f : EarlyOf v (is_early e) next) (answer : Result Bool FileReconstructionError)
+    → GivenCall v n next answer → IsAllowedHistory n.events → StandsOn v n → IsPlacing n ds e
+recorded_any v n ds e h still next f (Ok true) r allowed stands =
+    recorded_placing v ds e h still next f n r allowed stands
+recorded_any v n ds e h still next f (Ok false) r allowed stands = absurd (kept_next v ds e h still next f r.1)
+recorded_any v n ds e h still next f (Err x) t allowed stands =
+    told_placing v n ds e error.OutOfMemory x h t stands allowed

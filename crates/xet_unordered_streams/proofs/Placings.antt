@@ -6,12 +6,12 @@ use Rattle.xet_history.specs.TrueHistory.{IsTrueEvent}
 use Rattle.xet_ties.specs.Setup.{Setup}
 use Rattle.xet_stream_rules.specs.Streams.{StreamView, new_stream}
 use Rattle.xet_stream_rules.specs.Unordered.{IsIn, offset_of}
-use Rattle.xet_unordered_streams.specs.declared.early_places.EarlyPlaces.{EarlyPlaces}
+use Rattle.xet_unordered_streams.specs.declared.early_terms.EarlyTerms.{EarlyTerms}
 use Rattle.xet_unordered_streams.specs.Items.{ArePassed}
 use Rattle.xet_unordered_streams.specs.Placing.{IsPlacing, is_early}
 use Rattle.xet_unordered_streams.proofs.Given.{given_same}
 
-pub new_placing : (g : Setup) (limits : LimitTold) (e : EarlyPlaces) → ((o : ℕ) → is_early e o ≡ false)
+pub new_placing : (g : Setup) (limits : LimitTold) (e : EarlyTerms) → ((n : ℕ) → is_early e n ≡ false)
     → IsPlacing (new_stream g limits) [] e
 new_placing g limits e none = record {
   allowed = tt;
@@ -22,13 +22,13 @@ new_placing g limits e none = record {
   };
   given = record {
     each = λ o i. absurd i;
-    there = λ o h. absurd (let z = sym (none o) ∙ h in cc);
+    there = λ n h. absurd (let z : false ≡ true = sym (none n) ∙ h in cc);
     passed = All-nil (λ t. IsIn (offset_of g.range t) []);
     few = omega arith;
   };
 }
 
-pub cancelled_placing : (v : StreamView) (places : List ℕ) (e : EarlyPlaces) → IsPlacing v places e
+pub cancelled_placing : (v : StreamView) (places : List ℕ) (e : EarlyTerms) → IsPlacing v places e
     → IsPlacing (record v { cancelled = true }) places e
 cancelled_placing v places e h = record {
   allowed = h.allowed;
@@ -40,15 +40,15 @@ cancelled_placing v places e h = record {
   given = h.given;
 }
 
--- with an equal map
-pub placing_same : (v : StreamView) (places : List ℕ) (e later : EarlyPlaces)
-    → ((o : ℕ) → is_early later o ≡ is_early e o) → IsPlacing v places e → IsPlacing v places later
+-- with the same terms
+pub placing_same : (v : StreamView) (places : List ℕ) (e later : EarlyTerms)
+    → ((n : ℕ) → is_early later n ≡ is_early e n) → IsPlacing v places e → IsPlacing v places later
 placing_same v places e later same h = record {
   allowed = h.allowed;
   stands = h.stands;
   given = given_same v.setup.range v.events (is_early e) (is_early later) places same h.given;
 }
 
-pub passed_of : (v : StreamView) (places : List ℕ) (e : EarlyPlaces) (ended : Bool) → IsPlacing v places e
+pub passed_of : (v : StreamView) (places : List ℕ) (e : EarlyTerms) (ended : Bool) → IsPlacing v places e
     → ArePassed (record { stream = v; delivered = places; ended = ended })
 passed_of v places e ended h = h.given.passed

@@ -5,7 +5,7 @@ ghost use Rattle.xet_unordered_streams.specs.steps.Dues.{DueCall, FirstDue, Hint
 ghost use Rattle.xet_leader.specs.LedTerms.{BytesOf, of_plan};
 
 use crate::ahead_terms::{AheadTerm, term_ahead};
-use crate::early_places::EarlyPlaces;
+use crate::early_terms::EarlyTerms;
 use bytes::Bytes;
 use std::alloc::Global;
 use xet_blocks::FetchPolicy;
@@ -15,19 +15,20 @@ use xet_ready_terms::ReadyTerms;
 use xet_run::EventLog;
 use xet_streams::Stepper;
 
-/// The bytes of a term that is due, and its place from the range's start.
+/// The bytes of a term that is due, its number among the planned ones, and its place from the range's start.
 #[derive(Drop)]
 pub(crate) struct Due {
+    pub(crate) number: u64,
     pub(crate) place: u64,
     pub(crate) bytes: Bytes,
 }
 
-/// The bytes of the term behind so many of those ahead, where it has some, its block is kept, and no item was given for
-/// its place. `CorruptedReconstruction` where it fails its test, `OutOfMemory` where memory was refused.
+/// The bytes of the term behind so many of those ahead, where it has some, its block is kept, and it wasn't given.
+/// `CorruptedReconstruction` where it fails its test, `OutOfMemory` where memory was refused.
 pub(crate) fn due_at<P: FetchPolicy>(
     alloc: Global,
     leader: &Leader<P>,
-    early: &EarlyPlaces,
+    early: &EarlyTerms,
     from: u64,
     skip: u64,
 ) -> Result<Option<Due>>
@@ -41,12 +42,17 @@ pub(crate) fn due_at<P: FetchPolicy>(
     if range.end <= range.start {
         return Ok(None);
     }
-    let place = range.start.saturating_sub(from);
-    if early.has(place) {
+    let number = leader.finished + skip;
+    if early.has(number) {
         return Ok(None);
     }
+    let place = range.start.saturating_sub(from);
     match piece_at(alloc, leader, found) {
-        Ok(Some(bytes)) => Ok(Some(Due { place, bytes })),
+        Ok(Some(bytes)) => Ok(Some(Due {
+            number,
+            place,
+            bytes,
+        })),
         Ok(None) => Ok(None),
         Err(error) => Err(error),
     }
@@ -69,7 +75,7 @@ fn piece_at<P: FetchPolicy>(
 pub(crate) fn first_due<P: FetchPolicy>(
     alloc: Global,
     leader: &Leader<P>,
-    early: &EarlyPlaces,
+    early: &EarlyTerms,
     from: u64,
 ) -> Result<Option<Due>>
     ensures { FirstDue leader.now (is_early early.now) from result }
@@ -89,7 +95,7 @@ pub(crate) fn first_due<P: FetchPolicy>(
 pub(crate) fn hinted_due<P: FetchPolicy>(
     alloc: Global,
     leader: &Leader<P>,
-    early: &EarlyPlaces,
+    early: &EarlyTerms,
     from: u64,
     terms: &mut ReadyTerms,
 ) -> Result<Option<Due>>
@@ -112,7 +118,7 @@ pub(crate) fn hinted_due<P: FetchPolicy>(
 fn due_by_number<P: FetchPolicy>(
     alloc: Global,
     leader: &Leader<P>,
-    early: &EarlyPlaces,
+    early: &EarlyTerms,
     from: u64,
     number: u64,
 ) -> Result<Option<Due>>

@@ -10,7 +10,7 @@ ghost use Rattle.xet_unordered_streams.specs.steps.Giving.{KeepsOn};
 ghost use Rattle.xet_unordered_streams.specs.steps.Giving.{KnownCall, KnownDue, PlaceFor};
 
 use crate::due_terms::{Due, first_due, hinted_due};
-use crate::early_places::EarlyPlaces;
+use crate::early_terms::EarlyTerms;
 use crate::unordered_download_stream::UnorderedDownloadStream;
 use bytes::Bytes;
 use std::alloc::Global;
@@ -26,7 +26,7 @@ use xet_streams::Stepper;
 pub(crate) fn known_due<P: FetchPolicy, E: EventLog>(
     alloc: Global,
     stepper: &Stepper<P, E>,
-    early: &EarlyPlaces,
+    early: &EarlyTerms,
     terms: &mut ReadyTerms,
 ) -> Result<Option<Due>>
     ensures { HintView stepper.now (is_early early.now) result }
@@ -42,7 +42,7 @@ pub(crate) fn known_due<P: FetchPolicy, E: EventLog>(
 fn any_due<P: FetchPolicy, E: EventLog>(
     alloc: Global,
     stepper: &Stepper<P, E>,
-    early: &EarlyPlaces,
+    early: &EarlyTerms,
     terms: &mut ReadyTerms,
 ) -> Result<Option<Due>>
     requires { IsOpen stepper.now }
@@ -59,7 +59,7 @@ fn any_due<P: FetchPolicy, E: EventLog>(
 fn seek_due<P: FetchPolicy, E: EventLog>(
     alloc: Global,
     stepper: &Stepper<P, E>,
-    early: &EarlyPlaces,
+    early: &EarlyTerms,
 ) -> Result<Option<Due>>
     requires { IsOpen stepper.now }
     ensures { AnyView stepper.now (is_early early.now) result }
@@ -132,23 +132,23 @@ impl<P: FetchPolicy + Drop> UnorderedDownloadStream<P> {
         ensures gives { GivesNow self.old self.new result }
         ensures stands { KeepsOn self.old self.new }
     {
-        if !self.add_place(due.place) {
+        if !self.add_place(due.number, due.place) {
             return Err(self.fail(FileReconstructionError::OutOfMemory));
         }
         self.report(rt, due.bytes.len() as u64);
         Ok(Step::Ready(Some((due.place, due.bytes))))
     }
 
-    /// Adds the place of a due term. Whether there was memory for it; else nothing changes.
-    fn add_place(&mut self, place: u64) -> bool
+    /// Adds a due term and its place. Whether there was memory for them; else nothing changes.
+    fn add_place(&mut self, number: u64, place: u64) -> bool
         requires still { IsOpen self.old.stream }
-        requires place { PlaceFor self.old place }
+        requires place { PlaceFor self.old number place }
         ensures { AddsPlace self.old self.new place result }
     {
         if self.delivered.reserve(1).is_err() {
             return false;
         }
-        if !self.early.add(place) {
+        if !self.early.add(number) {
             return false;
         }
         self.delivered.push_reserved(place);

@@ -5,7 +5,6 @@ ghost use Rattle.xet_unordered_streams.specs.steps.Dues.{IsAwaited};
 
 use crate::ahead_terms::term_ahead;
 use crate::due_terms::awaited_at;
-use std::alloc::Global;
 use xet_blocks::FetchPolicy;
 use xet_leader::{BlockAt, Leader, next_of};
 use xet_ready_terms::{BlockKey, ReadyTerms};
@@ -14,28 +13,26 @@ use xet_streams::Stepper;
 
 /// Looks at each admitted term that wasn't looked at: it is ready where its block is kept, and else waits for it.
 pub(crate) fn look_at_admitted<P: FetchPolicy, E: EventLog>(
-    alloc: Global,
     leader: &Leader<P>,
     stepper: &Stepper<P, E>,
     terms: &mut ReadyTerms,
 ) {
     let from = terms.seen.max(leader.finished);
     for number in from..leader.admitted {
-        look_at(alloc, leader, stepper, terms, number);
+        look_at(leader, stepper, terms, number);
     }
     terms.seen = leader.admitted;
 }
 
 /// Looks at the term of this number.
 fn look_at<P: FetchPolicy, E: EventLog>(
-    alloc: Global,
     leader: &Leader<P>,
     stepper: &Stepper<P, E>,
     terms: &mut ReadyTerms,
     number: u64,
 ) {
     if let Some(place) = awaited_at(leader, stepper, number) {
-        terms.wait(alloc, number, BlockKey(place.plan, place.block));
+        terms.wait(number, BlockKey(place.plan, place.block));
     } else {
         terms.push_ready(number);
     }

@@ -4,7 +4,7 @@
 mod ahead_terms;
 mod awaited_terms;
 mod due_terms;
-mod early_places;
+mod early_terms;
 mod giving;
 mod hints;
 pub mod laws;

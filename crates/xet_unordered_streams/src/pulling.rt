@@ -11,7 +11,7 @@ ghost use Rattle.xet_unordered_streams.specs.steps.Pulling.{IsFreeCaught};
 ghost use Rattle.xet_unordered_streams.specs.steps.Pulling.{IsFreeStep, MayStepCall, OneCall, OrderedCall, RecordCall};
 ghost use Rattle.xet_unordered_streams.specs.steps.Pulling.{ServeCall};
 
-use crate::early_places::EarlyPlaces;
+use crate::early_terms::EarlyTerms;
 use crate::hints::{look_at_admitted, next_awaited};
 use crate::unordered_download_stream::UnorderedDownloadStream;
 use bytes::Bytes;
@@ -102,17 +102,11 @@ impl<P: FetchPolicy + Drop> UnorderedDownloadStream<P> {
     {
         self.stepper.check_open();
         match early_next(&self.stepper, &self.early) {
-            Some(found) => match self.stepper.record_given(found.next) {
-                Ok(is_recorded) => {
-                    self.early.remove(found.place);
-                    self.stepper.check_history();
-                    Ok(is_recorded)
-                }
-                Err(error) => {
-                    self.stepper.check_history();
-                    Err(error)
-                }
-            },
+            Some(next) => {
+                let answer = self.stepper.record_given(next);
+                self.stepper.check_history();
+                answer
+            }
             None => Ok(false),
         }
     }
@@ -142,7 +136,7 @@ impl<P: FetchPolicy + Drop> UnorderedDownloadStream<P> {
         if !self.may_step(clients.len()) {
             return self.pull_in_order(rt, alloc, clients, cache);
         }
-        self.note(alloc);
+        self.note();
         match self.give_known(rt, alloc) {
             Some(answer) => answer,
             None => self.provide_next(rt, alloc, clients, cache),
@@ -150,10 +144,10 @@ impl<P: FetchPolicy + Drop> UnorderedDownloadStream<P> {
     }
 
     /// Looks at the terms that were admitted since the hints were made.
-    fn note(&mut self, alloc: Global)
+    fn note(&mut self)
         ensures { self.new ≡ self.old }
     {
-        note_admitted(alloc, &self.stepper, &mut self.terms);
+        note_admitted(&self.stepper, &mut self.terms);
     }
 
     /// The block of the next term had expired.
@@ -299,51 +293,36 @@ impl<P: FetchPolicy + Drop> UnorderedDownloadStream<P> {
     }
 }
 
-/// The next term, and its place from the range's start.
-#[derive(Clone, Copy)]
-pub(crate) struct EarlyTerm {
-    pub(crate) next: NextTerm,
-    pub(crate) place: u64,
-}
-
 /// The next term, where it was given.
 fn early_next<P: FetchPolicy, E: EventLog>(
     stepper: &Stepper<P, E>,
-    early: &EarlyPlaces,
-) -> Option<EarlyTerm>
+    early: &EarlyTerms,
+) -> Option<NextTerm>
     ensures { EarlyNext stepper.now (is_early early.now) result }
 {
-    let from = stepper.range_start();
     match stepper.leader() {
-        Some(leader) => early_of(leader, early, from),
+        Some(leader) => early_of(leader, early),
         None => None,
     }
 }
 
 /// The next term of a leader, where it was given.
-fn early_of<P: FetchPolicy>(leader: &Leader<P>, early: &EarlyPlaces, from: u64) -> Option<EarlyTerm>
-    ensures { EarlyIn leader.now (is_early early.now) from result }
+fn early_of<P: FetchPolicy>(leader: &Leader<P>, early: &EarlyTerms) -> Option<NextTerm>
+    ensures { EarlyIn leader.now (is_early early.now) result }
 {
-    match next_of(leader) {
-        Some(next) => {
-            let place = next.term.byte_range.start.saturating_sub(from);
-            if early.has(place) {
-                return Some(EarlyTerm { next, place });
-            }
-            None
-        }
-        None => None,
+    let Some(next) = next_of(leader) else {
+        return None;
+    };
+    if early.has(leader.finished.saturating_add(next.empties)) {
+        return Some(next);
     }
+    None
 }
 
 /// Looks at the terms that were admitted since the hints were made.
-fn note_admitted<P: FetchPolicy, E: EventLog>(
-    alloc: Global,
-    stepper: &Stepper<P, E>,
-    terms: &mut ReadyTerms,
-) {
+fn note_admitted<P: FetchPolicy, E: EventLog>(stepper: &Stepper<P, E>, terms: &mut ReadyTerms) {
     if let Some(leader) = stepper.leader() {
-        look_at_admitted(alloc, leader, stepper, terms);
+        look_at_admitted(leader, stepper, terms);
         terms.put_late_last();
     }
 }

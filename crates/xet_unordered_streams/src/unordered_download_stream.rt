@@ -5,7 +5,7 @@ ghost use Rattle.xet_stream_rules.specs.Streams.{is_closed};
 ghost use Rattle.xet_stream_rules.specs.Unordered.{new_unordered};
 ghost use Rattle.xet_streams.specs.Parts.{limits_told};
 
-use crate::early_places::EarlyPlaces;
+use crate::early_terms::EarlyTerms;
 use std::alloc::Global;
 use std::marker::Model;
 use xet_base::OutOfMemory;
@@ -26,8 +26,8 @@ pub struct UnorderedDownloadStream<P: FetchPolicy> {
     // over a core that tells its events to proofs alone; a term is recorded as written once all before it were given
     pub(crate) stepper: Stepper<P, ToldEvents>,
     pub(crate) delivered: Vec<u64>,
-    // the places of given terms that aren't recorded as written
-    pub(crate) early: EarlyPlaces,
+    // the terms that were given before one that comes before them
+    pub(crate) early: EarlyTerms,
     pub(crate) terms: ReadyTerms,
     pub(crate) started: bool,
     pub(crate) ended: bool,
@@ -64,7 +64,7 @@ impl<P: FetchPolicy + Drop> UnorderedDownloadStream<P> {
             Ok(stepper) => Ok(UnorderedDownloadStream {
                 stepper,
                 delivered: Vec::new(alloc),
-                early: EarlyPlaces::new(alloc),
+                early: EarlyTerms::new(alloc),
                 terms: ReadyTerms::new(alloc),
                 started: false,
                 ended: false,

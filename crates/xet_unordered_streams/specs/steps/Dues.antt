@@ -24,30 +24,31 @@ IsTermAhead l skip n = IsTermIn l.plans (ahead l) skip n
 
 -- ---- whether it is due
 
--- it has bytes, and no item was given at its place
-pub record IsWanted (l : Led) (early : ℕ → Bool) (from skip : ℕ) (t : PlanTerm) : Type 0 where
+-- it has bytes, and isn't early
+pub record IsWanted (l : Led) (early : ℕ → Bool) (skip : ℕ) (t : PlanTerm) : Type 0 where
   pub there : slice_get (ahead l) skip ≡ Some t
   pub some : some_in t ≡ true
-  pub new : early (t.term.byte_range.start - from) ≡ false
+  pub new : early (l.finished + skip) ≡ false
 
 -- its bytes
 pub record IsDueAt (l : Led) (early : ℕ → Bool) (from skip : ℕ) (d : Due) : Type 0 where
   pub term : PlanTerm
-  pub wanted : IsWanted l early from skip term
+  pub wanted : IsWanted l early skip term
   pub bytes : IsPieceIn term d.bytes
+  pub numbered : d.number ≡ l.finished + skip
   pub at : d.place ≡ term.term.byte_range.start - from
 
 -- it fails a test, or memory was wanting
-pub record IsRefusedAt (l : Led) (early : ℕ → Bool) (from skip : ℕ) (e : FileReconstructionError) : Type 0 where
+pub record IsRefusedAt (l : Led) (early : ℕ → Bool) (skip : ℕ) (e : FileReconstructionError) : Type 0 where
   pub term : PlanTerm
-  pub wanted : IsWanted l early from skip term
+  pub wanted : IsWanted l early skip term
   pub refused : TermRefused term e
 
 -- one call of `due_at`
 abbrev pub DueCall : Led → (ℕ → Bool) → ℕ → ℕ → Result (Option Due) FileReconstructionError → Type 0
 DueCall l early from skip (Ok (Some d)) = IsDueAt l early from skip d
-DueCall l early from skip (Ok None) = (t : PlanTerm) → IsWanted l early from skip t → kept_in t ≡ None
-DueCall l early from skip (Err e) = IsRefusedAt l early from skip e
+DueCall l early from skip (Ok None) = (t : PlanTerm) → IsWanted l early skip t → kept_in t ≡ None
+DueCall l early from skip (Err e) = IsRefusedAt l early skip e
 
 -- ---- the admitted ones
 
@@ -58,27 +59,27 @@ pub record SomeDue (l : Led) (early : ℕ → Bool) (from : ℕ) (d : Due) : Typ
   pub due : IsDueAt l early from skip d
 
 -- one of them can't be handed over
-pub record SomeRefused (l : Led) (early : ℕ → Bool) (from : ℕ) (e : FileReconstructionError) : Type 0 where
+pub record SomeRefused (l : Led) (early : ℕ → Bool) (e : FileReconstructionError) : Type 0 where
   pub skip : ℕ
   pub opens : l.finished + skip < l.admitted
-  pub refused : IsRefusedAt l early from skip e
+  pub refused : IsRefusedAt l early skip e
 
 -- none is due
-abbrev pub NoneDue : Led → (ℕ → Bool) → ℕ → Type 0
-NoneDue l early from = (skip : ℕ) → l.finished + skip < l.admitted → (t : PlanTerm) → IsWanted l early from skip t
+abbrev pub NoneDue : Led → (ℕ → Bool) → Type 0
+NoneDue l early = (skip : ℕ) → l.finished + skip < l.admitted → (t : PlanTerm) → IsWanted l early skip t
     → kept_in t ≡ None
 
 -- one call of `first_due`
 abbrev pub FirstDue : Led → (ℕ → Bool) → ℕ → Result (Option Due) FileReconstructionError → Type 0
 FirstDue l early from (Ok (Some d)) = SomeDue l early from d
-FirstDue l early from (Ok None) = NoneDue l early from
-FirstDue l early from (Err e) = SomeRefused l early from e
+FirstDue l early from (Ok None) = NoneDue l early
+FirstDue l early from (Err e) = SomeRefused l early e
 
 -- one call of `hinted_due`, which may pass over a due one
 abbrev pub HintedDue : Led → (ℕ → Bool) → ℕ → Result (Option Due) FileReconstructionError → Type 0
 HintedDue l early from (Ok (Some d)) = SomeDue l early from d
 HintedDue l early from (Ok None) = Unit {0}
-HintedDue l early from (Err e) = SomeRefused l early from e
+HintedDue l early from (Err e) = SomeRefused l early e
 
 -- ---- a block
 

@@ -27,7 +27,7 @@ pub record FoundDue (v : StreamView) (early : ℕ → Bool) (d : Due) : Type 0 w
 pub record FoundRefused (v : StreamView) (early : ℕ → Bool) (e : FileReconstructionError) : Type 0 where
   pub led : Led
   pub is_led : v.led ≡ Some led
-  pub refused : SomeRefused led early v.setup.range.start e
+  pub refused : SomeRefused led early e
 
 abbrev pub HintView : StreamView → (ℕ → Bool) → Result (Option Due) FileReconstructionError → Type 0
 HintView v early (Ok (Some d)) = FoundDue v early d
@@ -36,17 +36,17 @@ HintView v early (Err e) = FoundRefused v early e
 
 abbrev pub AnyView : StreamView → (ℕ → Bool) → Result (Option Due) FileReconstructionError → Type 0
 AnyView v early (Ok (Some d)) = FoundDue v early d
-AnyView v early (Ok None) = ((l : Led) → v.led ≡ Some l → NoneDue l early v.setup.range.start)
-    × (v.led ≡ None → v.events ≡ [])
+AnyView v early (Ok None) = ((l : Led) → v.led ≡ Some l → NoneDue l early) × (v.led ≡ None → v.events ≡ [])
 AnyView v early (Err e) = FoundRefused v early e
 
 -- ---- what is given
 
--- a due term of the stream, at this place
-pub record PlaceFor (v : UnorderedView) (place : ℕ) : Type 0 where
+-- a due term of the stream, of this number and at this place
+pub record PlaceFor (v : UnorderedView) (number place : ℕ) : Type 0 where
   pub led : Led
   pub is_led : v.stream.led ≡ Some led
   pub skip : ℕ
+  pub numbered : number ≡ led.finished + skip
   pub opens : led.finished + skip < led.admitted
   pub term : PlanTerm
   pub there : slice_get (ahead led) skip ≡ Some term
@@ -55,7 +55,7 @@ pub record PlaceFor (v : UnorderedView) (place : ℕ) : Type 0 where
 
 -- with its bytes
 pub record DueFor (v : UnorderedView) (d : Due) : Type 0 where
-  pub at : PlaceFor v d.place
+  pub at : PlaceFor v d.number d.place
   pub bytes : IsPieceIn at.term d.bytes
 
 -- or memory was wanting for one, or it fails a test

@@ -1,6 +1,6 @@
 -- What the parts of a pull of an unordered stream do.
-use Rattle.std.specs.Prelude.{ℕ, ◌≡◌, ◌⊎◌, ◌-◌, ◌<◌, ◌≤◌, ◌++◌, Bool, true, false, List, [], ◌∷◌, All, length}
-use Rattle.std.specs.Prelude.{Option, Some, None, MatchOption, Result, Ok, Err}
+use Rattle.std.specs.Prelude.{ℕ, ◌≡◌, ◌⊎◌, ◌+◌, ◌-◌, ◌^◌, ◌<◌, ◌≤◌, ◌++◌, Bool, true, false, List, [], ◌∷◌, All}
+use Rattle.std.specs.Prelude.{length, min, Option, Some, None, MatchOption, Result, Ok, Err}
 use Rattle.xet_outside.specs.Told.{CacheTold, ClientTold}
 use Rattle.xet_error.specs.declared.error.FileReconstructionError.{FileReconstructionError}
 use Rattle.xet_error.specs.declared.error.FileReconstructionError.TheVariants as error
@@ -17,7 +17,6 @@ use Rattle.xet_stream_rules.specs.Streams.{IsAtEnd, IsOpen, MayGoOn, StandsStill
 use Rattle.xet_stream_rules.specs.Streams.{is_wrote}
 use Rattle.xet_stream_rules.specs.Unordered.{ItemAnswer, UnorderedView}
 use Rattle.xet_streams.specs.AnyOrder.{AdmitsAheadCall, MaySteps, ProvidesBlock}
-use Rattle.xet_unordered_streams.specs.declared.pulling.EarlyTerm.{EarlyTerm}
 use Rattle.xet_unordered_streams.specs.Items.{AfterPull, GoesAhead, IsCaught, PullsItem, ServesItem}
 use Rattle.xet_unordered_streams.specs.Items.{ServesVain}
 use Rattle.xet_unordered_streams.specs.Items.{StepsItem, seen_so}
@@ -26,32 +25,35 @@ use Rattle.xet_unordered_streams.specs.steps.Giving.{FailsSo, KeepsOn}
 
 -- ---- recording and admitting
 
--- the next term of a leader, whose place is among these; or it isn't
-pub record EarlyFor (l : Led) (early : ℕ → Bool) (from : ℕ) (f : EarlyTerm) : Type 0 where
-  pub next_is : IsNextTerm l f.next
-  pub at : f.place ≡ f.next.term.byte_range.start - from
-  pub there : early f.place ≡ true
+-- how many planned terms come before the next one of a leader
+abbrev pub number_of : Led → NextTerm → ℕ
+number_of l next = min (l.finished + next.empties) (2 ^ 64 - 1)
 
-abbrev pub NotEarly : Led → (ℕ → Bool) → ℕ → Type 0
-NotEarly l early from = NoneHas (ahead l) ⊎ ((next : NextTerm) × IsNextTerm l next
-    × (early (next.term.byte_range.start - from) ≡ false))
+-- the next term of a leader, which is early; or it isn't
+pub record EarlyFor (l : Led) (early : ℕ → Bool) (next : NextTerm) : Type 0 where
+  pub next_is : IsNextTerm l next
+  pub there : early (number_of l next) ≡ true
 
-abbrev pub EarlyIn : Led → (ℕ → Bool) → ℕ → Option EarlyTerm → Type 0
-EarlyIn l early from None = NotEarly l early from
-EarlyIn l early from (Some f) = EarlyFor l early from f
+abbrev pub NotEarly : Led → (ℕ → Bool) → Type 0
+NotEarly l early = NoneHas (ahead l)
+    ⊎ ((next : NextTerm) × IsNextTerm l next × (early (number_of l next) ≡ false))
+
+abbrev pub EarlyIn : Led → (ℕ → Bool) → Option NextTerm → Type 0
+EarlyIn l early None = NotEarly l early
+EarlyIn l early (Some next) = EarlyFor l early next
 
 -- so of a stream's leader
-pub record EarlyOf (v : StreamView) (early : ℕ → Bool) (f : EarlyTerm) : Type 0 where
+pub record EarlyOf (v : StreamView) (early : ℕ → Bool) (next : NextTerm) : Type 0 where
   pub led : Led
   pub is_led : v.led ≡ Some led
-  pub early_for : EarlyFor led early v.setup.range.start f
+  pub early_for : EarlyFor led early next
 
 abbrev pub NoEarly : StreamView → (ℕ → Bool) → Type 0
-NoEarly v early = (l : Led) → v.led ≡ Some l → NotEarly l early v.setup.range.start
+NoEarly v early = (l : Led) → v.led ≡ Some l → NotEarly l early
 
-abbrev pub EarlyNext : StreamView → (ℕ → Bool) → Option EarlyTerm → Type 0
+abbrev pub EarlyNext : StreamView → (ℕ → Bool) → Option NextTerm → Type 0
 EarlyNext v early None = NoEarly v early
-EarlyNext v early (Some f) = EarlyOf v early f
+EarlyNext v early (Some next) = EarlyOf v early next
 
 -- a given term was recorded
 pub record RecordsOne (b n : UnorderedView) : Type 0 where

@@ -36,5 +36,5 @@ pub returns : goal.returns
 returns g c =
     let f = ap (λ (l : Led). l.finished) c.leader.view_is in
     let a = ap (λ (l : Led). l.admitted) c.leader.view_is in
-    none_of_all c.args.leader.now (is_early c.args.early.now) c.args.from c.loop-skip.skip (omega (arith, f, a))
+    none_of_all c.args.leader.now (is_early c.args.early.now) c.loop-skip.skip (omega (arith, f, a))
     c.loop-skip.invariant

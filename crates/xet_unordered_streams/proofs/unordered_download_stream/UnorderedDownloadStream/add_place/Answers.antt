@@ -26,8 +26,9 @@ invariant_of-self-2 g c =
     c.push_reserved.ensures.items ∙ ap (λ (xs : List ℕ). xs ++ c.args.place ∷ []) c.reserve.ensures.items in
     subst (λ (xs : List ℕ). IsPlacing i.stepper xs c.add.new.self) (sym pushed)
     (placing_added i.stepper i.delivered.items i.early i.ended c.self.invariant
-    (subst (λ (z : UnorderedView). IsOpen z.stream) (sym c.self.view_is) c.requires.still) c.args.place
-    (subst (λ (z : UnorderedView). PlaceFor z c.args.place) (sym c.self.view_is) c.requires.place) c.add.new.self
+    (subst (λ (z : UnorderedView). IsOpen z.stream) (sym c.self.view_is) c.requires.still) c.args.number c.args.place
+    (subst (λ (z : UnorderedView). PlaceFor z c.args.number c.args.place) (sym c.self.view_is) c.requires.place)
+    c.add.new.self
     (c.add.ensures.added c.if-not-add.false))
 
 pub returns-then-is_err : goal.returns-then-is_err
