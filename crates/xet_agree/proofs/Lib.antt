@@ -1,0 +1,4 @@
+mod Found
+mod Agreeing
+mod Chunks
+mod Passing

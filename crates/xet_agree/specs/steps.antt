@@ -1,0 +1,3 @@
+-- Working words of private functions.
+pub mod Alike
+pub mod Walks

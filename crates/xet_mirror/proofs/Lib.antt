@@ -1,0 +1,5 @@
+mod FileParts
+mod Finals
+mod Listed
+mod MirrorLaws
+mod Mirrorings

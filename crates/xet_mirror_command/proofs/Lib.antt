@@ -1,0 +1,4 @@
+mod Copies
+mod Documents
+mod Items
+mod Printed

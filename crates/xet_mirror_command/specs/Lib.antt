@@ -1,0 +1,3 @@
+pub mod Mirror
+pub mod MirrorInput
+pub mod steps

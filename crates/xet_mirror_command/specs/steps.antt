@@ -1,0 +1,4 @@
+-- Working words of private functions.
+pub mod Documents
+pub mod Ends
+pub mod Printing

@@ -1,0 +1,10 @@
+pub mod AfterStores
+pub mod ByteCounts
+pub mod CallerLemmas
+pub mod GrownLists
+pub mod HashNotes
+pub mod LogIndexes
+pub mod RefusedPuts
+pub mod Takings
+pub mod TriedStores
+pub mod WholeXorbs

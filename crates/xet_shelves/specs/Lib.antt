@@ -1,0 +1,4 @@
+pub mod After
+pub mod Laws
+pub mod Shelves
+pub mod steps

@@ -1,0 +1,3 @@
+pub mod HashPlaces
+pub mod Indexes
+pub mod Tries

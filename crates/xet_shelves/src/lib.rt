@@ -1,0 +1,16 @@
+//! What a mirror stands between: stores that can be read as a whole, and uploaders that can be looked at.
+#![tactic(auto)]
+
+pub mod laws;
+pub mod mem_shelf;
+pub mod mem_target;
+mod put_hashes;
+mod put_log;
+pub mod shelf;
+mod store_after;
+pub mod target;
+
+pub use mem_shelf::MemShelf;
+pub use mem_target::MemTarget;
+pub use shelf::Shelf;
+pub use target::Target;
