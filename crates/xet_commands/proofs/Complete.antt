@@ -18,6 +18,7 @@ use Rattle.xet_bench_command.specs.Bench.{BenchPrinted, end_by, unmet_bench}
 use Rattle.xet_roundtrip_command.specs.Roundtrip.{RoundtripPrinted}
 use Rattle.xet_audit_command.specs.Audit.{AuditPrints}
 use Rattle.xet_compact_command.specs.Compact.{CompactPrints}
+use Rattle.xet_mirror_command.specs.Mirror.{MirrorPrints}
 use Rattle.xet_resume_command.specs.Resume.{ResumePrints}
 use Rattle.xet_serve_command.specs.Serve.{ServePrints}
 use Rattle.xet_commands.specs.declared.commands.Command.{Command}
@@ -110,6 +111,7 @@ module _ (limit : ℕ) (text : List ℕ) (b n : Told) (f : NothingFails text b n
   outcome_by (Some command.Track) s o = track_by s o.by_status
   outcome_by (Some (command.Audit hashes)) s o = input_by (AuditPrints hashes) s o.printed
   outcome_by (Some command.Compact) s o = input_by CompactPrints s o.printed
+  outcome_by (Some (command.Mirror verify)) s o = input_by (MirrorPrints verify) s o.printed
   outcome_by (Some (command.Resume wanted)) s o = input_by (ResumePrints wanted) s o.printed
   outcome_by (Some (command.Serve options)) s o = input_by (ServePrints options) s o.printed
   outcome_by (Some command.Help) s o = text_by status.Done s o.text_is

@@ -17,6 +17,7 @@ use Rattle.xet_bench_command.specs.Bench.{BenchOutcome, bench_of}
 use Rattle.xet_roundtrip_command.specs.Roundtrip.{RoundtripOutcome, size_of}
 use Rattle.xet_audit_command.specs.Audit.{AuditPrints, hashes_of}
 use Rattle.xet_compact_command.specs.Compact.{CompactPrints}
+use Rattle.xet_mirror_command.specs.Mirror.{MirrorPrints, verify_of}
 use Rattle.xet_resume_command.specs.Resume.{ResumePrints}
 use Rattle.xet_resume_command.specs.Words.{resume_of}
 use Rattle.xet_serve_command.specs.Serve.{ServePrints, serve_options}
@@ -26,7 +27,8 @@ abbrev pub document_command_of_one : List ℕ → Option Command
 document_command_of_one w =
     cond (bytes_eq w (codes "audit")) (Some (command.Audit false))
     (cond (bytes_eq w (codes "compact")) (Some command.Compact)
-    (cond (bytes_eq w (codes "serve")) (option_map command.Serve (serve_options [])) None))
+    (cond (bytes_eq w (codes "mirror")) (Some (command.Mirror false))
+    (cond (bytes_eq w (codes "serve")) (option_map command.Serve (serve_options [])) None)))
 
 -- the command of one word
 abbrev pub command_of_one : List ℕ → Option Command
@@ -34,9 +36,14 @@ command_of_one w =
     cond (bytes_eq w (codes "--help")) (Some command.Help) (cond (bytes_eq w (codes "--version")) (Some command.Version)
     (cond (bytes_eq w (codes "track")) (Some command.Track) (document_command_of_one w)))
 
--- the command of this name, with the words after it, if it is `serve`
+-- the command of this name, with the words after it, if it is `mirror`
+abbrev pub mirror_named : List ℕ → List (List ℕ) → Option Command
+mirror_named name words = cond (bytes_eq name (codes "mirror")) (option_map command.Mirror (verify_of words)) None
+
+-- the command of this name, with the words after it, if it is `serve` or `mirror`
 abbrev pub serve_named : List ℕ → List (List ℕ) → Option Command
-serve_named name words = cond (bytes_eq name (codes "serve")) (option_map command.Serve (serve_options words)) None
+serve_named name words =
+    cond (bytes_eq name (codes "serve")) (option_map command.Serve (serve_options words)) (mirror_named name words)
 
 -- the same, as one word: what is searched for doesn't look into it
 unfoldable pub session_command_with : List ℕ → List (List ℕ) → Option Command
@@ -45,7 +52,8 @@ session_command_with name words = serve_named name words
 -- the command of this name, with the words after it, of those that fetch ranges that are listed
 abbrev pub last_command_with : List ℕ → List (List ℕ) → Option Command
 last_command_with name words =
-    cond (bytes_eq name (codes "resume")) (option_map command.Resume (resume_of words)) (session_command_with name words)
+    cond (bytes_eq name (codes "resume")) (option_map command.Resume (resume_of words))
+    (session_command_with name words)
 
 -- the command of this name, with the words after it, of those that are neither `get` nor `bench`
 abbrev pub other_command_with : List ℕ → List (List ℕ) → Option Command
@@ -81,6 +89,8 @@ Outcome limit (Some command.Track) before after status = TrackOutcome limit befo
 Outcome limit (Some (command.Audit hashes)) before after status =
     InputOutcome (AuditPrints hashes) limit before after status
 Outcome limit (Some command.Compact) before after status = InputOutcome CompactPrints limit before after status
+Outcome limit (Some (command.Mirror verify)) before after status =
+    InputOutcome (MirrorPrints verify) limit before after status
 Outcome limit (Some (command.Resume wanted)) before after status =
     InputOutcome (ResumePrints wanted) limit before after status
 Outcome limit (Some (command.Serve options)) before after status =

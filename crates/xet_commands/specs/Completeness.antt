@@ -15,6 +15,7 @@ use Rattle.xet_get_command.specs.Wanted.{IsFound, IsMissing, unmet_setting}
 use Rattle.xet_bench_command.specs.Bench.{end_by, unmet_bench}
 use Rattle.xet_audit_command.specs.Audit.{AuditPrints}
 use Rattle.xet_compact_command.specs.Compact.{CompactPrints}
+use Rattle.xet_mirror_command.specs.Mirror.{MirrorPrints}
 use Rattle.xet_resume_command.specs.Resume.{ResumePrints}
 use Rattle.xet_serve_command.specs.Serve.{ServePrints}
 use Rattle.xet_commands.specs.declared.commands.Command.{Command}
@@ -67,19 +68,21 @@ StatusBy limit (Some (command.Roundtrip size)) text status = status ≡ Done
 StatusBy limit (Some command.Track) text status = TrackBy limit text status
 StatusBy limit (Some (command.Audit hashes)) text status = InputBy (AuditPrints hashes) limit text status
 StatusBy limit (Some command.Compact) text status = InputBy CompactPrints limit text status
+StatusBy limit (Some (command.Mirror verify)) text status = InputBy (MirrorPrints verify) limit text status
 StatusBy limit (Some (command.Resume wanted)) text status = InputBy (ResumePrints wanted) limit text status
 StatusBy limit (Some (command.Serve options)) text status = InputBy (ServePrints options) limit text status
 StatusBy limit (Some command.Help) text status = status ≡ Done
 StatusBy limit (Some command.Version) text status = status ≡ Done
 StatusBy limit None text status = status ≡ BadWords
 
--- the number is that of want of memory, or of the status that words and text alone give
+-- the number is that of want of memory, or of a status that words and text alone allow; for `mirror` with `verify` both
+-- 2 and 3 may be allowed
 pub record AnswersBy (limit : ℕ) (words : List (List ℕ)) (text : List ℕ) (number : ℕ) : Type 0 where
   pub status : Status
   pub number_is : number ≡ number_of status
   pub by : (status ≡ NoMemory) ⊎ StatusBy limit (command_of words) text status
 
--- where nothing fails, the top call's answer is by words and input alone, or want of memory
+-- where nothing fails, the top call's answer is such a number by words and input alone
 abbrev pub AnswersAreComplete : Type 0
 AnswersAreComplete = (limit : ℕ) (words : List (List ℕ)) (text : List ℕ) (before after : Told) (number : ℕ)
     → Answers limit words before after number → NothingFails text before after → AnswersBy limit words text number

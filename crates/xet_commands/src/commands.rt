@@ -3,7 +3,8 @@ ghost use Rattle.std.specs.Prelude.{◌≡◌, IfSome, length, map, string_bytes
 ghost use Rattle.xet_room.specs.Ends.{input_limit};
 ghost use Rattle.xet_room.specs.Outcome.{IsFlushed, IsReadUnfailed, IsUnfailed};
 ghost use Rattle.xet_commands.specs.Commands.{IsWithinSize, Outcome, command_of, command_of_one, command_with};
-ghost use Rattle.xet_commands.specs.Commands.{document_command_of_one, last_command_with, other_command_with, serve_named};
+ghost use Rattle.xet_commands.specs.Commands.{document_command_of_one, last_command_with};
+ghost use Rattle.xet_commands.specs.Commands.{mirror_named, other_command_with, serve_named};
 
 use crate::texts::{HELP, VERSION};
 use std::alloc::Global;
@@ -13,6 +14,7 @@ use xet_audit_command::{audit, read_hashes};
 use xet_bench_command::{BenchWanted, bench, read_bench};
 use xet_compact_command::compact;
 use xet_get_command::{Options, Wanted, get, read_wanted};
+use xet_mirror_command::{mirror, read_verify};
 use xet_resume_command::{ResumeWanted, read_resume, resume};
 use xet_room::{Status, print_text, say};
 use xet_roundtrip_command::{read_size, roundtrip};
@@ -39,6 +41,8 @@ pub enum Command {
     Audit(bool),
     /// `compact`
     Compact,
+    /// `mirror`, and whether with `verify`.
+    Mirror(bool),
     /// `resume` with its words.
     Resume(ResumeWanted),
     /// `serve` with its options.
@@ -66,6 +70,7 @@ fn read_one_more(word: &str) -> Option<Command>
     match word {
         "audit" => Some(Command::Audit(false)),
         "compact" => Some(Command::Compact),
+        "mirror" => Some(Command::Mirror(false)),
         "serve" => {
             let options = read_serve(&[])?;
             Some(Command::Serve(options))
@@ -92,7 +97,21 @@ fn read_more(name: &str, words: &[String]) -> Option<Command>
     }
 }
 
-// The command of this name, with the words after it, if it is `serve`.
+// The command of this name, with the words after it, if it is `mirror`.
+fn read_copies(name: &str, words: &[String]) -> Option<Command>
+    ensures command { result ≡ mirror_named name.now (map string_bytes words.now) }
+    ensures within { IfSome result IsWithinSize }
+{
+    match name {
+        "mirror" => {
+            let verify = read_verify(words)?;
+            Some(Command::Mirror(verify))
+        }
+        _ => None,
+    }
+}
+
+// The command of this name, with the words after it, if it is `serve` or `mirror`.
 fn read_session(name: &str, words: &[String]) -> Option<Command>
     ensures command { result ≡ serve_named name.now (map string_bytes words.now) }
     ensures within { IfSome result IsWithinSize }
@@ -102,7 +121,7 @@ fn read_session(name: &str, words: &[String]) -> Option<Command>
             let options = read_serve(words)?;
             Some(Command::Serve(options))
         }
-        _ => None,
+        _ => read_copies(name, words),
     }
 }
 
@@ -172,6 +191,7 @@ pub fn run_words<R: Threads + Wait + Sync, I: Source, O: Sink, T: Tap + Send>(
         Some(Command::Track) => track(alloc, input, out),
         Some(Command::Audit(hashes)) => audit(alloc, hashes, input, out),
         Some(Command::Compact) => compact(alloc, input, out),
+        Some(Command::Mirror(verify)) => mirror(alloc, verify, input, out),
         Some(Command::Resume(wanted)) => resume(rt, alloc, wanted, input, out),
         Some(Command::Serve(options)) => serve(rt, alloc, options, input, out),
         Some(Command::Bench(wanted)) => bench(rt, alloc, wanted, out),

@@ -3,14 +3,16 @@
 /// What `--help` prints.
 pub const HELP: &[u8] = b"\
 xet_tool: prints a range of a file of a Xet store, fetches ranges of one in any order or answers a
-session of requests for ranges, tells what is wrong with a store or drops what no file needs, runs
-a script of calls of a tracker, fetches a made file, or uploads one and downloads it
+session of requests for ranges, tells what is wrong with a store or drops what no file needs, copies
+files to a store that lacks them, runs a script of calls of a tracker, fetches a made file, or uploads
+one and downloads it
 
 usage:
   xet_tool get HASH START END [OPTION ..]
                                 print bytes START to before END of the file HASH
   xet_tool audit [hashes]       print what is wrong with a store, and which xorbs no file names
   xet_tool compact              print a store without the xorbs and chunks that no file needs
+  xet_tool mirror [verify]      copy files from one store to another, and print what that took
   xet_tool resume HASH LENGTH START END [START END ..]
                                 fetch ranges of a file, and print what is still missing
   xet_tool serve [OPTION ..]    answer a session of requests for ranges of files
@@ -30,6 +32,9 @@ words of get:
 words of audit:
   hashes      compute the hashes of xorbs and files too, which takes as long as the files have
               chunks, each as often as terms have it
+
+words of mirror:
+  verify      compare the hash of each xorb that the target gets with that of its chunks
 
 words of resume:
   HASH        the file's hash, as that of get
@@ -106,6 +111,22 @@ lines of compact:
   Of two xorbs with one hash then one stays. Then ok with the numbers of xorbs that are left and
   of chunks that no term holds.
 
+input of mirror:
+  Two stores and the files that are to be copied from the first to the second:
+    { \"source\": STORE, \"target\": STORE, \"files\": [HASH, ..] }
+  A STORE is a document as that of get. Other keys are passed over, and what stands under them. It
+  does not read where a xorb that both stores have has other chunks in one, or a file that both
+  have other bytes. To see that takes as long as the xorbs that both have have bytes, and the files
+  that both have terms; where the terms of such a file differ, as long as it has bytes, each chunk
+  as often as terms have it. The document stands in memory as a tree, up to 175 times its size.
+
+lines of mirror:
+  Each listed file that the target lacks is copied in memory: the xorbs that it names and the
+  target lacks, then its record. What that took is printed: files with the numbers of listed files
+  that were copied and that the target had, xorbs with the numbers of those that it got and of those
+  that the copied files name and it had, bytes with the number of bytes of those that it got, a line
+  each, and ok. A file that is listed twice is copied once.
+
 input of resume:
   A document as that of get.
 
@@ -171,21 +192,25 @@ file of roundtrip:
 output:
   For get the bytes as lower-case hexadecimal digits, a line end, and a last line. The lines of
   1, 2, 4 and 8 stand alone, but that of 2 for track, which ends the lines of a script that does
-  not read; those of 3 and 9 for resume and that of 7 for bench and serve stand alone too. With 0
-  track, bench and roundtrip print their lines alone, compact and resume too, audit with 0 and 10,
-  and serve with 0 and 11. All lines, those of errors too, go to standard output. For the bytes
-  themselves turn the digits of the first line of get back, as with | head -n 1 | xxd -r -p.
+  not read; those of 3 and 9 for mirror and resume and that of 7 for bench and serve stand alone
+  too. With 0 track, bench and roundtrip print their lines alone, compact, mirror and resume too,
+  audit with 0 and 10, and serve with 0 and 11. All lines, those of errors too, go to standard
+  output. For the bytes themselves turn the digits of the first line of get back, as with
+  | head -n 1 | xxd -r -p.
 
 last line, and exit status:
   ok N                    0  all N bytes of the range were printed, or came back, or were fetched
   error words             1  the words do not read; nothing was read of the input
   error store             2  the input is no document of a valid store; for audit, of any; for serve,
-                             its first line
+                             its first line; for mirror, it has no two such stores that agree, or
+                             no list of files
   error hash H            2  lists of chunks that differ would stand under the hash H in what
-                             compact leaves
+                             compact leaves; for mirror with verify, the target would get the xorb
+                             H, whose hash is not that of its chunks
   error script            2  a line of the script does not read, and no later one was run
   error file not found    3  the range is not empty, and the store has no such file; for resume, one
                              of the ranges, cut at LENGTH
+  missing H               3  neither store has the listed file H
   error read              4  standard input failed
   (none)                  5  standard output failed
   error memory            6  an allocation was refused

@@ -1,6 +1,6 @@
 use Rattle.std.proofs.Common.{map, rules, ◌≡◌}
 use Rattle.std.specs.Prelude.{Some, string_bytes}
-use Rattle.xet_commands.specs.declared.commands.Command.TheVariants.{Audit, Bench, Compact, Resume, Roundtrip, Serve, Track}
+use Rattle.xet_commands.specs.declared.commands.Command.TheVariants.{Audit, Bench, Compact, Mirror, Resume, Roundtrip, Serve, Track}
 use Rattle.xet_commands.specs.Commands.{command_of}
 use Rattle.xet_commands.proofs.commands.run_words.Goals as goal
 
@@ -18,6 +18,11 @@ pub returns-in-Some-Compact-clause-outcome : goal.returns-in-Some-Compact-clause
 returns-in-Some-Compact-clause-outcome g c =
     let is : command_of (map string_bytes c.args.words.now) ≡ Some Compact = search rules in
     rw is (c.compact.ensures.outcome (map g.T.Tap.told c.args.taps.now.items))
+
+pub returns-in-Some-Mirror-clause-outcome : goal.returns-in-Some-Mirror-clause-outcome
+returns-in-Some-Mirror-clause-outcome g c =
+    let is : command_of (map string_bytes c.args.words.now) ≡ Some (Mirror c.in-Some-Mirror.verify) = search rules in
+    rw is (c.mirror.ensures.outcome (map g.T.Tap.told c.args.taps.now.items))
 
 pub returns-in-Some-Resume-clause-outcome : goal.returns-in-Some-Resume-clause-outcome
 returns-in-Some-Resume-clause-outcome g c =
