@@ -13,10 +13,11 @@ use Rattle.xet_events.specs.Limits.{LimitTold}
 use Rattle.xet_ties.specs.Setup.{RunTold, Setup}
 use Rattle.xet_upload.specs.declared.data_error.DataError.{DataError}
 use Rattle.xet_upload.specs.declared.data_error.DataError.TheVariants as data_error
-use Rattle.xet_download.specs.Calls.{BackgroundCall, BeginCall, Begins, DownloadFileCall, DownloadToWriterCall}
-use Rattle.xet_download.specs.Calls.{Downloads, FileRun, JobTold, WriterRun, count_of, job_setup, next_id}
+use Rattle.xet_download.specs.Calls.{BackgroundCall, Begins, DownloadFileCall, DownloadToWriterCall}
+use Rattle.xet_download.specs.Calls.{Downloads, FileRun, JobTold, WriterRun, count_of, drawn, job_setup, next_id}
 use Rattle.xet_download.specs.Downloads.{DownloadsTold, begin_refusal, finalized_error, finalizing, ids_used_up, lent}
 use Rattle.xet_download.specs.Downloads.{refusal_of, refused_where}
+use Rattle.xet_download.specs.Streams.{OpenCall, range_in}
 
 -- ---- refusals
 
@@ -53,6 +54,9 @@ same_some e f is = grind (arith, is)
 abbrev pub error_as : {A : Type 0} → DataError → Result A DataError
 error_as e = Err e
 
+abbrev pub ok_as : {A : Type 0} → A → Result A DataError
+ok_as a = Ok a
+
 -- a refused call
 pub refused_call : (b : DownloadsTold) (before : SinkTold) (info : XetFileInfo)
     (range : Result (Option FileRange) DataError) (answer : Result (UniqueID × ℕ) DataError) (e : DataError)
@@ -71,30 +75,40 @@ hash_by : (h : Option MerkleHash) (u : Bool)
 hash_by None u is = absurd (grind (arith, is))
 hash_by (Some file) u is = (file, refl)
 
-pub unbegun : (b n : DownloadsTold) (before : SinkTold) (info : XetFileInfo) (r : Option FileRange)
-    (range : Result (Option FileRange) DataError) (answer : Result (UniqueID × ℕ) DataError) (e : DataError)
-    → b.finalized ≡ false → range ≡ Ok r → BeginCall b n info r (Err e) → answer ≡ Err e
-    → DownloadToWriterCall b n before before info range answer
-unbegun b n before info r range answer e opened forward begin was = by_refusal (begin_refusal b info) refl
-  where
-    is : refusal_of b range info ≡ begin_refusal b info
-    is = refusal_is b range r info opened forward
+hash_in : (f : Bool) (range : Result (Option FileRange) DataError) (h : Option MerkleHash) (u : Bool)
+    → option_or (refused_where f finalized_error) (option_or (result_err range)
+    (option_or (refused_where (is_none h) data_error.HashStringParsingFailure) (refused_where u ids_used_up))) ≡ None
+    → (file : MerkleHash) × (h ≡ Some file)
+hash_in true range h u is = absurd (grind (arith, is))
+hash_in false (Err e) h u is = absurd (grind (arith, is))
+hash_in false (Ok r) h u is = hash_by h u is
 
-    by_refusal : (o : Option DataError) → begin_refusal b info ≡ o
+-- what holds at the range holds where there is one
+at_range : (P : Option FileRange → Type 0) (range : Result (Option FileRange) DataError) → P (range_in range)
+    → IfOk range P
+at_range P (Ok r) p = p
+at_range P (Err e) p = tt
+
+pub unbegun : (b n : DownloadsTold) (before : SinkTold) (info : XetFileInfo)
+    (range : Result (Option FileRange) DataError) (answer : Result (UniqueID × ℕ) DataError) (e : DataError)
+    → OpenCall b n info range (Err e) → answer ≡ Err e → DownloadToWriterCall b n before before info range answer
+unbegun b n before info range answer e begin was = by_refusal (refusal_of b range info) refl
+  where
+    by_refusal : (o : Option DataError) → refusal_of b range info ≡ o
         → DownloadToWriterCall b n before before info range answer
     by_refusal (Some f) o =
         let told = begin.refused f o in
         let same : answer ≡ Err f = was ∙ grind (arith, told.0) in
         subst (λ m. DownloadToWriterCall b m before before info range answer) (sym told.1)
-        (refused_call b before info range answer f (is ∙ o) same)
+        (refused_call b before info range answer f o same)
     by_refusal None o =
-        let hash = hash_by (hash_of_text info.hash) (b.ids == 2 ^ 64 - 1) o in
+        let hash = hash_in b.finalized range (hash_of_text info.hash) (b.ids == 2 ^ 64 - 1) o in
         let memory : answer ≡ Err data_error.OutOfMemory = was ∙ ap error_as (begin.memory o) in
         let drew = begin.begun o in
         subst (λ m. DownloadToWriterCall b m before before info range answer) (sym drew)
         (record {
-          refused = λ f again. absurd (grind (arith, is, o, again));
-          runs = λ none. rw forward (record {
+          refused = λ f again. absurd (grind (arith, o, again));
+          runs = λ none. at_range (λ r. Downloads WriterRun b (drawn b) before before info r answer) range (record {
             file = hash.0;
             file_is = hash.1;
             same = refl;
@@ -137,15 +151,16 @@ module _ (Run : LimitTold → Setup → Option ℕ → RunTold → RunTold → R
       }
 
 -- `download_to_writer` that ran
-pub wrote : (b m n : DownloadsTold) (before after : SinkTold) (info : XetFileInfo) (r : Option FileRange)
+pub wrote : (b m n : DownloadsTold) (before after : SinkTold) (info : XetFileInfo)
     (range : Result (Option FileRange) DataError) (a : UniqueID × JobTold) (answer : Result (UniqueID × ℕ) DataError)
-    → b.finalized ≡ false → range ≡ Ok r → BeginCall b m info r (Ok a)
-    → Downloads WriterRun b n before after info r answer
+    → OpenCall b m info range (Ok a) → Downloads WriterRun b n before after info (range_in range) answer
     → DownloadToWriterCall b n before after info range answer
-wrote b m n before after info r range a answer opened forward begin ran =
-    let begun = began (begin_refusal b info) b m info r a begin in
-    let none = refusal_is b range r info opened forward ∙ begun in
-    record { refused = λ f again. absurd (grind (arith, none, again)); runs = λ o. rw forward ran }
+wrote b m n before after info range a answer call ran =
+    let none = began (refusal_of b range info) b m info (range_in range) a call in
+    record {
+      refused = λ f again. absurd (grind (arith, none, again));
+      runs = λ o. at_range (λ r. Downloads WriterRun b n before after info r answer) range ran;
+    }
 
 -- `download_file` that ran
 pub filed : (b m n : DownloadsTold) (before after : SinkTold) (info : XetFileInfo) (a : UniqueID × JobTold)

@@ -1,6 +1,6 @@
 -- Streams of a session, by their steps.
 use Rattle.std.proofs.Common.{◌≡◌, ◌∙◌, Option, Some, refl, sym, ap, subst, arith, false, Err, Ok}
-use Rattle.std.specs.Prelude.{Bool, Result}
+use Rattle.std.specs.Prelude.{Bool, IfErr, IfOk, OnErr, Result}
 use Rattle.std.specs.Option.{option_or}
 use Rattle.std.specs.Result.{result_err}
 use Rattle.xet_base.specs.declared.cas_types.FileRange.{FileRange}
@@ -13,7 +13,7 @@ use Rattle.xet_upload.specs.declared.data_error.DataError.TheVariants as data_er
 use Rattle.xet_download.specs.Calls.{BeginCall, Begins, JobTold, job_setup}
 use Rattle.xet_download.specs.Downloads.{DownloadsTold, begin_refusal, finalized_error, refusal_of, refused_where}
 use Rattle.xet_download.specs.Streams.{OpenCall, StreamCall, range_in, with_flag}
-use Rattle.xet_download.proofs.Calling.{began, error_as, refusal_is, same_some}
+use Rattle.xet_download.proofs.Calling.{began, error_as, ok_as, refusal_is, same_some}
 
 -- ---- begins
 
@@ -89,3 +89,16 @@ module _ {A : Type 0} (new : Setup → LimitTold → A) (b : DownloadsTold) (inf
             },
           );
         }
+
+    -- so it is of a stream whose flag was to be registered
+    pub enlisted : (n : DownloadsTold) (s : A) → s ≡ new (job_setup a.1) a.1.limits
+        → IfOk answer (λ r. (r ≡ (a.0, s)) × (n ≡ with_flag m a.0))
+        → IfErr answer (λ e. e ≡ data_error.OutOfMemory) → OnErr answer (n ≡ m) → StreamCall new b n info range answer
+    enlisted n s made ok memory same = by answer refl ok memory same
+      where
+        by : (o : Result (UniqueID × A) DataError) → answer ≡ o
+            → IfOk o (λ r. (r ≡ (a.0, s)) × (n ≡ with_flag m a.0)) → IfErr o (λ e. e ≡ data_error.OutOfMemory)
+            → OnErr o (n ≡ m) → StreamCall new b n info range answer
+        by (Ok r) is ok memory same = streamed n s (is ∙ ap ok_as ok.0) made ok.1
+        by (Err e) is ok memory same =
+            subst (λ k. StreamCall new b k info range answer) (sym same) (no_stream (is ∙ ap error_as memory))

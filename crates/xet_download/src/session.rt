@@ -5,8 +5,9 @@ ghost use Rattle.xet_progress.specs.Held.{Held};
 ghost use Rattle.xet_progress_state.specs.Items.{report_of};
 ghost use Rattle.xet_download.specs.Bounds.{range_of};
 ghost use Rattle.xet_download.specs.Calls.{BackgroundCall, BeginCall, DownloadFileCall, DownloadToWriterCall};
-ghost use Rattle.xet_download.specs.Calls.{with_job};
+ghost use Rattle.xet_download.specs.Calls.{count_of, with_job};
 ghost use Rattle.xet_download.specs.Downloads.{ended, expected_of, finalizing, new_session};
+ghost use Rattle.xet_download.specs.Streams.{OpenCall};
 ghost use Rattle.xet_download.specs.Telling.{job_of, told_by};
 
 use crate::job::{DownloadJob, shared};
@@ -164,6 +165,23 @@ impl<C: Client + Drop, K: ChunkCache + Drop> FileDownloadSession<C, K> {
         ))
     }
 
+    // Begins the download of this range, with an item of this name.
+    pub(crate) fn open<W: Wait>(
+        &mut self,
+        rt: &W,
+        alloc: Global,
+        info: &XetFileInfo,
+        range: Result<Option<FileRange>, DataError>,
+        name: &str,
+    ) -> Result<(UniqueID, DownloadJob), DataError>
+        ensures { OpenCall (told_by C.told K.told self.old) (told_by C.told K.told self.new) info.now range
+            (with_job (λ r. (r.0, job_of r.1)) result) }
+    {
+        self.ended()?;
+        let range = range?;
+        self.begin(rt, alloc, info, range, name)
+    }
+
     /// Downloads a range of a file to a writer, and answers the item's id and how many bytes were written. The item's
     /// name is the empty text. Without bounds the whole file is downloaded.
     ///
@@ -189,13 +207,11 @@ impl<C: Client + Drop, K: ChunkCache + Drop> FileDownloadSession<C, K> {
         ensures { DownloadToWriterCall (told_by C.told K.told self.old) (told_by C.told K.told self.new)
             (S.told writer.old) (S.told writer.new) file_info.now (range_of source_range) result }
     {
-        self.ended()?;
-        let range = range_bounds_to_file_range(source_range)?;
-        let (id, job) = self.begin(rt, alloc, file_info, range, "")?;
+        let range = range_bounds_to_file_range(source_range);
+        let (id, job) = self.open(rt, alloc, file_info, range, "")?;
         let clients = self.connections.clients.as_mut_slice();
         let cache = &mut self.connections.chunk_cache;
-        let count = job.run_to_writer(rt, alloc, clients, cache, writer)?;
-        Ok((id, count))
+        with_item(id, job.run_to_writer(rt, alloc, clients, cache, writer))
     }
 
     /// Downloads a whole file into this one, which is emptied first, and answers the item's id and how many bytes were
@@ -225,8 +241,7 @@ impl<C: Client + Drop, K: ChunkCache + Drop> FileDownloadSession<C, K> {
         let (id, job) = self.download_file_background(rt, alloc, file_info, name)?;
         let clients = self.connections.clients.as_mut_slice();
         let cache = &mut self.connections.chunk_cache;
-        let count = job.run(rt, alloc, clients, cache, file)?;
-        Ok((id, count))
+        with_item(id, job.run(rt, alloc, clients, cache, file))
     }
 
     /// Begins the download of a whole file, with an item of this name, and answers the item's id. The job is run by
@@ -246,8 +261,7 @@ impl<C: Client + Drop, K: ChunkCache + Drop> FileDownloadSession<C, K> {
         ensures { BackgroundCall (told_by C.told K.told self.old) (told_by C.told K.told self.new) file_info.now
             (with_job (λ r. (r.0, job_of r.1)) result) }
     {
-        self.ended()?;
-        self.begin(rt, alloc, file_info, None, name)
+        self.open(rt, alloc, file_info, Ok(None), name)
     }
 
     /// Ends the session: no download is begun after it. It takes no memory.
@@ -302,6 +316,17 @@ impl<C: Client + Drop, K: ChunkCache + Drop> FileDownloadSession<C, K> {
             (λ before after. (reports.entries ≡ reports_of before) × (after ≡ before))) }
     {
         self.progress.item_reports(rt, alloc)
+    }
+}
+
+// An answer with the item's id.
+fn with_item(id: UniqueID, count: Result<u64, DataError>) -> Result<(UniqueID, u64), DataError>
+    ensures count { count_of result ≡ count }
+    ensures id { IfOk result (λ r. r.0 ≡ id) }
+{
+    match count {
+        Ok(count) => Ok((id, count)),
+        Err(error) => Err(error),
     }
 }
 

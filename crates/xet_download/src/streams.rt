@@ -1,16 +1,16 @@
 //! Streams of a session.
 ghost use Rattle.std.specs.Borrow.{Lends, sem};
-ghost use Rattle.std.specs.Prelude.{◌≡◌, OnErr, OnOk};
+ghost use Rattle.std.specs.Prelude.{◌≡◌, IfErr, IfOk, OnErr, OnOk};
 ghost use Rattle.xet_stream_rules.specs.Streams.{new_stream};
 ghost use Rattle.xet_stream_rules.specs.Unordered.{new_unordered};
 ghost use Rattle.xet_download.specs.Bounds.{range_of};
-ghost use Rattle.xet_download.specs.Calls.{with_job};
-ghost use Rattle.xet_download.specs.Streams.{OpenCall, StreamCall, forward_of, with_flag, without_flag};
-ghost use Rattle.xet_download.specs.Telling.{job_of, told_by};
+ghost use Rattle.xet_download.specs.Streams.{StreamCall, forward_of, with_flag, without_flag};
+ghost use Rattle.xet_download.specs.Telling.{told_by};
 ghost use Rattle.xet_download.specs.contracts.session.Connections.{the_row as connections_row};
 ghost use Rattle.xet_download.specs.contracts.session.FileDownloadSession.{the_row};
+ghost use Rattle.xet_upload.specs.declared.data_error.DataError.TheVariants as data_error;
 
-use crate::job::{DownloadJob, end, start};
+use crate::job::{end, start};
 use crate::session::{Connections, FileDownloadSession};
 use std::alloc::Global;
 use std::ops::Bound;
@@ -80,8 +80,8 @@ impl<C: Client + Drop, K: ChunkCache + Drop> FileDownloadSession<C, K> {
         let range = forward(source_range);
         let (id, job) = self.open(rt, alloc, file_info, range, "unordered_stream")?;
         let stream = job.unordered_stream(alloc)?;
-        self.register(rt, id, stream.abort_flag())?;
-        Ok((id, stream))
+        let flag = stream.abort_flag();
+        self.registered(rt, id, flag, stream)
     }
 
     // An ordered stream of this range.
@@ -97,25 +97,27 @@ impl<C: Client + Drop, K: ChunkCache + Drop> FileDownloadSession<C, K> {
     {
         let (id, job) = self.open(rt, alloc, info, range, "stream")?;
         let stream = job.stream(alloc)?;
-        self.register(rt, id, stream.abort_flag())?;
-        Ok((id, stream))
+        let flag = stream.abort_flag();
+        self.registered(rt, id, flag, stream)
     }
 
-    // Begins the download of this range, with an item of this name.
-    fn open<W: Wait>(
+    // A stream with its id, under which its flag is registered.
+    fn registered<W: Wait, T: Drop>(
         &mut self,
         rt: &W,
-        alloc: Global,
-        info: &XetFileInfo,
-        range: Result<Option<FileRange>, DataError>,
-        name: &str,
-    ) -> Result<(UniqueID, DownloadJob), DataError>
-        ensures { OpenCall (told_by C.told K.told self.old) (told_by C.told K.told self.new) info.now range
-            (with_job (λ r. (r.0, job_of r.1)) result) }
+        id: UniqueID,
+        flag: Result<FlagSignal, OutOfMemory>,
+        stream: T,
+    ) -> Result<(UniqueID, T), DataError>
+        ensures ok { IfOk result (λ r. (r ≡ (id, stream))
+            × (told_by C.told K.told self.new ≡ with_flag (told_by C.told K.told self.old) id)) }
+        ensures memory { IfErr result (λ e. e ≡ data_error.OutOfMemory) }
+        ensures err { OnErr result (told_by C.told K.told self.new ≡ told_by C.told K.told self.old) }
     {
-        self.ended()?;
-        let range = range?;
-        self.begin(rt, alloc, info, range, name)
+        match self.register(rt, id, flag) {
+            Ok(()) => Ok((id, stream)),
+            Err(_) => Err(DataError::OutOfMemory),
+        }
     }
 
     // Registers the flag of a stream, which counts as a running download from now on.

@@ -1,10 +1,10 @@
-use Rattle.std.proofs.Common.{◌≡◌, Err, refl, rules}
+use Rattle.std.proofs.Common.{◌≡◌, Err, rules}
 use Rattle.xet_upload.specs.declared.data_error.DataError.TheVariants as data_error
 use Rattle.xet_stream_rules.specs.Unordered.{new_unordered}
 use Rattle.xet_download.specs.Calls.{job_setup}
 use Rattle.xet_download.specs.Telling.{job_of, told_by}
-use Rattle.xet_download.specs.Streams.{forward_of, with_flag}
-use Rattle.xet_download.proofs.Streaming.{no_stream, streamed, unbegun_stream}
+use Rattle.xet_download.specs.Streams.{forward_of}
+use Rattle.xet_download.proofs.Streaming.{enlisted, no_stream, unbegun_stream}
 use Rattle.xet_download.proofs.session.FileDownloadSession.download_unordered_stream.Goals as goal
 
 pub returns-in_err-id : goal.returns-in_err-id
@@ -21,21 +21,11 @@ returns-in_err-stream g c =
     no_stream new_unordered b c.args.file_info.now (forward_of c.args.source_range) _ _ (c.in_ok-id.id, job_of c.in_ok-id.job)
     (rw (c.forward-range.ensures, c.in_ok-id.was) at c.open.ensures) was
 
-pub returns-in_err-register : goal.returns-in_err-register
-returns-in_err-register g c =
-    let told = told_by g.C.Client.told g.K.ChunkCache.told in
-    let b = told c.args.self.now in
-    let was : c.from_residual-in_err-register.result ≡ Err data_error.OutOfMemory = search rules in
-    let same : told c.register.new.self ≡ told c.open.new.self = search rules in
-    rw same (no_stream new_unordered b c.args.file_info.now (forward_of c.args.source_range) _ (told c.open.new.self) (c.in_ok-id.id, job_of c.in_ok-id.job)
-    (rw (c.forward-range.ensures, c.in_ok-id.was) at c.open.ensures) was)
-
 pub returns : goal.returns
 returns g c =
     let told = told_by g.C.Client.told g.K.ChunkCache.told in
-    let b = told c.args.self.now in
     let job = job_of c.in_ok-id.job in
-    let kept : told c.register.new.self ≡ with_flag (told c.open.new.self) c.in_ok-id.id = search rules in
     let made : c.in_ok-stream.stream ≡ new_unordered (job_setup job) job.limits = search rules in
-    streamed new_unordered b c.args.file_info.now (forward_of c.args.source_range) _ (told c.open.new.self) (c.in_ok-id.id, job)
-    (rw (c.forward-range.ensures, c.in_ok-id.was) at c.open.ensures) _ c.in_ok-stream.stream refl made kept
+    enlisted new_unordered (told c.args.self.now) c.args.file_info.now (forward_of c.args.source_range) _ (told c.open.new.self) (c.in_ok-id.id, job)
+    (rw (c.forward-range.ensures, c.in_ok-id.was) at c.open.ensures) _ c.in_ok-stream.stream made c.registered.ensures.ok
+    c.registered.ensures.memory c.registered.ensures.err
