@@ -2,18 +2,12 @@
 #![tactic(auto)]
 
 #[cfg(test)]
-mod books;
-#[cfg(test)]
 mod calls;
-#[cfg(test)]
-mod ranges;
 #[cfg(test)]
 mod rows;
 #[cfg(test)]
-mod sendings;
-#[cfg(test)]
 mod streams;
 #[cfg(test)]
-mod uploaded;
-#[cfg(test)]
 mod watching;
+#[cfg(test)]
+mod words;
