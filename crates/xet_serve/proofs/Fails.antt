@@ -5,7 +5,7 @@ use Rattle.std.proofs.lemmas.List.Sums.{sum_by-append}
 use Rattle.xet_outside.specs.Told.{ClientTold, Rose}
 use Rattle.xet_ties.specs.Causes.{HaveExpired, LowestRose, NoneAtEnd, total_expiries}
 use Rattle.xet_ties.specs.InCall.{Exchange}
-use Rattle.xet_ties.specs.Setup.{EachGoesOn}
+use Rattle.xet_ties.specs.Setup.{ClientGoesOn, EachGoesOn}
 use Rattle.xet_serve.specs.Sessions.{FewFail, NoFaultsAtEnd, total_faults}
 
 -- ---- counts don't fall
@@ -67,6 +67,14 @@ pub fault_fails : (tries : ℕ) (Q : Exchange → Type 0) (cs ds : List ClientTo
 fault_fails tries Q cs ds xs g h = record {
   faults = λ e. let a = some_more Q cs ds xs g h e in omega (arith, a);
   expired = λ _. let a = expiries_on cs ds g in omega (arith, a);
+}
+
+-- those of the first one
+pub first_fails : (tries : ℕ) (c d : ClientTold) (cs : List ClientTold) → ClientGoesOn c d → Rose c.faults d.faults
+    → FewFail tries (2 ∷ []) (c ∷ cs) (d ∷ cs)
+first_fails tries c d cs g r = record {
+  faults = λ e. let a = e.0 in omega (arith, a, r);
+  expired = λ _. let a = g.expiries in omega (arith, a);
 }
 
 pub late_fails : (tries : ℕ) (cs ds : List ClientTold) (xs : List Exchange) → EachGoesOn cs ds

@@ -5,10 +5,10 @@ use Rattle.xet_outside.specs.Told.{ClientTold}
 use Rattle.xet_ties.specs.Setup.{AllTell, ClientGoesOn, EachGoesOn, IsOver}
 use Rattle.xet_serve.specs.steps.Fetching.{GoesOn, Lent}
 
-one_same : (c : ClientTold) → ClientGoesOn c c
+pub one_same : (c : ClientTold) → ClientGoesOn c c
 one_same c = record { store = refl; link = refl; faults = omega arith; expiries = omega arith }
 
-one_then : (b m n : ClientTold) → ClientGoesOn b m → ClientGoesOn m n → ClientGoesOn b n
+pub one_then : (b m n : ClientTold) → ClientGoesOn b m → ClientGoesOn m n → ClientGoesOn b n
 one_then b m n p q = record {
   store = q.store ∙ p.store;
   link = q.link ∙ p.link;

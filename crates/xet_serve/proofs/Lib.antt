@@ -6,5 +6,6 @@ mod Lines
 mod Ranges
 mod Requests
 mod Sessions
+mod Shorts
 mod Standings
 mod Turns

@@ -2,4 +2,5 @@
 pub mod Answering
 pub mod Errors
 pub mod Fetching
+pub mod Shorts
 pub mod Turning

@@ -7,7 +7,8 @@ ghost use Rattle.xet_serve.specs.Replies.{is_long};
 ghost use Rattle.xet_serve.specs.Sessions.{any_setup};
 ghost use Rattle.xet_serve.specs.steps.Answering.{LineCall, RangesCall, RequestCall};
 
-use crate::fetch::{Fetched, fetch_range};
+use crate::fetch::Fetched;
+use crate::short_range::fetch_range;
 use std::alloc::Global;
 use std::sync::Wait;
 use std::thread::Threads;

@@ -1,4 +1,4 @@
-//! Fetches the bytes of one range into a reply.
+//! Fetches the bytes of one range into a reply by a run.
 ghost use Rattle.std.specs.Prelude.{◌≡◌, None, IfOk, map};
 ghost use Rattle.xet_ties.specs.Causes.{refused_setting};
 ghost use Rattle.xet_ties.specs.Legal.{Legal};
@@ -97,8 +97,8 @@ fn fetch_by<R: Threads + Wait + Sync, C: Client + Send, K: ChunkCache>(
     }
 }
 
-/// Fetches a range of a file, and adds where it starts, how many bytes it has and the bytes to a reply.
-pub(crate) fn fetch_range<R: Threads + Wait + Sync, C: Client + Send, K: ChunkCache>(
+/// Fetches a range of a file by a run, and adds where it starts, how many bytes it has and the bytes to a reply.
+pub(crate) fn fetch_by_run<R: Threads + Wait + Sync, C: Client + Send, K: ChunkCache>(
     rt: &R,
     alloc: Global,
     config: &ReconstructionConfig,
@@ -108,7 +108,7 @@ pub(crate) fn fetch_range<R: Threads + Wait + Sync, C: Client + Send, K: ChunkCa
     cache: &mut K,
     reply: &mut Vec<u8>,
 ) -> Result<Fetched, OutOfMemory>
-    requires { refused_setting (any_setup config.now) (map C.told clients.old) ≡ None }
+    requires settings { refused_setting (any_setup config.now) (map C.told clients.old) ≡ None }
     ensures { RangeCall config.now.tries file range
         (record { clients = map C.told clients.old; cache = K.told cache.old })
         (record { clients = map C.told clients.new; cache = K.told cache.new })

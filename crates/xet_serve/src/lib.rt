@@ -6,6 +6,7 @@ mod fetch;
 pub mod laws;
 pub mod serve_error;
 pub mod session;
+mod short_range;
 mod turn;
 
 pub use serve_error::ServeError;

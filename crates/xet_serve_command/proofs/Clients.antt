@@ -1,28 +1,15 @@
 -- New connections to a store, which neither fail nor tell an expired answer.
-use Rattle.std.proofs.Common.{◌≡◌, ℕ, zero, suc, ◌+◌, ◌-◌, ◌^◌, ◌<◌, List, [], ◌∷◌, ◌++◌, length, map, Option, None, Some, refl, sym, ap, subst, ◌∙◌, arith}
+use Rattle.std.proofs.Common.{◌≡◌, ℕ, zero, suc, ◌+◌, ◌-◌, ◌^◌, ◌<◌, List, [], ◌∷◌, ◌++◌, map, Option, None, Some, refl, sym, ap, subst, ◌∙◌, arith}
 use Rattle.std.specs.Prelude.{All, MatchOption, replicate}
 use Rattle.std.proofs.lemmas.List.{map-append, replicate_more}
-use Rattle.std.proofs.lemmas.List.Elements.{All-nil}
+use Rattle.std.proofs.lemmas.List.Elements.{All-append, All-cons, All-nil}
 use Rattle.xet_base.specs.Store.{IsValid, Store}
 use Rattle.xet_outside.specs.Told.{CacheEntry, CacheTold, ClientTold}
-use Rattle.xet_store.specs.declared.client_log.ClientLog.{ClientLog}
 use Rattle.xet_serve.specs.Laws.{AreCalm}
 use Rattle.xet_serve.specs.Sessions.{NoFaultsAtEnd, total_faults}
 use Rattle.xet_ties.specs.Causes.{NoneAtEnd, total_expiries}
 use Rattle.xet_ties.specs.Setup.{AllTell, CacheTells, IsHonestEntry, IsOver}
 use Rattle.xet_serve_command.specs.steps.Sessions.{new_client}
-
--- what a connection to this store tells that did this
-abbrev pub told_client : Store → ClientLog → ClientTold
-told_client s log = record {
-  store = Some s;
-  asked = Some log.asked;
-  said = Some log.said;
-  served = Some log.served;
-  faults = 0;
-  expiries = 0;
-  link = [];
-}
 
 -- one more
 pub clients_more : {X : Type 0} (told : X → ClientTold) (c : ClientTold) (xs : List X) (x : X) (n : ℕ)
@@ -30,6 +17,12 @@ pub clients_more : {X : Type 0} (told : X → ClientTold) (c : ClientTold) (xs :
 clients_more told c xs x n h e =
     map-append told xs (x ∷ []) ∙ ap (λ (ys : List ClientTold). ys ++ told x ∷ []) h
     ∙ ap (λ (y : ClientTold). replicate n c ++ y ∷ []) e ∙ replicate_more n c
+
+-- one more over the store
+pub all_over_more : {X : Type 0} (store : X → Store) (s : Store) (xs : List X) (x : X)
+    → All (λ y. store y ≡ s) xs → store x ≡ s → All (λ y. store y ≡ s) (xs ++ x ∷ [])
+all_over_more store s xs x a e =
+    All-append (λ y. store y ≡ s) xs (x ∷ []) a (All-cons (λ y. store y ≡ s) x [] e (All-nil (λ y. store y ≡ s)))
 
 -- ---- they tell the store
 

@@ -1,22 +1,18 @@
--- The two parts of an input.
-use Rattle.std.proofs.Common.{◌≡◌, ℕ, ◌+◌, ◌≤◌, ◌==◌, not, List, length, take, drop, ap, ◌∙◌}
-use Rattle.std.specs.Prelude.{min}
-use Rattle.std.specs.List.{position_or_len}
-use Rattle.std.proofs.lemmas.List.{drop_min, take-take}
-use Rattle.std.proofs.lemmas.List.Sums.{prefix_len-le-length}
-use Rattle.xet_serve_command.specs.Serve.{document_of, session_of}
+-- Bytes that stay at the front.
+use Rattle.std.proofs.Common.{◌≡◌, ℕ, ◌+◌, ◌-◌, ◌≤◌, List, ◌++◌, length, take, drop, ap, ◌∙◌, arith}
+use Rattle.std.specs.List.{copy_within}
+use Rattle.std.proofs.lemmas.List.{length-drop, length-take-le, take_all, take_at}
 
--- the place of the first line end
-abbrev pub first_end : List ℕ → ℕ
-first_end text = position_or_len (λ b. b == 10) text
+-- bytes that were moved to the front, and those before them dropped
+pub moved : (text : List ℕ) (place : ℕ) → place ≤ length text
+    → take (length text - place) (copy_within text place (length text) 0) ≡ drop place text
+moved text place h =
+    let size = length-drop place text in
+    let whole : take (length text - place) (drop place text) ≡ drop place text =
+    take_all (length text - place) (drop place text) (omega (arith, size)) in
+    take_at (take (length text - place) (drop place text)) (drop (0 + (length text - place)) text) (length text - place)
+    (length-take-le (length text - place) (drop place text) (omega (arith, size))) ∙ whole
 
-pub end_within : (text : List ℕ) → first_end text ≤ length text
-end_within text = prefix_len-le-length (λ (b : ℕ). not (b == 10)) text
-
--- what stays where the rest, from behind that line end on, was taken off
-pub document_kept : (text : List ℕ) (k m : ℕ) → k ≡ first_end text → k ≤ m → take k (take m text) ≡ document_of text
-document_kept text k m e h = take-take k m text h ∙ ap (λ (i : ℕ). take i text) e
-
--- and the rest
-pub session_taken : (text : List ℕ) (k : ℕ) → k ≡ first_end text → drop (min (k + 1) (length text)) text ≡ session_of text
-session_taken text k e = drop_min (k + 1) text ∙ ap (λ (i : ℕ). drop (i + 1) text) e
+-- the first of bytes that stand before others
+pub front_of : (xs ys : List ℕ) (n m : ℕ) → length xs ≡ n → take m (take n (xs ++ ys)) ≡ take m xs
+front_of xs ys n m e = ap (λ (l : List ℕ). take m l) (take_at xs ys n e)

@@ -54,7 +54,7 @@ fn print<R: Threads + Wait + Sync, O: Sink>(
 ) -> Status
     ensures { Printed (ServePrints options.now text.items) (O.told out.old) (O.told out.new) result }
 {
-    let Ok(session) = take_session(&mut text) else {
+    let Ok(session) = take_session(alloc, &mut text) else {
         return say(out, Status::NoMemory);
     };
     let mut source = VecSource::new(session);

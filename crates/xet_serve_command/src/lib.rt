@@ -4,6 +4,7 @@
 mod command;
 mod connections;
 mod first_line;
+mod near_client;
 mod options;
 mod session;
 

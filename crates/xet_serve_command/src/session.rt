@@ -6,10 +6,10 @@ ghost use Rattle.xet_serve_command.specs.Serve.{StorePrints};
 ghost use Rattle.xet_serve_command.specs.steps.Sessions.{Ended, Printed, left_of, new_client};
 
 use crate::connections::connect;
+use crate::near_client::NearClient;
 use std::alloc::Global;
 use std::sync::Wait;
 use std::thread::Threads;
-use xet_connections::MemClient;
 use xet_get_command::Options;
 use xet_outside::{ChunkCache, Client, NoCache, Sink, Source};
 use xet_room::{Status, say};
@@ -69,11 +69,11 @@ fn serve_over<'a, R: Threads + Wait + Sync, K: ChunkCache, O: Sink>(
     options: &Options,
     store: &'a MemStore,
     session: &mut VecSource,
-    clients: &mut [MemClient<'a>],
+    clients: &mut [NearClient<'a>],
     cache: &mut K,
     out: &mut O,
 ) -> Status
-    requires clients { map (⟦<MemClient<'a> as Client>⟧.told) clients.old
+    requires clients { map (⟦<NearClient<'a> as Client>⟧.told) clients.old
         ≡ replicate (lanes_of options.now) (new_client store.now) }
     requires cache { (K.told cache.old).entries ≡ Some [] }
     ensures { Printed (StorePrints options.now store.now (left_of (⟦<VecSource as Source>⟧.told session.old)))

@@ -3,7 +3,7 @@ use crate::connection::Connection;
 use std::alloc::Global;
 use std::sync::Wait;
 use std::thread::Threads;
-use xet_outside::NoCache;
+use xet_outside::ChunkCache;
 use xet_serve::{ServeError, serve_session};
 use xet_sinks::{ScriptSink, ScriptSource, SinkStep, SourceStep};
 use xet_store::MemStore;
@@ -60,14 +60,15 @@ fn told(alloc: Global, answer: Result<u64, ServeError>, taken: &[u8]) -> String 
     text
 }
 
-/// A session over one connection to a store.
-pub(crate) fn served<R: Threads + Wait + Sync>(
+/// A session over one connection to a store and a cache.
+pub(crate) fn served<R: Threads + Wait + Sync, K: ChunkCache>(
     rt: &R,
     alloc: Global,
     store: &MemStore,
     mut source: ScriptSource,
     client: &str,
     sink: &str,
+    cache: &mut K,
 ) -> String {
     let mut out = ScriptSink::new(alloc, takes(alloc, sink));
     let mut clients = [Connection::new(alloc, store, client)];
@@ -78,7 +79,7 @@ pub(crate) fn served<R: Threads + Wait + Sync>(
         &mut source,
         &mut out,
         &mut clients,
-        &mut NoCache,
+        cache,
         &config,
     );
     told(alloc, answer, out.taken())

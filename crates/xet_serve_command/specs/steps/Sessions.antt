@@ -10,13 +10,13 @@ use Rattle.xet_room.specs.Texts.{line}
 use Rattle.xet_serve.specs.declared.serve_error.ServeError.{ServeError}
 use Rattle.xet_serve.specs.declared.serve_error.ServeError.TheVariants as serve_error
 
--- what a connection to this store tells that was asked nothing yet
+-- what a connection to this store tells, of which only the store is told
 abbrev pub new_client : Store → ClientTold
 new_client s = record {
   store = Some s;
-  asked = Some [];
-  said = Some [];
-  served = Some [];
+  asked = None;
+  said = None;
+  served = None;
   faults = 0;
   expiries = 0;
   link = [];

@@ -1,16 +1,16 @@
 use Rattle.std.proofs.Common.{◌∙◌, ap, length, refl}
 use Rattle.std.proofs.lemmas.List.{length-replicate}
-use Rattle.xet_connections.specs.declared.mem_client.MemClient.{MemClient}
+use Rattle.xet_serve_command.specs.declared.near_client.NearClient.{NearClient}
 use Rattle.xet_get_command.specs.GetOptions.{lanes_of}
 use Rattle.xet_outside.specs.Told.{ClientTold}
 use Rattle.xet_serve_command.specs.steps.Sessions.{new_client}
-use Rattle.xet_serve_command.proofs.Clients.{all_still, are_calm, none_tells, over_store, told_client}
+use Rattle.xet_serve_command.proofs.Clients.{all_still, are_calm, none_tells, over_store}
 use Rattle.xet_serve_command.proofs.Sessions.{ended}
 use Rattle.xet_serve_command.proofs.session.serve_over.Goals as goal
 
 pub returns : goal.returns
 returns g c =
-    let told : MemClient → ClientTold = λ x. told_client x.store.now x.log in
+    let told : NearClient → ClientTold = λ x. new_client x.store.now in
     let s = c.args.store.now in
     let o = c.args.options.now in
     let law = c.calm_sessions_reply.ensures in
