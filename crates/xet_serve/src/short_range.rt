@@ -147,7 +147,10 @@ fn fetch_once<C: Client>(
 ) -> Result<Option<Fetched>, OutOfMemory>
     ensures { OneCall file range (C.told client.old) (C.told client.new) reply.old.items reply.new.items result }
 {
-    let id = UniqueId { plan: 1, refresh: 0 };
+    let id = UniqueId {
+        plan: 1,
+        refresh: 0,
+    };
     match retrieve_file_term_block(alloc, client, file, range, multirange, id) {
         Ok(made) => fetch_made(alloc, &made, range.start, client, reply),
         Err(error) => Ok(untold(error)),
@@ -174,14 +177,7 @@ fn fetch_shortly<C: Client>(
         return Ok(None);
     }
     let multirange = config.enable_multirange_fetching;
-    fetch_once(
-        alloc,
-        multirange,
-        file,
-        range,
-        &mut clients[0],
-        reply,
-    )
+    fetch_once(alloc, multirange, file, range, &mut clients[0], reply)
 }
 
 /// Fetches a range of a file, and adds where it starts, how many bytes it has and the bytes to a reply.

@@ -1,5 +1,5 @@
 -- What is printed of a document and a session.
-use Rattle.std.proofs.Common.{◌≡◌, ℕ, List, refl, inl, inr}
+use Rattle.std.proofs.Common.{ℕ, List, refl, inl, inr}
 use Rattle.xet_base.specs.Store.{Store}
 use Rattle.xet_document.specs.Document.{HasStore, NoStore}
 use Rattle.xet_outside.specs.Told.{SinkTold}

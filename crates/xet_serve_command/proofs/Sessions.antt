@@ -1,16 +1,13 @@
 -- How the command ends behind a session over new connections to a store.
-use Rattle.std.proofs.Common.{◌≡◌, ◌⊎◌, ℕ, ◌<◌, ◌++◌, Bool, true, false, List, [], ◌∷◌, length, Option, None, Some, Result, Ok, Err, refl, sym, ap, subst, ◌∙◌, inl, inr, ⊎_elim, arith}
-use Rattle.std.specs.Prelude.{IsTrue}
-use Rattle.std.proofs.lemmas.List.{length-replicate}
+use Rattle.std.proofs.Common.{◌≡◌, ◌⊎◌, ℕ, Bool, true, false, List, length, Option, None, Some, Result, Ok, Err, refl, sym, ap, subst, ◌∙◌, inl, inr, ⊎_elim, arith}
 use Rattle.std.proofs.lemmas.List.Folds.{list_any_none}
-use Rattle.xet_base.specs.Store.{IsValid, Store}
-use Rattle.xet_outside.specs.Told.{Rose, SinkTold, Took, TookPrefix}
+use Rattle.xet_base.specs.Store.{Store}
+use Rattle.xet_outside.specs.Told.{SinkTold, TookPrefix}
 use Rattle.xet_error.specs.declared.error.Setting.{Setting}
 use Rattle.xet_get_command.specs.declared.options.Options.{Options}
 use Rattle.xet_get_command.specs.GetOptions.{config_of, lanes_of}
 use Rattle.xet_room.specs.declared.status.Status.{Status}
 use Rattle.xet_room.specs.declared.status.Status.TheVariants as status
-use Rattle.xet_room.specs.Outcome.{Finished}
 use Rattle.xet_room.specs.Texts.{line}
 use Rattle.xet_serve.specs.declared.serve_error.ServeError.{ServeError}
 use Rattle.xet_serve.specs.declared.serve_error.ServeError.TheVariants as serve_error
@@ -22,8 +19,7 @@ use Rattle.xet_terms.specs.Settings.{failing_setting}
 use Rattle.xet_ties.specs.Causes.{refused_setting}
 use Rattle.xet_ties.specs.Setup.{CacheTells, IsOver}
 use Rattle.xet_serve_command.specs.Serve.{StorePrints, has_long_line, unmet_setting}
-use Rattle.xet_serve_command.specs.steps.Sessions.{Ended, LinePrinted, Printed, new_client}
-use Rattle.xet_serve_command.proofs.Clients.{none_tells, over_store}
+use Rattle.xet_serve_command.specs.steps.Sessions.{Ended, LinePrinted, Printed}
 
 -- the laws of sessions where no connection fails
 pub record CalmLaws : Type 0 where

@@ -6,8 +6,8 @@ use std::sync::Wait;
 use std::thread::Threads;
 use xet_outside::{ChunkCache, NoCache};
 use xet_sinks::{ScriptSource, SourceStep};
-use xet_store::{MapCache, MemStore};
 use xet_store::worked::worked_store;
+use xet_store::{MapCache, MemStore};
 
 const ROWS: &str = "\
 - - GET @a 0-5,7-9/GET @f 0-1/GET @a 3/QUIT/GET @a 0-1/: 4 OK 2/0 5/Hello/7 2/wo/NONE/BAD/BYE/
@@ -93,14 +93,7 @@ fn sessions_by_runs(rt: HostRuntime) {
     let store = worked_store(alloc).unwrap_or(MemStore::new(alloc));
     for line in RUNS.lines() {
         if let Some((row, wanted)) = line.split_once(": ") {
-            at_once(
-                &rt,
-                alloc,
-                &store,
-                row,
-                wanted,
-                &mut MapCache::new(alloc),
-            );
+            at_once(&rt, alloc, &store, row, wanted, &mut MapCache::new(alloc));
         }
     }
 }
