@@ -12,7 +12,7 @@ usage:
                                 print bytes START to before END of the file HASH
   xet_tool audit [hashes]       print what is wrong with a store, and which xorbs no file names
   xet_tool compact              print a store without the xorbs and chunks that no file needs
-  xet_tool mirror [verify]      copy files from one store to another, and print what that took
+  xet_tool mirror [verify]      copy files between two stores in memory, and print what that took
   xet_tool resume HASH LENGTH START END [START END ..]
                                 fetch ranges of a file, and print what is still missing
   xet_tool serve [OPTION ..]    answer a session of requests for ranges of files
@@ -118,7 +118,8 @@ input of mirror:
   does not read where a xorb that both stores have has other chunks in one, or a file that both
   have other bytes. To see that takes as long as the xorbs that both have have bytes, and the files
   that both have terms; where the terms of such a file differ, as long as it has bytes, each chunk
-  as often as terms have it. The document stands in memory as a tree, up to 175 times its size.
+  as often as terms have it. The document stands in memory as a tree, up to 175 times its size,
+  and each file that is copied takes 36 bytes for each chunk of the xorbs that it names.
 
 lines of mirror:
   Each listed file that the target lacks is copied in memory: the xorbs that it names and the
