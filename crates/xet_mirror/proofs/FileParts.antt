@@ -1,10 +1,10 @@
 -- One file of the list: the target has it, neither has it, or it is copied.
-use Rattle.std.proofs.Common.{◌≡◌, ℕ, ◌+◌, ◌-◌, ◌^◌, Bool, true, false, not, ◌⊎◌, inl, inr, List, [], ◌∷◌, ◌++◌, length, map, refl, sym, ◌∙◌, ap, subst, arith}
+use Rattle.std.proofs.Common.{◌≡◌, ℕ, ◌+◌, ◌-◌, ◌^◌, Bool, true, false, not, ◌⊎◌, inl, inr, List, [], ◌∷◌, ◌++◌, length, map, get_or, refl, sym, ◌∙◌, ap, subst, arith}
 use Rattle.std.specs.Prelude.{Option, Some, None, IsSome, Result, Ok, Err, find, is_err, is_some, option_map, unwrap_or, All, Contains}
 use Rattle.std.specs.List.{flat_map, list_any}
 use Rattle.std.specs.Option.{option_or}
 use Rattle.std.proofs.lemmas.Bool.{false≢true, true≢false}
-use Rattle.std.proofs.lemmas.List.{append-nil, length-append, map-append}
+use Rattle.std.proofs.lemmas.List.{append-nil, get_or-map, length-append, length-map, map-append}
 use Rattle.std.proofs.lemmas.List.Elements.{All-push}
 use Rattle.xet_base.specs.declared.merklehash.MerkleHash.{MerkleHash}
 use Rattle.xet_base.specs.declared.mdb_shard.FileDataSequenceEntry.{FileDataSequenceEntry}
@@ -12,11 +12,12 @@ use Rattle.xet_base.specs.declared.mdb_shard.MDBFileInfo.{MDBFileInfo}
 use Rattle.xet_base.specs.declared.stored.StoredFile.{StoredFile}
 use Rattle.xet_base.specs.Hashes.{hash_eq}
 use Rattle.xet_base.specs.Lists.{firsts}
-use Rattle.xet_base.specs.Store.{Store, file_of}
+use Rattle.xet_base.specs.Store.{IsTermIn, IsValid, Store, file_of}
 use Rattle.xet_base.proofs.CallerLemmas.{hash_eq-true}
 use Rattle.xet_outside.specs.declared.client.ClientError.{ClientError}
 use Rattle.xet_outside.specs.declared.client.ClientError.TheVariants as client_error
 use Rattle.xet_store.specs.Refusals.{stored_term}
+use Rattle.xet_store.proofs.CallerLemmas.{found_terms}
 use Rattle.xet_uploader.specs.declared.uploader.Put.{Put}
 use Rattle.xet_uploader.specs.StoresAfter.{file_of_record, files_in}
 use Rattle.xet_uploader.specs.Uploads.{UploaderTold}
@@ -28,12 +29,13 @@ use Rattle.xet_mirror_parts.specs.declared.report.MirrorError.TheVariants as mir
 use Rattle.xet_mirror_parts.specs.Errors.{of_client}
 use Rattle.xet_mirror_parts.specs.Looked.{counted, with_present}
 use Rattle.xet_mirror_parts.specs.Moments.{Moment, Step}
-use Rattle.xet_mirror_parts.specs.Copying.{CopyCall, CopyCause, IsNewFile}
+use Rattle.xet_mirror_parts.specs.Copying.{AllTermsIn, CopyCall, CopyCause, IsNewFile, NeverLost}
 use Rattle.xet_shelves.proofs.CallerLemmas.{after-append, after_finds_files, files_in-append, has_file-after}
-use Rattle.xet_mirror_parts.proofs.CallerLemmas.{any-map, found_all, found_passes, is_some-found, log-same, moment-more, none-is, none-some_not, some-is, step-answer, step-asked, step-err, step-has, step-then}
+use Rattle.xet_mirror_parts.proofs.CallerLemmas.{any-map, client-lost, found_all, found_passes, is_some-found, log-same, moment-more, none-is, none-some_not, some-is, step-answer, step-asked, step-err, step-has, step-then}
 use Rattle.xet_mirror.specs.Mirrored.{copied_files, named_xorbs, names_of_file}
 use Rattle.xet_mirror.specs.steps.FileCalls.{FileCall, FileCause, IsCopied}
 use Rattle.xet_mirror.proofs.Listed.{copied-again, copied-held, copied-new, counted-one, length-copied, named-more}
+use Rattle.xet_mirror.proofs.MirrorLaws.{term-test}
 
 -- an answer is no error
 pub ok-other : {A : Type 0} (x : A) (y : MirrorError) → ◌≡◌ {A = Result A MirrorError} (Ok x) (Err y) → ⊥
@@ -110,11 +112,12 @@ copied-same s t ps c done k = let P : List Put → Type 0 = λ qs. IsCopied s t 
 file-error : (verify : Bool) (place : ℕ) (file : MerkleHash) (sb sa : ShelfTold) (tb ta : UploaderTold) (cb ca : Copied) (e : MirrorError)
     → Step {A = Unit {0}} verify sb sa tb ta [] (Err e)
     → ((s t : Store) (ps : List Put) (done : List MerkleHash) → Moment s t ps sb tb → IsCopied s t ps cb done → FileCause s t place file e)
-    → FileCall verify place file sb sa tb ta cb ca (Err e)
-file-error verify place file sb sa tb ta cb ca e step cause = record {
+    → NeverLost e → FileCall verify place file sb sa tb ta cb ca (Err e)
+file-error verify place file sb sa tb ta cb ca e step cause lost = record {
   puts = [];
   step = step;
   told = λ s t ps done m k. record { log = log-same s t ps k.copying.log; copied = tt; cause = cause s t ps done m k };
+  alone = λ s m v k. record { records = tt; cause = lost };
 }
 
 client-cause : (s t : Store) (place : ℕ) (file : MerkleHash) (e : ClientError) → FileCause s t place file (of_client e)
@@ -130,7 +133,7 @@ module _ (verify : Bool) (place : ℕ) (file : MerkleHash) (sb sa : ShelfTold) (
   file-unheld e h =
       file-error verify place file sb sb tb ta cb cb (of_client e)
       (step-err verify sb sb tb ta [] (of_client e) (step-has verify sb tb ta (λ s log. has_file s log file) (Err e) h))
-      (λ s t ps done m k. client-cause s t place file e)
+      (λ s t ps done m k. client-cause s t place file e) (client-lost e)
 
   pub file-present : HasCall tb ta (λ s log. has_file s log file) (Ok true) → FileCall verify place file sb sb tb ta cb (counted_present cb) (Ok tt)
   file-present h = record {
@@ -143,6 +146,7 @@ module _ (verify : Bool) (place : ℕ) (file : MerkleHash) (sb sa : ShelfTold) (
           copied = copied-same s t ps (counted_present cb) (done ++ file ∷ []) (more s t ps done k next);
           cause = tt;
         };
+    alone = λ s m v k. record { records = k; cause = tt };
   }
     where
       more : (s t : Store) (ps : List Put) (done : List MerkleHash) → IsCopied s t ps cb done
@@ -179,7 +183,7 @@ module _ (verify : Bool) (place : ℕ) (file : MerkleHash) (sb sa : ShelfTold) (
       file-error verify place file sb sa tb ta cb cb (of_client e)
       (step-then verify sb sb sa tb ta ta [] [] held (Err (of_client e)) (step-has verify sb tb ta (λ s log. has_file s log file) (Ok held) h)
       (step-err verify sb sa ta ta [] (of_client e) (step-asked verify sb sa ta (IsRecordOf file) (Err e) k)))
-      (λ s t ps done m k. client-cause s t place file e)
+      (λ s t ps done m k. client-cause s t place file e) (client-lost e)
 
   -- t has it not, and neither has a put
   lacking : (s t : Store) (ps : List Put) → Moment s t ps sb tb → HasCall tb ta (λ s log. has_file s log file) (Ok false)
@@ -199,7 +203,7 @@ module _ (verify : Bool) (place : ℕ) (file : MerkleHash) (sb sa : ShelfTold) (
         refl,
         sym (ap is_some (k.is s m.shelf_is)),
         (lacking s t ps m h).0,
-      ))
+      )) tt
 
 -- ---- a file is copied
 
@@ -275,6 +279,15 @@ module _ (verify : Bool) (place : ℕ) (file : MerkleHash) (sb sm sa : ShelfTold
           files_present = c.files.1 ∙ k.files_present ∙ ap counted rest;
         }
 
+  -- each term of a valid store's file is in it
+  valid-terms : (s : Store) → sb.store ≡ Some s → IsValid s → AllTermsIn s info.entries
+  valid-terms s m v n d l =
+      let f = file_of_record info in
+      let at = get_or-map stored_term info.entries n d (stored_term d) l in
+      let all = found_terms s v file f f.terms (asked.is s m) refl in
+      let within = all n (stored_term d) (omega (arith, l, length-map info.entries stored_term)) in
+      term-test s (stored_term (get_or info.entries n d)) (subst (IsTermIn s) at within)
+
   pub file-copied : (r : Result (Unit {0}) MirrorError) → CopyCall verify place info sm sa tm ta cb ca r → FileCall verify place file sb sa tb ta cb ca r
   file-copied (Ok tt) c = record {
     puts = c.puts;
@@ -284,6 +297,7 @@ module _ (verify : Bool) (place : ℕ) (file : MerkleHash) (sb sm sa : ShelfTold
       copied = copied-more s t ps done m k c;
       cause = tt;
     };
+    alone = λ s m v k. record { records = (c.alone s (asked.store ∙ m) k).records; cause = tt };
   }
   file-copied (Err e) c = record {
     puts = c.puts;
@@ -291,4 +305,5 @@ module _ (verify : Bool) (place : ℕ) (file : MerkleHash) (sb sm sa : ShelfTold
     told = λ s t ps done m k.
         let u = c.told s t ps (here s t ps done m k) k.copying (new-file s t ps done m k) in
         record { log = u.log; copied = tt; cause = cause s t ps done m k e u.cause };
+    alone = λ s m v k. record { records = tt; cause = (c.alone s (asked.store ∙ m) k).cause (valid-terms s m v) };
   }

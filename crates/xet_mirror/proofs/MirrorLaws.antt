@@ -69,7 +69,7 @@ any-firsts p (x ∷ xs) h = go (p x) h (λ k. any-firsts p xs k)
 
 -- ---- terms of a valid store
 
-terms-all : (s : Store) → IsValid s → (f : MerkleHash) → All (IsTermIn s) (terms_of_file s f)
+pub terms-all : (s : Store) → IsValid s → (f : MerkleHash) → All (IsTermIn s) (terms_of_file s f)
 terms-all s v f = go (file_of s f) refl
   where
     go : (o : Option StoredFile) → file_of s f ≡ o → All (IsTermIn s) (unwrap_or (option_map (λ x. x.terms) o) [])
@@ -80,7 +80,7 @@ and-true : (a b : Bool) → a ≡ true → b ≡ true → (a && b) ≡ true
 and-true true b h k = k
 and-true false b h k = h
 
-term-test : (s : Store) (t : StoredTerm) → IsTermIn s t → is_term_in s t ≡ true
+pub term-test : (s : Store) (t : StoredTerm) → IsTermIn s t → is_term_in s t ≡ true
 term-test s t i =
     and-true (nat_lt t.from t.to && is_some (xorb_of s t.xorb)) (nat_le t.to (length (chunks_of s t.xorb)))
     (and-true (nat_lt t.from t.to) (is_some (xorb_of s t.xorb)) (lt-ltb t.from t.to i.some) i.stored) (le-leb t.to (length (chunks_of s t.xorb)) i.inside)

@@ -65,6 +65,9 @@ mirroring-none verify files sb tb c e = record {
   puts = [];
   step = step-none verify sb tb (Ok tt) (ok-other tt mirror_error.ClientError) tt;
   told = λ s t m. let P : Copied → Type 0 = λ c. IsCopied s t [] c [] in subst P (sym e) (copied-none s t);
+  alone = λ s m v.
+      let P : Copied → Type 0 = λ c. All (IsLookedFrom s) c.xorbs in
+      subst P (sym e) (All-nil (IsLookedFrom s));
 }
 
 -- ---- one file more
@@ -90,6 +93,7 @@ module _ (verify : Bool) (files : List MerkleHash) (i : ℕ) (file : MerkleHash)
     told = λ s t m.
         let P : List MerkleHash → Type 0 = IsCopied s t (done.puts ++ h.puts) ca in
         subst P (sym more-is) (h.told s t done.puts (take i files) (here s t m) (done.told s t m)).copied;
+    alone = λ s m v. (h.alone s (done.step.store ∙ m) v (done.alone s m v)).records;
   }
 
   module _ (e : MirrorError) (h : FileCall verify i file sm sa tm ta cm ca (Err e)) where
@@ -150,6 +154,7 @@ module _ (verify : Bool) (files : List MerkleHash) (i : ℕ) (file : MerkleHash)
           shards = λ s t b. (told-at s t b.shown).log.shards;
           mirrored = λ s t b. tt;
           cause = cause e (λ s t shown. (told-at s t shown).cause) step;
+          whole = λ s m v. (h.alone s (done.step.store ∙ m) v (done.alone s m v)).cause;
         }
 
 -- ---- the whole list
@@ -166,6 +171,7 @@ mirror-done verify files done sb sa tb ta c all h = record {
   shards = λ s t b. (at s t b).copying.log.shards;
   mirrored = λ s t b. mirrored s t h.puts c files (at s t b) b.from b.to b.agree;
   cause = tt;
+  whole = λ s m v. tt;
 }
   where
     at : (s t : Store) → Between s t sb tb → IsCopied s t h.puts c files

@@ -5,7 +5,7 @@ use Rattle.xet_base.specs.declared.merklehash.MerkleHash.{MerkleHash}
 use Rattle.xet_base.specs.declared.stored.StoredTerm.{StoredTerm}
 use Rattle.xet_base.specs.Digests.{infos_of, xorb_hash_of}
 use Rattle.xet_base.specs.Hashes.{hash_eq}
-use Rattle.xet_base.specs.Store.{Store, chunks_of, file_of, terms_of_file, xorb_of}
+use Rattle.xet_base.specs.Store.{IsValid, Store, chunks_of, file_of, terms_of_file, xorb_of}
 use Rattle.xet_outside.specs.Told.{Rose}
 use Rattle.xet_store.specs.Refusals.{is_term_in}
 use Rattle.xet_uploader.specs.Uploads.{UploaderTold, xorbs_in}
@@ -16,7 +16,7 @@ use Rattle.xet_shelves.specs.Shelves.{ShelfTold}
 use Rattle.xet_mirror_parts.specs.declared.report.MirrorError.{MirrorError}
 use Rattle.xet_mirror_parts.specs.declared.report.MirrorError.TheVariants as mirror_error
 use Rattle.xet_mirror_parts.specs.declared.report.MirrorReport.{MirrorReport}
-use Rattle.xet_mirror_parts.specs.Copying.{IsSentFrom, IsShardOf, chunks_hash, shards_in}
+use Rattle.xet_mirror_parts.specs.Copying.{IsSentFrom, IsShardOf, NeverLost, chunks_hash, shards_in}
 use Rattle.xet_mirror_parts.specs.Moments.{Step}
 use Rattle.xet_mirror.specs.Mirrored.{IsMirrored, copied_files, named_xorbs}
 
@@ -87,3 +87,5 @@ pub record MirrorCall (verify : Bool) (files : List MerkleHash) (sb sa : ShelfTo
   pub mirrored : (s t : Store) → Between s t sb tb → IfOk answer (IsMirrored s t files puts)
   -- each error has its cause
   pub cause : IfErr answer (MirrorCause verify files sb sa tb ta)
+  -- over a shelf that tells a valid store none is `XorbMissing` or `BadTerm`, whatever the target tells
+  pub whole : (s : Store) → sb.store ≡ Some s → IsValid s → IfErr answer NeverLost

@@ -19,15 +19,14 @@ use xet_shelves::{Shelf, Target};
 ///
 /// - `FileMissing` where neither has a listed file, `XorbMissing` where neither has a xorb that a file to be copied
 ///   names, `BadTerm` where a term of one isn't from below to inside a xorb of the shelf's. A xorb that the term which
-///   names it first isn't inside is not put. The last two never come where shelf and target tell, the shelf a valid
-///   store.
+///   names it first isn't inside is not put. The last two never come over a shelf that tells a valid store.
 /// - `HashDiffers` where `verify` is set and a xorb that the target lacks has another hash than that of its chunks.
 /// - `ClientError` where a call of the shelf or of the target failed, and its count of faults rose.
 /// - `OutOfMemory` where an allocation was refused.
 ///
 /// What the shelf gives under another hash than the asked one counts as not there. One xorb's bytes are in memory at a
-/// time, and the records of the xorbs that were looked at, 36 bytes a chunk and spare room. A shard has the records of
-/// all xorbs that its file names, so to make it takes their chunks once more, for each file.
+/// time, and the records of the xorbs that were looked at, 36 bytes a chunk. A shard has the records of all xorbs that
+/// its file names, so to make it takes their chunks once more, for each file.
 ///
 /// The Rust crates have no such call.
 pub fn mirror_files<H: Shelf, T: Target>(

@@ -20,7 +20,7 @@ use Rattle.xet_mirror_parts.specs.declared.report.MirrorError.{MirrorError}
 use Rattle.xet_mirror_parts.specs.declared.report.MirrorError.TheVariants as mirror_error
 use Rattle.xet_mirror_parts.specs.Looked.{IsWholeXorb, counted, looked_hashes}
 use Rattle.xet_mirror_parts.specs.Moments.{Moment, OnlyTests, Step}
-use Rattle.xet_mirror_parts.specs.Copying.{CopyCall, CopyCause, CopyTold, IsCopying, IsLogOf, IsNewFile, LookCause, TermsCall}
+use Rattle.xet_mirror_parts.specs.Copying.{CopyCall, CopyCause, CopyTold, IsCopying, IsLogOf, IsLookedFrom, IsNewFile, LookCause, NeverLost, TermsCall}
 use Rattle.xet_mirror_parts.specs.steps.Kept.{IsPlain, RecordCall, put_on, shard_with}
 use Rattle.xet_shelves.proofs.CallerLemmas.{files_in-append}
 use Rattle.xet_mirror_parts.proofs.Afters.{after-file-same}
@@ -70,6 +70,7 @@ module _ (verify : Bool) (place : ℕ) (file : MDBFileInfo) (sb sm sa : ShelfTol
     files = tt;
     looked = tt;
     told = λ s t ps m k is. let u = h.told s t ps m k in record { log = u.log; copying = tt; terms = tt; cause = cause s t e u.cause };
+    alone = λ s m k. record { records = tt; cause = (h.alone s m k).cause };
   }
     where
       cause : (s t : Store) (e : MirrorError) → LookCause s t (Contains (map (λ e. e.xorb) file.entries)) e → CopyCause s t place file e
@@ -91,6 +92,7 @@ module _ (verify : Bool) (place : ℕ) (file : MDBFileInfo) (sb sm sa : ShelfTol
     files = tt;
     looked = tt;
     told = λ s t ps m k is. let u = h.told s t ps m k in record { log = u.log; copying = tt; terms = tt; cause = (refl, u.is) };
+    alone = λ s m k. record { records = tt; cause = λ a. absurd (let f : Some entry ≡ None = (h.alone s m k).is a in cc) };
   }
 
   -- its xorbs are there, and its record is put
@@ -109,8 +111,17 @@ module _ (verify : Bool) (place : ℕ) (file : MDBFileInfo) (sb sm sa : ShelfTol
           let u = h.told s t ps m k in
           let P : List Put → Type 0 = IsLogOf s t in
           record { log = subst P (append_assoc ps h.puts []) (log-same s t (ps ++ h.puts) u.log); copying = tt; terms = tt; cause = cause s t e r.cause };
+      alone = λ s m k. record { records = tt; cause = λ a. plain e r.cause };
     }
       where
+        plain : (e : MirrorError) → IsPlain e → NeverLost e
+        plain mirror_error.OutOfMemory c = tt
+        plain mirror_error.ClientError c = tt
+        plain (mirror_error.XorbMissing g) c = c
+        plain (mirror_error.HashDiffers g) c = tt
+        plain (mirror_error.FileMissing p) c = tt
+        plain (mirror_error.BadTerm p n) c = c
+
         cause : (s t : Store) (e : MirrorError) → IsPlain e → CopyCause s t place file e
         cause s t mirror_error.OutOfMemory c = tt
         cause s t mirror_error.ClientError c = tt
@@ -130,6 +141,9 @@ module _ (verify : Bool) (place : ℕ) (file : MDBFileInfo) (sb sm sa : ShelfTol
       );
       looked = λ hs same. ap (λ (c : Copied). looked_hashes c.xorbs) r.counted ∙ h.looked refl hs same;
       told = told;
+      alone = λ s m k.
+          let P : Copied → Type 0 = λ c. All (IsLookedFrom s) c.xorbs in
+          record { records = subst P (sym r.counted) (h.alone s m k).records; cause = λ a. tt };
     }
       where
         shard : ShardRecord

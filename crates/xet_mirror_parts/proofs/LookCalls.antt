@@ -4,7 +4,7 @@ use Rattle.std.specs.Prelude.{Option, Some, None, Result, Ok, Err, IfErr, IsErrO
 use Rattle.std.specs.List.{list_any}
 use Rattle.std.proofs.lemmas.Bool.{false≢true, true≢false}
 use Rattle.std.proofs.lemmas.List.{append-nil}
-use Rattle.std.proofs.lemmas.List.Elements.{All-cons, All-nil}
+use Rattle.std.proofs.lemmas.List.Elements.{All-cons, All-nil, All-push}
 use Rattle.xet_base.specs.declared.merklehash.MerkleHash.{MerkleHash}
 use Rattle.xet_base.specs.declared.mdb_shard.MDBFileInfo.{MDBFileInfo}
 use Rattle.xet_base.specs.declared.mdb_shard.Xorb.{Xorb}
@@ -28,7 +28,7 @@ use Rattle.xet_mirror_parts.specs.declared.report.MirrorError.TheVariants as mir
 use Rattle.xet_mirror_parts.specs.Errors.{of_client}
 use Rattle.xet_mirror_parts.specs.Looked.{IsWholeXorb, Notes, is_looked, looked_hashes, report_with}
 use Rattle.xet_mirror_parts.specs.Moments.{Moment, OnlyTests, Step}
-use Rattle.xet_mirror_parts.specs.Copying.{IsCopying, IsLogOf, LookCall, LookCause, LookTold, LooksAt, SameFiles, chunks_hash}
+use Rattle.xet_mirror_parts.specs.Copying.{IsCopying, IsLogOf, IsLookedFrom, LookCall, LookCause, LookTold, LooksAt, NeverLost, SameFiles, chunks_hash}
 use Rattle.xet_mirror_parts.specs.steps.Kept.{KeepCall, KeepCause, kept_puts, lost}
 use Rattle.xet_shelves.proofs.CallerLemmas.{after-append, has_xorb-after}
 use Rattle.xet_mirror_parts.proofs.Copyings.{copying-held, copying-sent, hashes-noted, looked-stored, notes-is, unput-is, with_noted}
@@ -45,6 +45,18 @@ mapped (Err e) = Err (of_client e)
 pub client-plain : (s t : Store) (N : MerkleHash → Type 0) (e : ClientError) → LookCause s t N (of_client e)
 client-plain s t N client_error.OutOfMemory = tt
 client-plain s t N client_error.Failed = tt
+
+pub client-lost : (e : ClientError) → NeverLost (of_client e)
+client-lost client_error.OutOfMemory = tt
+client-lost client_error.Failed = tt
+
+keep-lost : (verify : Bool) (x : Xorb) (held : Bool) (e : MirrorError) → KeepCause verify x held e → NeverLost e
+keep-lost verify x held mirror_error.OutOfMemory c = tt
+keep-lost verify x held mirror_error.ClientError c = tt
+keep-lost verify x held (mirror_error.HashDiffers g) c = tt
+keep-lost verify x held (mirror_error.FileMissing p) c = tt
+keep-lost verify x held (mirror_error.XorbMissing g) c = c
+keep-lost verify x held (mirror_error.BadTerm p e) c = c
 
 pub client-failed : {A : Type 0} (r : Result A ClientError) → IsErrOf (mapped r) mirror_error.ClientError → IsErrOf r client_error.Failed
 client-failed (Ok a) e = cc
@@ -160,8 +172,9 @@ copying-same s t ps c h = let P : List Put → Type 0 = λ qs. IsCopying s t qs 
 look-error : (verify : Bool) (xorb : MerkleHash) (good : Store → Bool) (sb sa : ShelfTold) (tb ta : UploaderTold) (cb ca : Copied) (e : MirrorError)
     → Step {A = Bool} verify sb sa tb ta [] (Err e)
     → ((s t : Store) (ps : List Put) → Moment s t ps sb tb → IsCopying s t ps cb → LookCause s t (λ h. h ≡ xorb) e)
+    → ((s : Store) → sb.store ≡ Some s → good s ≡ true → NeverLost e)
     → LookCall verify xorb good sb sa tb ta cb ca (Err e)
-look-error verify xorb good sb sa tb ta cb ca e step cause = record {
+look-error verify xorb good sb sa tb ta cb ca e step cause lost = record {
   puts = [];
   step = step;
   xorbs_only = refl;
@@ -174,6 +187,7 @@ look-error verify xorb good sb sa tb ta cb ca e step cause = record {
     known = tt;
     cause = cause s t ps m k;
   };
+  alone = λ s m k. record { records = tt; is = λ g. tt; cause = lost s m };
 }
 
 -- ---- a xorb that wasn't looked at
@@ -205,7 +219,7 @@ looks-again c xorb y hs e =
     sym (firsts-push hash_eq hash_eq-chain hs xorb ∙ ap (λ (fs : List MerkleHash). cond (list_any (λ y. hash_eq y xorb) fs) fs (fs ++ xorb ∷ [])) (sym e)
     ∙ ap (λ b. cond b (looked_hashes c.xorbs) (looked_hashes c.xorbs ++ xorb ∷ [])) yes)
 
-looked-contained : (c : Copied) (xorb : MerkleHash) → is_looked c.xorbs xorb ≡ true → Contains (looked_hashes c.xorbs) xorb
+pub looked-contained : (c : Copied) (xorb : MerkleHash) → is_looked c.xorbs xorb ≡ true → Contains (looked_hashes c.xorbs) xorb
 looked-contained c xorb y =
     any_contained (looked_hashes c.xorbs) xorb
     (any-map (λ g. hash_eq g xorb) (λ (x : LookedXorb). x.info.hash) c.xorbs ∙ sym (is_some-found (λ x. hash_eq x.info.hash xorb) c.xorbs) ∙ y)
@@ -229,7 +243,7 @@ module _ (verify : Bool) (xorb : MerkleHash) (sb sa : ShelfTold) (tb tm ta : Upl
       → LookCall verify xorb good sb sb tb ta cb cb (Err (of_client e))
   look-unheld good has e h =
       look-error verify xorb good sb sb tb ta cb cb (of_client e) (step-has verify sb tb ta has (Err e) h)
-      (λ s t ps m k. client-plain s t (λ h. h ≡ xorb) e)
+      (λ s t ps m k. client-plain s t (λ h. h ≡ xorb) e) (λ s m g. client-lost e)
 
   -- the shelf failed
   pub look-unasked : (good : Store → Bool) (has : Store → List Put → Bool) (held : Bool) (e : ClientError) → HasCall tb ta has (Ok held)
@@ -239,6 +253,7 @@ module _ (verify : Bool) (xorb : MerkleHash) (sb sa : ShelfTold) (tb tm ta : Upl
       step-then verify sb sb sa tb ta ta [] [] held (Err (of_client e)) (step-has verify sb tb ta has (Ok held) h)
       (step-err verify sb sa ta ta [] (of_client e) (step-asked verify sb sa ta (IsXorbOf xorb) (Err e) k)) in
       look-error verify xorb good sb sa tb ta cb cb (of_client e) step (λ s t ps m k. client-plain s t (λ h. h ≡ xorb) e)
+      (λ s m g. client-lost e)
 
   -- the shelf hasn't it
   module _ (new : is_looked cb.xorbs xorb ≡ false) where
@@ -262,6 +277,7 @@ module _ (verify : Bool) (xorb : MerkleHash) (sb sa : ShelfTold) (tb tm ta : Upl
             known = λ e. inr (sym (held-is s t ps sb tb ta cb xorb true m c new h));
             cause = tt;
           };
+          alone = λ s m c. record { records = c; is = λ g. ap is_some (k.is s m) ∙ g; cause = λ g. tt };
         }
     look-lost false h k =
         let first = step-has verify sb tb ta (λ s log. has_xorb s log xorb) (Ok false) h in
@@ -276,7 +292,7 @@ module _ (verify : Bool) (xorb : MerkleHash) (sb sa : ShelfTold) (tb tm ta : Upl
             sym (ap is_some (k.is s m.shelf_is)),
             sym (held-is s t ps sb tb ta cb xorb false m c new h),
           ),
-        ))
+        )) (λ s m g. false≢true (ap is_some (k.is s m) ∙ g))
 
     -- the shelf has it, and it was kept
     module _ (held : Bool) (found : Xorb) (h : HasCall tb tm (λ s log. has_xorb s log xorb) (Ok held)) (asked : ShelfCall sb sa (IsXorbOf xorb) (Ok (Some found)))
@@ -320,6 +336,7 @@ module _ (verify : Bool) (xorb : MerkleHash) (sb sa : ShelfTold) (tb tm ta : Upl
           let step : Step {A = Bool} verify sb sa tb ta [] (Err e) =
           step-then verify sb sa sa tb tm ta [] [] (Some found) (Err e) step-found (step-err verify sa sa tm ta [] e (step-kept verify found held sa tm ta cb ca (Err e) some k)) in
           look-error verify xorb (on_shelf xorb) sb sa tb ta cb ca e step (λ s t ps m c. keep-cause s t ps m c e k.cause)
+          (λ s m g. keep-lost verify found held e k.cause)
 
       pub look-kept : 0 < length found.chunks → KeepCall verify found held tm ta cb ca (Ok tt) → LookCall verify xorb (on_shelf xorb) sb sa tb ta cb ca (Ok true)
       look-kept some k = record {
@@ -333,6 +350,7 @@ module _ (verify : Bool) (xorb : MerkleHash) (sb sa : ShelfTold) (tb tm ta : Upl
         );
         looked = λ e. looks-new cb ca xorb new hashes;
         told = told;
+        alone = λ s m c. record { records = noted s m c; is = λ g. refl; cause = λ g. tt };
       }
         where
           notes : Notes verify cb ca found held
@@ -343,6 +361,14 @@ module _ (verify : Bool) (xorb : MerkleHash) (sb sa : ShelfTold) (tb tm ta : Upl
 
           hashes : looked_hashes ca.xorbs ≡ looked_hashes cb.xorbs ++ xorb ∷ []
           hashes = ap looked_hashes notes.xorbs ∙ hashes-noted cb.xorbs found ∙ ap (λ h. looked_hashes cb.xorbs ++ h ∷ []) own
+
+          noted : (s : Store) → sb.store ≡ Some s → All (IsLookedFrom s) cb.xorbs → All (IsLookedFrom s) ca.xorbs
+          noted s m c =
+              let l : LookedXorb = record { info = record_of found } in
+              let P : List LookedXorb → Type 0 = All (IsLookedFrom s) in
+              let is : xorb_of s found.hash ≡ Some found = ap (xorb_of s) own ∙ sym (asked.is s m) in
+              subst P (sym notes.xorbs)
+              (All-push (IsLookedFrom s) cb.xorbs l c (record { xorb = found; stored = is; is = refl }))
 
           told : (s t : Store) (ps : List Put) → Moment s t ps sb tb → IsCopying s t ps cb
               → LookTold s t ps puts xorb (on_shelf xorb s) ca (Ok true)
@@ -387,4 +413,5 @@ look-again verify xorb sb tb c y = record {
     known = λ e. absurd (true≢false e);
     cause = tt;
   };
+  alone = λ s m k. record { records = k; is = λ g. refl; cause = λ g. tt };
 }

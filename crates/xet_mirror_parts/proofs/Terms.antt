@@ -1,11 +1,11 @@
 -- The terms of a file, one after another, and then its record.
 use Rattle.std.proofs.Common.{◌≡◌, ℕ, ◌+◌, ◌≤◌, ◌<◌, Bool, true, false, inl, List, [], ◌∷◌, ◌++◌, length, map, take, get_or, refl, sym, ◌∙◌, ap, subst, arith, append_assoc}
-use Rattle.std.specs.Prelude.{Some, None, Ok, Err, is_some, All, Contains, ◌&&◌, nat_lt, nat_le, option_map, unwrap_or}
+use Rattle.std.specs.Prelude.{Some, None, Result, Ok, Err, is_some, All, Contains, ◌&&◌, nat_lt, nat_le, option_map, unwrap_or}
 use Rattle.std.specs.Option.{option_map_or}
 use Rattle.std.proofs.lemmas.Bool.{false≢true, leb-true, ltb-true, true≢false}
 use Rattle.std.proofs.lemmas.Option.{slice_get_read}
 use Rattle.std.proofs.lemmas.List.{append-nil, get_or_default, take_all, get_or-map, map-append, length-map, take_more}
-use Rattle.std.proofs.lemmas.List.Elements.{All-nil, All-push, Contains-push}
+use Rattle.std.proofs.lemmas.List.Elements.{All-nil, All-push}
 use Rattle.xet_base.specs.declared.merklehash.MerkleHash.{MerkleHash}
 use Rattle.xet_base.specs.declared.mdb_shard.FileDataSequenceEntry.{FileDataSequenceEntry}
 use Rattle.xet_base.specs.declared.mdb_shard.Xorb.{Xorb}
@@ -24,9 +24,9 @@ use Rattle.xet_mirror_parts.specs.declared.report.MirrorError.{MirrorError}
 use Rattle.xet_mirror_parts.specs.declared.report.MirrorError.TheVariants as mirror_error
 use Rattle.xet_mirror_parts.specs.Looked.{is_inside, is_looked, is_within, looked_at, looked_hashes}
 use Rattle.xet_mirror_parts.specs.Moments.{Moment, Step}
-use Rattle.xet_mirror_parts.specs.Copying.{IsCopying, IsLogOf, IsLookedFrom, LookCall, LookCause, TermsCall}
+use Rattle.xet_mirror_parts.specs.Copying.{AllTermsIn, IsCopying, IsLogOf, IsLookedFrom, LookAlone, LookCall, LookCause, TermsCall}
 use Rattle.xet_shelves.proofs.CallerLemmas.{files_in-append}
-use Rattle.xet_mirror_parts.proofs.Finds.{contained-firsts, found_all, found_passes, is_some-found, contained_any, any-map, some-is}
+use Rattle.xet_mirror_parts.proofs.Finds.{found_all, found_passes, is_some-found, contained_any, any-map, some-is}
 use Rattle.xet_mirror_parts.specs.steps.Kept.{lost}
 use Rattle.xet_mirror_parts.proofs.LookCalls.{copying-same, log-same, on_shelf, step-asked, step-has}
 use Rattle.xet_mirror_parts.proofs.Moments.{moment-more, step-answer, step-err, step-none, step-then}
@@ -62,15 +62,22 @@ inside-some e x h =
     let within = leb-true e.to (length x.chunks) both.1 in
     omega (arith, below, within)
 
+-- a store in which the term is has its xorb
+pub good-there : (e : FileDataSequenceEntry) (s : Store) → is_good e s ≡ true → on_shelf e.xorb s ≡ true
+good-there e s h =
+    let both = and_parts (nat_lt e.from e.to && is_some (xorb_of s e.xorb)) (nat_le e.to (length (chunks_of s e.xorb))) h in
+    (and_parts (nat_lt e.from e.to) (is_some (xorb_of s e.xorb)) both.0).1
+
 pub look-other : (verify : Bool) (xorb : MerkleHash) (good other : Store → Bool) (sb sa : ShelfTold) (tb ta : UploaderTold) (cb ca : Copied) (e : MirrorError)
-    → LookCall verify xorb good sb sa tb ta cb ca (Err e) → LookCall verify xorb other sb sa tb ta cb ca (Err e)
-look-other verify xorb good other sb sa tb ta cb ca e h = record {
+    → ((s : Store) → other s ≡ true → good s ≡ true) → LookCall verify xorb good sb sa tb ta cb ca (Err e) → LookCall verify xorb other sb sa tb ta cb ca (Err e)
+look-other verify xorb good other sb sa tb ta cb ca e less h = record {
   puts = h.puts;
   step = h.step;
   xorbs_only = h.xorbs_only;
   files = tt;
   looked = tt;
   told = λ s t ps m k. let u = h.told s t ps m k in record { log = u.log; copying = tt; is = tt; known = tt; cause = u.cause };
+  alone = λ s m k. record { records = tt; is = λ g. tt; cause = λ g. (h.alone s m k).cause (less s g) };
 }
 
 pub look-absent : (verify : Bool) (e : FileDataSequenceEntry) (sb sa : ShelfTold) (tb ta : UploaderTold) (cb ca : Copied)
@@ -87,6 +94,11 @@ look-absent verify e sb sa tb ta cb ca h = record {
     is = sym (and-no (nat_lt e.from e.to) (is_some (xorb_of s e.xorb)) (nat_le e.to (length (chunks_of s e.xorb))) (sym u.is));
     known = u.known;
     cause = tt;
+  };
+  alone = λ s m k. let u = h.alone s m k in record {
+    records = u.records;
+    is = λ g. u.is (good-there e s g);
+    cause = λ g. tt;
   };
 }
 
@@ -112,8 +124,9 @@ within-is s e xs all there =
         left ∙ sym (term-at s e from.xorb stored)
 
 pub look-within : (verify : Bool) (e : FileDataSequenceEntry) (sb sa : ShelfTold) (tb ta : UploaderTold) (cb ca : Copied)
+    → Contains (looked_hashes ca.xorbs) e.xorb
     → LookCall verify e.xorb (on_shelf e.xorb) sb sa tb ta cb ca (Ok true) → LookCall verify e.xorb (is_good e) sb sa tb ta cb ca (Ok (is_within ca.xorbs e))
-look-within verify e sb sa tb ta cb ca h = record {
+look-within verify e sb sa tb ta cb ca there h = record {
   puts = h.puts;
   step = step-answer verify sb sa tb ta h.puts true (Ok (is_within ca.xorbs e)) h.step (λ x. cc) tt;
   xorbs_only = h.xorbs_only;
@@ -122,17 +135,16 @@ look-within verify e sb sa tb ta cb ca h = record {
   told = λ s t ps m k. let u = h.told s t ps m k in record {
     log = u.log;
     copying = u.copying;
-    is = within-is s e ca.xorbs u.copying.records (there s t ps k);
+    is = within-is s e ca.xorbs u.copying.records there;
     known = λ x. inl (sym u.is);
     cause = tt;
   };
+  alone = λ s m k. let u = h.alone s m k in record {
+    records = u.records;
+    is = λ g. within-is s e ca.xorbs u.records there ∙ g;
+    cause = λ g. tt;
+  };
 }
-  where
-    there : (s t : Store) (ps : List Put) → IsCopying s t ps cb → Contains (looked_hashes ca.xorbs) e.xorb
-    there s t ps k =
-        let hs = looked_hashes cb.xorbs in
-        let P : List MerkleHash → Type 0 = λ gs. Contains gs e.xorb in
-        subst P (sym (h.looked refl hs k.apart)) (contained-firsts (hs ++ e.xorb ∷ []) e.xorb (Contains-push hs e.xorb))
 
 -- ---- a term whose xorb wasn't looked at before
 
@@ -141,7 +153,7 @@ module _ (verify : Bool) (e : FileDataSequenceEntry) (sb sa : ShelfTold) (tb ta 
   pub look-unfound : (held : Bool) → LookCall verify e.xorb (on_shelf e.xorb) sb sa tb ta cb ca (lost e.xorb held)
       → LookCall verify e.xorb (is_good e) sb sa tb ta cb ca (lost e.xorb held)
   look-unfound true h = look-absent verify e sb sa tb ta cb ca h
-  look-unfound false h = look-other verify e.xorb (on_shelf e.xorb) (is_good e) sb sa tb ta cb ca (mirror_error.XorbMissing e.xorb) h
+  look-unfound false h = look-other verify e.xorb (on_shelf e.xorb) (is_good e) sb sa tb ta cb ca (mirror_error.XorbMissing e.xorb) (good-there e) h
 
   module _ (found : Xorb) (asked : ShelfCall sb sa (IsXorbOf e.xorb) (Ok (Some found))) where
     found-is : (s t : Store) (ps : List Put) → Moment s t ps sb tb → xorb_of s e.xorb ≡ Some found
@@ -166,6 +178,11 @@ module _ (verify : Bool) (e : FileDataSequenceEntry) (sb sa : ShelfTold) (tb ta 
             known = λ x. inl (ap is_some (found-is s t ps m));
             cause = tt;
           };
+          alone = λ s m k. record {
+            records = k;
+            is = λ g. sym outside ∙ sym (term-at s e found (sym (asked.is s m))) ∙ g;
+            cause = λ g. tt;
+          };
         }
 
     -- it is inside, and the xorb was kept
@@ -184,6 +201,7 @@ module _ (verify : Bool) (e : FileDataSequenceEntry) (sb sa : ShelfTold) (tb ta 
         known = u.known;
         cause = tt;
       };
+      alone = λ s m k. record { records = (h.alone s m k).records; is = λ g. refl; cause = λ g. tt };
     }
 
 -- ---- terms so far
@@ -203,6 +221,7 @@ terms-none verify terms sb tb c = record {
     is = All-nil (λ e. is_term_in s (stored_term e) ≡ true);
     cause = tt;
   };
+  alone = λ s m k. record { records = k; is = λ a. refl; cause = λ a. tt };
 }
 
 files-both : (ps qs : List Put) → files_in ps ≡ [] → files_in qs ≡ [] → files_in (ps ++ qs) ≡ []
@@ -229,6 +248,16 @@ module _ (verify : Bool) (terms : List FileDataSequenceEntry) (i : ℕ) (e : Fil
     get_or-map (λ (e : FileDataSequenceEntry). e.xorb) terms i e e.xorb within ∙ ap (λ (e : FileDataSequenceEntry). e.xorb) (sym item),
   )
 
+  -- the shelf's store alone, after this term, which is in it where all are
+  next-alone : {r : Result Bool MirrorError} → LookCall verify e.xorb (is_good e) sm sa tm ta cm ca r → (s : Store) → sb.store ≡ Some s
+      → All (IsLookedFrom s) cb.xorbs → LookAlone s (is_good e s) ca r
+  next-alone h s m k = h.alone s (done.step.store ∙ m) (done.alone s m k).records
+
+  good-item : (s : Store) → AllTermsIn s terms → is_good e s ≡ true
+  good-item s a =
+      let P : FileDataSequenceEntry → Type 0 = λ e. is_term_in s (stored_term e) ≡ true in
+      subst P (sym item) (a i e within)
+
   -- an error at a term is one of all
   pub terms-failed : (x : MirrorError) → LookCall verify e.xorb (is_good e) sm sa tm ta cm ca (Err x) → TermsCall verify terms sb sa tb ta cb ca (Err x)
   terms-failed x h = record {
@@ -240,6 +269,7 @@ module _ (verify : Bool) (terms : List FileDataSequenceEntry) (i : ℕ) (e : Fil
     told = λ s t ps m k.
         let u = h.told s t (ps ++ done.puts) (next-moment s t ps m) (done.told s t ps m k).copying in
         record { log = log-both s t ps h.puts u.log; copying = tt; is = tt; cause = weaker s t x u.cause };
+    alone = λ s m k. record { records = tt; is = λ a. tt; cause = λ a. (next-alone h s m k).cause (good-item s a) };
   }
     where
       weaker : (s t : Store) (x : MirrorError) → LookCause s t (λ g. g ≡ e.xorb) x → LookCause s t (Contains (map (λ e. e.xorb) terms)) x
@@ -272,6 +302,11 @@ module _ (verify : Bool) (terms : List FileDataSequenceEntry) (i : ℕ) (e : Fil
           is = record { term = e; at = slice_get_read terms (length terms) i e refl within item; outside = sym u.is; known = u.known refl };
           cause = tt;
         };
+    alone = λ s m k. let u = next-alone h s m k in record {
+      records = u.records;
+      is = λ a. absurd (false≢true (u.is (good-item s a)));
+      cause = λ a. tt;
+    };
   }
 
   -- with one that is good, they are so far
@@ -297,6 +332,7 @@ module _ (verify : Bool) (terms : List FileDataSequenceEntry) (i : ℕ) (e : Fil
           is = subst Q (sym more-is) (All-push P (take i terms) e d.is (sym u.is));
           cause = tt;
         };
+    alone = λ s m k. record { records = (next-alone h s m k).records; is = λ a. refl; cause = λ a. tt };
   }
 
 -- a term that is read in a loop

@@ -125,6 +125,15 @@ CopyCause s t place file (mirror_error.HashDiffers h) =
 CopyCause s t place file (mirror_error.FileMissing p) = ⊥
 CopyCause s t place file (mirror_error.BadTerm p e) = (p ≡ place) × IsBadAt s t file.entries e
 
+-- the error is neither `XorbMissing` nor `BadTerm`
+abbrev pub NeverLost : MirrorError → Type 0
+NeverLost mirror_error.OutOfMemory = Unit {0}
+NeverLost mirror_error.ClientError = Unit {0}
+NeverLost (mirror_error.FileMissing p) = Unit {0}
+NeverLost (mirror_error.HashDiffers h) = Unit {0}
+NeverLost (mirror_error.XorbMissing h) = ⊥
+NeverLost (mirror_error.BadTerm p e) = ⊥
+
 -- ---- parts of a call
 
 -- the counts of files stayed
@@ -146,6 +155,13 @@ pub record LookTold (s t : Store) (ps puts : List Put) (xorb : MerkleHash) (good
   pub known : IfOk answer (λ b. b ≡ false → IsSome (xorb_of s xorb) ⊎ IsSome (xorb_of t xorb))
   pub cause : IfErr answer (LookCause s t (λ h. h ≡ xorb))
 
+-- over the shelf's store alone, one xorb was looked at: what was looked at is the store's, and where the test holds the
+-- answer says so, or is another error
+pub record LookAlone (s : Store) (good : Bool) (ca : Copied) (answer : Result Bool MirrorError) : Type 0 where
+  pub records : OnOk answer (All (IsLookedFrom s) ca.xorbs)
+  pub is : good ≡ true → IfOk answer (λ b. b ≡ true)
+  pub cause : good ≡ true → IfErr answer NeverLost
+
 -- one xorb was looked at
 pub record LookCall (verify : Bool) (xorb : MerkleHash) (good : Store → Bool) (sb sa : ShelfTold) (tb ta : UploaderTold)
     (cb ca : Copied) (answer : Result Bool MirrorError) : Type 0 where
@@ -156,6 +172,7 @@ pub record LookCall (verify : Bool) (xorb : MerkleHash) (good : Store → Bool) 
   pub looked : IfOk answer (λ b. b ≡ true → LooksAt cb ca (xorb ∷ []))
   pub told : (s t : Store) (ps : List Put) → Moment s t ps sb tb → IsCopying s t ps cb
       → LookTold s t ps puts xorb (good s) ca answer
+  pub alone : (s : Store) → sb.store ≡ Some s → All (IsLookedFrom s) cb.xorbs → LookAlone s (good s) ca answer
 
 -- over stores, the xorbs of terms were looked at: each term is from below to inside a xorb of `s`, or which one isn't
 pub record TermsTold (s t : Store) (ps puts : List Put) (terms : List FileDataSequenceEntry) (ca : Copied)
@@ -165,6 +182,18 @@ pub record TermsTold (s t : Store) (ps puts : List Put) (terms : List FileDataSe
   pub is : IfOk answer (λ bad. MatchOption bad
       (All (λ e. is_term_in s (stored_term e) ≡ true) terms) (IsBadAt s t terms))
   pub cause : IfErr answer (LookCause s t (Contains (map (λ e. e.xorb) terms)))
+
+-- each term is from below to inside a xorb of `s`
+abbrev pub AllTermsIn : Store → List FileDataSequenceEntry → Type 0
+AllTermsIn s terms = All (λ e. is_term_in s (stored_term e) ≡ true) terms
+
+-- over the shelf's store alone, the xorbs of terms were looked at: they are the store's, and where each term is in one
+-- of its xorbs, the answer is that, or another error
+pub record TermsAlone (s : Store) (terms : List FileDataSequenceEntry) (ca : Copied)
+    (answer : Result (Option ℕ) MirrorError) : Type 0 where
+  pub records : OnOk answer (All (IsLookedFrom s) ca.xorbs)
+  pub is : AllTermsIn s terms → IfOk answer (λ bad. bad ≡ None)
+  pub cause : AllTermsIn s terms → IfErr answer NeverLost
 
 -- the xorbs of terms were looked at
 pub record TermsCall (verify : Bool) (terms : List FileDataSequenceEntry) (sb sa : ShelfTold) (tb ta : UploaderTold)
@@ -176,6 +205,7 @@ pub record TermsCall (verify : Bool) (terms : List FileDataSequenceEntry) (sb sa
   pub looked : IfOk answer (λ bad. bad ≡ None → LooksAt cb ca (map (λ e. e.xorb) terms))
   pub told : (s t : Store) (ps : List Put) → Moment s t ps sb tb → IsCopying s t ps cb
       → TermsTold s t ps puts terms ca answer
+  pub alone : (s : Store) → sb.store ≡ Some s → All (IsLookedFrom s) cb.xorbs → TermsAlone s terms ca answer
 
 -- the record is that of a file of `s`, and what is there has no such file
 pub record IsNewFile (s t : Store) (ps : List Put) (file : MDBFileInfo) : Type 0 where
@@ -190,6 +220,12 @@ pub record CopyTold (s t : Store) (ps puts : List Put) (place : ℕ) (file : MDB
   pub terms : OnOk answer (All (λ e. is_term_in s (stored_term e) ≡ true) file.entries)
   pub cause : IfErr answer (CopyCause s t place file)
 
+-- over the shelf's store alone, a file was copied, or not for another error where each term is in one of its xorbs
+pub record CopyAlone (s : Store) (file : MDBFileInfo) (ca : Copied) (answer : Result (Unit {0}) MirrorError)
+    : Type 0 where
+  pub records : OnOk answer (All (IsLookedFrom s) ca.xorbs)
+  pub cause : AllTermsIn s file.entries → IfErr answer NeverLost
+
 -- a file was copied: its record was put, after the xorbs that it names
 pub record CopyCall (verify : Bool) (place : ℕ) (file : MDBFileInfo) (sb sa : ShelfTold) (tb ta : UploaderTold)
     (cb ca : Copied) (answer : Result (Unit {0}) MirrorError) : Type 0 where
@@ -200,3 +236,4 @@ pub record CopyCall (verify : Bool) (place : ℕ) (file : MDBFileInfo) (sb sa : 
   pub looked : OnOk answer (LooksAt cb ca (map (λ e. e.xorb) file.entries))
   pub told : (s t : Store) (ps : List Put) → Moment s t ps sb tb → IsCopying s t ps cb → IsNewFile s t ps file
       → CopyTold s t ps puts place file ca answer
+  pub alone : (s : Store) → sb.store ≡ Some s → All (IsLookedFrom s) cb.xorbs → CopyAlone s file ca answer

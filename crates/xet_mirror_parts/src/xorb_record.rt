@@ -10,7 +10,8 @@ use xet_base::{ChunkInfo, List, MDBXorbInfo, MerkleHash, OutOfMemory, Xorb};
 pub fn record_of(alloc: Global, xorb: &Xorb) -> Result<MDBXorbInfo, OutOfMemory>
     ensures { IfOk result (λ info. info ≡ record_of xorb.now) }
 {
-    let mut chunks = List::new(alloc);
+    let count = xorb.chunks.len();
+    let mut chunks = List::with_capacity(alloc, count)?;
     for bytes in xorb.chunks.as_slice() {
         chunks.push(ChunkInfo {
             hash: MerkleHash::chunk_hash(bytes.as_slice()),

@@ -3,7 +3,7 @@ use Rattle.std.specs.Prelude.{ℕ, ◌≡◌, ◌⊎◌, ◌-◌, Bool, List, []
 use Rattle.std.specs.Prelude.{IsSome, Some, Result, Ok, IfErr, OnOk}
 use Rattle.xet_base.specs.declared.mdb_shard.MDBFileInfo.{MDBFileInfo}
 use Rattle.xet_base.specs.declared.merklehash.MerkleHash.{MerkleHash}
-use Rattle.xet_base.specs.Store.{Store, file_of}
+use Rattle.xet_base.specs.Store.{IsValid, Store, file_of}
 use Rattle.xet_uploader.specs.StoresAfter.{file_of_record, files_in}
 use Rattle.xet_uploader.specs.Uploads.{UploaderTold}
 use Rattle.xet_uploader.specs.declared.uploader.Put.{Put}
@@ -11,7 +11,8 @@ use Rattle.xet_shelves.specs.Shelves.{ShelfTold}
 use Rattle.xet_mirror_parts.specs.declared.copied.Copied.{Copied}
 use Rattle.xet_mirror_parts.specs.declared.report.MirrorError.{MirrorError}
 use Rattle.xet_mirror_parts.specs.declared.report.MirrorError.TheVariants as mirror_error
-use Rattle.xet_mirror_parts.specs.Copying.{IsBadAt, IsCopying, IsLogOf, IsLost, IsMisnamedIn}
+use Rattle.xet_mirror_parts.specs.Copying.{IsBadAt, IsCopying, IsLogOf, IsLookedFrom, IsLost, IsMisnamedIn}
+use Rattle.xet_mirror_parts.specs.Copying.{NeverLost}
 use Rattle.xet_mirror_parts.specs.Looked.{counted, looked_hashes}
 use Rattle.xet_mirror_parts.specs.Moments.{Moment, Step}
 use Rattle.xet_mirror.specs.Mirrored.{copied_files, named_xorbs, names_of_file}
@@ -54,6 +55,11 @@ pub record FileTold (s t : Store) (ps puts : List Put) (place : ℕ) (file : Mer
   pub copied : OnOk answer (IsCopied s t (ps ++ puts) ca (done ++ file ∷ []))
   pub cause : IfErr answer (FileCause s t place file)
 
+-- over the shelf's store alone, which is valid, one file more was mirrored
+pub record FileAlone (s : Store) (ca : Copied) (answer : Result (Unit {0}) MirrorError) : Type 0 where
+  pub records : OnOk answer (All (IsLookedFrom s) ca.xorbs)
+  pub cause : IfErr answer NeverLost
+
 -- one file more was mirrored
 pub record FileCall (verify : Bool) (place : ℕ) (file : MerkleHash) (sb sa : ShelfTold) (tb ta : UploaderTold)
     (cb ca : Copied) (answer : Result (Unit {0}) MirrorError) : Type 0 where
@@ -62,6 +68,7 @@ pub record FileCall (verify : Bool) (place : ℕ) (file : MerkleHash) (sb sa : S
   pub told : (s t : Store) (ps : List Put) (done : List MerkleHash)
       → Moment s t ps sb tb → IsCopied s t ps cb done
       → FileTold s t ps puts place file done ca answer
+  pub alone : (s : Store) → sb.store ≡ Some s → IsValid s → All (IsLookedFrom s) cb.xorbs → FileAlone s ca answer
 
 -- the files of this list were mirrored since a moment
 pub record Mirroring (verify : Bool) (done : List MerkleHash) (sb sa : ShelfTold) (tb ta : UploaderTold) (c : Copied)
@@ -69,3 +76,4 @@ pub record Mirroring (verify : Bool) (done : List MerkleHash) (sb sa : ShelfTold
   pub puts : List Put
   pub step : Step {A = Unit {0}} verify sb sa tb ta puts (Ok tt)
   pub told : (s t : Store) → Moment s t [] sb tb → IsCopied s t puts c done
+  pub alone : (s : Store) → sb.store ≡ Some s → IsValid s → All (IsLookedFrom s) c.xorbs

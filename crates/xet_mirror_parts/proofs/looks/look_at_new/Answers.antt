@@ -4,7 +4,7 @@ use Rattle.xet_base.proofs.CallerLemmas.{err-of}
 use Rattle.xet_mirror_parts.specs.Errors.{of_client}
 use Rattle.xet_mirror_parts.specs.Looked.{is_inside}
 use Rattle.xet_mirror_parts.proofs.LookCalls.{look-kept, look-lost, look-unasked, look-unheld, look-unkept, on_shelf}
-use Rattle.xet_mirror_parts.proofs.Terms.{inside-some, is_good, look-inside, look-other, look-refused, look-unfound}
+use Rattle.xet_mirror_parts.proofs.Terms.{good-there, inside-some, is_good, look-inside, look-other, look-refused, look-unfound}
 use Rattle.xet_mirror_parts.proofs.looks.look_at_new.Goals as goal
 
 pub returns-in_err-held : goal.returns-in_err-held
@@ -62,7 +62,7 @@ returns-in_err-keep g c =
     let inside : is_inside c.args.term.now c.in-Some.found ≡ true = sym c.is_inside.ensures ∙ c.if-not-is_inside.false in
     let e : c.from_residual-in_err-keep.result ≡ Err c.in_err-keep.field-0.0 = err-of _ _ c.from_residual-in_err-keep.ensures in
     rw e (look-other c.args.verify c.args.term.now.xorb (on_shelf c.args.term.now.xorb) (is_good c.args.term.now) sb sa tb ta cb ca c.in_err-keep.field-0.0
-    (look-unkept c.args.verify c.args.term.now.xorb sb sa tb tm ta cb ca c.requires c.in_ok-held.held c.in-Some.found
+    (good-there c.args.term.now) (look-unkept c.args.verify c.args.term.now.xorb sb sa tb tm ta cb ca c.requires c.in_ok-held.held c.in-Some.found
     (rw c.in_ok-held.was at c.has_xorb.ensures) (rw (c.in_ok-found.was, c.in-Some.is) at c.asked_xorb.ensures.call)
     (rw (c.in_ok-found.was, c.in-Some.is) at c.asked_xorb.ensures.own) (inside-some c.args.term.now c.in-Some.found inside)
     c.in_err-keep.field-0.0 (rw c.in_err-keep.was at c.keep.ensures)))
