@@ -118,8 +118,8 @@ input of mirror:
   does not read where a xorb that both stores have has other chunks in one, or a file that both
   have other bytes. To see that takes as long as the xorbs that both have have bytes, and the files
   that both have terms; where the terms of such a file differ, as long as it has bytes, each chunk
-  as often as terms have it. The document stands in memory as a tree, up to 175 times its size,
-  and each file that is copied takes 36 bytes for each chunk of the xorbs that it names.
+  as often as terms have it. The document stands in memory as a tree, up to 175 times its size. To
+  copy a file takes as many steps as the xorbs that it names have chunks.
 
 lines of mirror:
   Each listed file that the target lacks is copied in memory: the xorbs that it names and the

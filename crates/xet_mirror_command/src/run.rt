@@ -7,7 +7,7 @@ use std::alloc::Global;
 use std::mem::forget;
 use xet_base::MerkleHash;
 use xet_mirror::{MirrorError, MirrorReport, mirror_files};
-use xet_shelves::{MemShelf, MemTarget};
+use xet_shelves::{HashTarget, MemShelf};
 
 /// Copies the files of a list from the source to the target, where it lacks them. The stores agree.
 pub(crate) fn run(
@@ -22,7 +22,7 @@ pub(crate) fn run(
     stores.source.recall_valid();
     stores.target.recall_valid();
     let mut shelf = MemShelf::new(stores.source);
-    let mut target = MemTarget::new(alloc, stores.target, Vec::new(alloc));
+    let mut target = HashTarget::new(alloc, stores.target);
     let answer = mirror_files(alloc, &mut shelf, &mut target, files, verify);
     // The process ends after a command and gives its memory back as a whole, which takes less time.
     forget(shelf);

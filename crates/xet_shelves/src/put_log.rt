@@ -101,8 +101,11 @@ impl PutLog {
     }
 }
 
-// The hashes of file records, in order.
-fn hashes_of(alloc: Global, files: &[MDBFileInfo]) -> Result<Vec<MerkleHash>, OutOfMemory>
+/// The hashes of file records, in order.
+pub(crate) fn hashes_of(
+    alloc: Global,
+    files: &[MDBFileInfo],
+) -> Result<Vec<MerkleHash>, OutOfMemory>
     ensures { IfOk result (λ hashes. hashes.items ≡ map (λ f. f.hash) files.now) }
 {
     let mut hashes = Vec::with_capacity(alloc, files.len())?;
