@@ -8,6 +8,8 @@ mod rows;
 #[cfg(test)]
 mod streams;
 #[cfg(test)]
+mod uploaded;
+#[cfg(test)]
 mod watching;
 #[cfg(test)]
 mod words;

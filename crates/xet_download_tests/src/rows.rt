@@ -23,7 +23,11 @@ const SETTINGS: BudgetSettings = BudgetSettings {
 };
 
 /// A session over this store, whose first id has this number.
-fn session<'a>(alloc: Global, store: &'a MemStore, first: u64) -> Result<Session<'a>, OutOfMemory> {
+pub(crate) fn session<'a>(
+    alloc: Global,
+    store: &'a MemStore,
+    first: u64,
+) -> Result<Session<'a>, OutOfMemory> {
     let mut clients = Vec::new(alloc);
     clients.push(MemClient::new(alloc, store))?;
     let config = ReconstructionConfig::new();
