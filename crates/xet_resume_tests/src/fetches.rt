@@ -1,5 +1,5 @@
-//! Ranges that are fetched into a file that fails once: the errors, what the rest asks for, and what the file holds once
-//! nothing is missing.
+//! Ranges that are fetched into a file that fails once: the errors, what the rest asks for, and what the file holds
+//! once nothing is missing.
 use crate::caller::fetch_rest;
 use crate::connection::Connection;
 use crate::failing_file::FailingFile;
@@ -77,8 +77,8 @@ fn pieces_of(alloc: Global, gaps: &GapRecord) -> String {
     text
 }
 
-/// Fetches the rest over a connection of its own, and adds the error. Where nothing fails each missing byte is asked for
-/// once and no other byte at all; else what was asked for is added.
+/// Fetches the rest over a connection of its own, and adds the error. Where nothing fails each missing byte is asked
+/// for once and no other byte at all; else what was asked for is added.
 fn fetch_missing<R: Threads + Wait + Sync>(
     rt: &R,
     alloc: Global,

@@ -7,4 +7,5 @@ pub mod LogIndexes
 pub mod RefusedPuts
 pub mod Takings
 pub mod TriedStores
+mod Walks
 pub mod WholeXorbs

@@ -12,8 +12,8 @@ use xet_store::MemStore;
 use xet_uploader::Uploader;
 
 /// A target over a store in memory that keeps of each put the hashes of its xorb or of its file records, to see what
-/// copying takes and no more. Its log is told to proofs alone. No put fails but for want of memory; it tells no queries,
-/// and a query finds nothing.
+/// copying takes and no more. Its log is told to proofs alone. No put fails but for want of memory; it tells no
+/// queries, and a query finds nothing.
 ///
 /// The Rust crates have no such type.
 #[derive(Drop)]

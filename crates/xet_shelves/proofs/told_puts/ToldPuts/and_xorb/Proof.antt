@@ -25,7 +25,7 @@ use denote.Triple.Entry.{alive}
 use denote.Triple.Spec.{Meets, triple_of}
 use denote.Triple.Table.{entered}
 use denote.Triple.Walked.{says, Stays, stay_dropped, walk_of, ends_at, walk_Meets, Goes-dropped}
-use Rattle.xet_store.proofs.Walks.{none, none_made}
+use Rattle.xet_shelves.proofs.Walks.{none, none_made}
 use Rattle.xet_uploader.specs.declared.uploader.Put.TheVariants as put
 use Rattle.xet_shelves.specs.contracts.told_puts.ToldPuts as ToldPuts
 use Rattle.xet_base.specs.contracts.mdb_shard.Xorb as Xorb

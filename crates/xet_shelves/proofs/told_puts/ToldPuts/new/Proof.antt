@@ -23,7 +23,7 @@ use denote.Triple.Entry.{alive}
 use denote.Triple.Spec.{Meets, triple_of}
 use denote.Triple.Table.{entered}
 use denote.Triple.Walked.{says, Stays, walk_of, ends_at, walk_Meets}
-use Rattle.xet_store.proofs.Walks.{none, none_made}
+use Rattle.xet_shelves.proofs.Walks.{none, none_made}
 use Rattle.xet_shelves.specs.contracts.told_puts.ToldPuts as ToldPuts
 use Rattle.xet_shelves.specs.contracts.told_puts.ToldPuts.new as F
 use Rattle.xet_shelves.specs.contracts.told_puts.ToldPuts.new.Key.{name as #self}
