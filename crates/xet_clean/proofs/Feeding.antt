@@ -282,13 +282,13 @@ pub never-failed : {P : Type 0} (o : Option DataError) (e : DataError) → o ≡
 never-failed o e f t = absurd (false≢true (ap (λ (z : Option DataError). is_some z) (sym f ∙ t)))
 
 -- the session is finalized
-pub feeds-finalized : (b n : SessionTold) (c d : Cleaner) (bytes : List ℕ) → n ≡ b → d ≡ c → b.finalized ≡ true
+pub feeds-finalized : (b n : SessionTold) (c d : Cleaner) (bytes : List ℕ) → n ≡ b → d.failed ≡ c.failed → b.finalized ≡ true
     → FeedsSo b n c bytes d (Err finalized_error)
 feeds-finalized b n c d bytes e f fin = record {
   leaves = leaves-refl b n e;
   ok = tt;
   puts = some-still b n c.parts.own.chunks (c.pending ++ bytes) d.parts.own.chunks (Err finalized_error) e tt;
-  failed = ap (λ (z : Cleaner). z.failed) f;
+  failed = f;
   finalized = λ g. (refl, e);
   kept = λ g. never b.finalized g fin;
   past = λ g. never b.finalized g fin;
@@ -296,13 +296,13 @@ feeds-finalized b n c d bytes e f fin = record {
 }
 
 -- the cleaner failed before
-pub feeds-kept : (b n : SessionTold) (c d : Cleaner) (bytes : List ℕ) (e : DataError) → n ≡ b → d ≡ c
+pub feeds-kept : (b n : SessionTold) (c d : Cleaner) (bytes : List ℕ) (e : DataError) → n ≡ b → d.failed ≡ c.failed
     → b.finalized ≡ false → c.failed ≡ Some e → FeedsSo b n c bytes d (Err e)
 feeds-kept b n c d bytes e same f fin failed = record {
   leaves = leaves-refl b n same;
   ok = tt;
   puts = some-still b n c.parts.own.chunks (c.pending ++ bytes) d.parts.own.chunks (Err e) same tt;
-  failed = ap (λ (z : Cleaner). z.failed) f;
+  failed = f;
   finalized = λ g. never b.finalized fin g;
   kept = λ g x k. (
     let both : Some e ≡ Some x = sym failed ∙ k in let one : e ≡ x = cc in ap (λ
@@ -314,14 +314,14 @@ feeds-kept b n c d bytes e same f fin failed = record {
 }
 
 -- more bytes than are left
-pub feeds-past : (b n : SessionTold) (c d : Cleaner) (bytes : List ℕ) (e : DataError) → n ≡ b → d ≡ c
+pub feeds-past : (b n : SessionTold) (c d : Cleaner) (bytes : List ℕ) (e : DataError) → n ≡ b → d.failed ≡ c.failed
     → b.finalized ≡ false → c.failed ≡ None → PassesTotal c bytes → e ≡ past_total c bytes → FeedsSo b n c bytes d
     (Err e)
 feeds-past b n c d bytes e same f fin none passes is = record {
   leaves = leaves-refl b n same;
   ok = tt;
   puts = some-still b n c.parts.own.chunks (c.pending ++ bytes) d.parts.own.chunks (Err e) same tt;
-  failed = ap (λ (z : Cleaner). z.failed) f;
+  failed = f;
   finalized = λ g. never b.finalized fin g;
   kept = λ g x k. never-failed c.failed x none k;
   past = λ g k p. (ap (λ (z : DataError). Err z) is, same);

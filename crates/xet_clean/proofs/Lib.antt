@@ -4,4 +4,5 @@ mod Completing
 mod Feeding
 mod FileEnds
 mod Holding
+mod Taken
 mod Taking

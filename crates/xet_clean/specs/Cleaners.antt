@@ -154,6 +154,15 @@ PassesTotal c bytes = total_of c - c.fed < length bytes
 abbrev pub past_total : Cleaner → List ℕ → DataError
 past_total c bytes = data_error.InvalidOperation (invalid.PastTotal (total_of c) c.fed (length bytes))
 
+-- bytes were taken in, of which none was cut yet; or nothing was, as `add_data` is to answer
+pub record TakeCall (c : Cleaner) (bytes : List ℕ) (d : Cleaner) (answer : Result ℕ DataError) : Type 0 where
+  pub ok : IfOk answer (λ count. (count ≡ length bytes) × TakesIn c bytes d)
+  pub err : OnErr answer (d ≡ c)
+  pub kept : (e : DataError) → c.failed ≡ Some e → answer ≡ Err e
+  pub past : c.failed ≡ None → PassesTotal c bytes → answer ≡ Err (past_total c bytes)
+  pub why : IfErr answer (λ e. (c.failed ≡ Some e) ⊎ ((e ≡ past_total c bytes) × PassesTotal c bytes)
+      ⊎ (e ≡ data_error.OutOfMemory))
+
 -- why `add_data` fails: the cleaner failed before, or its size is passed, or a chunk of it wasn't added
 abbrev pub AddFails : SessionTold → SessionTold → Cleaner → List ℕ → DataError → Type 0
 AddFails b n c bytes e = (c.failed ≡ Some e) ⊎ ((e ≡ past_total c bytes) × PassesTotal c bytes) ⊎ ChunkFails b n e

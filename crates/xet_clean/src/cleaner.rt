@@ -8,8 +8,8 @@ ghost use Rattle.xet_upload_session.specs.Telling.{KeepsGroup, told_by};
 ghost use Rattle.xet_upload_session.specs.Trackings.{StartsFile};
 ghost use Rattle.xet_clean.specs.Cleaners.{AddsData, Completes, CountsChunks, CutsChunks, EndPasses, EndRefused};
 ghost use Rattle.xet_clean.specs.Cleaners.{FeedsSo, Finishes};
-ghost use Rattle.xet_clean.specs.Cleaners.{IsEndError, IsNewCleaner, IsOwnError, NextChunk, PassesTotal, TakesIn};
-ghost use Rattle.xet_clean.specs.Cleaners.{chunk_counts, past_total, started};
+ghost use Rattle.xet_clean.specs.Cleaners.{IsEndError, IsNewCleaner, IsOwnError, NextChunk, PassesTotal, TakeCall};
+ghost use Rattle.xet_clean.specs.Cleaners.{Cleaner, TakesIn, chunk_counts, past_total, started};
 ghost use Rattle.xet_clean_parts.specs.Cleanings.{AreNamed, ChunkFails, Cleans, Leaves, TrackFails};
 ghost use Rattle.xet_clean_parts.specs.FileCalls.{GrowsFirst, IsFor, IsLate, IsPartOf, RefusedOf, TellsOf, growth};
 ghost use Rattle.xet_clean_parts.specs.Made.{PutsSo, PutsSome};
@@ -93,8 +93,8 @@ impl<T: Cutter> SingleFileCleaner<T> {
         }
     }
 
-    // Takes in bytes, behind those that wait to be cut.
-    fn take_in(&mut self, bytes: &[u8]) -> Result<(), OutOfMemory>
+    // Puts bytes behind those that wait to be cut.
+    fn push(&mut self, bytes: &[u8]) -> Result<(), OutOfMemory>
         requires { self.old.fed + length bytes.now < 2 ^ 64 }
         ensures ok { OnOk result (TakesIn (cleaner_of T.told self.old) bytes.now (cleaner_of T.told self.new)) }
         ensures err { OnErr result (cleaner_of T.told self.new ≡ cleaner_of T.told self.old) }
@@ -271,37 +271,87 @@ impl<T: Cutter> SingleFileCleaner<T> {
         }
     }
 
-    // Takes in bytes, and cuts and cleans chunks. An error isn't kept.
-    fn feed<U: Uploader, R: ShardStore, W: Wait>(
-        &mut self,
-        session: &mut FileUploadSession<U, R>,
-        rt: &W,
-        alloc: Global,
-        bytes: &[u8],
-        now: u64,
-    ) -> Result<(), DataError>
-        ensures feeds { FeedsSo (told_by session.old) (told_by session.new) (cleaner_of T.told self.old) bytes.now
-            (cleaner_of T.told self.new) result }
-        ensures tells { TellsOf (IsFor self.old.file_id self.old.size (length bytes.now))
-            (IsOwnError session.old.finalized (cleaner_of T.told self.old) bytes.now)
-            session.old.files.tracker session.new.files.tracker result }
-        ensures grows { OnOk result (GrowsFirst self.old.file_id self.old.size (length bytes.now)
-            session.old.files.tracker session.new.files.tracker) }
-        ensures calls { Calls now (told_by session.old) (told_by session.new) }
-        ensures group { KeepsGroup session.old session.new }
+    /// Takes in bytes behind those that were fed, and hashes them where SHA-256 is computed: the first part of
+    /// `add_data`, for which no session is needed. It answers how many they are, for `add_taken`.
+    ///
+    /// Its error is what `add_taken` is to answer, unless the session is finalized: the cleaner's first error where one
+    /// is kept, else `PastTotal` exactly where more bytes come than are left of a fixed size, else `OutOfMemory` where
+    /// an allocation was refused. Then the cleaner is as it was.
+    ///
+    /// In the Rust crate xet-data: a part of `SingleFileCleaner::add_data`.
+    pub fn take_in(&mut self, bytes: &[u8]) -> Result<u64, DataError>
+        ensures { TakeCall (cleaner_of T.told self.old) bytes.now (cleaner_of T.told self.new) result }
     {
-        if session.is_finalized() {
-            return Err(DataError::InvalidOperation(Invalid::Finalized));
-        }
         if let Some(error) = self.failed {
             return Err(error);
         }
         if let Some(error) = self.past_total(bytes) {
             return Err(error);
         }
-        self.grow(session, rt, bytes.len() as u64)?;
-        self.take_in(bytes)?;
+        self.push(bytes)?;
+        Ok(bytes.len() as u64)
+    }
+
+    // Tells that bytes came that were taken in, and cuts and cleans chunks. An error isn't kept.
+    fn feed_taken<U: Uploader, R: ShardStore, W: Wait>(
+        &mut self,
+        session: &mut FileUploadSession<U, R>,
+        rt: &W,
+        alloc: Global,
+        taken: Result<u64, DataError>,
+        now: u64,
+    ) -> Result<(), DataError>
+        ensures feeds { (c : Cleaner) (bytes : List ℕ) → TakeCall c bytes (cleaner_of T.told self.old) taken
+            → FeedsSo (told_by session.old) (told_by session.new) c bytes (cleaner_of T.told self.new) result }
+        ensures tells { (c : Cleaner) (bytes : List ℕ) → TakeCall c bytes (cleaner_of T.told self.old) taken
+            → TellsOf (IsFor c.file_id c.size (length bytes)) (IsOwnError session.old.finalized c bytes)
+            session.old.files.tracker session.new.files.tracker result }
+        ensures grows { (c : Cleaner) (bytes : List ℕ) → TakeCall c bytes (cleaner_of T.told self.old) taken
+            → OnOk result (GrowsFirst c.file_id c.size (length bytes) session.old.files.tracker
+            session.new.files.tracker) }
+        ensures calls { Calls now (told_by session.old) (told_by session.new) }
+        ensures group { KeepsGroup session.old session.new }
+    {
+        if session.is_finalized() {
+            return Err(DataError::InvalidOperation(Invalid::Finalized));
+        }
+        let count = taken?;
+        self.grow(session, rt, count)?;
         self.cut_chunks(session, rt, alloc, false, now)
+    }
+
+    /// Feeds the bytes that the call of `take_in` just before took in, of which `taken` is the answer: the second part
+    /// of `add_data`, which these two calls are together. `now` is a moment in seconds.
+    ///
+    /// The errors are those of `add_data`. The first one is kept.
+    ///
+    /// In the Rust crate xet-data: a part of `SingleFileCleaner::add_data`.
+    pub fn add_taken<U: Uploader, R: ShardStore, W: Wait>(
+        &mut self,
+        session: &mut FileUploadSession<U, R>,
+        rt: &W,
+        alloc: Global,
+        taken: Result<u64, DataError>,
+        now: u64,
+    ) -> Result<(), DataError>
+        ensures adds { (c : Cleaner) (bytes : List ℕ) → TakeCall c bytes (cleaner_of T.told self.old) taken
+            → AddsData (told_by session.old) (told_by session.new) c bytes (cleaner_of T.told self.new) result }
+        ensures tells { (c : Cleaner) (bytes : List ℕ) → TakeCall c bytes (cleaner_of T.told self.old) taken
+            → TellsOf (IsFor c.file_id c.size (length bytes)) (IsOwnError session.old.finalized c bytes)
+            session.old.files.tracker session.new.files.tracker result }
+        ensures grows { (c : Cleaner) (bytes : List ℕ) → TakeCall c bytes (cleaner_of T.told self.old) taken
+            → OnOk result (GrowsFirst c.file_id c.size (length bytes) session.old.files.tracker
+            session.new.files.tracker) }
+        ensures calls { Calls now (told_by session.old) (told_by session.new) }
+        ensures group { KeepsGroup session.old session.new }
+    {
+        match self.feed_taken(session, rt, alloc, taken, now) {
+            Ok(()) => Ok(()),
+            Err(error) => {
+                self.failed = Some(self.failed.unwrap_or(error));
+                Err(error)
+            }
+        }
     }
 
     /// Feeds bytes behind those that were fed: chunks are cut where the cutter says so, and each is found in a known
@@ -331,13 +381,8 @@ impl<T: Cutter> SingleFileCleaner<T> {
         ensures calls { Calls now (told_by session.old) (told_by session.new) }
         ensures group { KeepsGroup session.old session.new }
     {
-        match self.feed(session, rt, alloc, bytes, now) {
-            Ok(()) => Ok(()),
-            Err(error) => {
-                self.failed = Some(self.failed.unwrap_or(error));
-                Err(error)
-            }
-        }
+        let taken = self.take_in(bytes);
+        self.add_taken(session, rt, alloc, taken, now)
     }
 
     // Hands the data over to the session, which has a record of the file then. All bytes were cut.

@@ -10,7 +10,7 @@ use Rattle.xet_upload_session.specs.Calls.{Backs}
 use Rattle.xet_upload_session.specs.Sessions.{HasListed}
 use Rattle.xet_clean.specs.Cleaners.{Cleaner}
 use Rattle.xet_job_steps.specs.Pieces.{ReadsPiece}
-use Rattle.xet_jobs.specs.Jobs.{Ended, EndsJob, FeedsPiece, FillCall, JobTold, Seen, StepCall, Steps, ends_with, piece_size}
+use Rattle.xet_jobs.specs.Jobs.{Ended, EndsJob, FeedsPiece, FillCall, HeldStep, JobTold, Seen, StepCall, Steps, ends_with, piece_size}
 
 -- what is told of a value that is there
 pub mapped : {A B : Type 0} (f : A → B) (o p : Option A) (x : A) → p ≡ o → p ≡ Some x → option_map f o ≡ Some (f x)
@@ -133,3 +133,14 @@ step-backs now b n j m answer listed s = go s.piece answer s.steps
     go (x ∷ xs) (Ok None) t = t.1.adds.leaves.backs listed
     go (x ∷ xs) (Ok (Some r)) t = absurd t
     go (x ∷ xs) (Err e) t = t.1.adds.leaves.backs listed
+
+-- so a step is one under a hold of the lock
+pub held-step : (now : ℕ) (b n : Seen) (j m : JobTold) (answer : Result (Option Ended) DataError)
+    → HasListed b.session → StepCall now b n j m answer → HeldStep now j m answer
+held-step now b n j m answer listed s = record {
+  found = b;
+  left = n;
+  listed = listed;
+  call = s;
+  backs = step-backs now b n j m answer listed s;
+}

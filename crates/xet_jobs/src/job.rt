@@ -3,6 +3,7 @@ ghost use Rattle.std.specs.Prelude.{◌≡◌, ◌↔◌, ◌≤◌, IfOk, IsTru
 ghost use Rattle.xet_upload_session.specs.Telling.{KeepsGroup};
 ghost use Rattle.xet_jobs.specs.Jobs.{FillCall, HeldStep, RunsJob, StepCall, Turns, piece_size};
 
+use crate::held::{held_add, held_finish};
 use std::alloc::Global;
 use std::sync::{Mutex, Wait};
 use xet_base::OutOfMemory;
@@ -111,7 +112,7 @@ impl<I: Source, T: Cutter + Drop> UploadJob<I, T> {
         }
     }
 
-    // A step under one hold of the lock.
+    // A step by one hold of the lock, without which its piece is taken in.
     fn held_step<U: Uploader, R: ShardStore, W: Wait>(
         &mut self,
         session: &Mutex<FileUploadSession<U, R>>,
@@ -123,14 +124,20 @@ impl<I: Source, T: Cutter + Drop> UploadJob<I, T> {
         ensures call { HeldStep now (job_of self.old) (job_of self.new) result }
         ensures waits { IfOk result (λ ended. ended ≡ None → Waits self.new) }
     {
-        let mut held = session.lock(rt);
-        let found = &mut *held;
-        // its clause is what the session's type keeps
-        let _is_finalized = found.is_finalized();
-        self.step(found, rt, alloc, now)
+        let (Some(mut cleaner), Some(count)) = (self.cleaner.take(), self.ready.take()) else {
+            unreachable!()
+        };
+        match ready_piece(&self.buffer, count) {
+            None => Ok(Some(held_finish(session, rt, alloc, cleaner, now)?)),
+            Some(piece) => {
+                held_add(session, rt, alloc, &mut cleaner, piece, now)?;
+                self.cleaner = Some(cleaner);
+                Ok(None)
+            }
+        }
     }
 
-    // Reads a piece without the lock, and makes a step under one hold of it.
+    // Reads a piece without the lock, and makes a step by one hold of it.
     fn turn<U: Uploader, R: ShardStore, W: Wait>(
         &mut self,
         session: &Mutex<FileUploadSession<U, R>>,
@@ -146,8 +153,8 @@ impl<I: Source, T: Cutter + Drop> UploadJob<I, T> {
         self.held_step(session, rt, alloc, now)
     }
 
-    /// Runs the job to its end over a session that threads share: it reads a piece without the lock, and makes a step
-    /// under one hold of it, until the file has ended. It answers the file's pointer record and the counts of its
+    /// Runs the job to its end over a session that threads share: it reads a piece and takes it in without the lock, and
+    /// makes the rest of its step under one hold of it, until the file has ended. It answers the file's pointer record and the counts of its
     /// chunks. The job has not ended, and no `fill` answered Ok since the last step. `now` is a moment in seconds.
     ///
     /// The errors are those of `fill` and of `step`. It waits for the lock.

@@ -1,6 +1,7 @@
 //! Uploads as jobs over one session that threads share.
 #![tactic(auto)]
 
+mod held;
 pub mod job;
 pub mod spawning;
 
