@@ -301,6 +301,7 @@ impl<T: Cutter> SingleFileCleaner<T> {
         taken: Result<u64, DataError>,
         now: u64,
     ) -> Result<(), DataError>
+        ensures leaves { Leaves (told_by session.old) (told_by session.new) }
         ensures feeds { (c : Cleaner) (bytes : List ℕ) → TakeCall c bytes (cleaner_of T.told self.old) taken
             → FeedsSo (told_by session.old) (told_by session.new) c bytes (cleaner_of T.told self.new) result }
         ensures tells { (c : Cleaner) (bytes : List ℕ) → TakeCall c bytes (cleaner_of T.told self.old) taken
@@ -323,7 +324,8 @@ impl<T: Cutter> SingleFileCleaner<T> {
     /// Feeds the bytes that the call of `take_in` just before took in, of which `taken` is the answer: the second part
     /// of `add_data`, which these two calls are together. `now` is a moment in seconds.
     ///
-    /// The errors are those of `add_data`. The first one is kept.
+    /// The errors are those of `add_data`. The first one is kept. After another value of `taken` nothing is known of the
+    /// file, and what else stands in the session is kept.
     ///
     /// In the Rust crate xet-data: a part of `SingleFileCleaner::add_data`.
     pub fn add_taken<U: Uploader, R: ShardStore, W: Wait>(
@@ -334,6 +336,7 @@ impl<T: Cutter> SingleFileCleaner<T> {
         taken: Result<u64, DataError>,
         now: u64,
     ) -> Result<(), DataError>
+        ensures leaves { Leaves (told_by session.old) (told_by session.new) }
         ensures adds { (c : Cleaner) (bytes : List ℕ) → TakeCall c bytes (cleaner_of T.told self.old) taken
             → AddsData (told_by session.old) (told_by session.new) c bytes (cleaner_of T.told self.new) result }
         ensures tells { (c : Cleaner) (bytes : List ℕ) → TakeCall c bytes (cleaner_of T.told self.old) taken

@@ -10,9 +10,9 @@ returns g c =
       left = seen_of c.add_taken.new.session;
       listed = c.is_finalized-is_finalized.ensures.listed;
       feeds = record {
-        adds = c.add_taken.ensures.adds before c.args.piece.now c.take_in.ensures;
-        tells = c.add_taken.ensures.tells before c.args.piece.now c.take_in.ensures;
-        grows = c.add_taken.ensures.grows before c.args.piece.now c.take_in.ensures;
+        adds = c.add_taken.ensures.adds before c.args.piece.now c.take_in-taken.ensures;
+        tells = c.add_taken.ensures.tells before c.args.piece.now c.take_in-taken.ensures;
+        grows = c.add_taken.ensures.grows before c.args.piece.now c.take_in-taken.ensures;
         calls = c.add_taken.ensures.calls;
       };
     }
