@@ -119,14 +119,15 @@ input of mirror:
   have other bytes. To see that takes as long as the xorbs that both have have bytes, and the files
   that both have terms; where the terms of such a file differ, as long as it has bytes, each chunk
   as often as terms have it. The document stands in memory as a tree, up to 175 times its size. To
-  copy a file takes as many steps as the xorbs that it names have chunks.
+  copy a file takes as many steps as it has terms and the xorbs that it names have chunks; each
+  such xorb is hashed once.
 
 lines of mirror:
-  Each listed file that the target lacks is copied in memory: the xorbs that it names and the
-  target lacks, then its record. What that took is printed: files with the numbers of listed files
-  that were copied and that the target had, xorbs with the numbers of those that it got and of those
-  that the copied files name and it had, bytes with the number of bytes of those that it got, a line
-  each, and ok. A file that is listed twice is copied once.
+  Each listed file that the target lacks is copied: the xorbs that it names and the target lacks,
+  then its record. Of the copies their hashes alone stay in memory. What copying took is printed:
+  files with the numbers of listed files that were copied and that the target had, xorbs with the
+  numbers of those that it got and of those that the copied files name and it had, bytes with the
+  number of bytes of those that it got, a line each, and ok. A file listed twice is copied once.
 
 input of resume:
   A document as that of get.

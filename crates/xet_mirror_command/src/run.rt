@@ -1,4 +1,4 @@
-//! The files are copied, in memory.
+//! The files are copied, to a target that keeps hashes alone.
 ghost use Rattle.xet_shelves.specs.After.{Agree};
 ghost use Rattle.xet_mirror_command.specs.steps.Ends.{Ends};
 

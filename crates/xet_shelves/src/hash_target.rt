@@ -1,5 +1,6 @@
 //! A target over a store in memory that keeps hashes alone.
-ghost use Rattle.std.specs.Prelude.{◌≡◌, [], None, Ok, Some};
+ghost use Rattle.std.specs.Prelude.{◌≡◌, ◌-◌, ◌^◌, [], IfOk, None, Ok, Some, min};
+ghost use Rattle.xet_base.specs.Records.{shard_size};
 ghost use Rattle.xet_shelves.specs.Shelves.{HasCall, has_file, has_xorb};
 ghost use Rattle.xet_uploader.specs.Uploads.{PutShardCall, PutXorbCall, QueryShardCall};
 
@@ -44,7 +45,7 @@ impl Uploader for HashTarget {
       faults = 0;
     } };
 
-    /// Keeps the xorb's hash, and answers how many bytes it has.
+    /// Keeps the xorb's hash, and answers how many bytes it has, at most `u64::MAX`.
     fn put_xorb(&mut self, alloc: Global, xorb: &Xorb) -> Result<u64, ClientError>
         ensures call { PutXorbCall (⟦<HashTarget as Uploader>⟧.told self.old)
             (⟦<HashTarget as Uploader>⟧.told self.new) xorb.now result }
@@ -58,6 +59,7 @@ impl Uploader for HashTarget {
     fn put_shard(&mut self, alloc: Global, shard: &ShardRecord) -> Result<u64, ClientError>
         ensures call { PutShardCall (⟦<HashTarget as Uploader>⟧.told self.old)
             (⟦<HashTarget as Uploader>⟧.told self.new) shard.now result }
+        ensures sent { IfOk result (λ n. n ≡ min (shard_size shard.now) (2 ^ 64 - 1)) }
     {
         self.log.push_shard(alloc, shard)?;
         Ok(shard.num_bytes())
@@ -83,6 +85,8 @@ impl Target for HashTarget {
     fn has_file(&mut self, file: &MerkleHash) -> Result<bool, ClientError>
         ensures call { HasCall (⟦<HashTarget as Uploader>⟧.told self.old) (⟦<HashTarget as Uploader>⟧.told self.new)
             (λ s log. has_file s log file.now) result }
+        ensures answer { result ≡ Ok (has_file self.old.store self.old.log file.now) }
+        ensures same { self.new ≡ self.old }
     {
         Ok(self.store.file(file).is_some() || self.log.has_file(file))
     }
@@ -91,6 +95,8 @@ impl Target for HashTarget {
     fn has_xorb(&mut self, xorb: &MerkleHash) -> Result<bool, ClientError>
         ensures call { HasCall (⟦<HashTarget as Uploader>⟧.told self.old) (⟦<HashTarget as Uploader>⟧.told self.new)
             (λ s log. has_xorb s log xorb.now) result }
+        ensures answer { result ≡ Ok (has_xorb self.old.store self.old.log xorb.now) }
+        ensures same { self.new ≡ self.old }
     {
         Ok(self.store.xorb(xorb).is_some() || self.log.has_xorb(xorb))
     }
