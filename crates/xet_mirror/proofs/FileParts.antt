@@ -35,7 +35,7 @@ use Rattle.xet_mirror_parts.proofs.CallerLemmas.{any-map, client-lost, found_all
 use Rattle.xet_mirror.specs.Mirrored.{copied_files, named_xorbs, names_of_file}
 use Rattle.xet_mirror.specs.steps.FileCalls.{FileCall, FileCause, IsCopied}
 use Rattle.xet_mirror.proofs.Listed.{copied-again, copied-held, copied-new, counted-one, length-copied, named-more}
-use Rattle.xet_mirror.proofs.MirrorLaws.{term-test}
+use Rattle.xet_mirror.proofs.MirrorLaws.{map-some, term-test}
 
 -- an answer is no error
 pub ok-other : {A : Type 0} (x : A) (y : MirrorError) → ◌≡◌ {A = Result A MirrorError} (Ok x) (Err y) → ⊥
@@ -57,10 +57,6 @@ or-some (Some x) b h e = absurd (true≢false e)
 or-no : {A : Type 0} (a b : Option A) → is_some (option_or a b) ≡ false → (is_some a ≡ false) × (is_some b ≡ false)
 or-no None b h = (refl, h)
 or-no (Some x) b h = absurd (true≢false h)
-
-map-some : {A B : Type 0} (f : A → B) (o : Option A) → is_some (option_map f o) ≡ is_some o
-map-some f None = refl
-map-some f (Some x) = refl
 
 -- the record of a file among the puts
 recorded-any : (s t : Store) (ps : List Put) (c : Copied) (done : List MerkleHash) (file : MerkleHash) (b : Bool)

@@ -58,10 +58,16 @@ verified verify s t ps from sent whole v =
 -- ---- bytes
 
 -- a store that has another's file, and the same xorbs for its terms, has its bytes
-same-bytes : (s u : Store) (f : MerkleHash) → file_of u f ≡ file_of s f → All (λ t. HaveSame s u t.xorb) (terms_of_file s f) → bytes_of u f ≡ bytes_of s f
+pub same-bytes : (s u : Store) (f : MerkleHash) → file_of u f ≡ file_of s f → All (λ t. HaveSame s u t.xorb) (terms_of_file s f) → bytes_of u f ≡ bytes_of s f
 same-bytes s u f same all =
     ap (λ o. concat (flat_map (chunks_of_term u) (unwrap_or (option_map (λ (x : StoredFile). x.terms) o) []))) same
     ∙ ap concat (same-terms s u (terms_of_file s f) all)
+
+-- what is so of the xorbs that terms name
+pub unmapped : (P : MerkleHash → Type 0) (ts : List StoredTerm) → All P (map (λ (u : StoredTerm). u.xorb) ts) → All (λ (u : StoredTerm). P u.xorb) ts
+unmapped P ts a n d l =
+    let e = get_or-map (λ (u : StoredTerm). u.xorb) ts n d d.xorb l in
+    subst P e (a n d.xorb (omega (arith, l, length-map ts (λ (u : StoredTerm). u.xorb))))
 
 -- a store after a log has the xorbs that it had
 kept : (t : Store) (ps : List Put) (h : MerkleHash) → IsSome (xorb_of t h) → HaveSame t (after t ps) h
@@ -75,11 +81,11 @@ kept t ps h some =
       chunks = refl;
     }
 
-or-left : {A : Type 0} (a b : Option A) → is_some a ≡ true → option_or a b ≡ a
+pub or-left : {A : Type 0} (a b : Option A) → is_some a ≡ true → option_or a b ≡ a
 or-left None b h = absurd (false≢true h)
 or-left (Some x) b h = refl
 
-or-right : {A : Type 0} (a b : Option A) → is_some a ≡ false → option_or a b ≡ b
+pub or-right : {A : Type 0} (a b : Option A) → is_some a ≡ false → option_or a b ≡ b
 or-right None b h = refl
 or-right (Some x) b h = absurd (true≢false h)
 
@@ -95,6 +101,18 @@ bytes-kept t ps to f e =
     same-bytes t (after t ps) f (file-kept t ps f e)
     (All-weaker (IsTermIn t) (λ u. HaveSame t (after t ps) u.xorb) (λ u i. kept t ps u.xorb i.stored) (terms_of_file t f) all)
 
+-- a file that t lacks is s's, where each record that was put is
+pub file-found : (s t : Store) (ps : List Put) → All (λ r. file_of s r.hash ≡ Some (file_of_record r)) (files_in ps)
+    → (f : MerkleHash) (r : MDBFileInfo) → find (λ r. hash_eq r.hash f) (files_in ps) ≡ Some r → is_some (file_of t f) ≡ false
+    → file_of (after t ps) f ≡ file_of s f
+file-found s t ps files f r is lacking =
+    let P : MDBFileInfo → Type 0 = λ r. file_of s r.hash ≡ Some (file_of_record r) in
+    let own = found_all P (λ r. hash_eq r.hash f) (files_in ps) r files is in
+    let hash = hash_eq-true r.hash f (found_passes (λ r. hash_eq r.hash f) (files_in ps) r is) in
+    after_finds_files t ps f
+    ∙ or-right (file_of t f) (option_map file_of_record (find (λ r. hash_eq r.hash f) (files_in ps))) lacking
+    ∙ ap (option_map file_of_record) is ∙ sym own ∙ ap (file_of s) hash
+
 module _ (s t : Store) (ps : List Put) (c : Copied) (files : List MerkleHash) (k : IsCopied s t ps c files)
     (from : IsValid s) (to : IsValid t) (agree : Agree s t) where
   -- another that is listed was copied
@@ -109,17 +127,10 @@ module _ (s t : Store) (ps : List Put) (c : Copied) (files : List MerkleHash) (k
         ∙ ap (list_any (λ g. hash_eq g f)) k.recorded ∙ contained_any (copied_files t files) f copied-is)
 
     file-put : file_of (after t ps) f ≡ file_of s f
-    file-put =
-        let P : MDBFileInfo → Type 0 = λ r. file_of s r.hash ≡ Some (file_of_record r) in
-        let r = recorded-is in
-        let own = found_all P (λ r. hash_eq r.hash f) (files_in ps) r.0 k.files r.1 in
-        let hash = hash_eq-true r.0.hash f (found_passes (λ r. hash_eq r.hash f) (files_in ps) r.0 r.1) in
-        after_finds_files t ps f
-        ∙ or-right (file_of t f) (option_map file_of_record (find (λ r. hash_eq r.hash f) (files_in ps))) lacking
-        ∙ ap (option_map file_of_record) r.1 ∙ sym own ∙ ap (file_of s) hash
+    file-put = let r = recorded-is in file-found s t ps k.files f r.0 r.1 lacking
 
     bytes-put : bytes_of (after t ps) f ≡ bytes_of s f
-    bytes-put = same-bytes s (after t ps) f file-put (unmapped (terms_of_file s f) all)
+    bytes-put = same-bytes s (after t ps) f file-put (unmapped (HaveSame s (after t ps)) (terms_of_file s f) all)
       where
         all : All (HaveSame s (after t ps)) (names_of_file s f)
         all n d l =
@@ -127,11 +138,6 @@ module _ (s t : Store) (ps : List Put) (c : Copied) (files : List MerkleHash) (k
             let named = named-listed s (copied_files t files) f h copied-is (Contains-get_or (names_of_file s f) n d l) in
             let P : List MerkleHash → Type 0 = λ hs. Contains hs h in
             looked-same s t ps c k.copying agree h (subst P (sym k.named) named)
-
-        unmapped : (ts : List StoredTerm) → All (HaveSame s (after t ps)) (map (λ (u : StoredTerm). u.xorb) ts) → All (λ (u : StoredTerm). HaveSame s (after t ps) u.xorb) ts
-        unmapped ts a n d l =
-            let e = get_or-map (λ (u : StoredTerm). u.xorb) ts n d d.xorb l in
-            subst (HaveSame s (after t ps)) e (a n d.xorb (omega (arith, l, length-map ts (λ (u : StoredTerm). u.xorb))))
 
   -- each listed file is one or the other
   has-file : (f : MerkleHash) → Contains files f → IsSome (file_of s f) ⊎ IsSome (file_of t f) → IsSome (file_of (after t ps) f)

@@ -3,3 +3,4 @@ mod Finals
 mod Listed
 mod MirrorLaws
 mod Mirrorings
+mod Stopped

@@ -2,7 +2,6 @@
 use Rattle.std.proofs.Common.{◌≡◌, Bool, true, false, cond, not, ◌||◌, List, [], ◌∷◌, length, get_or, refl, sym, ◌∙◌, ap, subst}
 use Rattle.std.specs.Prelude.{Option, Some, None, IsSome, ◌&&◌, find, filter, is_none, is_some, nat_lt, nat_le, option_map, slice_range, unwrap_or, All}
 use Rattle.std.specs.List.{flat_map, list_any}
-use Rattle.std.specs.Option.{option_or}
 use Rattle.std.proofs.lemmas.Bool.{false≢true, true≢false, lt-ltb, le-leb}
 use Rattle.std.proofs.lemmas.Option.{get_or_from_slice_get, slice_get_within}
 use Rattle.std.proofs.lemmas.List.Elements.{All-contains, All-map}
@@ -21,11 +20,12 @@ use Rattle.xet_base.specs.Lists.{firsts}
 use Rattle.xet_base.proofs.CallerLemmas.{hash_eq-true}
 use Rattle.xet_uploader.specs.StoresAfter.{file_of_record, files_in}
 use Rattle.xet_uploader.specs.Uploads.{xorbs_in}
-use Rattle.xet_shelves.specs.After.{after}
+use Rattle.xet_uploader.specs.declared.uploader.Put.{Put}
+use Rattle.xet_shelves.specs.After.{Agree, after}
 use Rattle.xet_mirror_parts.specs.Copying.{IsSentFrom}
 use Rattle.xet_mirror_parts.proofs.CallerLemmas.{any-map, any_contained, found_all, found_passes, is_some-found}
 use Rattle.xet_mirror.specs.Mirrored.{copied_files, named_xorbs, names_of_file}
-use Rattle.xet_mirror.proofs.Finals.{bytes-kept}
+use Rattle.xet_mirror.proofs.Finals.{bytes-kept, or-left, or-right}
 use Rattle.std.proofs.lemmas.Option.{same_Some}
 use Rattle.std.proofs.lemmas.List.Elements.{All-append, All-cons, All-filter, All-head, All-nil, All-tail}
 
@@ -104,33 +104,27 @@ none-missing s t files x v missing =
 
 -- ---- agreement
 
-or-left : {A : Type 0} (a b : Option A) → is_some a ≡ true → option_or a b ≡ a
-or-left None b h = absurd (false≢true h)
-or-left (Some x) b h = refl
-
-or-right : {A : Type 0} (a b : Option A) → is_some a ≡ false → option_or a b ≡ b
-or-right None b h = refl
-or-right (Some x) b h = absurd (true≢false h)
-
-map-some : {A B : Type 0} (f : A → B) (o : Option A) → is_some (option_map f o) ≡ is_some o
+pub map-some : {A B : Type 0} (f : A → B) (o : Option A) → is_some (option_map f o) ≡ is_some o
 map-some f None = refl
 map-some f (Some x) = refl
 
-pub mirrored-agrees : MirroredAgrees
-mirrored-agrees s t files puts report from to agree sent done = record { xorbs = xorbs; files = same }
+-- a put xorb is the shelf's, and another the target's own
+pub xorbs-agree : (s t : Store) (puts : List Put) → Agree s t → All (IsSentFrom s t) (xorbs_in puts)
+    → (h : MerkleHash) (x y : Xorb) → xorb_of s h ≡ Some x → xorb_of (after t puts) h ≡ Some y → x.chunks ≡ y.chunks
+xorbs-agree s t puts agree sent h x y a b = go (is_some (xorb_of t h)) refl
   where
-    xorbs : (h : MerkleHash) (x y : Xorb) → xorb_of s h ≡ Some x → xorb_of (after t puts) h ≡ Some y → x.chunks ≡ y.chunks
-    xorbs h x y a b = go (is_some (xorb_of t h)) refl
-      where
-        go : (c : Bool) → is_some (xorb_of t h) ≡ c → x.chunks ≡ y.chunks
-        go true e = agree.xorbs h x y a (sym (or-left (xorb_of t h) (find (λ z. hash_eq z.hash h) (xorbs_in puts)) e) ∙ sym (after_finds_xorbs t puts h) ∙ b)
-        go false e =
-            let found : find (λ (z : Xorb). hash_eq z.hash h) (xorbs_in puts) ≡ Some y =
-            sym (or-right (xorb_of t h) (find (λ z. hash_eq z.hash h) (xorbs_in puts)) e) ∙ sym (after_finds_xorbs t puts h) ∙ b in
-            let own = found_all (IsSentFrom s t) (λ (z : Xorb). hash_eq z.hash h) (xorbs_in puts) y sent found in
-            let hash = hash_eq-true y.hash h (found_passes (λ (z : Xorb). hash_eq z.hash h) (xorbs_in puts) y found) in
-            ap (λ (z : Xorb). z.chunks) (same_Some x y (sym a ∙ ap (xorb_of s) (sym hash) ∙ own.stored))
+    go : (c : Bool) → is_some (xorb_of t h) ≡ c → x.chunks ≡ y.chunks
+    go true e = agree.xorbs h x y a (sym (or-left (xorb_of t h) (find (λ z. hash_eq z.hash h) (xorbs_in puts)) e) ∙ sym (after_finds_xorbs t puts h) ∙ b)
+    go false e =
+        let found : find (λ (z : Xorb). hash_eq z.hash h) (xorbs_in puts) ≡ Some y =
+        sym (or-right (xorb_of t h) (find (λ z. hash_eq z.hash h) (xorbs_in puts)) e) ∙ sym (after_finds_xorbs t puts h) ∙ b in
+        let own = found_all (IsSentFrom s t) (λ (z : Xorb). hash_eq z.hash h) (xorbs_in puts) y sent found in
+        let hash = hash_eq-true y.hash h (found_passes (λ (z : Xorb). hash_eq z.hash h) (xorbs_in puts) y found) in
+        ap (λ (z : Xorb). z.chunks) (same_Some x y (sym a ∙ ap (xorb_of s) (sym hash) ∙ own.stored))
 
+pub mirrored-agrees : MirroredAgrees
+mirrored-agrees s t files puts report from to agree sent done = record { xorbs = xorbs-agree s t puts agree sent; files = same }
+  where
     same : (f : MerkleHash) → IsSome (file_of s f) → IsSome (file_of (after t puts) f) → bytes_of s f ≡ bytes_of (after t puts) f
     same f a b = go (is_some (file_of t f)) refl
       where
