@@ -1,7 +1,6 @@
 -- Bytes that a cleaner took in ahead of its session.
 use Rattle.std.proofs.Common.{◌≡◌, ℕ, inl, inr, ◌⊎◌, Bool, false, List, ◌++◌, length, refl, sym, ◌∙◌, ap, subst}
 use Rattle.std.specs.Prelude.{Option, Some, None, Result, Ok, Err, OnOk}
-use Rattle.xet_base.specs.declared.invalid.Invalid.{Invalid}
 use Rattle.xet_progress_state.specs.declared.step.TrackerStep.{TrackerStep}
 use Rattle.xet_upload.specs.declared.data_error.DataError.{DataError}
 use Rattle.xet_upload.specs.declared.data_error.DataError.TheVariants as data_error

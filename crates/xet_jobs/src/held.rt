@@ -1,5 +1,4 @@
 //! What a job does with a session that threads share, under one hold of its lock.
-ghost use Rattle.std.specs.Prelude.{◌≡◌};
 ghost use Rattle.xet_clean.specs.Showing.{cleaner_of};
 ghost use Rattle.xet_jobs.specs.steps.Held.{HeldAdd, HeldFinish};
 

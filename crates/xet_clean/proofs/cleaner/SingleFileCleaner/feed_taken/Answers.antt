@@ -2,7 +2,6 @@ use Rattle.std.proofs.Common.{refl, ap, inl, sym, ◌≡◌, ◌∙◌}
 use Rattle.std.specs.Prelude.{Err}
 use Rattle.xet_upload_session.specs.Sessions.{SessionTold}
 use Rattle.xet_upload_session.specs.Telling.{told_by}
-use Rattle.xet_clean.specs.Cleaners.{Cleaner}
 use Rattle.xet_base.proofs.CallerLemmas.{err-of}
 use Rattle.xet_clean_parts.proofs.CallerLemmas.{chunk-tracks, leaves-both, leaves-refl, some-still}
 use Rattle.xet_clean_parts.proofs.CallerLemmas.{calls-moved, calls-none, group-both}
