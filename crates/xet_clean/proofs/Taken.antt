@@ -5,7 +5,8 @@ use Rattle.xet_progress_state.specs.declared.step.TrackerStep.{TrackerStep}
 use Rattle.xet_upload.specs.declared.data_error.DataError.{DataError}
 use Rattle.xet_upload.specs.declared.data_error.DataError.TheVariants as data_error
 use Rattle.xet_upload_session.specs.Sessions.{SessionTold}
-use Rattle.xet_clean.specs.Cleaners.{Cleaner, FeedsSo, IsOwnError, PassesTotal, TakeCall, TakesIn, past_total}
+use Rattle.xet_clean.specs.Cleaners.{Cleaner, FeedsSo, IsOwnError, PassesTotal, TakesIn, past_total}
+use Rattle.xet_clean.specs.steps.TakenIn.{TakeCall}
 use Rattle.xet_clean_parts.specs.FileCalls.{GrowsFirst, IsFor, TellsOf}
 use Rattle.xet_clean_parts.proofs.CallerLemmas.{chunk-memory, leaves-refl, some-still, tells-memory, tells-none}
 use Rattle.xet_clean.proofs.Feeding.{feeds-failed, feeds-kept, feeds-past, never-failed}

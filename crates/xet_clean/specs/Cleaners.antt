@@ -10,6 +10,7 @@ use Rattle.xet_base.specs.declared.merklehash.MerkleHash.{MerkleHash}
 use Rattle.xet_base.specs.Digests.{file_hash_of, infos_of}
 use Rattle.xet_base.specs.Store.{Store}
 use Rattle.xet_pointer.specs.declared.xet_file_info.XetFileInfo.{XetFileInfo}
+use Rattle.xet_progress_state.specs.declared.step.TrackerStep.{TrackerStep}
 use Rattle.xet_upload.specs.FileDatas.{Parts, PartsStand, no_parts}
 use Rattle.xet_upload.specs.Metrics.{both, no_counts}
 use Rattle.xet_upload.specs.Standing.{world}
@@ -23,11 +24,12 @@ use Rattle.xet_upload_session.specs.Calls.{Backs, CountsSent, Keeps, Says, final
 use Rattle.xet_upload_session.specs.Completions.{with_file_counts}
 use Rattle.xet_upload_session.specs.Sessions.{HasListed, SessionTold, Tells, log_of}
 use Rattle.xet_clean_parts.specs.Cleanings.{AreNamed, ChunkFails, CleanFails, Cleans, Leaves, NoFault}
-use Rattle.xet_clean_parts.specs.FileCalls.{IsLate}
+use Rattle.xet_clean_parts.specs.FileCalls.{GrowsFirst, IsFor, IsLate, TellsOf}
 use Rattle.xet_clean_parts.specs.Made.{CutInto, IsPickedFrom, PutsInTurn, PutsLast, PutsMade, PutsNone, PutsSo}
 use Rattle.xet_clean_parts.specs.Made.{PutsSome, PutsToEnd, StayOne}
 use Rattle.xet_clean_parts.specs.Places.{CutAt, CutBy, IsCutUp, IsNextCut, Telling}
 use Rattle.xet_clean_parts.specs.Premises.{HashesAgree, IsOpen, IsSteady, NoClash}
+use Rattle.xet_clean_parts.specs.SessionCalls.{Calls}
 use Rattle.xet_clean_parts.specs.Cleanings.{IsFirstUnlisted}
 use Rattle.xet_clean_parts.specs.Pointers.{pointer_to, recorded_sha256}
 use Rattle.xet_clean.specs.Records.{CleanedFile, HasRecord}
@@ -154,15 +156,6 @@ PassesTotal c bytes = total_of c - c.fed < length bytes
 abbrev pub past_total : Cleaner → List ℕ → DataError
 past_total c bytes = data_error.InvalidOperation (invalid.PastTotal (total_of c) c.fed (length bytes))
 
--- bytes were taken in, of which none was cut yet; or nothing was, as `add_data` is to answer
-pub record TakeCall (c : Cleaner) (bytes : List ℕ) (d : Cleaner) (answer : Result ℕ DataError) : Type 0 where
-  pub ok : IfOk answer (λ count. (count ≡ length bytes) × TakesIn c bytes d)
-  pub err : OnErr answer (d ≡ c)
-  pub kept : (e : DataError) → c.failed ≡ Some e → answer ≡ Err e
-  pub past : c.failed ≡ None → PassesTotal c bytes → answer ≡ Err (past_total c bytes)
-  pub why : IfErr answer (λ e. (c.failed ≡ Some e) ⊎ ((e ≡ past_total c bytes) × PassesTotal c bytes)
-      ⊎ (e ≡ data_error.OutOfMemory))
-
 -- why `add_data` fails: the cleaner failed before, or its size is passed, or a chunk of it wasn't added
 abbrev pub AddFails : SessionTold → SessionTold → Cleaner → List ℕ → DataError → Type 0
 AddFails b n c bytes e = (c.failed ≡ Some e) ⊎ ((e ≡ past_total c bytes) × PassesTotal c bytes) ⊎ ChunkFails b n e
@@ -203,6 +196,20 @@ pub record AddsData (b n : SessionTold) (c : Cleaner) (bytes : List ℕ) (d : Cl
   pub past : b.finalized ≡ false → c.failed ≡ None → PassesTotal c bytes
       → (answer ≡ Err (past_total c bytes)) × (n ≡ b)
   pub why : IfErr answer (AddFails b n c bytes)
+
+-- so bytes were fed to a session that threads share, under one hold of its lock: over some session, of which what its
+-- type keeps is true, and some calls that its tracker accepted
+pub record AddsShared (now : ℕ) (c : Cleaner) (bytes : List ℕ) (d : Cleaner) (answer : Result (Unit {0}) DataError)
+    : Type 0 where
+  pub found : SessionTold
+  pub left : SessionTold
+  pub before : List TrackerStep
+  pub after : List TrackerStep
+  pub listed : HasListed found
+  pub adds : AddsData found left c bytes d answer
+  pub tells : TellsOf (IsFor c.file_id c.size (length bytes)) (IsOwnError found.finalized c bytes) before after answer
+  pub grows : OnOk answer (GrowsFirst c.file_id c.size (length bytes) before after)
+  pub calls : Calls now found left
 
 -- ---- the end
 

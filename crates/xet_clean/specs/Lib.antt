@@ -3,3 +3,4 @@ pub mod FileEnds
 pub mod Laws
 pub mod Records
 pub mod Showing
+pub mod steps

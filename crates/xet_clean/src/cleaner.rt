@@ -7,9 +7,10 @@ ghost use Rattle.xet_upload_session.specs.Sessions.{HasListed};
 ghost use Rattle.xet_upload_session.specs.Telling.{KeepsGroup, told_by};
 ghost use Rattle.xet_upload_session.specs.Trackings.{StartsFile};
 ghost use Rattle.xet_clean.specs.Cleaners.{AddsData, Completes, CountsChunks, CutsChunks, EndPasses, EndRefused};
-ghost use Rattle.xet_clean.specs.Cleaners.{FeedsSo, Finishes};
-ghost use Rattle.xet_clean.specs.Cleaners.{IsEndError, IsNewCleaner, IsOwnError, NextChunk, PassesTotal, TakeCall};
-ghost use Rattle.xet_clean.specs.Cleaners.{Cleaner, TakesIn, chunk_counts, past_total, started};
+ghost use Rattle.xet_clean.specs.Cleaners.{AddsShared, Cleaner, FeedsSo, Finishes};
+ghost use Rattle.xet_clean.specs.Cleaners.{IsEndError, IsNewCleaner, IsOwnError, NextChunk, PassesTotal, TakesIn};
+ghost use Rattle.xet_clean.specs.Cleaners.{chunk_counts, past_total, started};
+ghost use Rattle.xet_clean.specs.steps.TakenIn.{TakeCall};
 ghost use Rattle.xet_clean_parts.specs.Cleanings.{AreNamed, ChunkFails, Cleans, Leaves, TrackFails};
 ghost use Rattle.xet_clean_parts.specs.FileCalls.{GrowsFirst, IsFor, IsLate, IsPartOf, RefusedOf, TellsOf, growth};
 ghost use Rattle.xet_clean_parts.specs.Made.{PutsSo, PutsSome};
@@ -23,7 +24,7 @@ ghost use Rattle.xet_waiting.specs.Limits.{most_chunk_bytes};
 use bytes::Bytes;
 use sha2::{Digest, Sha256};
 use std::alloc::Global;
-use std::sync::Wait;
+use std::sync::{Mutex, Wait};
 use xet_base::{Invalid, MerkleHash, OutOfMemory, UniqueID};
 use xet_clean_parts::{PendingBytes, add_chunk, first_unlisted, pointer_to, recorded_sha256};
 use xet_pointer::XetFileInfo;
@@ -271,15 +272,9 @@ impl<T: Cutter> SingleFileCleaner<T> {
         }
     }
 
-    /// Takes in bytes behind those that were fed, and hashes them where SHA-256 is computed: the first part of
-    /// `add_data`, for which no session is needed. It answers how many they are, for `add_taken`.
-    ///
-    /// Its error is what `add_taken` is to answer, unless the session is finalized: the cleaner's first error where one
-    /// is kept, else `PastTotal` exactly where more bytes come than are left of a fixed size, else `OutOfMemory` where
-    /// an allocation was refused. Then the cleaner is as it was.
-    ///
-    /// In the Rust crate xet-data: a part of `SingleFileCleaner::add_data`.
-    pub fn take_in(&mut self, bytes: &[u8]) -> Result<u64, DataError>
+    // Takes in bytes, and hashes them: the part of `add_data` for which no session is needed. It answers how many they
+    // are. Its error is what `add_taken` is to answer and to keep, unless the session is finalized.
+    fn take_in(&mut self, bytes: &[u8]) -> Result<u64, DataError>
         ensures { TakeCall (cleaner_of T.told self.old) bytes.now (cleaner_of T.told self.new) result }
     {
         if let Some(error) = self.failed {
@@ -301,7 +296,6 @@ impl<T: Cutter> SingleFileCleaner<T> {
         taken: Result<u64, DataError>,
         now: u64,
     ) -> Result<(), DataError>
-        ensures leaves { Leaves (told_by session.old) (told_by session.new) }
         ensures feeds { (c : Cleaner) (bytes : List ℕ) → TakeCall c bytes (cleaner_of T.told self.old) taken
             → FeedsSo (told_by session.old) (told_by session.new) c bytes (cleaner_of T.told self.new) result }
         ensures tells { (c : Cleaner) (bytes : List ℕ) → TakeCall c bytes (cleaner_of T.told self.old) taken
@@ -321,14 +315,8 @@ impl<T: Cutter> SingleFileCleaner<T> {
         self.cut_chunks(session, rt, alloc, false, now)
     }
 
-    /// Feeds the bytes that the call of `take_in` just before took in, of which `taken` is the answer: the second part
-    /// of `add_data`, which these two calls are together. `now` is a moment in seconds.
-    ///
-    /// The errors are those of `add_data`. The first one is kept. After another value of `taken` nothing is known of the
-    /// file, and what else stands in the session is kept.
-    ///
-    /// In the Rust crate xet-data: a part of `SingleFileCleaner::add_data`.
-    pub fn add_taken<U: Uploader, R: ShardStore, W: Wait>(
+    // Feeds the bytes that `take_in` took in, of which `taken` is the answer: the rest of `add_data`.
+    fn add_taken<U: Uploader, R: ShardStore, W: Wait>(
         &mut self,
         session: &mut FileUploadSession<U, R>,
         rt: &W,
@@ -336,7 +324,6 @@ impl<T: Cutter> SingleFileCleaner<T> {
         taken: Result<u64, DataError>,
         now: u64,
     ) -> Result<(), DataError>
-        ensures leaves { Leaves (told_by session.old) (told_by session.new) }
         ensures adds { (c : Cleaner) (bytes : List ℕ) → TakeCall c bytes (cleaner_of T.told self.old) taken
             → AddsData (told_by session.old) (told_by session.new) c bytes (cleaner_of T.told self.new) result }
         ensures tells { (c : Cleaner) (bytes : List ℕ) → TakeCall c bytes (cleaner_of T.told self.old) taken
@@ -360,8 +347,8 @@ impl<T: Cutter> SingleFileCleaner<T> {
     /// Feeds bytes behind those that were fed: chunks are cut where the cutter says so, and each is found in a known
     /// xorb or waits for one. `now` is a moment in seconds.
     ///
-    /// Its first error is kept, and each later call answers it, but `Finalized`, which comes exactly where the session
-    /// is finalized. `PastTotal` exactly where more bytes come than are left of a fixed size; then the session is as
+    /// `Finalized` comes first, wherever the session is finalized. The first error is kept, and each later call answers
+    /// it. `PastTotal` exactly where more bytes come than are left of a fixed size; then the session is as
     /// it was. `ClientError` where a put failed and is kept, `IOError` only where a store of records failed. Each other
     /// `InvalidOperation` is a refusal of the session's tracker.
     ///
@@ -386,6 +373,30 @@ impl<T: Cutter> SingleFileCleaner<T> {
     {
         let taken = self.take_in(bytes);
         self.add_taken(session, rt, alloc, taken, now)
+    }
+
+    /// The same over a session that threads share: the bytes are copied and hashed without its lock, and all else is
+    /// done under one hold of it. It waits for the lock. `now` is a moment in seconds.
+    ///
+    /// The errors are those of `add_data`.
+    ///
+    /// In the Rust crate xet-data: `SingleFileCleaner::add_data`, whose session is shared.
+    pub fn add_data_shared<U: Uploader, R: ShardStore, W: Wait>(
+        &mut self,
+        session: &Mutex<FileUploadSession<U, R>>,
+        rt: &W,
+        alloc: Global,
+        bytes: &[u8],
+        now: u64,
+    ) -> Result<(), DataError>
+        ensures { AddsShared now (cleaner_of T.told self.old) bytes.now (cleaner_of T.told self.new) result }
+    {
+        let taken = self.take_in(bytes);
+        let mut held = session.lock(rt);
+        let found = &mut *held;
+        // its clause is what the session's type keeps
+        let _is_finalized = found.is_finalized();
+        self.add_taken(found, rt, alloc, taken, now)
     }
 
     // Hands the data over to the session, which has a record of the file then. All bytes were cut.

@@ -1,6 +1,6 @@
-//! What a job does with a session that threads share, under one hold of its lock.
+//! The end of a file in a session that threads share.
 ghost use Rattle.xet_clean.specs.Showing.{cleaner_of};
-ghost use Rattle.xet_jobs.specs.steps.Held.{HeldAdd, HeldFinish};
+ghost use Rattle.xet_jobs.specs.steps.Held.{HeldFinish};
 
 use std::alloc::Global;
 use std::sync::{Mutex, Wait};
@@ -10,25 +10,6 @@ use xet_shards::ShardStore;
 use xet_upload::{Cutter, DataError, DeduplicationMetrics};
 use xet_upload_session::FileUploadSession;
 use xet_uploader::Uploader;
-
-// Feeds a piece to a cleaner: it is taken in without the lock, and cut and cleaned under one hold of it.
-pub(crate) fn held_add<U: Uploader, R: ShardStore, W: Wait, T: Cutter>(
-    session: &Mutex<FileUploadSession<U, R>>,
-    rt: &W,
-    alloc: Global,
-    cleaner: &mut SingleFileCleaner<T>,
-    piece: &[u8],
-    now: u64,
-) -> Result<(), DataError>
-    ensures { HeldAdd now (cleaner_of T.told cleaner.old) piece.now (cleaner_of T.told cleaner.new) result }
-{
-    let taken = cleaner.take_in(piece);
-    let mut held = session.lock(rt);
-    let found = &mut *held;
-    // its clause is what the session's type keeps
-    let _is_finalized = found.is_finalized();
-    cleaner.add_taken(found, rt, alloc, taken, now)
-}
 
 // Ends the file of a cleaner under one hold of the lock.
 pub(crate) fn held_finish<U: Uploader, R: ShardStore, W: Wait, T: Cutter + Drop>(

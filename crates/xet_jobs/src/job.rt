@@ -3,7 +3,7 @@ ghost use Rattle.std.specs.Prelude.{◌≡◌, ◌↔◌, ◌≤◌, IfOk, IsTru
 ghost use Rattle.xet_upload_session.specs.Telling.{KeepsGroup};
 ghost use Rattle.xet_jobs.specs.Jobs.{FillCall, HeldStep, RunsJob, StepCall, Turns, piece_size};
 
-use crate::held::{held_add, held_finish};
+use crate::held::held_finish;
 use std::alloc::Global;
 use std::sync::{Mutex, Wait};
 use xet_base::OutOfMemory;
@@ -112,7 +112,7 @@ impl<I: Source, T: Cutter + Drop> UploadJob<I, T> {
         }
     }
 
-    // A step by one hold of the lock, without which its piece is taken in.
+    // A step by one hold of the lock. Its piece is hashed before.
     fn held_step<U: Uploader, R: ShardStore, W: Wait>(
         &mut self,
         session: &Mutex<FileUploadSession<U, R>>,
@@ -130,7 +130,7 @@ impl<I: Source, T: Cutter + Drop> UploadJob<I, T> {
         match ready_piece(&self.buffer, count) {
             None => Ok(Some(held_finish(session, rt, alloc, cleaner, now)?)),
             Some(piece) => {
-                held_add(session, rt, alloc, &mut cleaner, piece, now)?;
+                cleaner.add_data_shared(session, rt, alloc, piece, now)?;
                 self.cleaner = Some(cleaner);
                 Ok(None)
             }
@@ -153,9 +153,10 @@ impl<I: Source, T: Cutter + Drop> UploadJob<I, T> {
         self.held_step(session, rt, alloc, now)
     }
 
-    /// Runs the job to its end over a session that threads share: it reads a piece and takes it in without the lock, and
-    /// makes the rest of its step under one hold of it, until the file has ended. It answers the file's pointer record and the counts of its
-    /// chunks. The job has not ended, and no `fill` answered Ok since the last step. `now` is a moment in seconds.
+    /// Runs the job to its end over a session that threads share: it reads a piece and hashes it without the lock, and
+    /// makes the rest of its step under one hold of it, until the file has ended. It answers the file's pointer record
+    /// and the counts of its chunks. The job has not ended, and no `fill` answered Ok since the last step. `now` is a
+    /// moment in seconds.
     ///
     /// The errors are those of `fill` and of `step`. It waits for the lock.
     ///

@@ -8,7 +8,6 @@ pub returns-in-Ok : goal.returns-in-Ok
 returns-in-Ok g c =
     let is : c.feed_taken.result ≡ Ok tt = search rules in
     record {
-      leaves = c.feed_taken.ensures.leaves;
       adds = λ x bytes t. adds-ok _ _ _ _ _ tt tt (rw is at c.feed_taken.ensures.feeds x bytes t);
       tells = λ x bytes t. tells-ok _ _ _ _ _ tt (rw is at c.feed_taken.ensures.tells x bytes t);
       grows = λ x bytes t. rw is at c.feed_taken.ensures.grows x bytes t;
@@ -18,7 +17,6 @@ returns-in-Ok g c =
 
 pub returns-in-Err : goal.returns-in-Err
 returns-in-Err g c = record {
-  leaves = c.feed_taken.ensures.leaves;
   adds = λ x bytes t. adds-err _ _ _ _ _ _ _ (rw c.in-Err.is at c.feed_taken.ensures.feeds x bytes t)
       (rw c.unwrap_or.ensures refl);
   tells = λ x bytes t. tells-err _ _ _ _ _ (rw c.in-Err.is at c.feed_taken.ensures.tells x bytes t);

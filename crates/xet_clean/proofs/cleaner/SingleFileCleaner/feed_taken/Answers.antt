@@ -3,7 +3,7 @@ use Rattle.std.specs.Prelude.{Err}
 use Rattle.xet_upload_session.specs.Sessions.{SessionTold}
 use Rattle.xet_upload_session.specs.Telling.{told_by}
 use Rattle.xet_base.proofs.CallerLemmas.{err-of}
-use Rattle.xet_clean_parts.proofs.CallerLemmas.{chunk-tracks, leaves-both, leaves-refl, some-still}
+use Rattle.xet_clean_parts.proofs.CallerLemmas.{chunk-tracks, leaves-refl, some-still}
 use Rattle.xet_clean_parts.proofs.CallerLemmas.{calls-moved, calls-none, group-both}
 use Rattle.xet_clean_parts.proofs.CallerLemmas.{grows-first, part-for, tells-both, tells-err, tells-late, tells-none, tells-own, tells-wider}
 use Rattle.xet_clean.proofs.Feeding.{feeds-failed, feeds-finalized, feeds-grown}
@@ -12,7 +12,6 @@ use Rattle.xet_clean.proofs.cleaner.SingleFileCleaner.feed_taken.Goals as goal
 
 pub returns-then-is_finalized : goal.returns-then-is_finalized
 returns-then-is_finalized g c = record {
-  leaves = leaves-refl _ _ refl;
   feeds = λ x bytes t. feeds-finalized _ _ _ _ _ refl (took-failed _ _ _ _ t)
       (sym c.is_finalized.ensures.is ∙ c.if-is_finalized.true);
   tells = λ x bytes t. tells-none _ _ _ _ _ refl (λ why q. inl (inl (
@@ -28,7 +27,6 @@ pub returns-in_err-count : goal.returns-in_err-count
 returns-in_err-count g c =
     let e : c.from_residual.result ≡ Err c.in_err-count.field-0.0 = err-of _ _ c.from_residual.ensures in
     rw e (record {
-      leaves = leaves-refl _ _ refl;
       feeds = λ x bytes t. feeds-untaken _ _ _ _ _ _ (rw c.in_err-count.was at t) refl
           (sym c.is_finalized.ensures.is ∙ c.if-is_finalized.false);
       tells = λ x bytes t. tells-untaken _ _ _ _ _ _ _ (rw c.in_err-count.was at t) refl;
@@ -42,7 +40,6 @@ returns-in_err-grow g c =
     let e : c.from_residual-in_err-grow.result ≡ Err c.in_err-grow.field-0.0 =
     err-of _ _ c.from_residual-in_err-grow.ensures in
     rw e (record {
-      leaves = leaves-refl _ _ c.grow.ensures.same;
       feeds = λ x bytes t.
           let u = rw c.in_ok-count.was at t in
           feeds-failed _ _ _ _ _ _ (leaves-refl _ _ c.grow.ensures.same)
@@ -61,7 +58,6 @@ returns-in_err-grow g c =
 
 pub returns : goal.returns
 returns g c = record {
-  leaves = leaves-both _ _ _ (leaves-refl _ _ c.grow.ensures.same) c.cut_chunks.ensures.leaves;
   feeds = λ x bytes t.
       let u = rw c.in_ok-count.was at t in
       feeds-grown _ _ _ _ _ _ _ c.cut_chunks.result c.grow.ensures.same c.cut_chunks.ensures.leaves

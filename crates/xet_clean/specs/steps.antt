@@ -1,0 +1,2 @@
+-- Working words of private functions.
+pub mod TakenIn

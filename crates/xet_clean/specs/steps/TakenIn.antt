@@ -1,0 +1,14 @@
+-- The part of `add_data` for which no session is needed.
+use Rattle.std.specs.Prelude.{ℕ, ◌≡◌, ◌⊎◌, List, length, Some, None, Result, Err, IfOk, IfErr, OnErr}
+use Rattle.xet_upload.specs.declared.data_error.DataError.{DataError}
+use Rattle.xet_upload.specs.declared.data_error.DataError.TheVariants as data_error
+use Rattle.xet_clean.specs.Cleaners.{Cleaner, PassesTotal, TakesIn, past_total}
+
+-- bytes were taken in, of which none was cut yet; or nothing was, as `add_data` is to answer
+pub record TakeCall (c : Cleaner) (bytes : List ℕ) (d : Cleaner) (answer : Result ℕ DataError) : Type 0 where
+  pub ok : IfOk answer (λ count. (count ≡ length bytes) × TakesIn c bytes d)
+  pub err : OnErr answer (d ≡ c)
+  pub kept : (e : DataError) → c.failed ≡ Some e → answer ≡ Err e
+  pub past : c.failed ≡ None → PassesTotal c bytes → answer ≡ Err (past_total c bytes)
+  pub why : IfErr answer (λ e. (c.failed ≡ Some e) ⊎ ((e ≡ past_total c bytes) × PassesTotal c bytes)
+      ⊎ (e ≡ data_error.OutOfMemory))
