@@ -1,6 +1,7 @@
 mod Accepting
 pub mod CallerLemmas
 mod Completing
+mod FoundCuts
 mod Feeding
 mod FileEnds
 mod Holding

@@ -5,13 +5,14 @@ use Rattle.xet_progress_state.specs.declared.step.TrackerStep.{TrackerStep}
 use Rattle.xet_upload.specs.declared.data_error.DataError.{DataError}
 use Rattle.xet_upload.specs.declared.data_error.DataError.TheVariants as data_error
 use Rattle.xet_upload_session.specs.Sessions.{SessionTold}
-use Rattle.xet_clean.specs.Cleaners.{Cleaner, FeedsSo, IsOwnError, PassesTotal, TakesIn, past_total}
+use Rattle.xet_clean.specs.Cleaners.{Cleaner, FeedsSo, IsOwnError, PassesTotal, past_total}
+use Rattle.xet_clean.specs.declared.cleaner.TakenIn.{TakenIn}
 use Rattle.xet_clean.specs.steps.TakenIn.{TakeCall}
 use Rattle.xet_clean_parts.specs.FileCalls.{GrowsFirst, IsFor, TellsOf}
 use Rattle.xet_clean_parts.proofs.CallerLemmas.{chunk-memory, leaves-refl, some-still, tells-memory, tells-none}
 use Rattle.xet_clean.proofs.Feeding.{feeds-failed, feeds-kept, feeds-past, never-failed}
 
-abbrev refuses : DataError → Result ℕ DataError
+abbrev refuses : DataError → Result TakenIn DataError
 refuses e = Err e
 
 same-error : (e f : DataError) → refuses e ≡ refuses f → e ≡ f
@@ -20,14 +21,14 @@ same-error e f q = cc
 same-some : (e f : DataError) (o : Option DataError) → o ≡ Some e → o ≡ Some f → e ≡ f
 same-some e f o p q = let both : Some e ≡ Some f = sym p ∙ q in cc
 
-no-error : (k : ℕ) (e : DataError) → Ok k ≡ refuses e → ⊥
+no-error : (k : TakenIn) (e : DataError) → Ok k ≡ refuses e → ⊥
 no-error k e q = cc
 
 -- ---- bytes are taken in
 
 module _ (c d : Cleaner) (bytes : List ℕ) where
   -- the cleaner failed before
-  pub taken-kept : (e : DataError) → d ≡ c → c.failed ≡ Some e → TakeCall c bytes d (Err e)
+  pub taken-kept : (e : DataError) → d.failed ≡ c.failed → c.failed ≡ Some e → TakeCall c bytes d (Err e)
   taken-kept e same failed = record {
     ok = tt;
     err = same;
@@ -37,7 +38,7 @@ module _ (c d : Cleaner) (bytes : List ℕ) where
   }
 
   -- more bytes than are left
-  pub taken-past : (e : DataError) → d ≡ c → c.failed ≡ None → PassesTotal c bytes → e ≡ past_total c bytes
+  pub taken-past : (e : DataError) → d.failed ≡ c.failed → c.failed ≡ None → PassesTotal c bytes → e ≡ past_total c bytes
       → TakeCall c bytes d (Err e)
   taken-past e same none passes is = record {
     ok = tt;
@@ -48,7 +49,7 @@ module _ (c d : Cleaner) (bytes : List ℕ) where
   }
 
   -- there was no memory
-  pub taken-short : d ≡ c → c.failed ≡ None → (PassesTotal c bytes → ⊥)
+  pub taken-short : d.failed ≡ c.failed → c.failed ≡ None → (PassesTotal c bytes → ⊥)
       → TakeCall c bytes d (Err data_error.OutOfMemory)
   taken-short same none fits = record {
     ok = tt;
@@ -58,23 +59,13 @@ module _ (c d : Cleaner) (bytes : List ℕ) where
     why = inr (inr refl);
   }
 
-  pub taken-all : (k : ℕ) → k ≡ length bytes → TakesIn c bytes d → c.failed ≡ None → (PassesTotal c bytes → ⊥)
-      → TakeCall c bytes d (Ok k)
-  taken-all k count tk none fits = record {
-    ok = (count, tk);
-    err = tt;
-    kept = λ f h. never-failed c.failed f none h;
-    past = λ n p. absurd (fits p);
-    why = tt;
-  }
-
   -- ---- what is known of bytes that were taken in
 
-  pub took-failed : (answer : Result ℕ DataError) → TakeCall c bytes d answer → d.failed ≡ c.failed
+  pub took-failed : (answer : Result TakenIn DataError) → TakeCall c bytes d answer → d.failed ≡ c.failed
   took-failed (Ok k) t = ap (λ (z : Cleaner). z.failed) t.ok.1.same
-  took-failed (Err e) t = ap (λ (z : Cleaner). z.failed) t.err
+  took-failed (Err e) t = t.err
 
-  module _ (k : ℕ) (t : TakeCall c bytes d (Ok k)) where
+  module _ (k : TakenIn) (t : TakeCall c bytes d (Ok k)) where
     pub took-open : c.failed ≡ None
     took-open = go c.failed refl
       where
@@ -87,24 +78,24 @@ module _ (c d : Cleaner) (bytes : List ℕ) where
 
     -- what the tracker is told of them
     pub took-tells : {A : Type 0} (own : DataError → Type 0) (b n : List TrackerStep) (answer : Result A DataError)
-        → TellsOf (IsFor d.file_id d.size k) own b n answer
+        → TellsOf (IsFor d.file_id d.size k.count) own b n answer
         → TellsOf (IsFor c.file_id c.size (length bytes)) own b n answer
     took-tells own b n answer h =
         let file : d.file_id ≡ c.file_id = ap (λ (z : Cleaner). z.file_id) t.ok.1.same in
         let size : d.size ≡ c.size = ap (λ (z : Cleaner). z.size) t.ok.1.same in
         subst (λ (x : ℕ). TellsOf (IsFor c.file_id c.size x) own b n answer) t.ok.0
-        (subst (λ (o : Option ℕ). TellsOf (IsFor c.file_id o k) own b n answer) size
-        (subst (λ (x : ℕ). TellsOf (IsFor x d.size k) own b n answer) file h))
+        (subst (λ (o : Option ℕ). TellsOf (IsFor c.file_id o k.count) own b n answer) size
+        (subst (λ (x : ℕ). TellsOf (IsFor x d.size k.count) own b n answer) file h))
 
     pub took-grows : {A : Type 0} (b n : List TrackerStep) (answer : Result A DataError)
-        → OnOk answer (GrowsFirst d.file_id d.size k b n)
+        → OnOk answer (GrowsFirst d.file_id d.size k.count b n)
         → OnOk answer (GrowsFirst c.file_id c.size (length bytes) b n)
     took-grows b n answer h =
         let file : d.file_id ≡ c.file_id = ap (λ (z : Cleaner). z.file_id) t.ok.1.same in
         let size : d.size ≡ c.size = ap (λ (z : Cleaner). z.size) t.ok.1.same in
         subst (λ (x : ℕ). OnOk answer (GrowsFirst c.file_id c.size x b n)) t.ok.0
-        (subst (λ (o : Option ℕ). OnOk answer (GrowsFirst c.file_id o k b n)) size
-        (subst (λ (x : ℕ). OnOk answer (GrowsFirst x d.size k b n)) file h))
+        (subst (λ (o : Option ℕ). OnOk answer (GrowsFirst c.file_id o k.count b n)) size
+        (subst (λ (x : ℕ). OnOk answer (GrowsFirst x d.size k.count b n)) file h))
 
   -- ---- bytes that were refused are answered by a session that isn't finalized
 

@@ -1,2 +1,3 @@
 -- Working words of private functions.
+pub mod Cuts
 pub mod TakenIn

@@ -1,6 +1,7 @@
 //! A file on its way into a session.
 ghost use Rattle.std.specs.Prelude.{◌≡◌, ◌+◌, ◌++◌, ◌∷◌, ◌<◌, ◌≤◌, ◌^◌, ◌⊎◌, ℕ, List, [], IfErr, IfOk, IfSome, None};
-ghost use Rattle.std.specs.Prelude.{OnErr, OnOk, false, length, true};
+ghost use Rattle.std.specs.Prelude.{OnErr, OnOk, false, length, option_map, true};
+ghost use Rattle.xet_base.specs.Digests.{info_of};
 ghost use Rattle.sha2.specs.Hashers.{Holds256};
 ghost use Rattle.xet_upload.specs.declared.sha256_policy.Sha256Policy.TheVariants.{Compute};
 ghost use Rattle.xet_upload_session.specs.Sessions.{HasListed};
@@ -10,6 +11,7 @@ ghost use Rattle.xet_clean.specs.Cleaners.{AddsData, Completes, CountsChunks, Cu
 ghost use Rattle.xet_clean.specs.Cleaners.{AddsShared, Cleaner, FeedsSo, Finishes};
 ghost use Rattle.xet_clean.specs.Cleaners.{IsEndError, IsNewCleaner, IsOwnError, NextChunk, PassesTotal, TakesIn};
 ghost use Rattle.xet_clean.specs.Cleaners.{chunk_counts, past_total, started};
+ghost use Rattle.xet_clean.specs.steps.Cuts.{AreCuts};
 ghost use Rattle.xet_clean.specs.steps.TakenIn.{TakeCall};
 ghost use Rattle.xet_clean_parts.specs.Cleanings.{AreNamed, ChunkFails, Cleans, Leaves, TrackFails};
 ghost use Rattle.xet_clean_parts.specs.FileCalls.{GrowsFirst, IsFor, IsLate, IsPartOf, RefusedOf, TellsOf, growth};
@@ -21,17 +23,26 @@ ghost use Rattle.xet_clean.specs.FileEnds.{EndsFile, IsSame, TookFile};
 ghost use Rattle.xet_clean.specs.Showing.{cleaner_of};
 ghost use Rattle.xet_waiting.specs.Limits.{most_chunk_bytes};
 
+use crate::cuts::find_cuts;
 use bytes::Bytes;
 use sha2::{Digest, Sha256};
 use std::alloc::Global;
+use std::collections::VecDeque;
 use std::sync::{Mutex, Wait};
-use xet_base::{Invalid, MerkleHash, OutOfMemory, UniqueID};
+use xet_base::{ChunkInfo, Invalid, MerkleHash, OutOfMemory, UniqueID};
 use xet_clean_parts::{PendingBytes, add_chunk, first_unlisted, pointer_to, recorded_sha256};
 use xet_pointer::XetFileInfo;
 use xet_shards::ShardStore;
-use xet_upload::{Cutter, DataError, DeduplicationMetrics, FileParts, Sha256Policy, next_cut};
+use xet_upload::{Cutter, DataError, DeduplicationMetrics, FileParts, Sha256Policy};
 use xet_upload_session::FileUploadSession;
 use xet_uploader::Uploader;
+
+// Bytes that were taken in: how many, and the chunks at the front of all that wait, by their hashes and lengths.
+#[derive(Drop)]
+struct TakenIn {
+    count: u64,
+    cuts: VecDeque<ChunkInfo>,
+}
 
 /// A file on its way into a session: what was cut of it, and the bytes that wait to be cut.
 ///
@@ -106,19 +117,30 @@ impl<T: Cutter> SingleFileCleaner<T> {
         Ok(())
     }
 
-    // Takes the next chunk off the bytes that wait. None where more bytes are waited for, or none are left.
-    fn next_chunk(&mut self, alloc: Global, last: bool) -> Result<Option<Bytes>, OutOfMemory>
-        ensures next { IfOk result (NextChunk (cleaner_of T.told self.old) (cleaner_of T.told self.new) last) }
-        ensures some { IfOk result (λ o. IfSome o (λ chunk. 0 < length chunk)) }
-        ensures short { IfOk result (λ o. IfSome o (λ chunk. length chunk ≤ most_chunk_bytes)) }
+    // Takes the next of the chunks that were found at the front off the bytes that wait. None where none is left.
+    fn next_chunk(
+        &mut self,
+        alloc: Global,
+        _last: bool,
+        cuts: &mut VecDeque<ChunkInfo>,
+    ) -> Result<Option<(Bytes, ChunkInfo)>, OutOfMemory>
+        requires { AreCuts (T.told self.old.cutter) _last (bytes_left self.old.pending) cuts.old.items }
+        ensures next { IfOk result (λ o. NextChunk (cleaner_of T.told self.old) (cleaner_of T.told self.new) _last
+            (option_map (λ r. r.0) o)) }
+        ensures some { IfOk result (λ o. IfSome o (λ r. 0 < length r.0)) }
+        ensures short { IfOk result (λ o. IfSome o (λ r. length r.0 ≤ most_chunk_bytes)) }
+        ensures hashed { IfOk result (λ o. IfSome o (λ r. r.1 ≡ info_of r.0)) }
+        ensures cuts { OnOk result (AreCuts (T.told self.old.cutter) _last (bytes_left self.new.pending)
+            cuts.new.items) }
+        ensures none { IfOk result (λ o. o ≡ None → _last ≡ true → bytes_left self.new.pending ≡ []) }
         ensures failed { self.new.failed ≡ self.old.failed }
     {
-        if self.pending.as_slice().is_empty() {
-            return Ok(None);
-        }
-        match next_cut(&mut self.cutter, self.pending.as_slice(), last) {
+        match cuts.pop_front() {
             None => Ok(None),
-            Some(count) => Ok(Some(self.pending.take(alloc, count)?)),
+            Some(info) => {
+                let chunk = self.pending.take(alloc, info.length as usize)?;
+                Ok(Some((chunk, info)))
+            }
         }
     }
 
@@ -129,10 +151,12 @@ impl<T: Cutter> SingleFileCleaner<T> {
         rt: &W,
         alloc: Global,
         chunk: Bytes,
+        info: ChunkInfo,
         now: u64,
     ) -> Result<(), DataError>
         requires some { 0 < length chunk }
         requires short { length chunk ≤ most_chunk_bytes }
+        requires hashed { info ≡ info_of chunk }
         ensures leaves { Leaves (told_by session.old) (told_by session.new) }
         ensures cleans { OnOk result
             (Cleans (told_by session.old) (told_by session.new) self.old.parts self.new.parts (chunk ∷ [])) }
@@ -158,21 +182,24 @@ impl<T: Cutter> SingleFileCleaner<T> {
             self.file_id,
             &mut self.parts,
             chunk,
+            info,
             now,
         )?;
         self.counts.merge_in(&chunk_counts(length, found));
         Ok(())
     }
 
-    // Cuts the next chunk off the bytes that wait, and cleans it. False where none was cut.
+    // Takes the next chunk off the bytes that wait, and cleans it. False where none is left.
     fn cut_chunk<U: Uploader, R: ShardStore, W: Wait>(
         &mut self,
         session: &mut FileUploadSession<U, R>,
         rt: &W,
         alloc: Global,
         last: bool,
+        cuts: &mut VecDeque<ChunkInfo>,
         now: u64,
     ) -> Result<bool, DataError>
+        requires { AreCuts (T.told self.old.cutter) last (bytes_left self.old.pending) cuts.old.items }
         ensures leaves { Leaves (told_by session.old) (told_by session.new) }
         ensures cuts { OnOk result (CutsChunks last (told_by session.old) (told_by session.new)
             (cleaner_of T.told self.old) (cleaner_of T.told self.new)) }
@@ -180,6 +207,8 @@ impl<T: Cutter> SingleFileCleaner<T> {
             (bytes_left self.old.pending) self.new.parts.own.chunks result }
         ensures shorter { IfOk result (λ more. more ≡ true
             → length (bytes_left self.new.pending) < length (bytes_left self.old.pending)) }
+        ensures left { OnOk result (AreCuts (T.told self.old.cutter) last (bytes_left self.new.pending)
+            cuts.new.items) }
         ensures up { IfOk result (λ more. more ≡ false
             → IsCutUp (T.told self.old.cutter) last (bytes_left self.new.pending)) }
         ensures none { IfOk result (λ more. more ≡ false → last ≡ true → bytes_left self.new.pending ≡ []) }
@@ -190,24 +219,26 @@ impl<T: Cutter> SingleFileCleaner<T> {
         ensures calls { Calls now (told_by session.old) (told_by session.new) }
         ensures group { KeepsGroup session.old session.new }
     {
-        match self.next_chunk(alloc, last)? {
+        match self.next_chunk(alloc, last, cuts)? {
             None => Ok(false),
-            Some(chunk) => {
-                self.clean(session, rt, alloc, chunk, now)?;
+            Some((chunk, info)) => {
+                self.clean(session, rt, alloc, chunk, info, now)?;
                 Ok(true)
             }
         }
     }
 
-    // Cuts chunks off the bytes that wait, and cleans them, as long as the cutter cuts.
+    // Takes the chunks that were found off the bytes that wait, and cleans them.
     fn cut_chunks<U: Uploader, R: ShardStore, W: Wait>(
         &mut self,
         session: &mut FileUploadSession<U, R>,
         rt: &W,
         alloc: Global,
         last: bool,
+        cuts: &mut VecDeque<ChunkInfo>,
         now: u64,
     ) -> Result<(), DataError>
+        requires { AreCuts (T.told self.old.cutter) last (bytes_left self.old.pending) cuts.old.items }
         ensures leaves { Leaves (told_by session.old) (told_by session.new) }
         ensures cuts { OnOk result (CutsChunks last (told_by session.old) (told_by session.new)
             (cleaner_of T.told self.old) (cleaner_of T.told self.new)) }
@@ -223,12 +254,36 @@ impl<T: Cutter> SingleFileCleaner<T> {
         ensures group { KeepsGroup session.old session.new }
     {
         'chunks: loop {
-            match self.cut_chunk(session, rt, alloc, last, now) {
+            match self.cut_chunk(session, rt, alloc, last, cuts, now) {
                 Ok(true) => {}
                 Ok(false) => return Ok(()),
                 Err(error) => return Err(error),
             }
         }
+    }
+
+    // Cuts all bytes that wait into chunks, and cleans them.
+    fn cut_rest<U: Uploader, R: ShardStore, W: Wait>(
+        &mut self,
+        session: &mut FileUploadSession<U, R>,
+        rt: &W,
+        alloc: Global,
+        now: u64,
+    ) -> Result<(), DataError>
+        ensures leaves { Leaves (told_by session.old) (told_by session.new) }
+        ensures cuts { OnOk result (CutsChunks true (told_by session.old) (told_by session.new)
+            (cleaner_of T.told self.old) (cleaner_of T.told self.new)) }
+        ensures puts { PutsSome (told_by session.old) (told_by session.new) self.old.parts.own.chunks
+            (bytes_left self.old.pending) self.new.parts.own.chunks result }
+        ensures none { OnOk result (bytes_left self.new.pending ≡ []) }
+        ensures why { IfErr result (ChunkFails (told_by session.old) (told_by session.new)) }
+        ensures tells { TellsOf (IsPartOf self.old.file_id) (IsLate session.old.finalized) session.old.files.tracker
+            session.new.files.tracker result }
+        ensures calls { Calls now (told_by session.old) (told_by session.new) }
+        ensures group { KeepsGroup session.old session.new }
+    {
+        let mut cuts = find_cuts(alloc, &mut self.cutter, self.pending.as_slice(), true)?;
+        self.cut_chunks(session, rt, alloc, true, &mut cuts, now)
     }
 
     // Why so many bytes more are refused: they pass the size that is fixed.
@@ -272,9 +327,9 @@ impl<T: Cutter> SingleFileCleaner<T> {
         }
     }
 
-    // Takes in bytes, and hashes them: the part of `add_data` for which no session is needed. It answers how many they
-    // are. Its error is what `add_taken` is to answer and to keep, unless the session is finalized.
-    fn take_in(&mut self, bytes: &[u8]) -> Result<u64, DataError>
+    // Takes in bytes, and hashes them and the chunks that end in them: the part of `add_data` for which no session is
+    // needed. Its error is what `add_taken` is to answer and to keep, unless the session is finalized.
+    fn take_in(&mut self, alloc: Global, bytes: &[u8]) -> Result<TakenIn, DataError>
         ensures { TakeCall (cleaner_of T.told self.old) bytes.now (cleaner_of T.told self.new) result }
     {
         if let Some(error) = self.failed {
@@ -284,7 +339,9 @@ impl<T: Cutter> SingleFileCleaner<T> {
             return Err(error);
         }
         self.push(bytes)?;
-        Ok(bytes.len() as u64)
+        let cuts = find_cuts(alloc, &mut self.cutter, self.pending.as_slice(), false)?;
+        let count = bytes.len() as u64;
+        Ok(TakenIn { count, cuts })
     }
 
     // Tells that bytes came that were taken in, and cuts and cleans chunks. An error isn't kept.
@@ -293,9 +350,10 @@ impl<T: Cutter> SingleFileCleaner<T> {
         session: &mut FileUploadSession<U, R>,
         rt: &W,
         alloc: Global,
-        taken: Result<u64, DataError>,
+        taken: Result<TakenIn, DataError>,
         now: u64,
     ) -> Result<(), DataError>
+        requires { IfOk taken (λ t. AreCuts (T.told self.old.cutter) false (bytes_left self.old.pending) t.cuts.items) }
         ensures feeds { (c : Cleaner) (bytes : List ℕ) → TakeCall c bytes (cleaner_of T.told self.old) taken
             → FeedsSo (told_by session.old) (told_by session.new) c bytes (cleaner_of T.told self.new) result }
         ensures tells { (c : Cleaner) (bytes : List ℕ) → TakeCall c bytes (cleaner_of T.told self.old) taken
@@ -310,9 +368,9 @@ impl<T: Cutter> SingleFileCleaner<T> {
         if session.is_finalized() {
             return Err(DataError::InvalidOperation(Invalid::Finalized));
         }
-        let count = taken?;
-        self.grow(session, rt, count)?;
-        self.cut_chunks(session, rt, alloc, false, now)
+        let mut found = taken?;
+        self.grow(session, rt, found.count)?;
+        self.cut_chunks(session, rt, alloc, false, &mut found.cuts, now)
     }
 
     // Feeds the bytes that `take_in` took in, of which `taken` is the answer: the rest of `add_data`.
@@ -321,9 +379,10 @@ impl<T: Cutter> SingleFileCleaner<T> {
         session: &mut FileUploadSession<U, R>,
         rt: &W,
         alloc: Global,
-        taken: Result<u64, DataError>,
+        taken: Result<TakenIn, DataError>,
         now: u64,
     ) -> Result<(), DataError>
+        requires { IfOk taken (λ t. AreCuts (T.told self.old.cutter) false (bytes_left self.old.pending) t.cuts.items) }
         ensures adds { (c : Cleaner) (bytes : List ℕ) → TakeCall c bytes (cleaner_of T.told self.old) taken
             → AddsData (told_by session.old) (told_by session.new) c bytes (cleaner_of T.told self.new) result }
         ensures tells { (c : Cleaner) (bytes : List ℕ) → TakeCall c bytes (cleaner_of T.told self.old) taken
@@ -371,7 +430,7 @@ impl<T: Cutter> SingleFileCleaner<T> {
         ensures calls { Calls now (told_by session.old) (told_by session.new) }
         ensures group { KeepsGroup session.old session.new }
     {
-        let taken = self.take_in(bytes);
+        let taken = self.take_in(alloc, bytes);
         self.add_taken(session, rt, alloc, taken, now)
     }
 
@@ -391,7 +450,7 @@ impl<T: Cutter> SingleFileCleaner<T> {
     ) -> Result<(), DataError>
         ensures { AddsShared now (cleaner_of T.told self.old) bytes.now (cleaner_of T.told self.new) result }
     {
-        let taken = self.take_in(bytes);
+        let taken = self.take_in(alloc, bytes);
         let mut held = session.lock(rt);
         let found = &mut *held;
         // its clause is what the session's type keeps
@@ -481,7 +540,7 @@ impl<T: Cutter> SingleFileCleaner<T> {
             return Err(error);
         }
         let mut cleaner = self;
-        cleaner.cut_chunks(session, rt, alloc, true, now)?;
+        cleaner.cut_rest(session, rt, alloc, now)?;
         cleaner.complete(session, rt, alloc, now)
     }
 }

@@ -2,6 +2,7 @@
 #![tactic(auto)]
 
 pub mod cleaner;
+mod cuts;
 pub mod laws;
 
 pub use cleaner::{SingleFileCleaner, start_clean};

@@ -112,8 +112,10 @@ fn add_new<U: Uploader, R: ShardStore, W: Wait>(
     Ok(parts.add_own(chunk, info)?)
 }
 
-// The hash and the length of a chunk.
-fn chunk_info(chunk: &[u8]) -> ChunkInfo
+/// The hash and the length of a chunk, which has at most as many bytes as a chunk may.
+///
+/// In the Rust crates: `deduplication::Chunk::new`.
+pub fn chunk_info(chunk: &[u8]) -> ChunkInfo
     requires { length chunk.now ≤ most_chunk_bytes }
     ensures { result ≡ info_of chunk.now }
 {
@@ -178,7 +180,7 @@ fn find_chunk<U: Uploader, R: ShardStore, W: Wait>(
 }
 
 /// Adds a chunk to the parts of a file: by its place in a known xorb, or to the chunks that wait, which become a xorb
-/// before where they are full. It tells whether the chunk was found. `now` is a moment in seconds.
+/// before where they are full. It tells whether the chunk was found. `info` is the chunk's, `now` a moment in seconds.
 ///
 /// After an error nothing is known of the parts. The errors are those of the session's search and of its put, and
 /// refusals of its tracker.
@@ -191,10 +193,12 @@ pub fn add_chunk<U: Uploader, R: ShardStore, W: Wait>(
     file_id: u64,
     parts: &mut FileParts,
     chunk: Bytes,
+    info: ChunkInfo,
     now: u64,
 ) -> Result<bool, DataError>
     requires some { 0 < length chunk }
     requires short { length chunk ≤ most_chunk_bytes }
+    requires hashed { info ≡ info_of chunk }
     ensures leaves { Leaves (told_by session.old) (told_by session.new) }
     ensures cleans { OnOk result
         (Cleans (told_by session.old) (told_by session.new) parts.old parts.new (chunk ∷ [])) }
@@ -206,7 +210,6 @@ pub fn add_chunk<U: Uploader, R: ShardStore, W: Wait>(
     ensures calls { Calls now (told_by session.old) (told_by session.new) }
     ensures group { KeepsGroup session.old session.new }
 {
-    let info = chunk_info(chunk.as_slice());
     match find_chunk(session, rt, alloc, file_id, info)? {
         Some(entry) => {
             parts.add_found(entry.xorb, entry.from, entry.to, info)?;

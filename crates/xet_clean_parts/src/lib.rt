@@ -8,7 +8,7 @@ pub mod named_terms;
 pub mod pending_bytes;
 pub mod pointers;
 
-pub use deduper::add_chunk;
+pub use deduper::{add_chunk, chunk_info};
 pub use deduplication_interface::{DeduplicationDataInterface, UploadSessionDataManager};
 pub use named_terms::first_unlisted;
 pub use pending_bytes::PendingBytes;

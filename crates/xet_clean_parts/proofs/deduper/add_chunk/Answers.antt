@@ -33,7 +33,7 @@ returns-in_err-add_new-in-None g c =
 pub returns-in_ok-add_found-in-Some-clause-cleans : goal.returns-in_ok-add_found-in-Some-clause-cleans
 returns-in_ok-add_found-in-Some-clause-cleans g c =
     let was : c.find_chunk.result ≡ Ok c.in_ok-entry.field-0 = c.in_ok-entry.was in
-    found-adds _ _ _ _ _ c.in-Some.entry _ (rw c.as_slice.ensures at c.chunk_info-info.ensures)
+    found-adds _ _ _ _ _ c.in-Some.entry _ c.requires.hashed
     (rw (was, c.in-Some.is) at c.find_chunk.ensures.found) c.in_ok-add_found-in-Some.ensures
 
 pub returns-in_ok-add_new-in-None : goal.returns-in_ok-add_new-in-None
@@ -41,7 +41,7 @@ returns-in_ok-add_new-in-None g c =
     let was : c.find_chunk.result ≡ Ok c.in_ok-entry.field-0 = c.in_ok-entry.was in
     record {
       leaves = leaves-both _ _ _ c.find_chunk.ensures.leaves c.add_new.ensures.leaves;
-      cleans = new-adds _ _ _ _ _ _ _ (rw c.as_slice.ensures at c.chunk_info-info.ensures)
+      cleans = new-adds _ _ _ _ _ _ _ c.requires.hashed
           c.find_chunk.ensures.leaves c.add_new.ensures.leaves (rw (was, c.in-None.is) at c.find_chunk.ensures.found)
           c.in_ok-add_new-in-None.ensures.cleans;
       puts = so-behind _ _ _ _ _ _ _ c.find_chunk.ensures.leaves.keeps c.find_chunk.ensures.found.log

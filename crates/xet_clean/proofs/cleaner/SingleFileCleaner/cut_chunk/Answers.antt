@@ -17,6 +17,7 @@ returns-in_err-next_chunk g c =
       cuts = tt;
       puts = some-still _ _ _ _ _ _ refl tt;
       shorter = tt;
+      left = tt;
       up = tt;
       none = tt;
       failed = c.next_chunk.ensures.failed;
@@ -75,6 +76,7 @@ returns-in_err-clean-in-Some g c =
       puts = some-err _ _ _ _ _ _ _ (cleaned-puts _ _ _ _ _ _ _ _ next
           (rw c.in_err-clean-in-Some.was at c.clean.ensures.puts));
       shorter = tt;
+      left = tt;
       up = tt;
       none = tt;
       failed = c.clean.ensures.failed ∙ c.next_chunk.ensures.failed;

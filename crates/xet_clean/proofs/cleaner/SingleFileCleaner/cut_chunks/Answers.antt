@@ -12,6 +12,7 @@ pub chunks-init : goal.chunks-init
 chunks-init g c = record {
   leaves = leaves-refl _ _ refl;
   cuts = cuts-none _ _ _ _ _ refl refl;
+  left = c.requires;
   failed = refl;
   tells = tells-none _ _ _ _ _ refl tt;
   calls = calls-none _ _ _ refl;
@@ -25,6 +26,9 @@ chunks-preserved g c =
     record {
       leaves = leaves-both _ _ _ old.leaves c.cut_chunk.ensures.leaves;
       cuts = cuts-both _ _ _ _ _ _ _ old.leaves c.cut_chunk.ensures.leaves old.cuts (rw is at c.cut_chunk.ensures.cuts);
+      left =
+          let tell = ap (λ (z : Cleaner). z.tell) old.cuts.same in
+          rw (is, tell) at c.cut_chunk.ensures.left;
       failed = c.cut_chunk.ensures.failed ∙ old.failed;
       tells =
           let file = ap (λ (z : Cleaner). z.file_id) old.cuts.same in
@@ -73,3 +77,8 @@ returns-in-Err g c =
       calls = calls-both _ _ _ _ old.calls c.cut_chunk.ensures.calls;
       group = group-both old.group c.cut_chunk.ensures.group;
     }
+
+pub cut_chunk-requires : goal.cut_chunk-requires
+cut_chunk-requires g c =
+    let tell = ap (λ (z : Cleaner). z.tell) c.chunks.invariant.cuts.same in
+    rw tell c.chunks.invariant.left

@@ -1,8 +1,9 @@
-use Rattle.std.proofs.Common.{refl, ◌≡◌}
+use Rattle.std.proofs.Common.{refl, ap, ◌≡◌}
 use Rattle.std.specs.Prelude.{Err}
 use Rattle.xet_upload.specs.declared.data_error.DataError.TheVariants as data_error
+use Rattle.xet_clean.specs.Cleaners.{Cleaner}
 use Rattle.xet_base.proofs.CallerLemmas.{err-of}
-use Rattle.xet_clean.proofs.Taken.{taken-all, taken-kept, taken-past, taken-short}
+use Rattle.xet_clean.proofs.Taken.{taken-kept, taken-past, taken-short}
 use Rattle.xet_clean.proofs.cleaner.SingleFileCleaner.take_in.Goals as goal
 
 pub returns-in-Some : goal.returns-in-Some
@@ -19,9 +20,12 @@ push-requires g c = c.past_total.ensures.fits c.in_default-past_total.is
 pub returns-in_err-push : goal.returns-in_err-push
 returns-in_err-push g c =
     let e : c.from_residual.result ≡ Err data_error.OutOfMemory = err-of _ _ c.from_residual.ensures in
-    rw e (taken-short _ _ _ c.in_err-push.ensures.err c.in_default.is
+    rw e (taken-short _ _ _ (ap (λ (z : Cleaner). z.failed) c.in_err-push.ensures.err) c.in_default.is
     (c.past_total.ensures.none c.in_default-past_total.is))
 
-pub returns : goal.returns
-returns g c = taken-all _ _ _ _ refl c.in_ok-push.ensures.ok c.in_default.is
-    (c.past_total.ensures.none c.in_default-past_total.is)
+pub returns-in_err-cuts : goal.returns-in_err-cuts
+returns-in_err-cuts g c =
+    let e : c.from_residual-in_err-cuts.result ≡ Err data_error.OutOfMemory =
+    err-of _ _ c.from_residual-in_err-cuts.ensures in
+    rw e (taken-short _ _ _ (ap (λ (z : Cleaner). z.failed) c.in_ok-push.ensures.ok.same) c.in_default.is
+    (c.past_total.ensures.none c.in_default-past_total.is))
