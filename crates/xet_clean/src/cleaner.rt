@@ -434,8 +434,9 @@ impl<T: Cutter> SingleFileCleaner<T> {
         self.add_taken(session, rt, alloc, taken, now)
     }
 
-    /// The same over a session that threads share: the bytes are copied and hashed without its lock, and all else is
-    /// done under one hold of it. It waits for the lock. `now` is a moment in seconds.
+    /// The same over a session that threads share. The bytes are copied and hashed, and their chunks found and hashed,
+    /// without its lock; then it waits for the lock, and all that uses the session is done under one hold. `now` is a
+    /// moment in seconds.
     ///
     /// The errors are those of `add_data`.
     ///
@@ -513,7 +514,7 @@ impl<T: Cutter> SingleFileCleaner<T> {
     /// Ends the file: the bytes that wait are cut, and its record waits in the session with its data, or is finished.
     /// It answers the pointer record of the file, and the counts of its chunks. `now` is a moment in seconds.
     ///
-    /// `Finalized` exactly where the session is finalized. Next, a cleaner whose `add_data` failed answers the same
+    /// `Finalized` wherever the session is finalized. Next, a cleaner whose `add_data` failed answers the same
     /// error; then `UnknownXorb` comes exactly where its terms name a xorb that isn't on the session's list, as those
     /// of a cleaner of another session may, with the first such xorb. In these three cases the session is as it was.
     /// `ClientError` where a put failed and is kept, `IOError` only where a store of records failed. Each other
