@@ -71,6 +71,6 @@ fn refused_memory_leaves_the_puts_in_order(rt: HostRuntime) {
     play_each(
         &rt,
         rt.alloc(),
-        "1 5 - | Hello world again => Ok, 3 of 3 back",
+        "1 5 - | Hello 2500 again => Ok, 3 of 3 back",
     );
 }
